@@ -1,0 +1,7 @@
+-- What the public contracts rest on.
+pub mod Lists
+pub mod PackedOption
+pub mod SecondaryMap
+-- How a map from strings is seen, and why `==` is equality of values.
+pub mod Named
+pub mod Exact

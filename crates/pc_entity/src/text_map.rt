@@ -1,0 +1,110 @@
+//! A map from texts, in the order in which the names were added.
+
+ghost use Rattle.std.specs.Prelude.{◌≡◌, ◌++◌, ◌∷◌, ◌<◌, [], length, slice_get, None, Some, is_some, IfOk, OnOk, OnErr};
+ghost use Rattle.std.specs.Option.{option_copied, option_map};
+ghost use Rattle.pc_entity.specs.Lists.{value_of, with_value, names_of, AreDistinct};
+
+use crate::{NoMemory, Text};
+use indexmap::IndexMap;
+use std::alloc::Global;
+use std::marker::Model;
+
+/// A map from texts. A contract sees the list of its names with their values, in order.
+#[derive(Drop)]
+pub struct TextMap<V> {
+    entries: IndexMap<String, V>,
+}
+
+impl<V> Model for TextMap<V> {
+    ghost use Rattle.std.specs.Prelude.{List, ℕ};
+    ghost use Rattle.std.specs.String.{string_eq};
+    ghost use Rattle.indexmap.specs.IndexMap.{IsUnique};
+    ghost use Rattle.pc_entity.specs.Named.{named};
+
+    ghost Value = { List (List ℕ × V) };
+
+    ghost view = { λ m. named m.entries.entries };
+
+    ghost invariant = { λ m. IsUnique string_eq m.entries };
+}
+
+impl<V> TextMap<V> {
+    /// The map with no names, which takes no memory.
+    pub fn new(alloc: Global) -> TextMap<V>
+        ensures { result ≡ [] }
+    {
+        TextMap {
+            entries: IndexMap::new(alloc),
+        }
+    }
+
+    /// The number of names.
+    pub fn len(&self) -> usize
+        ensures { result ≡ length self.now }
+    {
+        self.entries.len()
+    }
+
+    /// No name stands twice.
+    pub fn names_are_distinct(&self)
+        ensures { AreDistinct (names_of self.now) }
+    {
+        let _entries = &self.entries;
+    }
+
+    /// The value at `name`.
+    pub fn get(&self, name: &str) -> Option<&V>
+        ensures { option_copied result ≡ value_of name.now self.now }
+    {
+        self.entries.get(name)
+    }
+
+    /// Whether `name` has a value.
+    pub fn contains(&self, name: &str) -> bool
+        ensures { result ≡ is_some (value_of name.now self.now) }
+    {
+        self.entries.contains_key(name)
+    }
+
+    /// The name at a place, with its value.
+    pub fn get_index(&self, place: usize) -> Option<(&str, &V)>
+        ensures { option_map (λ e. (e.0.now, e.1.now)) result ≡ slice_get self.now place }
+    {
+        match self.entries.get_index(place) {
+            Some((name, value)) => Some((name.as_str(), value)),
+            None => None,
+        }
+    }
+
+    /// The name at a place that is held, with its value.
+    pub fn entry_at(&self, place: usize) -> (&str, &V)
+        requires held { place < length self.now }
+        ensures { slice_get self.now place ≡ Some (result.0.now, result.1.now) }
+    {
+        let (name, value) = self.entries.get_index(place).unwrap();
+        (name.as_str(), value)
+    }
+}
+
+impl<V: Drop> TextMap<V> {
+    /// Adds a name that is absent, at the end. On a refusal the name and the value are dropped.
+    pub fn push(&mut self, name: Text, value: V) -> Result<(), NoMemory>
+        requires absent { value_of name self.old ≡ None }
+        ensures ok { OnOk result (self.new ≡ self.old ++ (name, value) ∷ []) }
+        ensures err { OnErr result (self.new ≡ self.old) }
+    {
+        self.insert(name, value)?;
+        Ok(())
+    }
+
+    /// Puts `value` at `name`, and answers the value that stood there. A name that is absent is added at the end, and only
+    /// then is a refusal possible, which drops the name and the value.
+    pub fn insert(&mut self, name: Text, value: V) -> Result<Option<V>, NoMemory>
+        ensures old { IfOk result (λ old. old ≡ value_of name self.old) }
+        ensures ok { OnOk result (self.new ≡ with_value self.old name value) }
+        ensures err { OnErr result (self.new ≡ self.old) }
+        ensures absent { OnErr result (value_of name self.old ≡ None) }
+    {
+        Ok(self.entries.insert(name.into_string(), value)?)
+    }
+}
