@@ -1,0 +1,46 @@
+//! The types that every later crate speaks of: the parsed type table, the records of core modules,
+//! the converted types with the builder that interns them, and the one error type.
+//! It stands on `pc_entity` alone.
+#![tactic(auto)]
+
+mod copies;
+mod core_entity;
+mod decl_type;
+mod distinct;
+pub mod encoding;
+pub mod error;
+mod exact;
+pub mod module_record;
+pub mod name_set;
+pub mod parsed;
+mod sound_record;
+mod sound_table;
+pub mod trampoline;
+pub mod type_index;
+pub mod types;
+
+pub use core_entity::entity_number;
+pub use distinct::{distinct_keys, distinct_pairs, distinct_texts};
+pub use encoding::StringEncoding;
+pub use error::{Error, Place, TypeError, Unsupported};
+pub use module_record::ModuleRecord;
+pub use name_set::{NameSet, PairSet};
+pub use parsed::{
+    CoreEntity, CoreFuncSig, CoreKind, DeclType, Entity, PrimType, TypeTable, ValType, WasmValType,
+};
+pub use pc_entity::ModuleInternedTypeIndex;
+pub use sound_record::MAX_ENTITIES;
+pub use sound_table::check_table;
+pub use trampoline::TrampolineKind;
+pub use type_index::{
+    TypeComponentIndex, TypeComponentInstanceIndex, TypeComponentLocalErrorContextTableIndex,
+    TypeEnumIndex, TypeFlagsIndex, TypeFuncIndex, TypeFutureTableIndex, TypeListIndex,
+    TypeModuleIndex, TypeOptionIndex, TypeRecordIndex, TypeResourceTableIndex, TypeResultIndex,
+    TypeStreamTableIndex, TypeTupleIndex, TypeVariantIndex,
+};
+pub use types::{
+    ComponentExtern, ComponentExternData, InterfaceType, TypeComponent, TypeComponentInstance,
+    TypeDef, TypeEnum, TypeErrorContextTable, TypeFlags, TypeFunc, TypeFutureTable, TypeKind,
+    TypeList, TypeModule, TypeOption, TypeRecord, TypeResourceTable, TypeResult, TypeStreamTable,
+    TypeTuple, TypeVariant,
+};

@@ -1,0 +1,147 @@
+//! Whether a module record fits a type table.
+
+ghost use Rattle.std.specs.Prelude.{◌≡◌, IfOk, ◌&&◌};
+ghost use Rattle.std.specs.List.{list_all};
+ghost use Rattle.pc_types.specs.Record.{imported, is_typed, has_signature, is_within, has_entity, is_sound};
+ghost use Rattle.pc_types.specs.Counts.{import_counts};
+ghost use Rattle.pc_types.specs.declared.parsed.CoreKind.TheVariants as kind;
+
+use crate::core_entity::entity_number;
+use crate::distinct::distinct_keys;
+use crate::{CoreEntity, CoreKind, ModuleRecord, TypeTable};
+use pc_entity::{EntityIndex, NoMemory};
+use std::alloc::Global;
+
+/// The most entities of one kind that a module may have.
+pub const MAX_ENTITIES: usize = 1000000;
+
+/// How many entities of each kind a module imports.
+#[derive(Drop)]
+pub(crate) struct ImportCounts {
+    funcs: usize,
+    tables: usize,
+    memories: usize,
+    globals: usize,
+    tags: usize,
+}
+
+impl TypeTable {
+    /// Whether this is the number of a core signature.
+    pub fn has_signature(&self, number: u32) -> bool
+        ensures { result ≡ has_signature self.now number }
+    {
+        (number as usize) < self.core_funcs.len()
+    }
+
+    /// Whether an entity, if it is a function, names a core signature.
+    pub fn is_typed(&self, entity: CoreEntity) -> bool
+        ensures { result ≡ is_typed self.now entity }
+    {
+        match entity {
+            CoreEntity::Func(signature) => self.has_signature(signature),
+            _ => true,
+        }
+    }
+}
+
+impl ModuleRecord {
+    /// Whether the record can be translated with this table: its signatures are held, it has at most a million entities
+    /// of a kind, each export is an entity that it has, and no name is exported twice.
+    pub fn is_sound(&self, alloc: Global, table: &TypeTable) -> Result<bool, NoMemory>
+        ensures { IfOk result (λ sound. sound ≡ is_sound table.now self.now) }
+    {
+        let distinct = distinct_keys(alloc, self.exports.as_slice())?;
+        Ok(
+            self.imports_are_typed(table)
+                && self.funcs_are_typed(table)
+                && self.is_small()
+                && self.has_exports()
+                && distinct,
+        )
+    }
+
+    fn imports_are_typed(&self, table: &TypeTable) -> bool
+        ensures { result ≡ list_all (λ i. is_typed table.now i.2) self.now.imports }
+    {
+        self.imports.iter().all(|i| table.is_typed(i.2))
+    }
+
+    fn funcs_are_typed(&self, table: &TypeTable) -> bool
+        ensures { result ≡ list_all (has_signature table.now) self.now.funcs }
+    {
+        self.funcs.iter().all(|s| table.has_signature(*s))
+    }
+
+    fn is_small(&self) -> bool
+        ensures { result ≡ (is_within self.now kind.Func && is_within self.now kind.Table && is_within self.now kind.Memory && is_within self.now kind.Global && is_within self.now kind.Tag) }
+    {
+        self.is_within(CoreKind::Func)
+            && self.is_within(CoreKind::Table)
+            && self.is_within(CoreKind::Memory)
+            && self.is_within(CoreKind::Global)
+            && self.is_within(CoreKind::Tag)
+    }
+
+    fn is_within(&self, kind: CoreKind) -> bool
+        ensures { result ≡ is_within self.now kind }
+    {
+        let imported = self.imported(kind);
+        imported <= MAX_ENTITIES && self.defined(kind) <= MAX_ENTITIES - imported
+    }
+
+    fn has_exports(&self) -> bool
+        ensures { result ≡ list_all (λ e. has_entity self.now e.1) self.now.exports }
+    {
+        let counts = self.import_counts();
+        self.has_all_exports(&counts)
+    }
+
+    fn has_all_exports(&self, counts: &ImportCounts) -> bool
+        requires { counts.now ≡ import_counts self.now }
+        ensures { result ≡ list_all (λ e. has_entity self.now e.1) self.now.exports }
+    {
+        for export in self.exports.as_slice() {
+            if !self.has_entity(counts, export.1) {
+                return false;
+            }
+        }
+        true
+    }
+
+    fn import_counts(&self) -> ImportCounts
+        ensures { result ≡ import_counts self.now }
+    {
+        ImportCounts {
+            funcs: self.imported(CoreKind::Func),
+            tables: self.imported(CoreKind::Table),
+            memories: self.imported(CoreKind::Memory),
+            globals: self.imported(CoreKind::Global),
+            tags: self.imported(CoreKind::Tag),
+        }
+    }
+
+    fn has_entity(&self, counts: &ImportCounts, entity: EntityIndex) -> bool
+        requires { counts.now ≡ import_counts self.now }
+        ensures { result ≡ has_entity self.now entity }
+    {
+        let kind = CoreKind::of(entity);
+        let number = entity_number(entity) as usize;
+        let imported = counts.of(self, kind);
+        number < imported || number - imported < self.defined(kind)
+    }
+}
+
+impl ImportCounts {
+    fn of(&self, record: &ModuleRecord, kind: CoreKind) -> usize
+        requires { self.now ≡ import_counts record.now }
+        ensures { result ≡ imported record.now kind }
+    {
+        match kind {
+            CoreKind::Func => self.funcs,
+            CoreKind::Table => self.tables,
+            CoreKind::Memory => self.memories,
+            CoreKind::Global => self.globals,
+            CoreKind::Tag => self.tags,
+        }
+    }
+}
