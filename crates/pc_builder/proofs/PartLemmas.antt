@@ -1,0 +1,79 @@
+-- The parts of an entry stay what they are as the builder grows.
+use Rattle.std.proofs.Common.{◌≡◌, ℕ, ◌<◌, ◌+◌, List, [], ◌∷◌, ◌++◌, length, take, get_or, Option, None, Some, refl, sym, ap, ◌∙◌, subst, arith}
+use Rattle.std.specs.Prelude.{slice_get, MatchOption, Result, Ok, Err, IfOk}
+use Rattle.std.specs.List.{AllZip}
+use Rattle.std.proofs.lemmas.Grind.{take_at_read}
+use Rattle.pc_types.specs.declared.parsed.PrimType.{PrimType}
+use Rattle.pc_types.specs.declared.parsed.ValType.{ValType}
+use Rattle.pc_types.specs.declared.parsed.ValType.TheVariants as val
+use Rattle.pc_types.specs.declared.type_index.TypeComponentLocalErrorContextTableIndex.{TypeComponentLocalErrorContextTableIndex}
+use Rattle.pc_types.specs.declared.types.InterfaceType.{InterfaceType}
+use Rattle.pc_types.specs.declared.types.InterfaceType.TheVariants as ty
+use Rattle.pc_types.specs.declared.types.TypeDef.{TypeDef}
+use Rattle.pc_builder.specs.Types.{Types, Grows}
+use Rattle.pc_builder.specs.Parts.{plain_type, IsErrorContext, PrimIs, ValIs, MaybeIs, FieldIs, CaseIs}
+use Rattle.pc_builder.specs.Entries.{ReturnsAre}
+
+-- What holds of items that stand at the same place in two lists.
+module _ {A B : Type 0} where
+  -- one more of each
+  pub all_zip_push : (R : A → B → Type 0) (xs : List A) (ys : List B) (x : A) (y : B)
+      → AllZip R xs ys → R x y → AllZip R (xs ++ x ∷ []) (ys ++ y ∷ [])
+  all_zip_push R [] [] x y h r = (r, tt)
+  all_zip_push R [] (b ∷ ys) x y h r = absurd h
+  all_zip_push R (a ∷ xs) [] x y h r = absurd h
+  all_zip_push R (a ∷ xs) (b ∷ ys) x y h r = (h.0, all_zip_push R xs ys x y h.1 r)
+
+  -- a step of a loop over the first list that makes the second
+  pub all_zip_next : (R : A → B → Type 0) (xs : List A) (ys : List B) (i : ℕ) (x : A) (y : B) → i < length xs → x ≡ get_or xs i x
+      → AllZip R (take i xs) ys → R x y → AllZip R (take (i + 1) xs) (ys ++ y ∷ [])
+  all_zip_next R xs ys i x y within is h r =
+      subst (λ l. AllZip R l (ys ++ y ∷ [])) (sym ((take_at_read xs i x within).1 ∙ ap (λ z. take i xs ++ z ∷ []) (sym is)))
+      (all_zip_push R (take i xs) ys x y h r)
+
+  -- a weaker relation
+  pub all_zip_more : (R S : A → B → Type 0) → ((x : A) (y : B) → R x y → S x y) → (xs : List A) (ys : List B) → AllZip R xs ys → AllZip S xs ys
+  all_zip_more R S more [] [] h = tt
+  all_zip_more R S more [] (y ∷ ys) h = absurd h
+  all_zip_more R S more (x ∷ xs) [] h = absurd h
+  all_zip_more R S more (x ∷ xs) (y ∷ ys) h = (more x y h.0, all_zip_more R S more xs ys h.1)
+
+module _ (old new : Types) (g : Grows old new) where
+  pub error_context_grows : (i : TypeComponentLocalErrorContextTableIndex) → IsErrorContext old i → IsErrorContext new i
+  error_context_grows i h =
+      subst (λ r. slice_get new.error_context_tables i.0 ≡ Some (record { instance = r.current })) (sym g.resources)
+      (g.error_context_tables i.0 (record { instance = old.resources.current }) h)
+
+  pub prim_grows : (p : PrimType) (w : InterfaceType) → PrimIs old p w → PrimIs new p w
+  prim_grows p w h = by (plain_type p) h
+    where
+      by : (o : Option InterfaceType)
+          → MatchOption o ((i : TypeComponentLocalErrorContextTableIndex) × (w ≡ ty.ErrorContext i) × IsErrorContext old i) (λ t. w ≡ t)
+          → MatchOption o ((i : TypeComponentLocalErrorContextTableIndex) × (w ≡ ty.ErrorContext i) × IsErrorContext new i) (λ t. w ≡ t)
+      by None k = (k.0, k.1, error_context_grows k.0 k.2)
+      by (Some t) k = k
+
+  pub val_grows : (done : List (Option TypeDef)) (v : ValType) (w : InterfaceType) → ValIs old done v w → ValIs new done v w
+  val_grows done (val.Prim p) w h = prim_grows p w h
+  val_grows done (val.Type_ n) w h = h
+
+  pub maybe_grows : (done : List (Option TypeDef)) (v : Option ValType) (w : Option InterfaceType) → MaybeIs old done v w → MaybeIs new done v w
+  maybe_grows done None None h = h
+  maybe_grows done None (Some w) h = absurd h
+  maybe_grows done (Some v) None h = absurd h
+  maybe_grows done (Some v) (Some w) h = val_grows done v w h
+
+  pub field_grows : (done : List (Option TypeDef)) (f : List ℕ × ValType) (g : List ℕ × InterfaceType) → FieldIs old done f g → FieldIs new done f g
+  field_grows done f g h = (h.0, val_grows done f.1 g.1 h.1)
+
+  pub case_grows : (done : List (Option TypeDef)) (f : List ℕ × Option ValType) (g : List ℕ × Option InterfaceType) → CaseIs old done f g → CaseIs new done f g
+  case_grows done f g h = (h.0, maybe_grows done f.1 g.1 h.1)
+
+  pub returns_grow : (done : List (Option TypeDef)) (v : Option ValType) (ws : List InterfaceType) → ReturnsAre old done v ws → ReturnsAre new done v ws
+  returns_grow done None ws h = h
+  returns_grow done (Some v) ws h = (h.0, h.1, val_grows done v h.0 h.2)
+
+-- a weaker fact of what was answered
+pub if_ok_more : {A E : Type 0} (P Q : A → Type 0) → ((x : A) → P x → Q x) → (r : Result A E) → IfOk r P → IfOk r Q
+if_ok_more P Q more (Ok x) h = more x h
+if_ok_more P Q more (Err e) h = tt

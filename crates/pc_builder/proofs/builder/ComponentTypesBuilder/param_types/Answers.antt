@@ -1,0 +1,25 @@
+use Rattle.std.proofs.Common.{arith, take}
+use Rattle.pc_builder.specs.Parts.{ValIs}
+use Rattle.pc_builder.proofs.Growth.{grows_trans}
+use Rattle.pc_builder.proofs.PartLemmas.{all_zip_next, all_zip_more, val_grows}
+use Rattle.pc_builder.proofs.builder.ComponentTypesBuilder.param_types.Goals as goal
+
+pub returns-in_err-value-clause-grows : goal.returns-in_err-value-clause-grows
+returns-in_err-value-clause-grows c = grows_trans c.args.self.now c.loop-param.self c.value.new.self c.loop-param.invariant.grows c.value.ensures.grows
+
+pub returns-in_err-push-clause-grows : goal.returns-in_err-push-clause-grows
+returns-in_err-push-clause-grows c = grows_trans c.args.self.now c.loop-param.self c.value.new.self c.loop-param.invariant.grows c.value.ensures.grows
+
+pub loop-param-preserved : goal.loop-param-preserved
+loop-param-preserved c =
+    let p = c.param-item in
+    let done = c.args.done.now in
+    record {
+      are =
+          rw c.in_ok-push.ensures.ok
+          (all_zip_next (λ p w. ValIs c.value.new.self done p.1 w) c.args.params.now c.loop-param.types c.loop-param.param-index p.result c.in_ok-value.field-0 (omega arith) p.is
+          (all_zip_more (λ p w. ValIs c.loop-param.self done p.1 w) (λ p w. ValIs c.value.new.self done p.1 w)
+          (λ p w. val_grows c.loop-param.self c.value.new.self c.value.ensures.grows done p.1 w) (take c.loop-param.param-index c.args.params.now) c.loop-param.types c.loop-param.invariant.are)
+          c.in_ok-value.ensures.is);
+      grows = grows_trans c.args.self.now c.loop-param.self c.value.new.self c.loop-param.invariant.grows c.value.ensures.grows;
+    }

@@ -1,0 +1,104 @@
+//! The lists of the builder.
+
+ghost use Rattle.std.specs.Prelude.{◌≡◌};
+ghost use Rattle.pc_builder.specs.Types.{held, no_types};
+
+use crate::ResourcesBuilder;
+use pc_entity::Interner;
+use pc_types::{
+    CoreFuncSig, TypeComponent, TypeComponentInstance, TypeEnum, TypeErrorContextTable, TypeFlags,
+    TypeFunc, TypeFutureTable, TypeKind, TypeList, TypeModule, TypeOption, TypeRecord,
+    TypeResourceTable, TypeResult, TypeStreamTable, TypeTuple, TypeVariant,
+};
+use std::alloc::Global;
+use std::marker::Model;
+
+/// One list for each kind of type, in which equal types share a number, and the resources that are known.
+#[derive(Drop)]
+pub struct ComponentTypesBuilder {
+    pub(crate) alloc: Global,
+    pub(crate) funcs: Interner<TypeFunc>,
+    pub(crate) tuples: Interner<TypeTuple>,
+    pub(crate) records: Interner<TypeRecord>,
+    pub(crate) variants: Interner<TypeVariant>,
+    pub(crate) lists: Interner<TypeList>,
+    pub(crate) options: Interner<TypeOption>,
+    pub(crate) results: Interner<TypeResult>,
+    pub(crate) flags: Interner<TypeFlags>,
+    pub(crate) enums: Interner<TypeEnum>,
+    pub(crate) resource_tables: Interner<TypeResourceTable>,
+    pub(crate) future_tables: Interner<TypeFutureTable>,
+    pub(crate) stream_tables: Interner<TypeStreamTable>,
+    pub(crate) error_context_tables: Interner<TypeErrorContextTable>,
+    pub(crate) instances: Interner<TypeComponentInstance>,
+    pub(crate) components: Interner<TypeComponent>,
+    pub(crate) modules: Interner<TypeModule>,
+    pub(crate) signatures: Interner<CoreFuncSig>,
+    pub(crate) resources: ResourcesBuilder,
+}
+
+impl Model for ComponentTypesBuilder {
+    ghost use Rattle.pc_builder.specs.Types.{Types};
+
+    ghost Value = { Types };
+
+    ghost use Rattle.pc_builder.specs.View.{types_of, IsWithin};
+
+    ghost view = { types_of };
+
+    ghost invariant = { IsWithin };
+}
+
+impl ComponentTypesBuilder {
+    /// The builder with no types, which takes no memory.
+    pub fn new(alloc: Global) -> ComponentTypesBuilder
+        ensures { result ≡ no_types }
+    {
+        ComponentTypesBuilder {
+            alloc,
+            funcs: Interner::new(alloc),
+            tuples: Interner::new(alloc),
+            records: Interner::new(alloc),
+            variants: Interner::new(alloc),
+            lists: Interner::new(alloc),
+            options: Interner::new(alloc),
+            results: Interner::new(alloc),
+            flags: Interner::new(alloc),
+            enums: Interner::new(alloc),
+            resource_tables: Interner::new(alloc),
+            future_tables: Interner::new(alloc),
+            stream_tables: Interner::new(alloc),
+            error_context_tables: Interner::new(alloc),
+            instances: Interner::new(alloc),
+            components: Interner::new(alloc),
+            modules: Interner::new(alloc),
+            signatures: Interner::new(alloc),
+            resources: ResourcesBuilder::new(alloc),
+        }
+    }
+
+    /// How many types of a kind are held. The numbers below it name them.
+    pub fn held(&self, kind: TypeKind) -> usize
+        ensures { result ≡ held self.now kind }
+    {
+        match kind {
+            TypeKind::Func => self.funcs.len(),
+            TypeKind::Tuple => self.tuples.len(),
+            TypeKind::Record => self.records.len(),
+            TypeKind::Variant => self.variants.len(),
+            TypeKind::List => self.lists.len(),
+            TypeKind::Option => self.options.len(),
+            TypeKind::Result => self.results.len(),
+            TypeKind::Flags => self.flags.len(),
+            TypeKind::Enum => self.enums.len(),
+            TypeKind::ResourceTable => self.resource_tables.len(),
+            TypeKind::FutureTable => self.future_tables.len(),
+            TypeKind::StreamTable => self.stream_tables.len(),
+            TypeKind::ErrorContextTable => self.error_context_tables.len(),
+            TypeKind::Instance => self.instances.len(),
+            TypeKind::Component => self.components.len(),
+            TypeKind::Module => self.modules.len(),
+            TypeKind::Signature => self.signatures.len(),
+        }
+    }
+}

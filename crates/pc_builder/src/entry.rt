@@ -1,0 +1,109 @@
+//! Entries of a table, converted kind by kind.
+
+ghost use Rattle.std.specs.Prelude.{◌≡◌, Some, Err, All, map, IfOk, slice_get};
+ghost use Rattle.std.specs.List.{AllZip};
+ghost use Rattle.pc_entity.specs.Lists.{names_of};
+ghost use Rattle.pc_builder.specs.Types.{Grows, IsFull};
+ghost use Rattle.pc_builder.specs.Parts.{ValIs, MaybeIs, FieldIs, IsReady, MayBeReady};
+ghost use Rattle.pc_builder.specs.Entries.{FuncIs, ReturnsAre};
+
+use crate::ComponentTypesBuilder;
+use pc_entity::{NoMemory, Seq, Text, TryClone};
+use pc_types::{InterfaceType, TypeDef, TypeError, TypeFunc, TypeFuncIndex, TypeTuple, ValType};
+use std::alloc::Global;
+
+impl ComponentTypesBuilder {
+    // A function type.
+    pub(crate) fn func_entry(
+        &mut self,
+        done: &[Option<TypeDef>],
+        params: &[(Text, ValType)],
+        returns: Option<ValType>,
+        async_: bool,
+    ) -> Result<TypeFuncIndex, TypeError>
+        requires params { All (λ p. IsReady done.now p.1) params.now }
+        requires returns { MayBeReady done.now returns }
+        ensures is { IfOk result (λ i. FuncIs self.new done.now params.now returns async_ i) }
+        ensures grows { Grows self.old self.new }
+        ensures never_bad { result ≡ Err TypeError.BadNumber → ⊥ }
+        ensures full { result ≡ Err TypeError.TooMany → IsFull self.new }
+    {
+        let param_names = names(self.alloc, params)?;
+        let types = self.param_types(done, params)?;
+        let params = self.put_tuple(TypeTuple { types })?;
+        let types = self.return_types(done, returns)?;
+        let results = self.put_tuple(TypeTuple { types })?;
+        self.put_func(TypeFunc {
+            param_names,
+            params,
+            results,
+            async_,
+        })
+    }
+
+    // The types of the parameters, in order.
+    fn param_types(
+        &mut self,
+        done: &[Option<TypeDef>],
+        params: &[(Text, ValType)],
+    ) -> Result<Seq<InterfaceType>, TypeError>
+        requires ready { All (λ p. IsReady done.now p.1) params.now }
+        ensures are { IfOk result (λ ws. AllZip (λ p w. ValIs self.new done.now p.1 w) params.now ws) }
+        ensures grows { Grows self.old self.new }
+        ensures never_bad { result ≡ Err TypeError.BadNumber → ⊥ }
+        ensures full { result ≡ Err TypeError.TooMany → IsFull self.new }
+    {
+        let mut types = Seq::new(self.alloc);
+        for param in params {
+            types.push(self.value(done, param.1)?)?;
+        }
+        Ok(types)
+    }
+
+    // The type that is returned, if there is one.
+    fn return_types(
+        &mut self,
+        done: &[Option<TypeDef>],
+        returns: Option<ValType>,
+    ) -> Result<Seq<InterfaceType>, TypeError>
+        requires ready { MayBeReady done.now returns }
+        ensures are { IfOk result (λ ws. ReturnsAre self.new done.now returns ws) }
+        ensures grows { Grows self.old self.new }
+        ensures never_bad { result ≡ Err TypeError.BadNumber → ⊥ }
+        ensures full { result ≡ Err TypeError.TooMany → IsFull self.new }
+    {
+        match returns {
+            Some(v) => self.one_type(done, v),
+            None => Ok(Seq::new(self.alloc)),
+        }
+    }
+
+    // The list of one type.
+    fn one_type(
+        &mut self,
+        done: &[Option<TypeDef>],
+        v: ValType,
+    ) -> Result<Seq<InterfaceType>, TypeError>
+        requires ready { IsReady done.now v }
+        ensures is { IfOk result (λ ws. ReturnsAre self.new done.now (Some v) ws) }
+        ensures grows { Grows self.old self.new }
+        ensures never_bad { result ≡ Err TypeError.BadNumber → ⊥ }
+        ensures full { result ≡ Err TypeError.TooMany → IsFull self.new }
+    {
+        let w = self.value(done, v)?;
+        let mut types = Seq::new(self.alloc);
+        types.push(w)?;
+        Ok(types)
+    }
+}
+
+// The names of a list.
+fn names<V>(alloc: Global, items: &[(Text, V)]) -> Result<Seq<Text>, NoMemory>
+    ensures { IfOk result (λ names. names ≡ names_of items.now) }
+{
+    let mut names = Seq::with_capacity(alloc, items.len())?;
+    for item in items {
+        names.push(item.0.try_clone(alloc)?)?;
+    }
+    Ok(names)
+}

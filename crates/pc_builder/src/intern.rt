@@ -1,0 +1,28 @@
+//! A type put into its list.
+
+ghost use Rattle.std.specs.Prelude.{◌≡◌, ◌≤◌, length, slice_get, Some, Err, IfOk, Contains};
+ghost use Rattle.pc_builder.specs.Interned.{IsPut};
+
+use pc_entity::{ExactEq, Interner};
+use pc_types::TypeError;
+
+/// The most types of one kind.
+const MAX_TYPES: usize = 4294967294;
+
+/// The number of a type, which is added to its list unless an equal one is held.
+pub(crate) fn intern<V: ExactEq + Drop>(list: &mut Interner<V>, value: V) -> Result<u32, TypeError>
+    requires within { length list.old ≤ 4294967294 }
+    ensures held { IfOk result (λ key. slice_get list.new key ≡ Some value) }
+    ensures put { IsPut list.old list.new value }
+    ensures never_bad { result ≡ Err TypeError.BadNumber → ⊥ }
+    ensures full { result ≡ Err TypeError.TooMany → (length list.new ≡ 4294967294) × (Contains list.new value → ⊥) }
+    ensures within { length list.new ≤ 4294967294 }
+{
+    if list.len() < MAX_TYPES {
+        return Ok(list.push(value)?);
+    }
+    match list.find(&value) {
+        Some(key) => Ok(key),
+        None => Err(TypeError::TooMany),
+    }
+}

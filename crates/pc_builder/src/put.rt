@@ -1,0 +1,248 @@
+//! Each kind of type put into its list.
+
+ghost use Rattle.std.specs.Prelude.{◌≡◌, slice_get, Some, Err, IfOk, Contains};
+ghost use Rattle.pc_builder.specs.Types.{Grows, IsFull};
+ghost use Rattle.pc_builder.specs.Interned.{IsPut};
+
+use crate::ComponentTypesBuilder;
+use crate::intern::intern;
+use pc_entity::ModuleInternedTypeIndex;
+use pc_types::{
+    CoreFuncSig, TypeComponent, TypeComponentIndex, TypeComponentInstance,
+    TypeComponentInstanceIndex, TypeComponentLocalErrorContextTableIndex, TypeEnum, TypeEnumIndex,
+    TypeError, TypeErrorContextTable, TypeFlags, TypeFlagsIndex, TypeFunc, TypeFuncIndex,
+    TypeFutureTable, TypeFutureTableIndex, TypeList, TypeListIndex, TypeModule, TypeModuleIndex,
+    TypeOption, TypeOptionIndex, TypeRecord, TypeRecordIndex, TypeResourceTable,
+    TypeResourceTableIndex, TypeResult, TypeResultIndex, TypeStreamTable, TypeStreamTableIndex,
+    TypeTuple, TypeTupleIndex, TypeVariant, TypeVariantIndex,
+};
+
+impl ComponentTypesBuilder {
+    #[tactic(auto, using(crate::proofs::Growth::grows_funcs, crate::proofs::Growth::full_funcs))]
+    pub(crate) fn put_func(&mut self, value: TypeFunc) -> Result<TypeFuncIndex, TypeError>
+        ensures held { IfOk result (λ i. slice_get self.new.funcs i.0 ≡ Some value) }
+        ensures put { IsPut self.old.funcs self.new.funcs value }
+        ensures rest { self.new ≡ record self.old { funcs = self.new.funcs } }
+        ensures grows { Grows self.old self.new }
+        ensures never_bad { result ≡ Err TypeError.BadNumber → ⊥ }
+        ensures full { result ≡ Err TypeError.TooMany → IsFull self.new × (Contains self.new.funcs value → ⊥) }
+    {
+        Ok(TypeFuncIndex(intern(&mut self.funcs, value)?))
+    }
+
+    #[tactic(auto, using(crate::proofs::Growth::grows_tuples, crate::proofs::Growth::full_tuples))]
+    pub(crate) fn put_tuple(&mut self, value: TypeTuple) -> Result<TypeTupleIndex, TypeError>
+        ensures held { IfOk result (λ i. slice_get self.new.tuples i.0 ≡ Some value) }
+        ensures put { IsPut self.old.tuples self.new.tuples value }
+        ensures rest { self.new ≡ record self.old { tuples = self.new.tuples } }
+        ensures grows { Grows self.old self.new }
+        ensures never_bad { result ≡ Err TypeError.BadNumber → ⊥ }
+        ensures full { result ≡ Err TypeError.TooMany → IsFull self.new × (Contains self.new.tuples value → ⊥) }
+    {
+        Ok(TypeTupleIndex(intern(&mut self.tuples, value)?))
+    }
+
+    #[tactic(auto, using(crate::proofs::Growth::grows_records, crate::proofs::Growth::full_records))]
+    pub(crate) fn put_record_type(
+        &mut self,
+        value: TypeRecord,
+    ) -> Result<TypeRecordIndex, TypeError>
+        ensures held { IfOk result (λ i. slice_get self.new.records i.0 ≡ Some value) }
+        ensures put { IsPut self.old.records self.new.records value }
+        ensures rest { self.new ≡ record self.old { records = self.new.records } }
+        ensures grows { Grows self.old self.new }
+        ensures never_bad { result ≡ Err TypeError.BadNumber → ⊥ }
+        ensures full { result ≡ Err TypeError.TooMany → IsFull self.new × (Contains self.new.records value → ⊥) }
+    {
+        Ok(TypeRecordIndex(intern(&mut self.records, value)?))
+    }
+
+    #[tactic(auto, using(crate::proofs::Growth::grows_variants, crate::proofs::Growth::full_variants))]
+    pub(crate) fn put_variant(&mut self, value: TypeVariant) -> Result<TypeVariantIndex, TypeError>
+        ensures held { IfOk result (λ i. slice_get self.new.variants i.0 ≡ Some value) }
+        ensures put { IsPut self.old.variants self.new.variants value }
+        ensures rest { self.new ≡ record self.old { variants = self.new.variants } }
+        ensures grows { Grows self.old self.new }
+        ensures never_bad { result ≡ Err TypeError.BadNumber → ⊥ }
+        ensures full { result ≡ Err TypeError.TooMany → IsFull self.new × (Contains self.new.variants value → ⊥) }
+    {
+        Ok(TypeVariantIndex(intern(&mut self.variants, value)?))
+    }
+
+    #[tactic(auto, using(crate::proofs::Growth::grows_lists, crate::proofs::Growth::full_lists))]
+    pub(crate) fn put_list(&mut self, value: TypeList) -> Result<TypeListIndex, TypeError>
+        ensures held { IfOk result (λ i. slice_get self.new.lists i.0 ≡ Some value) }
+        ensures put { IsPut self.old.lists self.new.lists value }
+        ensures rest { self.new ≡ record self.old { lists = self.new.lists } }
+        ensures grows { Grows self.old self.new }
+        ensures never_bad { result ≡ Err TypeError.BadNumber → ⊥ }
+        ensures full { result ≡ Err TypeError.TooMany → IsFull self.new × (Contains self.new.lists value → ⊥) }
+    {
+        Ok(TypeListIndex(intern(&mut self.lists, value)?))
+    }
+
+    #[tactic(auto, using(crate::proofs::Growth::grows_options, crate::proofs::Growth::full_options))]
+    pub(crate) fn put_option(&mut self, value: TypeOption) -> Result<TypeOptionIndex, TypeError>
+        ensures held { IfOk result (λ i. slice_get self.new.options i.0 ≡ Some value) }
+        ensures put { IsPut self.old.options self.new.options value }
+        ensures rest { self.new ≡ record self.old { options = self.new.options } }
+        ensures grows { Grows self.old self.new }
+        ensures never_bad { result ≡ Err TypeError.BadNumber → ⊥ }
+        ensures full { result ≡ Err TypeError.TooMany → IsFull self.new × (Contains self.new.options value → ⊥) }
+    {
+        Ok(TypeOptionIndex(intern(&mut self.options, value)?))
+    }
+
+    #[tactic(auto, using(crate::proofs::Growth::grows_results, crate::proofs::Growth::full_results))]
+    pub(crate) fn put_result(&mut self, value: TypeResult) -> Result<TypeResultIndex, TypeError>
+        ensures held { IfOk result (λ i. slice_get self.new.results i.0 ≡ Some value) }
+        ensures put { IsPut self.old.results self.new.results value }
+        ensures rest { self.new ≡ record self.old { results = self.new.results } }
+        ensures grows { Grows self.old self.new }
+        ensures never_bad { result ≡ Err TypeError.BadNumber → ⊥ }
+        ensures full { result ≡ Err TypeError.TooMany → IsFull self.new × (Contains self.new.results value → ⊥) }
+    {
+        Ok(TypeResultIndex(intern(&mut self.results, value)?))
+    }
+
+    #[tactic(auto, using(crate::proofs::Growth::grows_flags, crate::proofs::Growth::full_flags))]
+    pub(crate) fn put_flags(&mut self, value: TypeFlags) -> Result<TypeFlagsIndex, TypeError>
+        ensures held { IfOk result (λ i. slice_get self.new.flags i.0 ≡ Some value) }
+        ensures put { IsPut self.old.flags self.new.flags value }
+        ensures rest { self.new ≡ record self.old { flags = self.new.flags } }
+        ensures grows { Grows self.old self.new }
+        ensures never_bad { result ≡ Err TypeError.BadNumber → ⊥ }
+        ensures full { result ≡ Err TypeError.TooMany → IsFull self.new × (Contains self.new.flags value → ⊥) }
+    {
+        Ok(TypeFlagsIndex(intern(&mut self.flags, value)?))
+    }
+
+    #[tactic(auto, using(crate::proofs::Growth::grows_enums, crate::proofs::Growth::full_enums))]
+    pub(crate) fn put_enum_type(&mut self, value: TypeEnum) -> Result<TypeEnumIndex, TypeError>
+        ensures held { IfOk result (λ i. slice_get self.new.enums i.0 ≡ Some value) }
+        ensures put { IsPut self.old.enums self.new.enums value }
+        ensures rest { self.new ≡ record self.old { enums = self.new.enums } }
+        ensures grows { Grows self.old self.new }
+        ensures never_bad { result ≡ Err TypeError.BadNumber → ⊥ }
+        ensures full { result ≡ Err TypeError.TooMany → IsFull self.new × (Contains self.new.enums value → ⊥) }
+    {
+        Ok(TypeEnumIndex(intern(&mut self.enums, value)?))
+    }
+
+    #[tactic(auto, using(crate::proofs::Growth::grows_resource_tables, crate::proofs::Growth::full_resource_tables))]
+    pub(crate) fn put_resource_table(
+        &mut self,
+        value: TypeResourceTable,
+    ) -> Result<TypeResourceTableIndex, TypeError>
+        ensures held { IfOk result (λ i. slice_get self.new.resource_tables i.0 ≡ Some value) }
+        ensures put { IsPut self.old.resource_tables self.new.resource_tables value }
+        ensures rest { self.new ≡ record self.old { resource_tables = self.new.resource_tables } }
+        ensures grows { Grows self.old self.new }
+        ensures never_bad { result ≡ Err TypeError.BadNumber → ⊥ }
+        ensures full { result ≡ Err TypeError.TooMany → IsFull self.new × (Contains self.new.resource_tables value → ⊥) }
+    {
+        Ok(TypeResourceTableIndex(intern(&mut self.resource_tables, value)?))
+    }
+
+    #[tactic(auto, using(crate::proofs::Growth::grows_future_tables, crate::proofs::Growth::full_future_tables))]
+    pub(crate) fn put_future_table(
+        &mut self,
+        value: TypeFutureTable,
+    ) -> Result<TypeFutureTableIndex, TypeError>
+        ensures held { IfOk result (λ i. slice_get self.new.future_tables i.0 ≡ Some value) }
+        ensures put { IsPut self.old.future_tables self.new.future_tables value }
+        ensures rest { self.new ≡ record self.old { future_tables = self.new.future_tables } }
+        ensures grows { Grows self.old self.new }
+        ensures never_bad { result ≡ Err TypeError.BadNumber → ⊥ }
+        ensures full { result ≡ Err TypeError.TooMany → IsFull self.new × (Contains self.new.future_tables value → ⊥) }
+    {
+        Ok(TypeFutureTableIndex(intern(&mut self.future_tables, value)?))
+    }
+
+    #[tactic(auto, using(crate::proofs::Growth::grows_stream_tables, crate::proofs::Growth::full_stream_tables))]
+    pub(crate) fn put_stream_table(
+        &mut self,
+        value: TypeStreamTable,
+    ) -> Result<TypeStreamTableIndex, TypeError>
+        ensures held { IfOk result (λ i. slice_get self.new.stream_tables i.0 ≡ Some value) }
+        ensures put { IsPut self.old.stream_tables self.new.stream_tables value }
+        ensures rest { self.new ≡ record self.old { stream_tables = self.new.stream_tables } }
+        ensures grows { Grows self.old self.new }
+        ensures never_bad { result ≡ Err TypeError.BadNumber → ⊥ }
+        ensures full { result ≡ Err TypeError.TooMany → IsFull self.new × (Contains self.new.stream_tables value → ⊥) }
+    {
+        Ok(TypeStreamTableIndex(intern(&mut self.stream_tables, value)?))
+    }
+
+    #[tactic(auto, using(crate::proofs::Growth::grows_error_context_tables, crate::proofs::Growth::full_error_context_tables))]
+    pub(crate) fn put_error_context_table(
+        &mut self,
+        value: TypeErrorContextTable,
+    ) -> Result<TypeComponentLocalErrorContextTableIndex, TypeError>
+        ensures held { IfOk result (λ i. slice_get self.new.error_context_tables i.0 ≡ Some value) }
+        ensures put { IsPut self.old.error_context_tables self.new.error_context_tables value }
+        ensures rest { self.new ≡ record self.old { error_context_tables = self.new.error_context_tables } }
+        ensures grows { Grows self.old self.new }
+        ensures never_bad { result ≡ Err TypeError.BadNumber → ⊥ }
+        ensures full { result ≡ Err TypeError.TooMany → IsFull self.new × (Contains self.new.error_context_tables value → ⊥) }
+    {
+        Ok(TypeComponentLocalErrorContextTableIndex(intern(&mut self.error_context_tables, value)?))
+    }
+
+    #[tactic(auto, using(crate::proofs::Growth::grows_instances, crate::proofs::Growth::full_instances))]
+    pub(crate) fn put_instance(
+        &mut self,
+        value: TypeComponentInstance,
+    ) -> Result<TypeComponentInstanceIndex, TypeError>
+        ensures held { IfOk result (λ i. slice_get self.new.instances i.0 ≡ Some value) }
+        ensures put { IsPut self.old.instances self.new.instances value }
+        ensures rest { self.new ≡ record self.old { instances = self.new.instances } }
+        ensures grows { Grows self.old self.new }
+        ensures never_bad { result ≡ Err TypeError.BadNumber → ⊥ }
+        ensures full { result ≡ Err TypeError.TooMany → IsFull self.new × (Contains self.new.instances value → ⊥) }
+    {
+        Ok(TypeComponentInstanceIndex(intern(&mut self.instances, value)?))
+    }
+
+    #[tactic(auto, using(crate::proofs::Growth::grows_components, crate::proofs::Growth::full_components))]
+    pub(crate) fn put_component(
+        &mut self,
+        value: TypeComponent,
+    ) -> Result<TypeComponentIndex, TypeError>
+        ensures held { IfOk result (λ i. slice_get self.new.components i.0 ≡ Some value) }
+        ensures put { IsPut self.old.components self.new.components value }
+        ensures rest { self.new ≡ record self.old { components = self.new.components } }
+        ensures grows { Grows self.old self.new }
+        ensures never_bad { result ≡ Err TypeError.BadNumber → ⊥ }
+        ensures full { result ≡ Err TypeError.TooMany → IsFull self.new × (Contains self.new.components value → ⊥) }
+    {
+        Ok(TypeComponentIndex(intern(&mut self.components, value)?))
+    }
+
+    #[tactic(auto, using(crate::proofs::Growth::grows_modules, crate::proofs::Growth::full_modules))]
+    pub(crate) fn put_module(&mut self, value: TypeModule) -> Result<TypeModuleIndex, TypeError>
+        ensures held { IfOk result (λ i. slice_get self.new.modules i.0 ≡ Some value) }
+        ensures put { IsPut self.old.modules self.new.modules value }
+        ensures rest { self.new ≡ record self.old { modules = self.new.modules } }
+        ensures grows { Grows self.old self.new }
+        ensures never_bad { result ≡ Err TypeError.BadNumber → ⊥ }
+        ensures full { result ≡ Err TypeError.TooMany → IsFull self.new × (Contains self.new.modules value → ⊥) }
+    {
+        Ok(TypeModuleIndex(intern(&mut self.modules, value)?))
+    }
+
+    #[tactic(auto, using(crate::proofs::Growth::grows_signatures, crate::proofs::Growth::full_signatures))]
+    pub(crate) fn put_signature(
+        &mut self,
+        value: CoreFuncSig,
+    ) -> Result<ModuleInternedTypeIndex, TypeError>
+        ensures held { IfOk result (λ i. slice_get self.new.signatures i.0 ≡ Some value) }
+        ensures put { IsPut self.old.signatures self.new.signatures value }
+        ensures rest { self.new ≡ record self.old { signatures = self.new.signatures } }
+        ensures grows { Grows self.old self.new }
+        ensures never_bad { result ≡ Err TypeError.BadNumber → ⊥ }
+        ensures full { result ≡ Err TypeError.TooMany → IsFull self.new × (Contains self.new.signatures value → ⊥) }
+    {
+        Ok(ModuleInternedTypeIndex(intern(&mut self.signatures, value)?))
+    }
+}

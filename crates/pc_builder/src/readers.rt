@@ -1,0 +1,157 @@
+//! The types by number.
+
+ghost use Rattle.std.specs.Prelude.{◌≡◌, ◌<◌, length, slice_get, Some};
+
+use crate::ComponentTypesBuilder;
+use pc_entity::ModuleInternedTypeIndex;
+use pc_types::{
+    CoreFuncSig, TypeComponent, TypeComponentIndex, TypeComponentInstance,
+    TypeComponentInstanceIndex, TypeComponentLocalErrorContextTableIndex, TypeEnum, TypeEnumIndex,
+    TypeErrorContextTable, TypeFlags, TypeFlagsIndex, TypeFunc, TypeFuncIndex, TypeFutureTable,
+    TypeFutureTableIndex, TypeList, TypeListIndex, TypeModule, TypeModuleIndex, TypeOption,
+    TypeOptionIndex, TypeRecord, TypeRecordIndex, TypeResourceTable, TypeResourceTableIndex,
+    TypeResult, TypeResultIndex, TypeStreamTable, TypeStreamTableIndex, TypeTuple, TypeTupleIndex,
+    TypeVariant, TypeVariantIndex,
+};
+
+impl ComponentTypesBuilder {
+    pub fn func(&self, i: TypeFuncIndex) -> &TypeFunc
+        requires held { i.0 < length self.now.funcs }
+        ensures { slice_get self.now.funcs i.0 ≡ Some result.now }
+    {
+        self.funcs.get(i.0).unwrap()
+    }
+
+    pub fn tuple(&self, i: TypeTupleIndex) -> &TypeTuple
+        requires held { i.0 < length self.now.tuples }
+        ensures { slice_get self.now.tuples i.0 ≡ Some result.now }
+    {
+        self.tuples.get(i.0).unwrap()
+    }
+
+    pub fn record_type(&self, i: TypeRecordIndex) -> &TypeRecord
+        requires held { i.0 < length self.now.records }
+        ensures { slice_get self.now.records i.0 ≡ Some result.now }
+    {
+        self.records.get(i.0).unwrap()
+    }
+
+    pub fn variant(&self, i: TypeVariantIndex) -> &TypeVariant
+        requires held { i.0 < length self.now.variants }
+        ensures { slice_get self.now.variants i.0 ≡ Some result.now }
+    {
+        self.variants.get(i.0).unwrap()
+    }
+
+    pub fn list(&self, i: TypeListIndex) -> &TypeList
+        requires held { i.0 < length self.now.lists }
+        ensures { slice_get self.now.lists i.0 ≡ Some result.now }
+    {
+        self.lists.get(i.0).unwrap()
+    }
+
+    pub fn option(&self, i: TypeOptionIndex) -> &TypeOption
+        requires held { i.0 < length self.now.options }
+        ensures { slice_get self.now.options i.0 ≡ Some result.now }
+    {
+        self.options.get(i.0).unwrap()
+    }
+
+    pub fn result(&self, i: TypeResultIndex) -> &TypeResult
+        requires held { i.0 < length self.now.results }
+        ensures { slice_get self.now.results i.0 ≡ Some result.now }
+    {
+        self.results.get(i.0).unwrap()
+    }
+
+    pub fn flags(&self, i: TypeFlagsIndex) -> &TypeFlags
+        requires held { i.0 < length self.now.flags }
+        ensures { slice_get self.now.flags i.0 ≡ Some result.now }
+    {
+        self.flags.get(i.0).unwrap()
+    }
+
+    pub fn enum_type(&self, i: TypeEnumIndex) -> &TypeEnum
+        requires held { i.0 < length self.now.enums }
+        ensures { slice_get self.now.enums i.0 ≡ Some result.now }
+    {
+        self.enums.get(i.0).unwrap()
+    }
+
+    pub fn resource_table(&self, i: TypeResourceTableIndex) -> &TypeResourceTable
+        requires held { i.0 < length self.now.resource_tables }
+        ensures { slice_get self.now.resource_tables i.0 ≡ Some result.now }
+    {
+        self.resource_tables.get(i.0).unwrap()
+    }
+
+    pub fn future_table(&self, i: TypeFutureTableIndex) -> &TypeFutureTable
+        requires held { i.0 < length self.now.future_tables }
+        ensures { slice_get self.now.future_tables i.0 ≡ Some result.now }
+    {
+        self.future_tables.get(i.0).unwrap()
+    }
+
+    pub fn stream_table(&self, i: TypeStreamTableIndex) -> &TypeStreamTable
+        requires held { i.0 < length self.now.stream_tables }
+        ensures { slice_get self.now.stream_tables i.0 ≡ Some result.now }
+    {
+        self.stream_tables.get(i.0).unwrap()
+    }
+
+    pub fn error_context_table(
+        &self,
+        i: TypeComponentLocalErrorContextTableIndex,
+    ) -> &TypeErrorContextTable
+        requires held { i.0 < length self.now.error_context_tables }
+        ensures { slice_get self.now.error_context_tables i.0 ≡ Some result.now }
+    {
+        self.error_context_tables.get(i.0).unwrap()
+    }
+
+    pub fn instance(&self, i: TypeComponentInstanceIndex) -> &TypeComponentInstance
+        requires held { i.0 < length self.now.instances }
+        ensures { slice_get self.now.instances i.0 ≡ Some result.now }
+    {
+        self.instances.get(i.0).unwrap()
+    }
+
+    pub fn component(&self, i: TypeComponentIndex) -> &TypeComponent
+        requires held { i.0 < length self.now.components }
+        ensures { slice_get self.now.components i.0 ≡ Some result.now }
+    {
+        self.components.get(i.0).unwrap()
+    }
+
+    pub fn module(&self, i: TypeModuleIndex) -> &TypeModule
+        requires held { i.0 < length self.now.modules }
+        ensures { slice_get self.now.modules i.0 ≡ Some result.now }
+    {
+        self.modules.get(i.0).unwrap()
+    }
+
+    pub fn signature(&self, i: ModuleInternedTypeIndex) -> &CoreFuncSig
+        requires held { i.0 < length self.now.signatures }
+        ensures { slice_get self.now.signatures i.0 ≡ Some result.now }
+    {
+        self.signatures.get(i.0).unwrap()
+    }
+
+    pub fn num_future_tables(&self) -> usize
+        ensures { result ≡ length self.now.future_tables }
+    {
+        self.future_tables.len()
+    }
+
+    pub fn num_stream_tables(&self) -> usize
+        ensures { result ≡ length self.now.stream_tables }
+    {
+        self.stream_tables.len()
+    }
+
+    pub fn num_error_context_tables(&self) -> usize
+        ensures { result ≡ length self.now.error_context_tables }
+    {
+        self.error_context_tables.len()
+    }
+}
