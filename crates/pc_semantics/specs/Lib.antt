@@ -1,0 +1,7 @@
+-- What the public contracts of the crates above rest on, in reading order.
+pub mod CoreValue
+pub mod ExportNode
+pub mod Log
+pub mod PlanView
+pub mod Machine
+pub mod Text
