@@ -1,0 +1,77 @@
+//! The whole input.
+
+ghost use Rattle.std.specs.Prelude.{◌≡◌, Some, IfOk, IfErr};
+ghost use Rattle.serde_json.specs.View.{view};
+ghost use Rattle.pc_form.specs.Input.{input_from, input_of, input_in, HasCause};
+ghost use Rattle.pc_form.specs.Rules.{plain};
+ghost use Rattle.pc_form.specs.Reads.{Reads, HasTree};
+
+use crate::DecodeError;
+use crate::form::{Form, Plain, field};
+use crate::tree::has_members;
+use pc_entity::{Seq, Text};
+use pc_parsed::{Payload, Tunables};
+use pc_types::TypeTable;
+use serde_json::Value;
+use std::alloc::Global;
+
+/// What a translation is asked for.
+#[derive(Drop)]
+pub struct Input {
+    pub tunables: Tunables,
+    /// The import name under which the root finds the unsafe intrinsics, if it may have them.
+    pub intrinsics: Option<Text>,
+    pub table: TypeTable,
+    pub payloads: Seq<Payload>,
+}
+
+/// The members that an input has in every form.
+fn members<F: Form>(form: &F, alloc: Global, value: &Value) -> Result<Input, DecodeError>
+    ensures { Reads result (input_from (F.rules form.now) (view value.now)) }
+{
+    let limit = field(form, alloc, value, "limit")?;
+    Ok(Input {
+        tunables: Tunables {
+            max_component_instances: limit,
+        },
+        intrinsics: field(form, alloc, value, "intrinsics")?,
+        table: field(form, alloc, value, "types")?,
+        payloads: field(form, alloc, value, "payloads")?,
+    })
+}
+
+/// The input that a tree stands for.
+fn decode_tree(alloc: Global, value: &Value) -> Result<Input, DecodeError>
+    ensures { Reads result (input_of plain (view value.now)) }
+{
+    if has_members(4, value) {
+        members(&Plain, alloc, value)
+    } else {
+        Err(DecodeError::BadForm)
+    }
+}
+
+/// The tree that JSON's reader makes of bytes.
+fn tree(alloc: Global, bytes: &[u8]) -> Result<Value, DecodeError>
+    ensures { HasTree bytes.now result }
+{
+    match Value::from_slice(alloc, bytes) {
+        Ok(value) => Ok(value),
+        Err(e) => {
+            if e.is_memory() {
+                Err(DecodeError::NoMemory)
+            } else {
+                Err(DecodeError::NotJson)
+            }
+        }
+    }
+}
+
+/// The input that bytes stand for. The tree that JSON's reader makes of the bytes is gone when this returns.
+pub fn decode_input(alloc: Global, bytes: &[u8]) -> Result<Input, DecodeError>
+    ensures ok { IfOk result (λ input. input_in bytes.now ≡ Some input) }
+    ensures err { IfErr result (HasCause bytes.now) }
+{
+    let value = tree(alloc, bytes)?;
+    decode_tree(alloc, &value)
+}

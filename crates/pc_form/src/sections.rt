@@ -1,0 +1,132 @@
+//! The entries of a component's sections.
+
+ghost use Rattle.pc_form.specs.Payload.{type_item, import_item, export_entry, instance_item};
+ghost use Rattle.pc_form.specs.Payload.{component_instance_item, alias_item};
+
+use crate::DecodeError;
+use crate::form::{Form, ReadForm, read};
+use crate::names::core_items;
+use crate::tree::tagged;
+use pc_parsed::{
+    AliasItem, ComponentInstanceItem, ExportEntry, ImportItem, InstanceItem, TypeItem,
+};
+use serde_json::Value;
+use std::alloc::Global;
+
+/// `"other"`, or `{"resource":[id,rep,dtor]}` with a destructor or null.
+impl ReadForm for TypeItem {
+    ghost shape = { λ _. type_item };
+
+    fn read<F: Form>(form: &F, alloc: Global, value: &Value) -> Result<TypeItem, DecodeError> {
+        if let Some(word) = value.as_str() {
+            return if word == "other" {
+                Ok(TypeItem::Other)
+            } else {
+                Err(DecodeError::BadForm)
+            };
+        }
+        match tagged(value) {
+            Some(("resource", body)) => {
+                let (id, rep, dtor) = read(form, alloc, body)?;
+                Ok(TypeItem::Resource { id, rep, dtor })
+            }
+            _ => Err(DecodeError::BadForm),
+        }
+    }
+}
+
+/// `[NAME,E]`.
+impl ReadForm for ImportItem {
+    ghost shape = { import_item };
+
+    fn read<F: Form>(form: &F, alloc: Global, value: &Value) -> Result<ImportItem, DecodeError> {
+        let (name, ty) = read(form, alloc, value)?;
+        Ok(ImportItem { name, ty })
+    }
+}
+
+/// `[NAME,item kind,i]`.
+impl ReadForm for ExportEntry {
+    ghost shape = { export_entry };
+
+    fn read<F: Form>(form: &F, alloc: Global, value: &Value) -> Result<ExportEntry, DecodeError> {
+        let (name, kind, index) = read(form, alloc, value)?;
+        Ok(ExportEntry { name, kind, index })
+    }
+}
+
+/// `{"instantiate":[module,[["name",i],...]]}` or `{"exports":[["name",core kind,i],...]}`.
+impl ReadForm for InstanceItem {
+    ghost shape = { instance_item };
+
+    fn read<F: Form>(form: &F, alloc: Global, value: &Value) -> Result<InstanceItem, DecodeError> {
+        match tagged(value) {
+            Some(("instantiate", body)) => {
+                let (module, args) = read(form, alloc, body)?;
+                Ok(InstanceItem::Instantiate { module, args })
+            }
+            Some(("exports", body)) => Ok(InstanceItem::FromExports(core_items(
+                form, alloc, body,
+            )?)),
+            _ => Err(DecodeError::BadForm),
+        }
+    }
+}
+
+/// `{"instantiate":[component,[["name",item kind,i],...],ty]}` or `{"exports":[[[NAME,item kind,i],...],ty]}`.
+impl ReadForm for ComponentInstanceItem {
+    ghost shape = { component_instance_item };
+
+    fn read<F: Form>(
+        form: &F,
+        alloc: Global,
+        value: &Value,
+    ) -> Result<ComponentInstanceItem, DecodeError> {
+        match tagged(value) {
+            Some(("instantiate", body)) => {
+                let (component, args, ty) = read(form, alloc, body)?;
+                Ok(ComponentInstanceItem::Instantiate {
+                    component,
+                    args,
+                    ty,
+                })
+            }
+            Some(("exports", body)) => {
+                let (exports, ty) = read(form, alloc, body)?;
+                Ok(ComponentInstanceItem::FromExports { exports, ty })
+            }
+            _ => Err(DecodeError::BadForm),
+        }
+    }
+}
+
+/// `{"export":[item kind,i,"name"]}`, `{"core-export":[core kind,i,"name"]}` or `{"outer":[kind,count,i]}`.
+impl ReadForm for AliasItem {
+    ghost shape = { alias_item };
+
+    fn read<F: Form>(form: &F, alloc: Global, value: &Value) -> Result<AliasItem, DecodeError> {
+        match tagged(value) {
+            Some(("export", body)) => {
+                let (kind, instance, name) = read(form, alloc, body)?;
+                Ok(AliasItem::InstanceExport {
+                    kind,
+                    instance,
+                    name,
+                })
+            }
+            Some(("core-export", body)) => {
+                let (kind, instance, name) = read(form, alloc, body)?;
+                Ok(AliasItem::CoreInstanceExport {
+                    kind,
+                    instance,
+                    name,
+                })
+            }
+            Some(("outer", body)) => {
+                let (kind, count, index) = read(form, alloc, body)?;
+                Ok(AliasItem::Outer { kind, count, index })
+            }
+            _ => Err(DecodeError::BadForm),
+        }
+    }
+}

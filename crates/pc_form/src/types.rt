@@ -1,0 +1,191 @@
+//! The entries of the type table.
+
+ghost use Rattle.std.specs.Prelude.{◌≡◌, Option, Some, None, option_map, map, codes};
+ghost use Rattle.serde_json.specs.View.{view};
+ghost use Rattle.pc_entity.specs.Lists.{value_of};
+ghost use Rattle.pc_form.specs.Types.{core_sig, val_type, entity, entity_kinds, core_entity};
+ghost use Rattle.pc_form.specs.Types.{bare_core_entities, core_entity_from, entity_from, func_type};
+ghost use Rattle.pc_form.specs.Types.{entry_keys, decl_type, type_table};
+ghost use Rattle.pc_form.specs.Tree.{by_row};
+ghost use Rattle.pc_form.specs.Reads.{Reads};
+
+use crate::DecodeError;
+use crate::form::{Form, ReadForm, field, read};
+use crate::tree::{has_members, headed, tagged};
+use pc_entity::{Seq, Text};
+use pc_types::{
+    CoreEntity, CoreFuncSig, DeclType, Entity, PrimType, TypeTable, ValType, WasmValType,
+};
+use serde_json::Value;
+use std::alloc::Global;
+
+/// `[[params],[results]]`.
+impl ReadForm for CoreFuncSig {
+    ghost shape = { λ _. core_sig };
+
+    fn read<F: Form>(form: &F, alloc: Global, value: &Value) -> Result<CoreFuncSig, DecodeError> {
+        let (params, results) = <(Seq<WasmValType>, Seq<WasmValType>)>::read(form, alloc, value)?;
+        Ok(CoreFuncSig { params, results })
+    }
+}
+
+/// The number of a table entry, or a primitive.
+impl ReadForm for ValType {
+    ghost shape = { λ _. val_type };
+
+    fn read<F: Form>(form: &F, alloc: Global, value: &Value) -> Result<ValType, DecodeError> {
+        if value.is_number() {
+            Ok(ValType::Type_(u32::read(form, alloc, value)?))
+        } else {
+            Ok(ValType::Prim(PrimType::read(form, alloc, value)?))
+        }
+    }
+}
+
+/// An entity of a kind and a number.
+fn numbered_entity(kind: &str, n: u32) -> Option<Entity>
+    ensures { result ≡ option_map (λ make. make n) (value_of kind.now entity_kinds) }
+{
+    match kind {
+        "func" => Some(Entity::Func(n)),
+        "instance" => Some(Entity::Instance(n)),
+        "component" => Some(Entity::Component(n)),
+        "module" => Some(Entity::Module(n)),
+        "type" => Some(Entity::Type_(n)),
+        _ => None,
+    }
+}
+
+/// `["func",n]` and its kin, or `["value"]`.
+impl ReadForm for Entity {
+    ghost shape = { λ _. entity };
+
+    fn read<F: Form>(form: &F, alloc: Global, value: &Value) -> Result<Entity, DecodeError> {
+        match headed(value) {
+            Some(("value", [])) => Ok(Entity::Value),
+            Some((kind, [n])) => {
+                let n = u32::read(form, alloc, n)?;
+                numbered_entity(kind, n).ok_or(DecodeError::BadForm)
+            }
+            _ => Err(DecodeError::BadForm),
+        }
+    }
+}
+
+/// A core entity that its kind alone says.
+fn bare_core_entity(kind: &str) -> Option<CoreEntity>
+    ensures { result ≡ value_of kind.now bare_core_entities }
+{
+    match kind {
+        "table" => Some(CoreEntity::Table),
+        "global" => Some(CoreEntity::Global),
+        "tag" => Some(CoreEntity::Tag),
+        _ => None,
+    }
+}
+
+/// `["func",s]`, `["memory",b]` with `b` true for 64-bit, `["table"]`, `["global"]` or `["tag"]`.
+impl ReadForm for CoreEntity {
+    ghost shape = { λ _. core_entity };
+
+    fn read<F: Form>(form: &F, alloc: Global, value: &Value) -> Result<CoreEntity, DecodeError> {
+        match headed(value) {
+            Some((kind, [])) => bare_core_entity(kind).ok_or(DecodeError::BadForm),
+            Some(("func", [signature])) => Ok(CoreEntity::Func(u32::read(form, alloc, signature)?)),
+            Some(("memory", [wide])) => Ok(CoreEntity::Memory {
+                memory64: bool::read(form, alloc, wide)?,
+            }),
+            _ => Err(DecodeError::BadForm),
+        }
+    }
+}
+
+/// `{"params":[["name",V],...],"result":V?,"async":bool}`.
+fn func_type<F: Form>(form: &F, alloc: Global, value: &Value) -> Result<DeclType, DecodeError>
+    ensures { Reads result (func_type (F.rules form.now) (view value.now)) }
+{
+    if !has_members(3, value) {
+        return Err(DecodeError::BadForm);
+    }
+    Ok(DeclType::Func {
+        params: field(form, alloc, value, "params")?,
+        result: field(form, alloc, value, "result")?,
+        async_: field(form, alloc, value, "async")?,
+    })
+}
+
+/// An entry that is an object, by its key.
+fn entry<F: Form>(
+    form: &F,
+    alloc: Global,
+    key: &str,
+    value: &Value,
+) -> Result<DeclType, DecodeError>
+    ensures { Reads result (by_row (entry_keys (F.rules form.now)) key.now (view value.now)) }
+{
+    match key {
+        "func" => func_type(form, alloc, value),
+        "val" => Ok(DeclType::Val(read(form, alloc, value)?)),
+        "list" => Ok(DeclType::List(read(form, alloc, value)?)),
+        "option" => Ok(DeclType::Option(read(form, alloc, value)?)),
+        "record" => Ok(DeclType::Record(read(form, alloc, value)?)),
+        "variant" => Ok(DeclType::Variant(read(form, alloc, value)?)),
+        "tuple" => Ok(DeclType::Tuple(read(form, alloc, value)?)),
+        "flags" => Ok(DeclType::Flags(read(form, alloc, value)?)),
+        "enum" => Ok(DeclType::Enum(read(form, alloc, value)?)),
+        "result" => {
+            let (ok, err) = read(form, alloc, value)?;
+            Ok(DeclType::Result { ok, err })
+        }
+        "own" => Ok(DeclType::Own(read(form, alloc, value)?)),
+        "borrow" => Ok(DeclType::Borrow(read(form, alloc, value)?)),
+        "stream" => Ok(DeclType::Stream(read(form, alloc, value)?)),
+        "future" => Ok(DeclType::Future(read(form, alloc, value)?)),
+        "instance" => Ok(DeclType::Instance {
+            exports: read(form, alloc, value)?,
+        }),
+        "component" => {
+            let (imports, exports) = read(form, alloc, value)?;
+            Ok(DeclType::Component { imports, exports })
+        }
+        "module" => {
+            let (imports, exports) = read(form, alloc, value)?;
+            Ok(DeclType::Module { imports, exports })
+        }
+        _ => Err(DecodeError::BadForm),
+    }
+}
+
+/// `"resource"`, or an object of one member.
+impl ReadForm for DeclType {
+    ghost shape = { decl_type };
+
+    fn read<F: Form>(form: &F, alloc: Global, value: &Value) -> Result<DeclType, DecodeError> {
+        if let Some(word) = value.as_str() {
+            return if word == "resource" {
+                Ok(DeclType::Resource)
+            } else {
+                Err(DecodeError::BadForm)
+            };
+        }
+        match tagged(value) {
+            Some((key, body)) => entry(form, alloc, key, body),
+            None => Err(DecodeError::BadForm),
+        }
+    }
+}
+
+/// `{"core":[..],"types":[..]}`.
+impl ReadForm for TypeTable {
+    ghost shape = { type_table };
+
+    fn read<F: Form>(form: &F, alloc: Global, value: &Value) -> Result<TypeTable, DecodeError> {
+        if !has_members(2, value) {
+            return Err(DecodeError::BadForm);
+        }
+        Ok(TypeTable {
+            core_funcs: field(form, alloc, value, "core")?,
+            types: field(form, alloc, value, "types")?,
+        })
+    }
+}
