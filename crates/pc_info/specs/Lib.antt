@@ -1,0 +1,2 @@
+-- What the public contracts of the crates above rest on.
+pub mod View
