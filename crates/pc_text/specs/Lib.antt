@@ -1,0 +1,3 @@
+-- What the public contracts rest on, beside the text of a plan in `pc_semantics`.
+pub mod FaultText
+pub mod UsageText

@@ -1,0 +1,20 @@
+//! The printed texts: of a plan, of a refusal, and of the usage.
+//!
+//! A plan or an `Error` goes in, and its text comes out as bytes. `pc_semantics` defines the text of a plan, over the view
+//! that `pc_info` gives of one; the other texts are defined here.
+#![tactic(auto)]
+
+mod definition;
+mod export;
+mod fault;
+mod fixed;
+mod initializer;
+mod options;
+mod piece;
+mod plan;
+#[cfg(test)]
+mod tests;
+
+pub use fault::fault_text;
+pub use fixed::{bad_form_text, not_json_text, too_long_text, usage_text};
+pub use plan::plan_text;
