@@ -1,0 +1,15 @@
+mod Means
+mod Standing
+mod Growing
+mod Running
+mod Exporting
+mod Simulation
+mod Reading
+mod Ending
+mod Trees
+mod Naming
+mod Adding
+mod Translating
+mod Looping
+mod Plain
+mod Causes

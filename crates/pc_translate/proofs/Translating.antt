@@ -1,0 +1,230 @@
+-- The whole translation: the plan of the frame that was read does what the nested reading says.
+use Rattle.std.proofs.Common.{◌≡◌, ℕ, ◌+◌, ◌≤◌, ◌<◌, List, [], ◌∷◌, ◌++◌, length, map, Option, Some, None, Result, Ok, Err, Bool, true, false, refl, sym, ap, ◌∙◌, subst, arith, ◌&&◌, zero-add}
+use Rattle.std.specs.Prelude.{nat_lt, is_none, if◌then◌else◌}
+use Rattle.std.specs.List.{AllZip, filter_map, cons_option, flat_map, list_all}
+use Rattle.std.proofs.lemmas.Bool.{lt-ltb}
+use Rattle.pc_entity.proofs.Elements.{and_true, true_and}
+use Rattle.pc_info.specs.declared.component.Component.{Component}
+use Rattle.pc_info.specs.declared.component.ComponentTranslation.{ComponentTranslation}
+use Rattle.pc_info.specs.declared.component.ModuleTranslation.{ModuleTranslation}
+use Rattle.pc_info.specs.View.{TypeNumber, has_items, module_view, view, initializer_view, options_view, named_view}
+use Rattle.pc_numbers.specs.declared.runtime.ExportIndex.{ExportIndex}
+use Rattle.pc_parsed.specs.Built.{are_built, is_built_entry, is_built_payload}
+use Rattle.pc_parsed.specs.declared.fault.ItemFault.{ItemFault}
+use Rattle.pc_parsed.specs.declared.payload.Payload.{Payload}
+use Rattle.pc_parsed.specs.declared.payload.Payload.TheVariants as payload
+use Rattle.pc_parsed.specs.Nest.{body_items, module_of, modules_of}
+use Rattle.pc_parsed.specs.Program.{is_translatable}
+use Rattle.pc_parsed.specs.Reading.{Outcome, Reading, reading, done, fault, and_then, read_items, result_at}
+use Rattle.pc_parsed.specs.Scope as scope
+use Rattle.pc_parsed.specs.StaticFault.{exported_names, is_sound_list, is_sound_payload}
+use Rattle.pc_parsed.specs.Nest.{is_body}
+use Rattle.pc_semantics.specs.Log.{Owned, erase_owned, instances_of}
+use Rattle.pc_entity.specs.Lists.{map_all}
+use Rattle.pc_info.specs.declared.initializer.GlobalInitializer.{GlobalInitializer}
+use Rattle.pc_semantics.specs.Machine.{RuntimeInstance, named_node, owned_of, run_from, start}
+use Rattle.pc_semantics.specs.PlanView as plan
+use Rattle.pc_translate.proofs.Adding.{all_names, item_names, list_names}
+use Rattle.pc_translate.proofs.Ending.{all_nodes, runs_within}
+use Rattle.pc_translate.proofs.Means.{zip_length}
+use Rattle.pc_translate.proofs.Reading.{Ends, items_agree}
+use Rattle.pc_translate.proofs.Standing
+use Rattle.pc_translate.proofs.Trees.{has_trees}
+use Rattle.pc_translate.specs.Building
+use Rattle.pc_translate.specs.declared.frame.Frame.{Frame}
+use Rattle.pc_translate.specs.declared.frame.NamedFunction.{NamedFunction}
+use Rattle.pc_translate.specs.Planning.{IsPlanOf, IsExportOf, entries_from, export_name, plain_entry}
+use Rattle.pc_translate.specs.Translation.{Translates}
+use Rattle.pc_types.specs.declared.error.Place.TheVariants as place
+use Rattle.pc_types.specs.declared.module_record.ModuleRecord.{ModuleRecord}
+use Rattle.pc_types.specs.declared.parsed.TypeTable.{TypeTable}
+use Rattle.pc_types.specs.declared.types.ComponentExternData.{ComponentExternData}
+use Rattle.pc_types.specs.Names.{distinct_names}
+use Rattle.pc_types.specs.Record.{is_sound}
+use Rattle.pc_types.specs.Table.{EntryFault, table_fault}
+
+-- the moment in which the root begins
+abbrev first : scope.Moment
+first = record { scope = scope.fresh 0; world = record { log = []; begun = 1 } }
+
+-- the empty frame stands for it
+first_stands : (p : plan.PlanView TypeNumber) → Standing.StandsFor p Building.empty_frame first
+first_stands p = record {
+  made = [];
+  runs = refl;
+  numbered = refl;
+  log = tt;
+  core_funcs = tt;
+  modules = tt;
+  core_instances = tt;
+  funcs = tt;
+  exports = tt;
+  root = refl;
+  unknown = refl;
+  begun = refl;
+}
+
+-- a view that has these modules, for runs that end at a fault
+abbrev some_view : List ModuleRecord → plan.PlanView TypeNumber
+some_view ms = record {
+  handed_in = ms;
+  adapter_modules = 0;
+  adapters = [];
+  import_types = [];
+  imports = [];
+  imported_resources = [];
+  initializers = [];
+  options = [];
+  trampolines = [];
+  intrinsics = [];
+  exports = [];
+  counts = record {
+    runtime_instances = 0;
+    component_instances = 1;
+    lowerings = 0;
+    memories = 0;
+    tables = 0;
+    reallocs = 0;
+    callbacks = 0;
+    post_returns = 0;
+    resources = 0;
+    future_tables = 0;
+    stream_tables = 0;
+    error_context_tables = 0;
+  };
+}
+
+-- the modules of sound payloads are sound
+sound_modules : (t : TypeTable) (ps : List Payload) → list_all (is_sound_payload t) ps ≡ true → list_all (is_sound t) (modules_of ps) ≡ true
+sound_modules t [] h = refl
+sound_modules t (p ∷ ps) h =
+    let both = and_true (is_sound_payload t p) (list_all (is_sound_payload t) ps) h in
+    by p both.0 (sound_modules t ps both.1)
+  where
+    by : (q : Payload) → is_sound_payload t q ≡ true → list_all (is_sound t) (modules_of ps) ≡ true
+        → list_all (is_sound t) (cons_option (module_of q) (modules_of ps)) ≡ true
+    by (payload.ModuleSection r ty) s rest = true_and (is_sound t r) (list_all (is_sound t) (modules_of ps)) s rest
+    by (payload.Version e) s rest = rest
+    by payload.CoreTypeSection s rest = rest
+    by payload.CustomSection s rest = rest
+    by payload.ComponentStartSection s rest = rest
+    by payload.ComponentSection s rest = rest
+    by payload.End s rest = rest
+    by (payload.ComponentTypeSection xs) s rest = rest
+    by (payload.ComponentImportSection xs) s rest = rest
+    by (payload.ComponentCanonicalSection xs) s rest = rest
+    by (payload.InstanceSection xs) s rest = rest
+    by (payload.ComponentInstanceSection xs) s rest = rest
+    by (payload.ComponentExportSection xs) s rest = rest
+    by (payload.ComponentAliasSection xs) s rest = rest
+
+-- nothing is in an option that is none
+none_is : {A : Type 0} (o : Option A) → is_none o ≡ true → o ≡ None
+none_is None h = refl
+none_is (Some x) h = cc
+
+-- the parts of what can be translated
+pub record Parts (t : TypeTable) (ps : List Payload) : Type 0 where
+  pub table : table_fault t ≡ None
+  pub entries : list_all is_built_entry t.types ≡ true
+  pub payloads : list_all is_built_payload ps ≡ true
+  pub modules : list_all (is_sound t) (modules_of ps) ≡ true
+  pub names : distinct_names (flat_map exported_names ps) ≡ true
+
+pub parts : (t : TypeTable) (exposed : Option (List ℕ)) (ps : List Payload) → is_translatable t exposed ps ≡ true → Parts t ps
+parts t exposed ps h =
+    let both = and_true (are_built t exposed ps) (is_sound_list t ps) h in
+    let b1 = and_true (is_none exposed && list_all is_built_entry t.types) (list_all is_built_payload ps) both.0 in
+    let b2 = and_true (is_none exposed) (list_all is_built_entry t.types) b1.0 in
+    let s1 = and_true (is_none (table_fault t) && is_body ps && list_all (is_sound_payload t) ps) (distinct_names (flat_map exported_names ps)) both.1 in
+    let s2 = and_true (is_none (table_fault t) && is_body ps) (list_all (is_sound_payload t) ps) s1.0 in
+    let s3 = and_true (is_none (table_fault t)) (is_body ps) s2.0 in
+    record {
+      table = none_is (table_fault t) s3.0;
+      entries = b2.1;
+      payloads = b1.1;
+      modules = sound_modules t ps s2.1;
+      names = s1.1;
+    }
+
+-- the names of the frame's exports are distinct
+pub frame_names : (t : TypeTable) (ps : List Payload) (f : Frame) → Parts t ps
+    → Building.BuildsAll t (modules_of ps) 0 (body_items ps) Building.empty_frame (Ok f) → distinct_names (map export_name f.exports) ≡ true
+frame_names t ps f q b =
+    let same = all_names t (modules_of ps) 0 (body_items ps) Building.empty_frame f b ∙ list_names 0 ps q.payloads in
+    subst (λ (names : List (List ℕ)). distinct_names names ≡ true) (sym same) q.names
+
+-- the core instances of a run, without those of adapter modules, are those of the log
+owned_same : (p : plan.PlanView TypeNumber) (made : List (RuntimeInstance TypeNumber)) (os : List (Owned scope.Mark))
+    → AllZip (Standing.OwnedStands p) made os → map erase_owned (filter_map owned_of made) ≡ map erase_owned os
+owned_same p [] [] h = refl
+owned_same p [] (o ∷ os) h = absurd h
+owned_same p (x ∷ made) [] h = absurd h
+owned_same p (x ∷ made) (o ∷ os) h =
+    let one = h.0 in
+    let same = one.same in
+    let rest = owned_same p made os h.1 in
+    rw one.is_it (λ i. same i ∷ rest i)
+
+-- each entry of an export map names an item
+held_from : (n k : ℕ) (xs : List NamedFunction) → n + length xs ≤ k
+    → list_all (λ (e : List ℕ × (ExportIndex × ComponentExternData)). nat_lt e.1.0.0 k) (entries_from n xs) ≡ true
+held_from n k [] le = refl
+held_from n k (x ∷ xs) le =
+    let lt : n < k = omega arith in
+    let more : n + 1 + length xs ≤ k = omega arith in
+    true_and _ _ (lt-ltb n k lt) (held_from (n + 1) k xs more)
+
+-- a reading whose items end
+reading_is : (t : TypeTable) (exposed : Option (List ℕ)) (limit : ℕ) (ps : List Payload) (o : Outcome scope.Moment) → nat_lt 0 limit ≡ true
+    → read_items t (modules_of ps) 0 (body_items ps) first ≡ o
+    → reading t exposed limit ps ≡ and_then o (λ now. done (result_at now))
+reading_is t exposed limit ps o begins h = rw (begins, h) refl
+
+-- a frame that was read to the end, and its plan
+pub translated : (t : TypeTable) (exposed : Option (List ℕ)) (limit : ℕ) (ps : List Payload) (f : Frame) (c : Component) (mts : List ModuleTranslation)
+    → nat_lt 0 limit ≡ true → is_translatable t exposed ps ≡ true → Parts t ps
+    → Building.BuildsAll t (modules_of ps) 0 (body_items ps) Building.empty_frame (Ok f) → IsPlanOf f c → map module_view mts ≡ modules_of ps
+    → Translates t exposed limit ps (record { component = c }) mts
+translated t exposed limit ps f c mts begins ok q b is_plan same_modules =
+    let p : plan.PlanView TypeNumber = view (record { component = c }) mts in
+    let counted : nat_lt 0 p.counts.component_instances ≡ true = rw is_plan.component_instances refl in
+    let sound : list_all (is_sound t) p.handed_in ≡ true = rw same_modules q.modules in
+    let b' = subst (λ (ms : List ModuleRecord). Building.BuildsAll t ms 0 (body_items ps) Building.empty_frame (Ok f)) (sym same_modules) b in
+    let e : Ends p f (read_items t p.handed_in 0 (body_items ps) first) =
+    items_agree t p sound (has_trees t q.table q.entries) counted 0 (body_items ps) Building.empty_frame first (first_stands p) (Ok f) b' in
+    let is_done : read_items t (modules_of ps) 0 (body_items ps) first ≡ done e.now =
+    subst (λ (ms : List ModuleRecord). read_items t ms 0 (body_items ps) first ≡ done e.now) same_modules e.is_done in
+    let made = e.stands.made in
+    let few : length f.initializers ≤ p.counts.runtime_instances = rw is_plan.instances (omega arith) in
+    let listed : p.options ≡ map options_view (map plain_entry is_plan.signatures) = ap (map options_view) is_plan.options in
+    let ns = all_nodes p made is_plan.signatures counted listed c.export_items f.exports e.now.scope.exports is_plan.exported.each e.stands.exports in
+    let count = zip_length (IsExportOf is_plan.signatures) f.exports c.export_items is_plan.exported.each in
+    record {
+      able = rw (begins, ok) refl;
+      result = result_at e.now;
+      outcome = reading_is t exposed limit ps (done e.now) begins is_done;
+      does = record {
+        last = Standing.after made;
+        nodes = ns.nodes;
+        runs = subst (λ (is : List GlobalInitializer). run_from p (λ r. true) (map initializer_view is) start ≡ Some (Standing.after made)) (sym is_plan.initializers)
+            (runs_within p f.initializers made e.stands.runs few);
+        ends = subst (λ (es : List (List ℕ × (ExportIndex × ComponentExternData))). map_all (named_node p (Standing.after made)) (filter_map (named_view c.export_items) es) ≡ Some ns.nodes)
+            (sym is_plan.exported.names) ns.resolve;
+        same = owned_same p made (instances_of e.now.world.log) e.stands.log;
+        exports = ns.same;
+      };
+      handed_in = same_modules;
+      begun = is_plan.component_instances ∙ sym e.stands.begun;
+      held = rw is_plan.exported.names (held_from 0 (length c.export_items) f.exports (rw (zero-add (length f.exports), count) (omega arith)));
+    }
+
+-- a frame that ended at a fault
+pub faulted : (t : TypeTable) (exposed : Option (List ℕ)) (limit : ℕ) (ps : List Payload) (k : ItemFault) (n : ℕ)
+    → nat_lt 0 limit ≡ true → Parts t ps
+    → Building.BuildsAll t (modules_of ps) 0 (body_items ps) Building.empty_frame (Err (k, n))
+    → reading t exposed limit ps ≡ fault k (place.Reading 0 n)
+faulted t exposed limit ps k n begins q b =
+    let p = some_view (modules_of ps) in
+    reading_is t exposed limit ps (fault k (place.Reading 0 n)) begins
+    (items_agree t p q.modules (has_trees t q.table q.entries) refl 0 (body_items ps) Building.empty_frame first (first_stands p) (Err (k, n)) b)

@@ -1,0 +1,24 @@
+use Rattle.std.proofs.Common.{◌≡◌, ◌++◌, ◌∷◌, [], ◌∙◌, refl}
+use Rattle.pc_info.specs.declared.export.Export.TheVariants as export
+use Rattle.pc_translate.proofs.Naming.{interned_kept, interned_few}
+use Rattle.pc_translate.proofs.plan.push_export.Goals as goal
+
+pub returns : goal.returns
+returns c =
+    let old = c.args.exported.now in
+    let named = c.args.named.now in
+    let name_is = c.in_ok-name.ensures in
+    let implements_is = c.in_ok-implements.ensures in
+    let id_is = c.in_ok-external_id.ensures in
+    let key_is = c.in_ok-index.ensures.key in
+    record {
+      ok = record {
+        item = export.LiftedFunction named.function.ty c.in_ok-func.func (record { 0 = c.in_ok-push.field-0 });
+        is_it = (refl, c.in_ok-func.ensures, c.in_ok-push.ensures.held);
+        items = c.in_ok-index.ensures.ok;
+        names = c.in_ok-push-2.ensures.ok
+            ∙ (λ i. old.names ++ (name_is i, (key_is i, record { implements = implements_is i; external_id = id_is i })) ∷ []);
+        kept = interned_kept _ _ _ c.in_ok-push.ensures.grows;
+        few = interned_few _ _ _ c.in_ok-push.ensures.grows;
+      };
+    }

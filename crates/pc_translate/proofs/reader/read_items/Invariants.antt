@@ -1,0 +1,9 @@
+use Rattle.pc_builder.specs.Types.{Grows}
+use Rattle.pc_translate.proofs.Looping.{ReadSoFar}
+use Rattle.pc_translate.proofs.reader.read_items.Given as goal
+
+abbrev pub invariant-loop-i : goal.invariant-loop-i
+invariant-loop-i l = record {
+  so_far : ReadSoFar l.table l.modules l.items l.i l.frame;
+  grows : Grows l.fn.types l.types;
+}

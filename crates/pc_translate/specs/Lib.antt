@@ -1,0 +1,5 @@
+-- What the public contracts rest on.
+pub mod Translation
+-- What the functions inside promise each other.
+pub mod Building
+pub mod Planning

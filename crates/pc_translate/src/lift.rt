@@ -1,0 +1,134 @@
+//! Lifting core functions.
+
+ghost use Rattle.std.specs.Prelude.{◌≡◌, ◌≢◌, ◌⊎◌, ◌&&◌, ℕ, None, true, false, Result, IfErr, OnOk};
+ghost use Rattle.std.specs.List.{list_all};
+ghost use Rattle.pc_builder.specs.Types.{Grows, IsFull};
+ghost use Rattle.pc_parsed.specs.Built.{is_built_entry};
+ghost use Rattle.pc_parsed.specs.ItemRows.{has_entry};
+ghost use Rattle.pc_parsed.specs.declared.fault.ItemFault.{ItemFault};
+ghost use Rattle.pc_parsed.specs.declared.fault.ItemFault.TheVariants as fault;
+ghost use Rattle.pc_types.specs.Record.{has_signature};
+ghost use Rattle.pc_types.specs.Table.{is_func, table_fault};
+ghost use Rattle.pc_translate.specs.Building.{Becomes, Ends, build_lift, build_lifted};
+ghost use Rattle.pc_translate.specs.declared.error.ReadError.TheVariants as read_error;
+ghost use Rattle.pc_translate.specs.declared.frame.Frame.{Frame};
+
+use crate::error::ReadError;
+use crate::frame::{Frame, LiftedFunction};
+use pc_builder::ComponentTypesBuilder;
+use pc_entity::TryClone;
+use pc_parsed::ItemFault;
+use pc_types::{ModuleInternedTypeIndex, TypeError, TypeFuncIndex, TypeTable};
+use std::alloc::Global;
+
+/// The builder's number of a function type, by its table number.
+fn func_type(
+    types: &mut ComponentTypesBuilder,
+    table: &TypeTable,
+    ty: u32,
+) -> Result<TypeFuncIndex, ReadError>
+    requires sound { table_fault table.now ≡ None }
+    requires built { list_all is_built_entry table.now.types ≡ true }
+    ensures ok { OnOk result (has_entry table.now is_func ty ≡ true) }
+    ensures fault { (k : ItemFault) → result ≡ Err (read_error.Fault k) → (k ≡ fault.BadType) × (has_entry table.now is_func ty ≡ false) }
+    ensures full { result ≡ Err read_error.TooMany → IsFull types.new }
+    ensures grows { Grows types.old types.new }
+{
+    match types.convert_func(table, ty) {
+        Ok(index) => Ok(index),
+        Err(TypeError::BadNumber) => Err(ReadError::Fault(ItemFault::BadType)),
+        Err(TypeError::TooMany) => Err(ReadError::TooMany),
+        Err(TypeError::NoMemory) => Err(ReadError::NoMemory),
+    }
+}
+
+/// The builder's number of a core signature, by its table number.
+fn signature(
+    types: &mut ComponentTypesBuilder,
+    table: &TypeTable,
+    core: u32,
+) -> Result<ModuleInternedTypeIndex, ReadError>
+    ensures ok { OnOk result (has_signature table.now core ≡ true) }
+    ensures fault { (k : ItemFault) → result ≡ Err (read_error.Fault k) → (k ≡ fault.BadType) × (has_signature table.now core ≡ false) }
+    ensures full { result ≡ Err read_error.TooMany → IsFull types.new }
+    ensures grows { Grows types.old types.new }
+{
+    match types.core_sig(table, core) {
+        Ok(index) => Ok(index),
+        Err(TypeError::BadNumber) => Err(ReadError::Fault(ItemFault::BadType)),
+        Err(TypeError::TooMany) => Err(ReadError::TooMany),
+        Err(TypeError::NoMemory) => Err(ReadError::NoMemory),
+    }
+}
+
+/// The builder's numbers of a function type and of a core signature.
+fn type_numbers(
+    types: &mut ComponentTypesBuilder,
+    table: &TypeTable,
+    ty: u32,
+    core: u32,
+) -> Result<(TypeFuncIndex, ModuleInternedTypeIndex), ReadError>
+    requires sound { table_fault table.now ≡ None }
+    requires built { list_all is_built_entry table.now.types ≡ true }
+    ensures ok { OnOk result ((has_entry table.now is_func ty && has_signature table.now core) ≡ true) }
+    ensures fault { (k : ItemFault) → result ≡ Err (read_error.Fault k)
+        → (k ≡ fault.BadType) × ((has_entry table.now is_func ty && has_signature table.now core) ≡ false) }
+    ensures full { result ≡ Err read_error.TooMany → IsFull types.new }
+    ensures grows { Grows types.old types.new }
+{
+    let ty = match func_type(types, table, ty) {
+        Ok(ty) => ty,
+        Err(error) => return Err(error),
+    };
+    match signature(types, table, core) {
+        Ok(core_type) => Ok((ty, core_type)),
+        Err(error) => Err(error),
+    }
+}
+
+impl Frame {
+    fn push_lifted(
+        &mut self,
+        alloc: Global,
+        ty: TypeFuncIndex,
+        core_type: ModuleInternedTypeIndex,
+        func: u32,
+    ) -> Result<(), ReadError>
+        ensures becomes { Becomes self.new result (build_lifted ty.0 core_type.0 self.old func) }
+        ensures never_full { result ≢ Err read_error.TooMany }
+    {
+        let Some(func) = self.core_funcs.as_slice().get(func as usize) else {
+            return Err(ReadError::Fault(ItemFault::Invalid));
+        };
+        let func = func.try_clone(alloc)?;
+        self.funcs.push(LiftedFunction {
+            ty,
+            func,
+            core_type,
+        })?;
+        Ok(())
+    }
+
+    /// A core function, lifted to a function type under a core signature.
+    pub(crate) fn read_lift(
+        &mut self,
+        alloc: Global,
+        types: &mut ComponentTypesBuilder,
+        table: &TypeTable,
+        func: u32,
+        ty: u32,
+        core: u32,
+    ) -> Result<(), ReadError>
+        requires sound { table_fault table.now ≡ None }
+        requires built { list_all is_built_entry table.now.types ≡ true }
+        ensures lifts { Ends (λ (r : Result Frame ItemFault). (n : ℕ) × (s : ℕ) × (build_lift table.now n s self.old func ty core ≡ r)) self.new result }
+        ensures full { result ≡ Err read_error.TooMany → IsFull types.new }
+        ensures grows { Grows types.old types.new }
+    {
+        let (ty, core_type) = match type_numbers(types, table, ty, core) {
+            Ok(numbers) => numbers,
+            Err(error) => return Err(error),
+        };
+        self.push_lifted(alloc, ty, core_type, func)
+    }
+}

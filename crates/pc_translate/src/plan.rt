@@ -1,0 +1,135 @@
+//! From a frame to a plan: the exports with their options, and the counts.
+
+ghost use Rattle.std.specs.Prelude.{◌≡◌, ◌<◌, ◌≤◌, ◌+◌, ◌++◌, ◌∷◌, [], None, true, length, map, IfOk, OnOk};
+ghost use Rattle.pc_entity.specs.Lists.{value_of};
+ghost use Rattle.pc_types.specs.Names.{distinct_names};
+ghost use Rattle.pc_translate.specs.Planning.{AddsExport, Exports, IsPlanOf, export_name, plain_entry};
+
+use crate::frame::{Frame, NamedFunction};
+use pc_entity::{
+    ExportIndex, Interner, NoMemory, OptionsIndex, PrimaryMap, RuntimeComponentInstanceIndex,
+    TextMap, TryClone,
+};
+use pc_info::{
+    CanonicalOptions, CanonicalOptionsDataModel, Component, Export, LinearMemoryOptions,
+};
+use pc_types::{ComponentExternData, ModuleInternedTypeIndex, StringEncoding};
+use std::alloc::Global;
+
+/// What a plan exports, with the signatures that its options entries have: the entry of a signature has its number.
+#[derive(Drop)]
+pub(crate) struct Exported {
+    pub names: TextMap<(ExportIndex, ComponentExternData)>,
+    pub items: PrimaryMap<ExportIndex, Export>,
+    pub signatures: Interner<ModuleInternedTypeIndex>,
+}
+
+/// Exports one more function.
+fn push_export(
+    alloc: Global,
+    exported: &mut Exported,
+    named: &NamedFunction,
+) -> Result<(), NoMemory>
+    requires absent { value_of named.now.name.name exported.old.names ≡ None }
+    requires signatures { length exported.old.signatures < 4294967295 }
+    requires items { length exported.old.items < 4294967295 }
+    ensures ok { OnOk result (AddsExport exported.old exported.new named.now) }
+{
+    let function = &named.function;
+    let func = function.func.try_clone(alloc)?;
+    let name = named.name.name.try_clone(alloc)?;
+    let implements = named.name.implements.try_clone(alloc)?;
+    let external_id = named.name.external_id.try_clone(alloc)?;
+    let options = OptionsIndex(exported.signatures.push(function.core_type)?);
+    let item = Export::LiftedFunction {
+        ty: function.ty,
+        func,
+        options,
+    };
+    let index = exported.items.push(item)?;
+    let data = ComponentExternData {
+        implements,
+        external_id,
+    };
+    exported.names.push(name, (index, data))?;
+    Ok(())
+}
+
+/// The exports of these functions, in order.
+fn export_all(alloc: Global, functions: &[NamedFunction]) -> Result<Exported, NoMemory>
+    requires distinct { distinct_names (map export_name functions.now) ≡ true }
+    requires few { length functions.now < 4294967295 }
+    ensures { IfOk result (λ e. Exports functions.now e.names e.items e.signatures) }
+{
+    let mut exported = Exported {
+        names: TextMap::new(alloc),
+        items: PrimaryMap::new(alloc),
+        signatures: Interner::new(alloc),
+    };
+    for named in functions {
+        push_export(alloc, &mut exported, named)?;
+    }
+    Ok(exported)
+}
+
+/// The options of a lift that says nothing of them.
+fn plain_entry(core_type: ModuleInternedTypeIndex) -> CanonicalOptions
+    ensures { result ≡ plain_entry core_type }
+{
+    CanonicalOptions {
+        instance: RuntimeComponentInstanceIndex(0),
+        string_encoding: StringEncoding::Utf8,
+        callback: None,
+        post_return: None,
+        async_: false,
+        core_type,
+        data_model: CanonicalOptionsDataModel::LinearMemory(LinearMemoryOptions {
+            memory: None,
+            realloc: None,
+        }),
+    }
+}
+
+/// An options entry for each signature, under its number.
+fn entries(
+    alloc: Global,
+    signatures: &[ModuleInternedTypeIndex],
+) -> Result<PrimaryMap<OptionsIndex, CanonicalOptions>, NoMemory>
+    ensures { IfOk result (λ options. options ≡ map plain_entry signatures.now) }
+{
+    let mut options = Vec::with_capacity(alloc, signatures.len())?;
+    for signature in signatures {
+        options.push(plain_entry(*signature))?;
+    }
+    Ok(PrimaryMap::from_vec(options))
+}
+
+/// The plan of a frame whose items were all read.
+pub(crate) fn plan_of(alloc: Global, frame: Frame) -> Result<Component, NoMemory>
+    requires distinct { distinct_names (map export_name frame.exports) ≡ true }
+    requires few_exports { length frame.exports < 4294967295 }
+    requires few_steps { length frame.initializers < 4294967296 }
+    ensures { IfOk result (λ c. IsPlanOf frame c) }
+{
+    let exported = export_all(alloc, frame.exports.as_slice())?;
+    let options = entries(alloc, exported.signatures.as_slice())?;
+    let num_runtime_instances = frame.initializers.len() as u32;
+    Ok(Component {
+        exports: exported.names,
+        export_items: exported.items,
+        initializers: frame.initializers,
+        num_runtime_instances,
+        num_runtime_component_instances: 1,
+        num_lowerings: 0,
+        num_runtime_memories: 0,
+        num_runtime_tables: 0,
+        num_runtime_reallocs: 0,
+        num_runtime_callbacks: 0,
+        num_runtime_post_returns: 0,
+        num_resources: 0,
+        num_future_tables: 0,
+        num_stream_tables: 0,
+        num_error_context_tables: 0,
+        options,
+    })
+}

@@ -1,0 +1,101 @@
+//! Reading a whole body.
+
+ghost use Rattle.std.specs.Prelude.{◌≡◌, ◌<◌, ◌≤◌, ◌+◌, None, true, length, IfOk, OnOk};
+ghost use Rattle.std.specs.List.{list_all};
+ghost use Rattle.pc_builder.specs.Types.{Grows, IsFull};
+ghost use Rattle.pc_parsed.specs.Built.{is_built_entry};
+ghost use Rattle.pc_types.specs.Table.{table_fault};
+ghost use Rattle.pc_translate.specs.Building.{Builds, Ends, Reads, empty_frame, read_error_at};
+ghost use Rattle.pc_translate.specs.declared.error.ReadError.TheVariants as read_error;
+
+use crate::error::ReadError;
+use crate::frame::Frame;
+use pc_builder::ComponentTypesBuilder;
+use pc_entity::Seq;
+use pc_parsed::{ItemFault, LocalInitializer};
+use pc_types::{Error, ModuleRecord, Place, TypeTable};
+use std::alloc::Global;
+
+impl Frame {
+    fn new(alloc: Global) -> Frame
+        ensures { result ≡ empty_frame }
+    {
+        Frame {
+            core_funcs: Seq::new(alloc),
+            modules: Seq::new(alloc),
+            core_instances: Seq::new(alloc),
+            funcs: Seq::new(alloc),
+            exports: Seq::new(alloc),
+            initializers: Seq::new(alloc),
+        }
+    }
+
+    /// One item.
+    fn read(
+        &mut self,
+        alloc: Global,
+        types: &mut ComponentTypesBuilder,
+        table: &TypeTable,
+        modules: &[ModuleRecord],
+        item: &LocalInitializer,
+    ) -> Result<(), ReadError>
+        requires sound { table_fault table.now ≡ None }
+        requires built { list_all is_built_entry table.now.types ≡ true }
+        requires room { length self.old.initializers < 4294967295 }
+        ensures builds { Ends (Builds table.now modules.now self.old item.now) self.new result }
+        ensures full { result ≡ Err read_error.TooMany → IsFull types.new }
+        ensures grows { Grows types.old types.new }
+    {
+        match item {
+            LocalInitializer::ModuleStatic { index, ty } => self.read_module(table, *index, *ty),
+            LocalInitializer::ModuleInstantiate { module, args } => {
+                self.read_instance(alloc, modules, *module, args.as_slice())
+            }
+            LocalInitializer::AliasCoreExport { instance, name } => self.read_core_alias(
+                modules, *instance, name,
+            ),
+            LocalInitializer::Lift { func, ty, core } => self.read_lift(
+                alloc, types, table, *func, *ty, *core,
+            ),
+            LocalInitializer::Export { name, index } => self.read_export(alloc, name, *index),
+        }
+    }
+}
+
+/// The error of an item of the root that wasn't read.
+fn error_at(error: ReadError, item: u64) -> Error
+    ensures { result ≡ read_error_at error item }
+{
+    let place = Place::Reading { instance: 0, item };
+    match error {
+        ReadError::Fault(ItemFault::Invalid) => Error::Invalid(place),
+        ReadError::Fault(ItemFault::BadType) => Error::BadType(place),
+        ReadError::TooMany => Error::TooMany,
+        ReadError::NoMemory => Error::NoMemory,
+    }
+}
+
+/// The frame of the root after all items, or the error of the first that is stuck.
+pub(crate) fn read_items(
+    alloc: Global,
+    types: &mut ComponentTypesBuilder,
+    table: &TypeTable,
+    modules: &[ModuleRecord],
+    items: &[LocalInitializer],
+) -> Result<Frame, Error>
+    requires sound { table_fault table.now ≡ None }
+    requires built { list_all is_built_entry table.now.types ≡ true }
+    requires few { length items.now < 4294967295 }
+    ensures reads { Reads table.now modules.now items.now result }
+    ensures full { result ≡ Err Error.TooMany → IsFull types.new }
+    ensures grows { Grows types.old types.new }
+{
+    let mut frame = Frame::new(alloc);
+    for (i, item) in items.iter().enumerate() {
+        match frame.read(alloc, types, table, modules, item) {
+            Ok(()) => {}
+            Err(error) => return Err(error_at(error, i as u64)),
+        }
+    }
+    Ok(frame)
+}
