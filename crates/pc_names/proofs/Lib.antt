@@ -1,0 +1,9 @@
+pub mod Texts
+pub mod Places
+pub mod InOrder
+pub mod ByText
+pub mod LastValues
+pub mod Versions
+pub mod Standing
+pub mod Answered
+pub mod CallerLemmas

@@ -1,0 +1,5 @@
+use Rattle.pc_names.proofs.Answered.{same_answers}
+use Rattle.pc_names.proofs.laws.any_order.Goals as goal
+
+pub returns : goal.returns
+returns g c = same_answers

@@ -1,0 +1,5 @@
+use Rattle.pc_names.proofs.Answered.{one_answer}
+use Rattle.pc_names.proofs.laws.one_answer.Goals as goal
+
+pub returns : goal.returns
+returns g c = one_answer

@@ -1,0 +1,46 @@
+-- What one call does to the contents of a name map.
+use Rattle.std.specs.Prelude.{◌≡◌, ℕ, List, [], ◌∷◌, ◌++◌, Option, None, Some, length, slice_get, unwrap_or}
+use Rattle.std.specs.Option.{option_map}
+use Rattle.std.specs.declared.cmp.Ordering.{Ordering}
+use Rattle.pc_names.specs.Contents.{Contents, Newest}
+use Rattle.pc_names.specs.Definitions.{place_in, with_value}
+use Rattle.pc_names.specs.Tracks.{noted}
+use Rattle.semver.specs.Identifiers.{parts_of}
+use Rattle.semver.specs.Parse.{Parts}
+use Rattle.semver.specs.declared.Version.{Version}
+
+-- the key of a name's track, and the name's version there, where it has a track
+abbrev pub IsTrackKey : {K : Type 0} → (List ℕ → K → Type 0) → Option (List ℕ × Parts) → Option (K × Parts) → Type 0
+IsTrackKey has_key None None = Unit {0}
+IsTrackKey has_key None (Some t) = ⊥
+IsTrackKey has_key (Some n) None = ⊥
+IsTrackKey has_key (Some n) (Some t) = has_key n.0 t.0 × (t.1 ≡ n.1)
+
+-- a track's key with the version as its parts
+abbrev pub keyed_version : {K : Type 0} → Option (K × Version) → Option (K × Parts)
+keyed_version None = None
+keyed_version (Some t) = Some (t.0, parts_of t.1)
+
+-- definitions with a value at a place, or under a key more where there is no place
+abbrev pub defined_at : {K V : Type 0} → List (K × V) → Option ℕ → K → V → List (K × V)
+defined_at ds None key value = ds ++ (key, value) ∷ []
+defined_at ds (Some place) key value = with_value ds place value
+
+-- tracks with the version at a place, where the name has a track
+abbrev pub noted_at : {K : Type 0} → (K → K → Ordering) → List (K × Newest) → Option (K × Parts) → ℕ
+    → List (K × Newest)
+noted_at cmp tracks None place = tracks
+noted_at cmp tracks (Some t) place = noted cmp tracks t.0 (place, t.1)
+
+-- a map with a definition more: a key that is there keeps its place
+abbrev pub with_definition : {K V : Type 0} → (K → K → Ordering) → Contents K V → K → Option (K × Parts) → V
+    → Contents K V
+with_definition cmp map key track value = record {
+  definitions = defined_at map.definitions (place_in cmp map.definitions key) key value;
+  tracks = noted_at cmp map.tracks track (unwrap_or (place_in cmp map.definitions key) (length map.definitions));
+}
+
+-- the value of the definition that a track has as its newest
+abbrev pub newest_value : {K V : Type 0} → Contents K V → Option Newest → Option V
+newest_value map None = None
+newest_value map (Some newest) = option_map (λ d. d.1) (slice_get map.definitions newest.0)
