@@ -5,8 +5,6 @@ use Rattle.std.specs.List.{filter_map, cons_option, flat_map, list_all}
 use Rattle.std.proofs.lemmas.List.{length-append, length-map, map_push}
 use Rattle.std.proofs.lemmas.List.Elements.{filter_map-append}
 use Rattle.pc_entity.proofs.Elements.{and_true}
-use Rattle.pc_info.specs.declared.core_def.CoreDef.{CoreDef}
-use Rattle.pc_numbers.specs.declared.component_entity.StaticModuleIndex.{StaticModuleIndex}
 use Rattle.pc_parsed.specs.Built.{is_built_export, is_built_payload, is_func_kind, is_plain_name}
 use Rattle.pc_parsed.specs.declared.canon.CanonItem.{CanonItem}
 use Rattle.pc_parsed.specs.declared.canon.CanonItem.TheVariants as canon
@@ -26,7 +24,6 @@ use Rattle.pc_parsed.specs.Nest.{alias_item, canon_item, export_item, instance_i
 use Rattle.pc_parsed.specs.StaticFault.{export_name as entry_name, exported_names}
 use Rattle.pc_translate.specs.Building
 use Rattle.pc_translate.specs.declared.frame.Frame.{Frame}
-use Rattle.pc_translate.specs.declared.frame.LiftedFunction.{LiftedFunction}
 use Rattle.pc_translate.specs.Planning.{export_name}
 use Rattle.pc_types.specs.declared.module_record.ModuleRecord.{ModuleRecord}
 use Rattle.pc_types.specs.declared.parsed.CoreKind.TheVariants as core

@@ -1,5 +1,5 @@
 -- Why a translation is refused, from what its steps answer.
-use Rattle.std.proofs.Common.{◌≡◌, ℕ, ◌≤◌, ◌<◌, List, length, map, ◌∙◌, Option, Some, Result, Ok, Err, Bool, true, false, refl, sym, subst, ◌&&◌, arith, ◌⊎◌, inl, inr}
+use Rattle.std.proofs.Common.{◌≡◌, ℕ, ◌≤◌, ◌<◌, List, length, map, ◌∙◌, Option, Result, Ok, Err, true, false, refl, sym, subst, arith, ◌⊎◌, inl, inr}
 use Rattle.std.specs.Prelude.{nat_lt, sum_by}
 use Rattle.std.proofs.lemmas.Bool.{ltb-true}
 use Rattle.pc_builder.specs.Types.{Types, IsFull}
@@ -15,11 +15,11 @@ use Rattle.pc_parsed.specs.declared.payload.Payload.{Payload}
 use Rattle.pc_parsed.specs.Nest.{body_items, modules_of}
 use Rattle.pc_parsed.specs.Program.{IsProgramOf, is_numbered, is_translatable, item_count, not_built}
 use Rattle.pc_translate.proofs.Adding.{frame_few}
-use Rattle.pc_translate.proofs.Translating.{Parts, parts, frame_names, translated, faulted}
+use Rattle.pc_translate.proofs.Translating.{parts, frame_names, translated, faulted}
 use Rattle.pc_translate.specs.Building
 use Rattle.pc_translate.specs.declared.frame.Frame.{Frame}
 use Rattle.pc_translate.specs.Planning.{IsPlanOf, export_name}
-use Rattle.pc_translate.specs.Translation.{Translates, HasCause, can_translate}
+use Rattle.pc_translate.specs.Translation.{Translates, HasCause}
 use Rattle.pc_types.specs.declared.error.Error.{Error}
 use Rattle.pc_types.specs.declared.error.Error.TheVariants as error
 use Rattle.pc_types.specs.declared.module_record.ModuleRecord.{ModuleRecord}
@@ -64,37 +64,37 @@ module _ (t : TypeTable) (exposed : Option (List ℕ)) (limit : ℕ) (ps : List 
       let own = (frame_few t program.modules program.root.initializers f b).1 in
       omega (arith, room, own, few)
 
-  pub translates : (f : Frame) (c : Component) (mts : List ModuleTranslation) → nat_lt 0 limit ≡ true
-      → Building.Reads t program.modules program.root.initializers (Ok f) → IsPlanOf f c → map module_view mts ≡ program.modules
-      → Translates t exposed limit ps (record { component = c }) mts
-  translates f c mts begins b is_plan same =
-      translated t exposed limit ps f c mts begins ok (parts t exposed ps ok) (of_payloads (Ok f) b) is_plan (same ∙ is_program.modules)
+  pub translates : (types : Types) (f : Frame) (c : Component) (mts : List ModuleTranslation) → is_numbered t ps ≡ true → nat_lt 0 limit ≡ true
+      → Building.Reads t program.modules program.root.initializers (Ok f) → IsPlanOf f types c → map module_view mts ≡ program.modules
+      → Translates t exposed limit ps types (record { component = c }) mts
+  translates types f c mts numbered begins b is_plan same =
+      translated t exposed limit ps types f c mts numbered begins ok (parts t exposed ps ok) (of_payloads (Ok f) b) is_plan (same ∙ is_program.modules)
 
   -- the cause of a fault at an item
-  fault_cause : (types : Types) (k : ItemFault) (n : ℕ) → nat_lt 0 limit ≡ true
+  fault_cause : (types : Types) (k : ItemFault) (n : ℕ) → is_numbered t ps ≡ true → nat_lt 0 limit ≡ true
       → Building.BuildsAll t program.modules 0 program.root.initializers Building.empty_frame (Err (k, n))
       → HasCause t exposed limit ps types (Building.fault_error k n)
-  fault_cause types Invalid n begins b =
-      (true_and _ _ begins ok, faulted t exposed limit ps Invalid n begins (parts t exposed ps ok) (of_payloads (Err (Invalid, n)) b))
-  fault_cause types BadType n begins b =
-      (true_and _ _ begins ok, faulted t exposed limit ps BadType n begins (parts t exposed ps ok) (of_payloads (Err (BadType, n)) b))
+  fault_cause types Invalid n numbered begins b =
+      (numbered, true_and _ _ begins ok, faulted t exposed limit ps Invalid n begins (parts t exposed ps ok) (of_payloads (Err (Invalid, n)) b))
+  fault_cause types BadType n numbered begins b =
+      (numbered, true_and _ _ begins ok, faulted t exposed limit ps BadType n begins (parts t exposed ps ok) (of_payloads (Err (BadType, n)) b))
 
-  pub read_cause : (types : Types) (e : Error) → nat_lt 0 limit ≡ true → Building.Reads t program.modules program.root.initializers (Err e)
+  pub read_cause : (types : Types) (e : Error) → is_numbered t ps ≡ true → nat_lt 0 limit ≡ true → Building.Reads t program.modules program.root.initializers (Err e)
       → (e ≡ error.TooMany → IsFull types) → HasCause t exposed limit ps types e
-  read_cause types e begins h full =
+  read_cause types e numbered begins h full =
       elim h [
         | inl memory ↦ subst (λ (x : Error). HasCause t exposed limit ps types x) (sym memory) tt
         | inr rest ↦ elim rest [
-          | inl many ↦ subst (λ (x : Error). HasCause t exposed limit ps types x) (sym many) (inr (full many))
-          | inr at ↦ subst (λ (x : Error). HasCause t exposed limit ps types x) (sym at.3) (fault_cause types at.0 at.1 begins at.2)
+          | inl many ↦ subst (λ (x : Error). HasCause t exposed limit ps types x) (sym many) (inr (true_and _ _ begins ok, full many))
+          | inr at ↦ subst (λ (x : Error). HasCause t exposed limit ps types x) (sym at.3) (fault_cause types at.0 at.1 numbered begins at.2)
         ]
       ]
 
 -- the cause of a refusal of the payloads
-pub payload_cause : (t : TypeTable) (exposed : Option (List ℕ)) (limit : ℕ) (ps : List Payload) (types : Types) (e : Error) → nat_lt 0 limit ≡ true
+pub payload_cause : (t : TypeTable) (exposed : Option (List ℕ)) (limit : ℕ) (ps : List Payload) (types : Types) (e : Error) → is_numbered t ps ≡ true → nat_lt 0 limit ≡ true
     → (e ≡ error.NoMemory) ⊎ ((e ≡ not_built) × (is_translatable t exposed ps ≡ false)) → HasCause t exposed limit ps types e
-payload_cause t exposed limit ps types e begins h =
+payload_cause t exposed limit ps types e numbered begins h =
     elim h [
       | inl memory ↦ subst (λ (x : Error). HasCause t exposed limit ps types x) (sym memory) tt
-      | inr at ↦ subst (λ (x : Error). HasCause t exposed limit ps types x) (sym at.0) (refl, rw (begins, at.1) refl)
+      | inr at ↦ subst (λ (x : Error). HasCause t exposed limit ps types x) (sym at.0) (numbered, rw (begins, at.1) refl, refl)
     ]

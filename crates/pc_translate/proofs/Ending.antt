@@ -1,11 +1,10 @@
 -- The plan of a frame runs to the frame's end, within its counts, and exports what the frame's functions stand for.
-use Rattle.std.proofs.Common.{◌≡◌, ℕ, ◌+◌, ◌-◌, ◌≤◌, zero-add, zero, suc, List, [], ◌∷◌, ◌++◌, length, map, Option, Some, None, Bool, true, false, refl, sym, ap, ◌∙◌, subst, arith, append_assoc}
+use Rattle.std.proofs.Common.{◌≡◌, ℕ, ◌+◌, ◌-◌, ◌≤◌, zero-add, List, [], ◌∷◌, ◌++◌, length, map, Option, Some, None, Bool, true, false, refl, sym, ap, ◌∙◌, subst, arith, append_assoc}
 use Rattle.std.specs.Prelude.{slice_get, option_and_then, option_map, nat_lt, nat_le, if◌then◌else◌}
-use Rattle.std.specs.List.{AllZip, filter_map, cons_option}
+use Rattle.std.specs.List.{AllZip, filter_map}
 use Rattle.std.proofs.lemmas.Bool.{le-leb}
 use Rattle.std.proofs.lemmas.List.{length-append}
 use Rattle.std.proofs.lemmas.Option.{none-some, same_Some, slice_get-map}
-use Rattle.pc_numbers.specs.declared.runtime.ExportIndex.{ExportIndex}
 use Rattle.pc_numbers.specs.declared.module_entity.ModuleInternedTypeIndex.{ModuleInternedTypeIndex}
 use Rattle.pc_entity.specs.Lists.{map_all}
 use Rattle.pc_entity.proofs.Growing.{slice_get-append_seam}
@@ -31,7 +30,6 @@ use Rattle.pc_translate.proofs.Standing
 use Rattle.pc_translate.specs.declared.frame.NamedFunction.{NamedFunction}
 use Rattle.pc_translate.specs.Planning.{plain_entry, entries_from, IsExportOf}
 use Rattle.pc_types.specs.declared.encoding.StringEncoding.TheVariants.{Utf8}
-use Rattle.pc_types.specs.declared.types.ComponentExternData.{ComponentExternData}
 
 module _ (p : plan.PlanView TypeNumber) (made : List (RuntimeInstance TypeNumber)) (signatures : List ModuleInternedTypeIndex)
     (counted : nat_lt 0 p.counts.component_instances ≡ true) (listed : p.options ≡ map options_view (map plain_entry signatures)) where

@@ -1,5 +1,5 @@
 -- What a core instance exports, on the side of the plan and on the side of the reading.
-use Rattle.std.proofs.Common.{◌≡◌, ℕ, zero, suc, ◌+◌, ◌<◌, ◌≤◌, List, [], ◌∷◌, length, take, Option, Some, None, Bool, true, false, refl, sym, ap, ◌∙◌, subst, arith, true≢false, cond}
+use Rattle.std.proofs.Common.{◌≡◌, ℕ, zero, suc, ◌+◌, ◌<◌, ◌≤◌, List, [], ◌∷◌, length, take, Option, Some, None, Bool, true, false, refl, sym, ◌∙◌, subst, arith, cond}
 use Rattle.std.specs.Prelude.{slice_get, option_and_then, option_map, nat_lt, is_some, count_by, if◌then◌else◌}
 use Rattle.std.specs.List.{AllZip, list_all}
 use Rattle.std.specs.Str.{bytes_eq}
@@ -14,8 +14,8 @@ use Rattle.pc_info.specs.declared.core_def.ExportItem.TheVariants as item
 use Rattle.pc_info.specs.View.{TypeNumber}
 use Rattle.pc_parsed.specs.ItemRows.{export_value, of_kind}
 use Rattle.pc_parsed.specs.Scope as scope
-use Rattle.pc_semantics.specs.CoreValue.{CoreValue, exported, by_index}
-use Rattle.pc_semantics.specs.Log.{Owned, Instantiation}
+use Rattle.pc_semantics.specs.CoreValue.{exported, by_index}
+use Rattle.pc_semantics.specs.Log.{Owned}
 use Rattle.pc_semantics.specs.Machine.{RuntimeInstance, exported_item, owned_by}
 use Rattle.pc_semantics.specs.PlanView as plan
 use Rattle.pc_translate.proofs.Means.{Means, neither, both}

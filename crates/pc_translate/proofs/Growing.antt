@@ -1,7 +1,6 @@
 -- A run that makes one more core instance keeps what stood for something.
-use Rattle.std.proofs.Common.{◌≡◌, ℕ, zero, suc, ◌≤◌, ◌<◌, List, [], ◌∷◌, ◌++◌, length, take, Option, Some, None, refl, sym, ap, ◌∙◌, arith}
+use Rattle.std.proofs.Common.{◌≡◌, ℕ, ◌≤◌, ◌<◌, List, [], ◌∷◌, ◌++◌, length, Option, Some, None, refl, arith}
 use Rattle.std.specs.Prelude.{slice_get, option_and_then}
-use Rattle.std.specs.List.{AllZip}
 use Rattle.std.proofs.lemmas.Option.{slice_get_within, none-some}
 use Rattle.std.proofs.lemmas.List.{take-append-le}
 use Rattle.pc_entity.proofs.Growing.{slice_get-append}
@@ -12,7 +11,6 @@ use Rattle.pc_parsed.specs.Scope as scope
 use Rattle.pc_semantics.specs.CoreValue.{CoreValue, ExportedItem}
 use Rattle.pc_semantics.specs.Machine.{RuntimeInstance, exported_item, instance_item, owned_before}
 use Rattle.pc_semantics.specs.PlanView as plan
-use Rattle.pc_translate.proofs.Means.{zip_weaker}
 use Rattle.pc_translate.proofs.Standing
 use Rattle.pc_translate.specs.declared.frame.CoreInstance.{CoreInstance}
 use Rattle.pc_translate.specs.declared.frame.LiftedFunction.{LiftedFunction}

@@ -1,4 +1,5 @@
 mod Means
+mod Finding
 mod Standing
 mod Growing
 mod Running

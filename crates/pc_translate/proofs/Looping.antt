@@ -1,5 +1,5 @@
 -- How far a body has been read.
-use Rattle.std.proofs.Common.{◌≡◌, ℕ, ◌+◌, ◌≤◌, List, [], ◌∷◌, length, drop, Result, Ok, Err, refl, sym, subst, arith}
+use Rattle.std.proofs.Common.{◌≡◌, ℕ, ◌+◌, ◌≤◌, List, ◌∷◌, length, drop, Result, Ok, Err, refl, sym, subst, arith}
 use Rattle.std.proofs.Math.ListN.{drop_of_length-le}
 use Rattle.pc_parsed.specs.declared.fault.ItemFault.{ItemFault}
 use Rattle.pc_parsed.specs.declared.item.LocalInitializer.{LocalInitializer}

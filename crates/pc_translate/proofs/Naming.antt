@@ -1,6 +1,5 @@
 -- Names that are exported once.
-use Rattle.std.proofs.Common.{◌≡◌, ℕ, ◌+◌, ◌≤◌, ◌<◌, zero, suc, List, [], ◌∷◌, ◌++◌, length, map, take, drop, Option, Some, None, Bool, true, false, refl, sym, ap, ◌∙◌, subst, arith, zero-add, ◌⊎◌, inl, inr, ◌&&◌, ◌||◌, not, true≢false}
-use Rattle.std.specs.Prelude.{slice_get, if◌then◌else◌}
+use Rattle.std.proofs.Common.{◌≡◌, ℕ, ◌+◌, ◌≤◌, suc, List, [], ◌∷◌, ◌++◌, length, map, take, drop, None, Bool, true, false, refl, sym, ◌∙◌, subst, arith, zero-add, ◌⊎◌, inl, inr, ◌||◌, not, true≢false}
 use Rattle.std.specs.List.{AllZip, list_any}
 use Rattle.std.specs.Str.{bytes_eq}
 use Rattle.std.proofs.lemmas.Slice.Eq.{bytes_eq-Decides}
@@ -16,7 +15,7 @@ use Rattle.pc_translate.specs.declared.frame.NamedFunction.{NamedFunction}
 use Rattle.pc_translate.specs.declared.plan.Exported.{Exported}
 use Rattle.pc_translate.specs.Planning.{AddsExport, Exports, IsExportOf, entries_from, export_name}
 use Rattle.pc_parsed.specs.Reading.{extern_data}
-use Rattle.pc_types.specs.Names.{are_distinct, distinct_names}
+use Rattle.pc_types.specs.Names.{distinct_names}
 
 not_true : (b : Bool) → not b ≡ true → b ≡ false
 not_true true h = absurd (true≢false (sym h))

@@ -1,11 +1,10 @@
 -- What a step that makes a core instance adds to a run.
-use Rattle.std.proofs.Common.{◌≡◌, ℕ, List, [], ◌∷◌, ◌++◌, length, map, Option, Some, None, Bool, true, refl, sym, ap, ◌∙◌, eq-eqb}
+use Rattle.std.proofs.Common.{◌≡◌, ℕ, List, [], ◌∷◌, ◌++◌, length, map, Option, Some, None, true, refl, eq-eqb}
 use Rattle.std.specs.Prelude.{slice_get, option_and_then, nat_lt, ◌==◌}
 use Rattle.std.specs.List.{AllZip}
 use Rattle.std.proofs.lemmas.Bool.{lt-ltb}
 use Rattle.std.proofs.lemmas.Option.{none-some, same_Some, slice_get_within}
 use Rattle.pc_entity.specs.Lists.{map_all}
-use Rattle.pc_entity.proofs.MapAll.{length-map_all}
 use Rattle.pc_info.specs.declared.core_def.CoreDef.{CoreDef}
 use Rattle.pc_info.specs.View.{TypeNumber, def_view}
 use Rattle.pc_parsed.specs.Scope as scope

@@ -1,11 +1,11 @@
 -- Each item: what is built and what is read end alike, and where they go on the new frame stands for the new moment.
-use Rattle.std.proofs.Common.{◌≡◌, ℕ, ◌+◌, ◌≤◌, List, [], ◌∷◌, ◌++◌, length, map, Option, Some, None, Result, Ok, Err, Bool, true, false, refl, sym, ap, ◌∙◌, subst, zero, suc, arith, ◌&&◌}
-use Rattle.std.specs.Prelude.{slice_get, option_and_then, option_map, nat_lt, if◌then◌else◌, filter_map}
+use Rattle.std.proofs.Common.{◌≡◌, ℕ, ◌+◌, ◌≤◌, List, [], ◌∷◌, ◌++◌, length, map, Option, Some, None, Result, Ok, Err, Bool, true, false, refl, sym, ap, ◌∙◌, subst, zero, suc, arith}
+use Rattle.std.specs.Prelude.{slice_get, option_and_then, nat_lt, if◌then◌else◌}
 use Rattle.std.specs.List.{AllZip, list_all}
 use Rattle.std.proofs.lemmas.List.{map_push, length-append, length-map}
 use Rattle.std.proofs.lemmas.List.Elements.{filter_map-append}
 use Rattle.std.proofs.lemmas.Bool.{lt-ltb, le-ltb}
-use Rattle.std.proofs.lemmas.Option.{none-some, same_Some, slice_get_within}
+use Rattle.std.proofs.lemmas.Option.{none-some, slice_get_within}
 use Rattle.pc_types.specs.declared.encoding.StringEncoding.TheVariants.{Utf8}
 use Rattle.pc_numbers.specs.declared.component_entity.StaticModuleIndex.{StaticModuleIndex}
 use Rattle.pc_entity.specs.Lists.{map_all, value_of}
@@ -20,11 +20,11 @@ use Rattle.pc_parsed.specs.declared.fault.ItemFault.TheVariants.{Invalid, BadTyp
 use Rattle.pc_parsed.specs.declared.item.LocalInitializer.{LocalInitializer}
 use Rattle.pc_parsed.specs.declared.item.LocalInitializer.TheVariants as local
 use Rattle.pc_parsed.specs.declared.payload.ExternName.{ExternName}
-use Rattle.pc_parsed.specs.ItemRows.{found, has_entry, typed, argument, arguments, has_instances, add_core_instance, add_module, add_core_func, add_func, add_export, read_module, read_instance, read_core_alias, read_lift, read_export, read_item, instantiate, plain_options}
+use Rattle.pc_parsed.specs.ItemRows.{found, has_entry, argument, arguments, add_core_instance, add_module, add_core_func, add_func, add_export, read_module, read_instance, read_core_alias, read_lift, read_export, read_item, instantiate, plain_options}
 use Rattle.pc_parsed.specs.Scope as scope
 use Rattle.pc_semantics.specs.CoreValue.{CoreValue, erase_value, options, no_value, linear}
 use Rattle.pc_semantics.specs.Machine.{RuntimeInstance, start}
-use Rattle.pc_semantics.specs.Log.{Entry, Owned, of_static, instantiated, instances_of, owned_of}
+use Rattle.pc_semantics.specs.Log.{Owned, of_static, instantiated, instances_of, owned_of}
 use Rattle.pc_semantics.specs.PlanView as plan
 use Rattle.pc_translate.proofs.Exporting.{export_means}
 use Rattle.pc_translate.proofs.Growing as growing
@@ -32,7 +32,6 @@ use Rattle.pc_translate.proofs.Means.{Means, neither, both, zip_push, zip_weaker
 use Rattle.pc_translate.proofs.Running.{run_free-push, resolved, makes}
 use Rattle.pc_translate.proofs.Standing
 use Rattle.pc_translate.specs.Building
-use Rattle.pc_translate.specs.declared.frame.CoreInstance.{CoreInstance}
 use Rattle.pc_translate.specs.declared.frame.Frame.{Frame}
 use Rattle.pc_translate.specs.declared.frame.LiftedFunction.{LiftedFunction}
 use Rattle.pc_types.specs.declared.module_record.ModuleRecord.{ModuleRecord}

@@ -2,7 +2,7 @@
 -- the log, and each entry of the frame's lists is what the entry of the scope's list at its place is.
 use Rattle.std.proofs.Common.{◌≡◌, ℕ, List, [], ◌∷◌, length, map, Option, Some, Bool, true, false}
 use Rattle.std.specs.Prelude.{slice_get, option_and_then, is_some}
-use Rattle.std.specs.List.{AllZip, list_all}
+use Rattle.std.specs.List.{AllZip}
 use Rattle.pc_numbers.specs.declared.component_entity.StaticModuleIndex.{StaticModuleIndex}
 use Rattle.pc_info.specs.declared.core_def.CoreDef.{CoreDef}
 use Rattle.pc_info.specs.View.{TypeNumber, def_view, initializer_view}

@@ -1,21 +1,26 @@
 -- The whole translation: the plan of the frame that was read does what the nested reading says.
-use Rattle.std.proofs.Common.{◌≡◌, ℕ, ◌+◌, ◌≤◌, ◌<◌, List, [], ◌∷◌, ◌++◌, length, map, Option, Some, None, Result, Ok, Err, Bool, true, false, refl, sym, ap, ◌∙◌, subst, arith, ◌&&◌, zero-add}
-use Rattle.std.specs.Prelude.{nat_lt, is_none, if◌then◌else◌}
+use Rattle.std.specs.Prelude.{slice_get}
+use Rattle.std.proofs.lemmas.Option.{none-some, same_Some}
+use Rattle.pc_builder.specs.Types.{Types}
+use Rattle.pc_entity.specs.Lists.{AreDistinct}
+use Rattle.pc_info.specs.declared.options.CanonicalOptions.{CanonicalOptions}
+use Rattle.pc_numbers.specs.declared.module_entity.ModuleInternedTypeIndex.{ModuleInternedTypeIndex}
+use Rattle.std.proofs.Common.{zero, suc, ◌≡◌, ℕ, ◌+◌, ◌≤◌, ◌<◌, List, [], ◌∷◌, length, map, Option, Some, None, Ok, Err, true, refl, sym, ap, ◌∙◌, subst, arith, ◌&&◌, zero-add}
+use Rattle.std.specs.Prelude.{nat_lt, is_none}
 use Rattle.std.specs.List.{AllZip, filter_map, cons_option, flat_map, list_all}
 use Rattle.std.proofs.lemmas.Bool.{lt-ltb}
 use Rattle.pc_entity.proofs.Elements.{and_true, true_and}
 use Rattle.pc_info.specs.declared.component.Component.{Component}
-use Rattle.pc_info.specs.declared.component.ComponentTranslation.{ComponentTranslation}
 use Rattle.pc_info.specs.declared.component.ModuleTranslation.{ModuleTranslation}
-use Rattle.pc_info.specs.View.{TypeNumber, has_items, module_view, view, initializer_view, options_view, named_view}
+use Rattle.pc_info.specs.View.{TypeNumber, module_view, view, initializer_view, options_view, named_view}
 use Rattle.pc_numbers.specs.declared.runtime.ExportIndex.{ExportIndex}
 use Rattle.pc_parsed.specs.Built.{are_built, is_built_entry, is_built_payload}
 use Rattle.pc_parsed.specs.declared.fault.ItemFault.{ItemFault}
 use Rattle.pc_parsed.specs.declared.payload.Payload.{Payload}
 use Rattle.pc_parsed.specs.declared.payload.Payload.TheVariants as payload
 use Rattle.pc_parsed.specs.Nest.{body_items, module_of, modules_of}
-use Rattle.pc_parsed.specs.Program.{is_translatable}
-use Rattle.pc_parsed.specs.Reading.{Outcome, Reading, reading, done, fault, and_then, read_items, result_at}
+use Rattle.pc_parsed.specs.Program.{is_numbered, is_translatable}
+use Rattle.pc_parsed.specs.Reading.{Outcome, reading, done, fault, and_then, read_items, result_at}
 use Rattle.pc_parsed.specs.Scope as scope
 use Rattle.pc_parsed.specs.StaticFault.{exported_names, is_sound_list, is_sound_payload}
 use Rattle.pc_parsed.specs.Nest.{is_body}
@@ -24,7 +29,7 @@ use Rattle.pc_entity.specs.Lists.{map_all}
 use Rattle.pc_info.specs.declared.initializer.GlobalInitializer.{GlobalInitializer}
 use Rattle.pc_semantics.specs.Machine.{RuntimeInstance, named_node, owned_of, run_from, start}
 use Rattle.pc_semantics.specs.PlanView as plan
-use Rattle.pc_translate.proofs.Adding.{all_names, item_names, list_names}
+use Rattle.pc_translate.proofs.Adding.{all_names, list_names}
 use Rattle.pc_translate.proofs.Ending.{all_nodes, runs_within}
 use Rattle.pc_translate.proofs.Means.{zip_length}
 use Rattle.pc_translate.proofs.Reading.{Ends, items_agree}
@@ -41,7 +46,7 @@ use Rattle.pc_types.specs.declared.parsed.TypeTable.{TypeTable}
 use Rattle.pc_types.specs.declared.types.ComponentExternData.{ComponentExternData}
 use Rattle.pc_types.specs.Names.{distinct_names}
 use Rattle.pc_types.specs.Record.{is_sound}
-use Rattle.pc_types.specs.Table.{EntryFault, table_fault}
+use Rattle.pc_types.specs.Table.{table_fault}
 
 -- the moment in which the root begins
 abbrev first : scope.Moment
@@ -175,6 +180,37 @@ held_from n k (x ∷ xs) le =
     let more : n + 1 + length xs ≤ k = omega arith in
     true_and _ _ (lt-ltb n k lt) (held_from (n + 1) k xs more)
 
+-- an export map has an entry for each function
+length_entries : (n : ℕ) (xs : List NamedFunction) → length (entries_from n xs) ≡ length xs
+length_entries n [] = refl
+length_entries n (x ∷ xs) = ap suc (length_entries (n + 1) xs)
+
+-- the entry at a place names the item at that place
+entry_number : (n i : ℕ) (xs : List NamedFunction) (e : List ℕ × (ExportIndex × ComponentExternData)) → slice_get (entries_from n xs) i ≡ Some e
+    → e.1.0.0 ≡ n + i
+entry_number n i [] e h = absurd (none-some e h)
+entry_number n zero (x ∷ xs) e h =
+    let same : n ≡ n + 0 = omega arith in
+    ap (λ (w : List ℕ × (ExportIndex × ComponentExternData)). w.1.0.0) (sym (same_Some _ e h)) ∙ same
+entry_number n (suc i) (x ∷ xs) e h =
+    let later = entry_number (n + 1) i xs e h in
+    let same : n + 1 + i ≡ n + suc i = omega arith in
+    later ∙ same
+
+-- options entries of different signatures differ
+distinct_entries : (signatures : List ModuleInternedTypeIndex) → AreDistinct signatures → AreDistinct (map plain_entry signatures)
+distinct_entries signatures distinct i j x at_i at_j =
+    let p = behind signatures i x at_i in
+    let q = behind signatures j x at_j in
+    let same : p.0 ≡ q.0 = ap (λ (o : CanonicalOptions). o.core_type) (p.2 ∙ sym q.2) in
+    distinct i j p.0 p.1 (q.1 ∙ ap Some (sym same))
+  where
+    behind : (ss : List ModuleInternedTypeIndex) (i : ℕ) (x : CanonicalOptions) → slice_get (map plain_entry ss) i ≡ Some x
+        → (s : ModuleInternedTypeIndex) × (slice_get ss i ≡ Some s) × (plain_entry s ≡ x)
+    behind [] i x h = absurd (none-some x h)
+    behind (s ∷ ss) zero x h = (s, refl, same_Some _ x h)
+    behind (s ∷ ss) (suc i) x h = behind ss i x h
+
 -- a reading whose items end
 reading_is : (t : TypeTable) (exposed : Option (List ℕ)) (limit : ℕ) (ps : List Payload) (o : Outcome scope.Moment) → nat_lt 0 limit ≡ true
     → read_items t (modules_of ps) 0 (body_items ps) first ≡ o
@@ -182,13 +218,13 @@ reading_is : (t : TypeTable) (exposed : Option (List ℕ)) (limit : ℕ) (ps : L
 reading_is t exposed limit ps o begins h = rw (begins, h) refl
 
 -- a frame that was read to the end, and its plan
-pub translated : (t : TypeTable) (exposed : Option (List ℕ)) (limit : ℕ) (ps : List Payload) (f : Frame) (c : Component) (mts : List ModuleTranslation)
-    → nat_lt 0 limit ≡ true → is_translatable t exposed ps ≡ true → Parts t ps
-    → Building.BuildsAll t (modules_of ps) 0 (body_items ps) Building.empty_frame (Ok f) → IsPlanOf f c → map module_view mts ≡ modules_of ps
-    → Translates t exposed limit ps (record { component = c }) mts
-translated t exposed limit ps f c mts begins ok q b is_plan same_modules =
+pub translated : (t : TypeTable) (exposed : Option (List ℕ)) (limit : ℕ) (ps : List Payload) (types : Types) (f : Frame) (c : Component) (mts : List ModuleTranslation)
+    → is_numbered t ps ≡ true → nat_lt 0 limit ≡ true → is_translatable t exposed ps ≡ true → Parts t ps
+    → Building.BuildsAll t (modules_of ps) 0 (body_items ps) Building.empty_frame (Ok f) → IsPlanOf f types c → map module_view mts ≡ modules_of ps
+    → Translates t exposed limit ps types (record { component = c }) mts
+translated t exposed limit ps types f c mts numbered begins ok q b is_plan same_modules =
     let p : plan.PlanView TypeNumber = view (record { component = c }) mts in
-    let counted : nat_lt 0 p.counts.component_instances ≡ true = rw is_plan.component_instances refl in
+    let counted : nat_lt 0 p.counts.component_instances ≡ true = rw (ap (λ (k : plan.Counts). k.component_instances) is_plan.counts) refl in
     let sound : list_all (is_sound t) p.handed_in ≡ true = rw same_modules q.modules in
     let b' = subst (λ (ms : List ModuleRecord). Building.BuildsAll t ms 0 (body_items ps) Building.empty_frame (Ok f)) (sym same_modules) b in
     let e : Ends p f (read_items t p.handed_in 0 (body_items ps) first) =
@@ -196,11 +232,16 @@ translated t exposed limit ps f c mts begins ok q b is_plan same_modules =
     let is_done : read_items t (modules_of ps) 0 (body_items ps) first ≡ done e.now =
     subst (λ (ms : List ModuleRecord). read_items t ms 0 (body_items ps) first ≡ done e.now) same_modules e.is_done in
     let made = e.stands.made in
-    let few : length f.initializers ≤ p.counts.runtime_instances = rw is_plan.instances (omega arith) in
+    let few : length f.initializers ≤ p.counts.runtime_instances = rw (ap (λ (k : plan.Counts). k.runtime_instances) is_plan.counts) (omega arith) in
     let listed : p.options ≡ map options_view (map plain_entry is_plan.signatures) = ap (map options_view) is_plan.options in
     let ns = all_nodes p made is_plan.signatures counted listed c.export_items f.exports e.now.scope.exports is_plan.exported.each e.stands.exports in
     let count = zip_length (IsExportOf is_plan.signatures) f.exports c.export_items is_plan.exported.each in
+    let steps : length f.initializers ≡ length (instances_of e.now.world.log) =
+    e.stands.numbered ∙ zip_length (Standing.OwnedStands p) made (instances_of e.now.world.log) e.stands.log in
+    let begun : 1 ≡ e.now.world.begun = sym e.stands.begun in
+    let names = is_plan.exported.names in
     record {
+      numbered = numbered;
       able = rw (begins, ok) refl;
       result = result_at e.now;
       outcome = reading_is t exposed limit ps (done e.now) begins is_done;
@@ -215,7 +256,25 @@ translated t exposed limit ps f c mts begins ok q b is_plan same_modules =
         exports = ns.same;
       };
       handed_in = same_modules;
-      begun = is_plan.component_instances ∙ sym e.stands.begun;
+      counts = is_plan.counts ∙ (λ i. record {
+        runtime_instances = steps i;
+        component_instances = begun i;
+        lowerings = 0;
+        memories = 0;
+        tables = 0;
+        reallocs = 0;
+        callbacks = 0;
+        post_returns = 0;
+        resources = 0;
+        future_tables = length types.future_tables;
+        stream_tables = length types.stream_tables;
+        error_context_tables = length types.error_context_tables;
+      });
+      shared = subst (λ (os : List CanonicalOptions). AreDistinct os) (sym is_plan.options) (distinct_entries is_plan.signatures is_plan.distinct);
+      items = record {
+        as_many = sym count ∙ sym (ap length names ∙ length_entries 0 f.exports);
+        in_order = λ n x at. entry_number 0 n f.exports x (ap (λ (es : List (List ℕ × (ExportIndex × ComponentExternData))). slice_get es n) (sym names) ∙ at) ∙ zero-add n;
+      };
       held = rw is_plan.exported.names (held_from 0 (length c.export_items) f.exports (rw (zero-add (length f.exports), count) (omega arith)));
     }
 

@@ -1,16 +1,15 @@
 -- Each entry of a sound table of built kinds has a type tree.
-use Rattle.std.proofs.Common.{◌≡◌, ℕ, ◌+◌, ◌<◌, zero, suc, List, [], ◌∷◌, ◌++◌, length, Option, Some, None, Bool, true, false, refl, sym, ap, ◌∙◌, subst, arith, ◌&&◌, true≢false, zero-add}
-use Rattle.std.specs.Prelude.{slice_get, option_and_then, option_map, nat_lt, if◌then◌else◌, is_none}
+use Rattle.std.proofs.Common.{◌≡◌, ℕ, ◌+◌, zero, suc, List, [], ◌∷◌, ◌++◌, length, Option, Some, None, Bool, true, false, refl, sym, ap, subst, arith, true≢false, zero-add}
+use Rattle.std.specs.Prelude.{slice_get, option_map, if◌then◌else◌}
 use Rattle.std.specs.List.{list_all}
 use Rattle.std.proofs.lemmas.Bool.{ltb-true}
 use Rattle.std.proofs.lemmas.List.{length-append}
-use Rattle.std.proofs.lemmas.Option.{none-some, same_Some, slice_get-get_or}
+use Rattle.std.proofs.lemmas.Option.{none-some, same_Some}
 use Rattle.pc_entity.specs.Lists.{map_all}
 use Rattle.pc_entity.proofs.Elements.{all_at, and_true}
 use Rattle.pc_entity.proofs.Growing.{slice_get-append, slice_get-append_seam}
 use Rattle.pc_entity.proofs.MapAll.{map_all_cons}
 use Rattle.pc_parsed.specs.Built.{is_built_entry, is_built_param, is_built_val}
-use Rattle.pc_parsed.specs.ItemRows.{has_entry}
 use Rattle.pc_translate.proofs.Simulation.{HasTrees, past}
 use Rattle.pc_types.specs.declared.parsed.CoreEntity.{CoreEntity}
 use Rattle.pc_types.specs.declared.parsed.CoreEntity.TheVariants as core
@@ -22,7 +21,7 @@ use Rattle.pc_types.specs.declared.parsed.TypeTable.{TypeTable}
 use Rattle.pc_types.specs.declared.parsed.ValType.{ValType}
 use Rattle.pc_types.specs.declared.parsed.ValType.TheVariants as val
 use Rattle.pc_types.specs.Record.{is_typed}
-use Rattle.pc_types.specs.Table.{EntryFault, bad_entry, value_entry, entry_fault, fault_from, fault_or, holds_value, is_none_or, is_some_and, is_sound_entry, table_fault}
+use Rattle.pc_types.specs.Table.{bad_entry, value_entry, fault_from, fault_or, holds_value, is_none_or, is_some_and, is_sound_entry, table_fault}
 use Rattle.pc_types.specs.TypeTree.{TypeTree, MaybeTree, Fields, CoreTree, core_tree, entry_tree, fields_tree, maybe_tree, module_export_tree, module_import_tree, tree_of, trees_from, val_tree, no_tree, a_tree, no_fields, and_field, func_of, module_of, primitive, core_func, core_table, core_memory, core_global, core_tag}
 
 module _ (t : TypeTable) where

@@ -1,7 +1,6 @@
 -- What reading an item makes of a frame, in the order of the code: the new frame, or why the item is stuck.
-use Rattle.std.specs.Prelude.{◌≡◌, ◌⊎◌, ⊤, ℕ, ◌+◌, Bool, true, false, List, [], ◌∷◌, ◌++◌, length, Option, Some, None, Result, Ok, Err, ◌&&◌, nat_lt, if◌then◌else◌, slice_get, option_and_then, option_map}
+use Rattle.std.specs.Prelude.{◌≡◌, ◌⊎◌, ⊤, ℕ, ◌+◌, Bool, List, [], ◌∷◌, ◌++◌, length, Option, Some, None, Result, Ok, Err, ◌&&◌, nat_lt, if◌then◌else◌, slice_get, option_and_then, option_map}
 use Rattle.std.specs.List.{list_all}
-use Rattle.pc_numbers.specs.declared.entity_index.EntityIndex.{EntityIndex}
 use Rattle.pc_numbers.specs.declared.component_entity.StaticModuleIndex.{StaticModuleIndex}
 use Rattle.pc_entity.specs.Lists.{map_all, value_of}
 use Rattle.pc_info.specs.declared.core_def.CoreDef.{CoreDef}

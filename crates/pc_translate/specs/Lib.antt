@@ -1,5 +1,6 @@
 -- What the public contracts rest on.
 pub mod Translation
 -- What the functions inside promise each other.
+pub mod Index
 pub mod Building
 pub mod Planning

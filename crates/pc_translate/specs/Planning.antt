@@ -1,5 +1,5 @@
 -- What makes a plan of the functions that a frame exports.
-use Rattle.std.specs.Prelude.{◌≡◌, ℕ, ◌+◌, ◌≤◌, ◌++◌, false, List, [], ◌∷◌, length, map, Option, Some, None, slice_get}
+use Rattle.std.specs.Prelude.{◌≡◌, ℕ, ◌+◌, ◌≤◌, ◌++◌, false, List, [], ◌∷◌, length, map, Some, None, slice_get}
 use Rattle.std.specs.List.{AllZip}
 use Rattle.pc_numbers.specs.declared.runtime.ExportIndex.{ExportIndex}
 use Rattle.pc_numbers.specs.declared.module_entity.ModuleInternedTypeIndex.{ModuleInternedTypeIndex}
@@ -9,7 +9,10 @@ use Rattle.pc_info.specs.declared.export.Export.TheVariants as export
 use Rattle.pc_info.specs.declared.options.CanonicalOptions.{CanonicalOptions}
 use Rattle.pc_info.specs.declared.options.CanonicalOptionsDataModel.TheVariants as model
 use Rattle.pc_parsed.specs.Reading.{extern_data}
-use Rattle.pc_entity.specs.Lists.{Kept}
+use Rattle.pc_entity.specs.Lists.{AreDistinct, Kept}
+use Rattle.pc_builder.specs.Types.{Types}
+use Rattle.pc_info.specs.View.{counts_view}
+use Rattle.pc_semantics.specs.PlanView.{Counts}
 use Rattle.pc_translate.specs.declared.plan.Exported.{Exported}
 use Rattle.pc_translate.specs.declared.frame.Frame.{Frame}
 use Rattle.pc_translate.specs.declared.frame.NamedFunction.{NamedFunction}
@@ -57,11 +60,28 @@ pub record AddsExport (old new : Exported) (x : NamedFunction) : Type 0 where
   pub kept : Kept old.signatures new.signatures
   pub few : length new.signatures ≤ length old.signatures + 1
 
--- a plan is that of a frame
-pub record IsPlanOf (f : Frame) (c : Component) : Type 0 where
+-- the counts of a frame's plan, where the types builder holds these types: each step makes a core instance
+abbrev pub frame_counts : Frame → Types → Counts
+frame_counts f types = record {
+  runtime_instances = length f.initializers;
+  component_instances = 1;
+  lowerings = 0;
+  memories = 0;
+  tables = 0;
+  reallocs = 0;
+  callbacks = 0;
+  post_returns = 0;
+  resources = 0;
+  future_tables = length types.future_tables;
+  stream_tables = length types.stream_tables;
+  error_context_tables = length types.error_context_tables;
+}
+
+-- a plan is that of a frame, where the types builder holds these types
+pub record IsPlanOf (f : Frame) (types : Types) (c : Component) : Type 0 where
   pub signatures : List ModuleInternedTypeIndex
+  pub distinct : AreDistinct signatures
   pub exported : Exports f.exports c.exports c.export_items signatures
   pub options : c.options ≡ map plain_entry signatures
   pub initializers : c.initializers ≡ f.initializers
-  pub instances : c.num_runtime_instances ≡ length f.initializers
-  pub component_instances : c.num_runtime_component_instances ≡ 1
+  pub counts : counts_view c ≡ frame_counts f types

@@ -1,16 +1,20 @@
 -- The theorem: the plan that a translation answers does what the nested reading of the payloads says.
-use Rattle.std.specs.Prelude.{◌≡◌, ℕ, Bool, true, false, List, map, nat_lt, Option, Some, ◌&&◌, ◌⊎◌}
+use Rattle.std.specs.Prelude.{◌≡◌, ℕ, Bool, true, false, List, map, length, nat_lt, slice_get, Option, Some, ◌&&◌, ◌⊎◌}
 use Rattle.pc_builder.specs.Types.{Types, IsFull}
+use Rattle.pc_entity.specs.Lists.{AreDistinct}
+use Rattle.pc_numbers.specs.declared.runtime.ExportIndex.{ExportIndex}
+use Rattle.pc_types.specs.declared.types.ComponentExternData.{ComponentExternData}
 use Rattle.pc_types.specs.declared.error.Error.{Error}
 use Rattle.pc_types.specs.declared.error.Error.TheVariants as error
 use Rattle.pc_types.specs.declared.parsed.TypeTable.{TypeTable}
 use Rattle.pc_semantics.specs.ExportNode.{NamedNode, erase_named}
 use Rattle.pc_semantics.specs.Log.{instances_of, erase_owned}
 use Rattle.pc_semantics.specs.Machine.{State, owned_instances, run, export_nodes}
-use Rattle.pc_semantics.specs.PlanView.{PlanView}
+use Rattle.pc_semantics.specs.PlanView.{PlanView, Counts}
+use Rattle.pc_info.specs.declared.component.Component.{Component}
 use Rattle.pc_info.specs.declared.component.ComponentTranslation.{ComponentTranslation}
 use Rattle.pc_info.specs.declared.component.ModuleTranslation.{ModuleTranslation}
-use Rattle.pc_info.specs.View.{view, has_items, module_view}
+use Rattle.pc_info.specs.View.{view, has_items, module_view, counts_view}
 use Rattle.pc_parsed.specs.declared.payload.Payload.{Payload}
 use Rattle.pc_parsed.specs.declared.fault.ItemFault.TheVariants.{Invalid, BadType}
 use Rattle.pc_parsed.specs.Nest.{modules_of}
@@ -32,9 +36,35 @@ pub record DoesAs {τ : Type 0} (plan : PlanView τ) (r : Reading) : Type 0 wher
 abbrev pub can_translate : TypeTable → (exposed : Option (List ℕ)) → (limit : ℕ) → List Payload → Bool
 can_translate t exposed limit ps = nat_lt 0 limit && is_translatable t exposed ps
 
--- a plan and its modules are what a translation of payloads is to answer
-pub record Translates (t : TypeTable) (exposed : Option (List ℕ)) (limit : ℕ) (ps : List Payload)
+-- the counts of a plan for a reading, where the types builder holds these types afterwards: how many steps or entries
+-- of each kind there are, and how many tables of futures, streams and error contexts the builder holds
+abbrev pub counts_of : Reading → Types → Counts
+counts_of r types = record {
+  runtime_instances = length (instances_of r.log);
+  component_instances = r.begun;
+  lowerings = 0;
+  memories = 0;
+  tables = 0;
+  reallocs = 0;
+  callbacks = 0;
+  post_returns = 0;
+  resources = 0;
+  future_tables = length types.future_tables;
+  stream_tables = length types.stream_tables;
+  error_context_tables = length types.error_context_tables;
+}
+
+-- each export of a plan has the item at its place, and no item stands beside these
+pub record NumbersItems (c : Component) : Type 0 where
+  pub as_many : length c.export_items ≡ length c.exports
+  pub in_order : (n : ℕ) (e : List ℕ × (ExportIndex × ComponentExternData)) → slice_get c.exports n ≡ Some e → e.1.0.0 ≡ n
+
+-- a plan and its modules are what a translation of payloads is to answer, where the types builder holds these types
+-- afterwards
+pub record Translates (t : TypeTable) (exposed : Option (List ℕ)) (limit : ℕ) (ps : List Payload) (types : Types)
     (plan : ComponentTranslation) (modules : List ModuleTranslation) : Type 0 where
+  -- each entry and each item has a number
+  pub numbered : is_numbered t ps ≡ true
   -- no item was passed over: all are of kinds that are built
   pub able : can_translate t exposed limit ps ≡ true
   pub result : Reading
@@ -42,17 +72,24 @@ pub record Translates (t : TypeTable) (exposed : Option (List ℕ)) (limit : ℕ
   pub does : DoesAs (view plan modules) result
   -- the modules are those of the payloads, in order
   pub handed_in : map module_view modules ≡ modules_of ps
-  -- the plan counts the component instances that began
-  pub begun : plan.component.num_runtime_component_instances ≡ result.begun
+  -- the plan counts what it has
+  pub counts : counts_view plan.component ≡ counts_of result types
+  -- lifts with equal options share an options entry
+  pub shared : AreDistinct plan.component.options
   -- each export of the plan has its item
+  pub items : NumbersItems plan.component
   pub held : has_items plan ≡ true
 
 -- why a translation was refused, where the types builder holds these types afterwards
 abbrev pub HasCause : TypeTable → (exposed : Option (List ℕ)) → (limit : ℕ) → List Payload → Types → Error → Type 0
-HasCause t exposed limit ps types (error.Invalid p) = (can_translate t exposed limit ps ≡ true) × (reading t exposed limit ps ≡ fault Invalid p)
-HasCause t exposed limit ps types (error.BadType p) = (can_translate t exposed limit ps ≡ true) × (reading t exposed limit ps ≡ fault BadType p)
-HasCause t exposed limit ps types (error.Unsupported u p) = (error.Unsupported u p ≡ not_built) × (can_translate t exposed limit ps ≡ false)
-HasCause t exposed limit ps types error.TooMany = (is_numbered t ps ≡ false) ⊎ IsFull types
+HasCause t exposed limit ps types (error.Invalid p) =
+    (is_numbered t ps ≡ true) × (can_translate t exposed limit ps ≡ true) × (reading t exposed limit ps ≡ fault Invalid p)
+HasCause t exposed limit ps types (error.BadType p) =
+    (is_numbered t ps ≡ true) × (can_translate t exposed limit ps ≡ true) × (reading t exposed limit ps ≡ fault BadType p)
+HasCause t exposed limit ps types (error.Unsupported u p) =
+    (is_numbered t ps ≡ true) × (can_translate t exposed limit ps ≡ false) × (error.Unsupported u p ≡ not_built)
+HasCause t exposed limit ps types error.TooMany =
+    (is_numbered t ps ≡ false) ⊎ ((can_translate t exposed limit ps ≡ true) × IsFull types)
 HasCause t exposed limit ps types error.NoMemory = Unit {0}
 HasCause t exposed limit ps types (error.Malformed p) = ⊥
 HasCause t exposed limit ps types (error.BadTable p) = ⊥

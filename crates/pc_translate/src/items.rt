@@ -2,22 +2,22 @@
 
 ghost use Rattle.std.specs.Prelude.{◌≡◌, ◌≢◌, ◌<◌, ◌≤◌, ◌+◌, length, option_and_then, slice_get, IfErr, IfOk, OnOk};
 ghost use Rattle.std.specs.Option.{option_map};
-ghost use Rattle.pc_entity.specs.Lists.{map_all, value_of};
-ghost use Rattle.pc_parsed.specs.ItemRows.{has_entry, of_kind};
-ghost use Rattle.pc_types.specs.Record.{export_of};
+ghost use Rattle.pc_entity.specs.Lists.{map_all};
+ghost use Rattle.pc_parsed.specs.ItemRows.{has_entry};
 ghost use Rattle.pc_types.specs.Table.{is_module};
 ghost use Rattle.pc_translate.specs.Building.{Becomes, argument_def, argument_defs, build_core_alias, build_export, build_instance, build_module, export_def, knows_instances, with_instance};
 ghost use Rattle.pc_translate.specs.declared.error.ReadError.TheVariants as read_error;
 
+use crate::core_modules::{CoreModules, by_name};
 use crate::error::ReadError;
 use crate::frame::{CoreInstance, Frame, LiftedFunction, NamedFunction};
 use pc_entity::{
-    EntityIndex, NoMemory, RuntimeComponentInstanceIndex, RuntimeInstanceIndex, Seq,
-    StaticModuleIndex, Text, TryClone,
+    NoMemory, RuntimeComponentInstanceIndex, RuntimeInstanceIndex, Seq, StaticModuleIndex, Text,
+    TextMap, TryClone,
 };
 use pc_info::{CoreDef, CoreExport, ExportItem, GlobalInitializer, InstantiateModule};
 use pc_parsed::{ExternName, ItemFault};
-use pc_types::{CoreEntity, CoreKind, ModuleRecord, TypeTable};
+use pc_types::{CoreEntity, CoreKind, TypeTable};
 use std::alloc::Global;
 
 fn is_module_type(table: &TypeTable, ty: u32) -> bool
@@ -29,39 +29,19 @@ fn is_module_type(table: &TypeTable, ty: u32) -> bool
     }
 }
 
-/// What is listed under a name, the first time that it stands there.
-fn named(entries: &[(Text, u32)], name: &str) -> Option<u32>
-    ensures { result ≡ value_of name.now entries.now }
-{
-    for (entry, value) in entries {
-        if name == entry.as_str() {
-            return Some(*value);
-        }
-    }
-    None
-}
-
-/// The entity that a module exports under a name, if it is of a kind.
-fn export_of_kind(record_: &ModuleRecord, kind: CoreKind, name: &str) -> Option<EntityIndex>
-    ensures { result ≡ option_and_then (of_kind kind) (export_of record_.now name.now) }
-{
-    match record_.export(name) {
-        Some(entity) if CoreKind::of(entity).is(kind) => Some(entity),
-        _ => None,
-    }
-}
-
 /// The definition of what a core instance exports under a name, if it is of a kind.
 fn export_def(
-    modules: &[ModuleRecord],
+    modules: &CoreModules<'_>,
     kind: CoreKind,
     name: &str,
     instance: CoreInstance,
 ) -> Option<CoreDef>
     ensures { result ≡ export_def modules.now kind name.now instance }
 {
-    let record_ = modules.get(instance.core_module.0 as usize)?;
-    let entity = export_of_kind(record_, kind, name)?;
+    let entity = modules.export(instance.core_module, name)?;
+    if !CoreKind::of(entity).is(kind) {
+        return None;
+    }
     Some(CoreDef::Export(CoreExport {
         instance: instance.instance,
         item: ExportItem::Index(entity),
@@ -78,14 +58,14 @@ fn knows_instances(frame: &Frame, args: &[(Text, u32)]) -> bool
 
 /// The definition of an import: the item of its name and kind in the argument of its module name.
 fn argument_def(
-    modules: &[ModuleRecord],
+    modules: &CoreModules<'_>,
     frame: &Frame,
-    args: &[(Text, u32)],
+    args: &TextMap<u32>,
     import: &(Text, Text, CoreEntity),
 ) -> Option<CoreDef>
     ensures { result ≡ argument_def modules.now frame.now args.now import.now }
 {
-    let place = named(args, import.0.as_str())?;
+    let place = args.get(import.0.as_str()).copied()?;
     let instance = *frame.core_instances.as_slice().get(place as usize)?;
     export_def(modules, import.2.kind(), import.1.as_str(), instance)
 }
@@ -93,9 +73,9 @@ fn argument_def(
 /// The definitions of all imports in order, or nothing where one has none.
 fn argument_defs(
     alloc: Global,
-    modules: &[ModuleRecord],
+    modules: &CoreModules<'_>,
     frame: &Frame,
-    args: &[(Text, u32)],
+    args: &TextMap<u32>,
     imports: &[(Text, Text, CoreEntity)],
 ) -> Result<Option<Seq<CoreDef>>, NoMemory>
     ensures { IfOk result (λ defs. defs ≡ map_all (argument_def modules.now frame.now args.now) imports.now) }
@@ -113,20 +93,21 @@ fn argument_defs(
 /// The arguments of a module of the frame, or nothing where one is missing.
 fn instance_defs(
     alloc: Global,
-    modules: &[ModuleRecord],
+    modules: &CoreModules<'_>,
     frame: &Frame,
     args: &[(Text, u32)],
     core_module: StaticModuleIndex,
 ) -> Result<Option<Seq<CoreDef>>, NoMemory>
     ensures { IfOk result (λ defs. defs ≡ option_and_then (argument_defs modules.now frame.now args.now) (slice_get modules.now core_module.0)) }
 {
-    let Some(record_) = modules.get(core_module.0 as usize) else {
+    let Some(record_) = modules.record_(core_module) else {
         return Ok(None);
     };
     if !knows_instances(frame, args) {
         return Ok(None);
     }
-    argument_defs(alloc, modules, frame, args, record_.imports.as_slice())
+    let args = by_name(alloc, args)?;
+    argument_defs(alloc, modules, frame, &args, record_.imports.as_slice())
 }
 
 impl TryClone for LiftedFunction {
@@ -162,7 +143,7 @@ impl Frame {
     pub(crate) fn read_instance(
         &mut self,
         alloc: Global,
-        modules: &[ModuleRecord],
+        modules: &CoreModules<'_>,
         core_module: u32,
         args: &[(Text, u32)],
     ) -> Result<(), ReadError>
@@ -204,7 +185,7 @@ impl Frame {
     /// A core function that a core instance exports.
     pub(crate) fn read_core_alias(
         &mut self,
-        modules: &[ModuleRecord],
+        modules: &CoreModules<'_>,
         instance: u32,
         name: &Text,
     ) -> Result<(), ReadError>

@@ -5,6 +5,7 @@
 //! the machine of `pc_semantics`.
 #![tactic(auto)]
 
+mod core_modules;
 mod error;
 mod frame;
 mod items;

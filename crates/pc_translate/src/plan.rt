@@ -6,6 +6,7 @@ ghost use Rattle.pc_types.specs.Names.{distinct_names};
 ghost use Rattle.pc_translate.specs.Planning.{AddsExport, Exports, IsPlanOf, export_name, plain_entry};
 
 use crate::frame::{Frame, NamedFunction};
+use pc_builder::ComponentTypesBuilder;
 use pc_entity::{
     ExportIndex, Interner, NoMemory, OptionsIndex, PrimaryMap, RuntimeComponentInstanceIndex,
     TextMap, TryClone,
@@ -13,7 +14,7 @@ use pc_entity::{
 use pc_info::{
     CanonicalOptions, CanonicalOptionsDataModel, Component, Export, LinearMemoryOptions,
 };
-use pc_types::{ComponentExternData, ModuleInternedTypeIndex, StringEncoding};
+use pc_types::{ComponentExternData, ModuleInternedTypeIndex, StringEncoding, TypeKind};
 use std::alloc::Global;
 
 /// What a plan exports, with the signatures that its options entries have: the entry of a signature has its number.
@@ -104,12 +105,16 @@ fn entries(
     Ok(PrimaryMap::from_vec(options))
 }
 
-/// The plan of a frame whose items were all read.
-pub(crate) fn plan_of(alloc: Global, frame: Frame) -> Result<Component, NoMemory>
+/// The plan of a frame whose items were all read with this types builder.
+pub(crate) fn plan_of(
+    alloc: Global,
+    types: &ComponentTypesBuilder,
+    frame: Frame,
+) -> Result<Component, NoMemory>
     requires distinct { distinct_names (map export_name frame.exports) ≡ true }
     requires few_exports { length frame.exports < 4294967295 }
     requires few_steps { length frame.initializers < 4294967296 }
-    ensures { IfOk result (λ c. IsPlanOf frame c) }
+    ensures { IfOk result (λ c. IsPlanOf frame types.now c) }
 {
     let exported = export_all(alloc, frame.exports.as_slice())?;
     let options = entries(alloc, exported.signatures.as_slice())?;
@@ -127,9 +132,9 @@ pub(crate) fn plan_of(alloc: Global, frame: Frame) -> Result<Component, NoMemory
         num_runtime_callbacks: 0,
         num_runtime_post_returns: 0,
         num_resources: 0,
-        num_future_tables: 0,
-        num_stream_tables: 0,
-        num_error_context_tables: 0,
+        num_future_tables: types.held(TypeKind::FutureTable),
+        num_stream_tables: types.held(TypeKind::StreamTable),
+        num_error_context_tables: types.held(TypeKind::ErrorContextTable),
         options,
     })
 }

@@ -8,12 +8,13 @@ ghost use Rattle.pc_types.specs.Table.{table_fault};
 ghost use Rattle.pc_translate.specs.Building.{Builds, Ends, Reads, empty_frame, read_error_at};
 ghost use Rattle.pc_translate.specs.declared.error.ReadError.TheVariants as read_error;
 
+use crate::core_modules::CoreModules;
 use crate::error::ReadError;
 use crate::frame::Frame;
 use pc_builder::ComponentTypesBuilder;
 use pc_entity::Seq;
-use pc_parsed::{ItemFault, LocalInitializer};
-use pc_types::{Error, ModuleRecord, Place, TypeTable};
+use pc_parsed::{ItemFault, LocalInitializer, LocalProgram};
+use pc_types::{Error, Place, TypeTable};
 use std::alloc::Global;
 
 impl Frame {
@@ -36,7 +37,7 @@ impl Frame {
         alloc: Global,
         types: &mut ComponentTypesBuilder,
         table: &TypeTable,
-        modules: &[ModuleRecord],
+        modules: &CoreModules<'_>,
         item: &LocalInitializer,
     ) -> Result<(), ReadError>
         requires sound { table_fault table.now ≡ None }
@@ -76,11 +77,11 @@ fn error_at(error: ReadError, item: u64) -> Error
 }
 
 /// The frame of the root after all items, or the error of the first that is stuck.
-pub(crate) fn read_items(
+fn read_items(
     alloc: Global,
     types: &mut ComponentTypesBuilder,
     table: &TypeTable,
-    modules: &[ModuleRecord],
+    modules: &CoreModules<'_>,
     items: &[LocalInitializer],
 ) -> Result<Frame, Error>
     requires sound { table_fault table.now ≡ None }
@@ -98,4 +99,28 @@ pub(crate) fn read_items(
         }
     }
     Ok(frame)
+}
+
+/// The frame of a program's root after all its items, or the error of the first that is stuck.
+pub(crate) fn read_program(
+    alloc: Global,
+    types: &mut ComponentTypesBuilder,
+    table: &TypeTable,
+    program: &LocalProgram,
+) -> Result<Frame, Error>
+    requires sound { table_fault table.now ≡ None }
+    requires built { list_all is_built_entry table.now.types ≡ true }
+    requires few { length program.now.root.initializers < 4294967295 }
+    ensures reads { Reads table.now program.now.modules program.now.root.initializers result }
+    ensures full { result ≡ Err Error.TooMany → IsFull types.new }
+    ensures grows { Grows types.old types.new }
+{
+    let modules = CoreModules::new(alloc, program.modules.as_slice())?;
+    read_items(
+        alloc,
+        types,
+        table,
+        &modules,
+        program.root.initializers.as_slice(),
+    )
 }

@@ -7,7 +7,7 @@ ghost use Rattle.pc_info.specs.View.{module_view};
 ghost use Rattle.pc_translate.specs.Translation.{HasCause, Translates};
 
 use crate::plan::plan_of;
-use crate::reader::read_items;
+use crate::reader::read_program;
 use pc_builder::ComponentTypesBuilder;
 use pc_entity::{NoMemory, PrimaryMap, StaticModuleIndex};
 use pc_info::{ComponentTranslation, ModuleTranslation};
@@ -49,7 +49,7 @@ pub fn translate(
 >
     // The plan does what the nested reading of the payloads says.
     ensures translated { IfOk result (λ r. Translates table.now (option_map (λ name. name.now) exposed.entry)
-        tunables.now.max_component_instances payloads.now r.0 r.1) }
+        tunables.now.max_component_instances payloads.now types.new r.0 r.1) }
 
     // Each refusal has its cause.
     ensures refused { IfErr result (λ e. HasCause table.now (option_map (λ name. name.now) exposed.entry)
@@ -70,17 +70,11 @@ pub fn translate(
         ));
     }
     let program = translate_payloads(alloc, table, exposed, payloads)?;
-    let frame = match read_items(
-        alloc,
-        types,
-        table,
-        program.modules.as_slice(),
-        program.root.initializers.as_slice(),
-    ) {
+    let frame = match read_program(alloc, types, table, &program) {
         Ok(frame) => frame,
         Err(error) => return Err(error),
     };
-    let component = plan_of(alloc, frame)?;
+    let component = plan_of(alloc, types, frame)?;
     let modules = translations(alloc, program.modules)?;
     Ok((ComponentTranslation { component }, modules))
 }

@@ -1,4 +1,4 @@
-use Rattle.std.proofs.Common.{◌≡◌, ◌++◌, ◌∷◌, [], ◌∙◌, refl}
+use Rattle.std.proofs.Common.{◌++◌, ◌∷◌, [], ◌∙◌, refl}
 use Rattle.pc_info.specs.declared.export.Export.TheVariants as export
 use Rattle.pc_translate.proofs.Naming.{interned_kept, interned_few}
 use Rattle.pc_translate.proofs.plan.push_export.Goals as goal

@@ -1,4 +1,4 @@
-use Rattle.std.proofs.Common.{◌≡◌, Err, sym, ap}
+use Rattle.std.proofs.Common.{Err, ap}
 use Rattle.pc_translate.proofs.Plain.{lift_failed, lift_pushed}
 use Rattle.pc_translate.proofs.frame.Frame.read_lift.Goals as goal
 
