@@ -1,0 +1,12 @@
+-- What the functions of this crate rest on.
+mod Components
+mod Listing
+mod Lists
+mod Members
+mod Parts
+mod Pushing
+mod Represented
+mod Searches
+mod Stepping
+mod Touring
+mod Tours

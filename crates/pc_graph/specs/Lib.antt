@@ -1,0 +1,9 @@
+-- What the public contracts rest on.
+pub mod Classes
+pub mod Digraph
+pub mod Laws
+pub mod Listed
+pub mod Steps
+pub mod Tour
+-- What the functions inside promise each other.
+pub mod Searching
