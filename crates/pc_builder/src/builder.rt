@@ -14,7 +14,6 @@ use std::alloc::Global;
 use std::marker::Model;
 
 /// One list for each kind of type, in which equal types share a number, and the resources that are known.
-#[derive(Drop)]
 pub struct ComponentTypesBuilder {
     pub(crate) alloc: Global,
     pub(crate) funcs: Interner<TypeFunc>,
@@ -36,6 +35,72 @@ pub struct ComponentTypesBuilder {
     pub(crate) signatures: Interner<CoreFuncSig>,
     pub(crate) resources: ResourcesBuilder,
 }
+
+// By hand, since a derived drop of so many lists is proved anew, and slowly, in each crate that lets a builder go.
+impl Drop for ComponentTypesBuilder {
+    fn drop(self) {
+        let ComponentTypesBuilder {
+            alloc: _,
+            funcs,
+            tuples,
+            records,
+            variants,
+            lists,
+            options,
+            results,
+            flags,
+            enums,
+            resource_tables,
+            future_tables,
+            stream_tables,
+            error_context_tables,
+            instances,
+            components,
+            modules,
+            signatures,
+            resources,
+        } = self;
+        drop_values(funcs, tuples, records, variants, lists);
+        drop_more_values(options, results, flags, enums);
+        drop_tables(
+            resource_tables,
+            future_tables,
+            stream_tables,
+            error_context_tables,
+        );
+        drop_externs(instances, components, modules, signatures, resources);
+    }
+}
+
+fn drop_values(
+    _funcs: Interner<TypeFunc>,
+    _tuples: Interner<TypeTuple>,
+    _records: Interner<TypeRecord>,
+    _variants: Interner<TypeVariant>,
+    _lists: Interner<TypeList>,
+) {}
+
+fn drop_more_values(
+    _options: Interner<TypeOption>,
+    _results: Interner<TypeResult>,
+    _flags: Interner<TypeFlags>,
+    _enums: Interner<TypeEnum>,
+) {}
+
+fn drop_tables(
+    _resource_tables: Interner<TypeResourceTable>,
+    _future_tables: Interner<TypeFutureTable>,
+    _stream_tables: Interner<TypeStreamTable>,
+    _error_context_tables: Interner<TypeErrorContextTable>,
+) {}
+
+fn drop_externs(
+    _instances: Interner<TypeComponentInstance>,
+    _components: Interner<TypeComponent>,
+    _modules: Interner<TypeModule>,
+    _signatures: Interner<CoreFuncSig>,
+    _resources: ResourcesBuilder,
+) {}
 
 impl Model for ComponentTypesBuilder {
     ghost use Rattle.pc_builder.specs.Types.{Types};

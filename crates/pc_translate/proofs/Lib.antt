@@ -14,3 +14,5 @@ mod Translating
 mod Looping
 mod Plain
 mod Causes
+-- what an answer says where the types builder is not asked for
+pub mod Alone

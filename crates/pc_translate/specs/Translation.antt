@@ -98,3 +98,12 @@ HasCause t exposed limit ps types (error.UnknownIntrinsic p) = ⊥
 HasCause t exposed limit ps types (error.DefinedTwice p) = ⊥
 HasCause t exposed limit ps types (error.BadOptions p) = ⊥
 HasCause t exposed limit ps types error.TooManyInstances = ⊥
+
+-- a plan and its modules are what a translation is to answer, with some types builder
+unfoldable pub IsPlanOf : TypeTable → (exposed : Option (List ℕ)) → (limit : ℕ) → List Payload
+    → ComponentTranslation → List ModuleTranslation → Type 0
+IsPlanOf t exposed limit ps plan modules = (types : Types) × Translates t exposed limit ps types plan modules
+
+-- an error has its cause, with some types builder
+unfoldable pub IsRefusalOf : TypeTable → (exposed : Option (List ℕ)) → (limit : ℕ) → List Payload → Error → Type 0
+IsRefusalOf t exposed limit ps e = (types : Types) × HasCause t exposed limit ps types e

@@ -14,4 +14,4 @@ mod plan;
 mod reader;
 mod translator;
 
-pub use translator::translate;
+pub use translator::{Translator, plan_payloads, translate};

@@ -1,10 +1,10 @@
 //! The top call over payloads.
 
-ghost use Rattle.std.specs.Prelude.{◌≡◌, map, IfErr, IfOk};
+ghost use Rattle.std.specs.Prelude.{◌≡◌, false, map, None, Some, is_some, IfErr, IfOk};
 ghost use Rattle.std.specs.Option.{option_map};
 ghost use Rattle.pc_builder.specs.Types.{Grows};
 ghost use Rattle.pc_info.specs.View.{module_view};
-ghost use Rattle.pc_translate.specs.Translation.{HasCause, Translates};
+ghost use Rattle.pc_translate.specs.Translation.{HasCause, IsPlanOf, IsRefusalOf, Translates};
 
 use crate::plan::plan_of;
 use crate::reader::read_program;
@@ -77,4 +77,142 @@ pub fn translate(
     let component = plan_of(alloc, types, frame)?;
     let modules = translations(alloc, program.modules)?;
     Ok((ComponentTranslation { component }, modules))
+}
+
+/// What `translate` answers, for callers that don't ask for the types of the plan.
+fn plan_with(
+    alloc: Global,
+    tunables: &Tunables,
+    table: &TypeTable,
+    types: &mut ComponentTypesBuilder,
+    exposed: Option<&str>,
+    payloads: &[Payload],
+) -> Result<
+    (
+        ComponentTranslation,
+        PrimaryMap<StaticModuleIndex, ModuleTranslation>,
+    ),
+    Error,
+>
+    ensures translated { IfOk result (λ r. IsPlanOf table.now (option_map (λ name. name.now) exposed.entry)
+        tunables.now.max_component_instances payloads.now r.0 r.1) }
+    ensures refused { IfErr result (λ e. IsRefusalOf table.now (option_map (λ name. name.now) exposed.entry)
+        tunables.now.max_component_instances payloads.now e) }
+{
+    translate(alloc, tunables, table, types, exposed, payloads)
+}
+
+/// The plan that payloads are translated to, and its core modules, with a types builder of its own.
+pub fn plan_payloads(
+    alloc: Global,
+    tunables: &Tunables,
+    table: &TypeTable,
+    exposed: Option<&str>,
+    payloads: &[Payload],
+) -> Result<
+    (
+        ComponentTranslation,
+        PrimaryMap<StaticModuleIndex, ModuleTranslation>,
+    ),
+    Error,
+>
+    ensures translated { IfOk result (λ r. IsPlanOf table.now (option_map (λ name. name.now) exposed.entry)
+        tunables.now.max_component_instances payloads.now r.0 r.1) }
+    ensures refused { IfErr result (λ e. IsRefusalOf table.now (option_map (λ name. name.now) exposed.entry)
+        tunables.now.max_component_instances payloads.now e) }
+{
+    plan_with(
+        alloc,
+        tunables,
+        table,
+        &mut ComponentTypesBuilder::new(alloc),
+        exposed,
+        payloads,
+    )
+}
+
+/// A translation before its payloads: what it is to know of them.
+///
+/// It may be told the name under which the root imports the unsafe intrinsics.
+#[derive(Drop)]
+pub struct Translator<'a> {
+    types: &'a mut ComponentTypesBuilder,
+    alloc: Global,
+    tunables: &'a Tunables,
+    table: &'a TypeTable,
+    exposed: Option<&'a str>,
+}
+
+impl<'a> Translator<'a> {
+    /// A translation without the unsafe intrinsics, whose types the builder gains.
+    pub fn new(
+        alloc: Global,
+        tunables: &'a Tunables,
+        table: &'a TypeTable,
+        types: &'a mut ComponentTypesBuilder,
+    ) -> Self
+        ensures same_builder { result.types.ghost_name ≡ types.entry.ghost_name }
+        ensures types { result.types.now ≡ types.old }
+        ensures tunables { result.tunables.now ≡ tunables.now }
+        ensures table { result.table.now ≡ table.now }
+        ensures exposes_nothing { result.exposed ≡ None }
+    {
+        Translator {
+            types,
+            alloc,
+            tunables,
+            table,
+            exposed: None,
+        }
+    }
+
+    /// Exposes the unsafe intrinsics under this import name.
+    pub fn expose_unsafe_intrinsics(&mut self, name: &'a str) -> &mut Self
+        requires once { is_some self.old.exposed ≡ false }
+        ensures same_translator { result.ghost_name ≡ self.entry.ghost_name }
+        ensures exposes { result.now ≡ record self.old { exposed = Some name.entry } }
+    {
+        self.exposed = Some(name);
+        self
+    }
+
+    /// Whether a name was exposed.
+    pub fn exposes_intrinsics(&self) -> bool
+        ensures { result ≡ is_some self.now.exposed }
+    {
+        self.exposed.is_some()
+    }
+
+    /// The plan that payloads are translated to, and its core modules: those of the payloads, in order.
+    ///
+    /// The builder gains the types of the plan, also on a refusal; the types that it held keep their numbers.
+    pub fn translate(
+        self,
+        component: &[Payload],
+    ) -> Result<
+        (
+            ComponentTranslation,
+            PrimaryMap<StaticModuleIndex, ModuleTranslation>,
+        ),
+        Error,
+    >
+        // The plan does what the nested reading of the payloads says.
+        ensures translated { IfOk result (λ r. Translates self.entry.table.now (option_map (λ name. name.now) self.entry.exposed)
+            self.entry.tunables.now.max_component_instances component.now self.exit.0.now r.0 r.1) }
+
+        // Each refusal has its cause.
+        ensures refused { IfErr result (λ e. HasCause self.entry.table.now (option_map (λ name. name.now) self.entry.exposed)
+            self.entry.tunables.now.max_component_instances component.now self.exit.0.now e) }
+
+        ensures grows { Grows self.entry.types.now self.exit.0.now }
+    {
+        let Translator {
+            types,
+            alloc,
+            tunables,
+            table,
+            exposed,
+        } = self;
+        translate(alloc, tunables, table, types, exposed, component)
+    }
 }
