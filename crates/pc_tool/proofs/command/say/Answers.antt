@@ -1,0 +1,19 @@
+use Rattle.std.proofs.Common.{inl, inr, refl}
+use Rattle.pc_tool.specs.Answers.{Said}
+use Rattle.pc_tool.proofs.command.say.Goals as goal
+
+pub returns-in-Ok-clause-said : goal.returns-in-Ok-clause-said
+unfolding Said
+returns-in-Ok-clause-said g c = inl (refl, c.in-Ok.ensures.ok)
+
+pub returns-in-Err-clause-said : goal.returns-in-Err-clause-said
+unfolding Said
+returns-in-Err-clause-said g c = inr (
+  refl,
+  record {
+    shown = c.in-Err.ensures.cause;
+    n = c.in-Err.ensures.err.0;
+    within = c.in-Err.ensures.err.1;
+    wrote = c.in-Err.ensures.err.2;
+  },
+)

@@ -1,0 +1,81 @@
+-- What the texts mean that answer bytes: the text of a plan that does what the nested reading says, or of a fault and its cause.
+use Rattle.std.specs.Prelude.{◌≡◌, ◌≢◌, ◌⊎◌, ℕ, false, List, Some, None}
+use Rattle.serde_json.specs.Data.{Data}
+use Rattle.pc_types.specs.declared.error.Error.{Error}
+use Rattle.pc_types.specs.declared.error.Error.TheVariants as error
+use Rattle.pc_types.specs.declared.error.Place.{Place}
+use Rattle.pc_semantics.specs.Text.{plan_text}
+use Rattle.pc_info.specs.declared.component.ComponentTranslation.{ComponentTranslation}
+use Rattle.pc_info.specs.declared.component.ModuleTranslation.{ModuleTranslation}
+use Rattle.pc_info.specs.View.{view}
+use Rattle.pc_text.specs.FaultText.{fault_text, not_json, bad_form}
+use Rattle.pc_parsed.specs.declared.fault.ItemFault.{ItemFault}
+use Rattle.pc_parsed.specs.Program.{is_numbered}
+use Rattle.pc_parsed.specs.Reading.{reading, fault}
+use Rattle.pc_form.specs.declared.input.Input.{Input}
+use Rattle.pc_form.specs.Input.{input_in, input_of, tree_of}
+use Rattle.pc_form.specs.Rules.{plain}
+use Rattle.pc_translate.specs.Translation.{IsPlanOf, IsRefusalOf, can_translate}
+
+-- bytes stand for an input
+unfoldable pub Decodes : (bytes : List ℕ) → Input → Type 0
+Decodes bytes input = input_in bytes ≡ Some input
+
+-- bytes are no JSON
+unfoldable pub IsNotJson : (bytes : List ℕ) → Type 0
+IsNotJson bytes = tree_of bytes ≡ None
+
+-- bytes are JSON, and stand for no input
+unfoldable pub IsBadForm : (bytes : List ℕ) → Type 0
+IsBadForm bytes = (tree : Data) × (tree_of bytes ≡ Some tree) × (input_of plain tree ≡ None)
+
+-- a plan and its modules do what the nested reading of an input's payloads says
+abbrev pub IsPlanFor : Input → ComponentTranslation → List ModuleTranslation → Type 0
+IsPlanFor input plan modules = IsPlanOf input.table input.intrinsics input.tunables.max_component_instances input.payloads plan modules
+
+-- an error has its cause in an input
+abbrev pub IsErrorOf : Input → Error → Type 0
+IsErrorOf input e = IsRefusalOf input.table input.intrinsics input.tunables.max_component_instances input.payloads e
+
+-- an input has a reason to be refused: a list is too long for its numbers, it can't be translated, or its reading ends at a fault
+unfoldable pub HasFault : Input → Type 0
+HasFault input =
+    (is_numbered input.table input.payloads ≡ false)
+    ⊎ ((can_translate input.table input.intrinsics input.tunables.max_component_instances input.payloads ≡ false)
+    ⊎ ((k : ItemFault) × (p : Place)
+    × (reading input.table input.intrinsics input.tunables.max_component_instances input.payloads ≡ fault k p)))
+
+-- a text is that of a plan and its modules
+unfoldable pub Prints : ComponentTranslation → List ModuleTranslation → (text : List ℕ) → Type 0
+Prints plan modules text = text ≡ plan_text (view plan modules)
+
+-- a text is that of an error
+unfoldable pub Explains : Error → (text : List ℕ) → Type 0
+Explains e text = text ≡ fault_text e
+
+-- a text is that of a plan which does what the nested reading of the payloads says that bytes stand for
+pub record IsPlanText (bytes text : List ℕ) : Type 0 where
+  pub input : Input
+  pub decoded : Decodes bytes input
+  pub plan : ComponentTranslation
+  pub modules : List ModuleTranslation
+  pub does : IsPlanFor input plan modules
+  pub printed : Prints plan modules text
+
+-- a text is that of an error which has its cause in the input that bytes stand for
+pub record IsErrorText (bytes text : List ℕ) : Type 0 where
+  pub input : Input
+  pub decoded : Decodes bytes input
+  pub refusal : Error
+  pub has_text : refusal ≢ error.NoMemory
+  pub cause : IsErrorOf input refusal
+  pub printed : Explains refusal text
+
+-- a text says why bytes have no plan: they are no JSON, they are no input, or their input is refused
+abbrev pub IsFaultText : (bytes text : List ℕ) → Type 0
+IsFaultText bytes text =
+    (IsNotJson bytes × (text ≡ not_json)) ⊎ ((IsBadForm bytes × (text ≡ bad_form)) ⊎ IsErrorText bytes text)
+
+-- bytes have a reason to be refused: they are no JSON, they are no input, or their input has one
+abbrev pub IsRefused : (bytes : List ℕ) → Type 0
+IsRefused bytes = IsNotJson bytes ⊎ (IsBadForm bytes ⊎ ((input : Input) × Decodes bytes input × HasFault input))

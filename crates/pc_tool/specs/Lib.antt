@@ -1,0 +1,7 @@
+-- What the public contract rests on, in reading order.
+pub mod Words
+pub mod Status
+pub mod Headline
+pub mod Run
+-- What the functions inside promise each other.
+pub mod Answers

@@ -1,0 +1,20 @@
+//! One call from bytes to bytes: what the program `plan` does, as a library.
+//!
+//! `run` reads a whole source, decodes it, translates it and writes the text of the plan, or of why there is none. Its
+//! clauses join those of the crates below; `specs/Headline.antt` says what the bytes mean that it writes.
+#![tactic(auto)]
+
+mod answer;
+mod command;
+mod status;
+#[cfg(test)]
+mod tests;
+mod words;
+
+pub use command::run;
+pub use pc_form::{DecodeError, Input, decode_input};
+pub use pc_stream::{
+    Failed, MemSink, MemSource, Sink, Source, StdSink, StdSource, SureSink, SureSource,
+};
+pub use pc_text::{fault_text, plan_text};
+pub use status::Status;
