@@ -57,7 +57,7 @@ fn each_fault_has_its_place(rt: HostRuntime) -> Result<(), Fail> {
             r#"{"instances":[{"instantiate":[0,[]]},{"instantiate":[1,[]]}]}"#,
             "fault invalid at instance 0 item 2\n",
         ),
-        // an export of an instance that isn't there, of another kind, and under another name
+        // an export of an instance that isn't there, and under a name that isn't there
         (
             r#"{"aliases":[{"core-export":["func",0,"f"]}]}"#,
             "fault invalid at instance 0 item 1\n",
@@ -70,7 +70,7 @@ fn each_fault_has_its_place(rt: HostRuntime) -> Result<(), Fail> {
             r#"{"instances":[{"instantiate":[0,[]]}]},{"aliases":[{"core-export":["func",0,"f"]},{"core-export":["func",0,"g"]}]}"#,
             "fault invalid at instance 0 item 3\n",
         ),
-        // a lift of a function or a type that isn't there, or of a type of another kind; the function is looked at first
+        // a lift of a function or a type that isn't there, or of a type of another kind; of two, the type is told
         (
             r#"{"canon":[["lift",0,0,0,[]]]}"#,
             "fault invalid at instance 0 item 1\n",
@@ -86,6 +86,14 @@ fn each_fault_has_its_place(rt: HostRuntime) -> Result<(), Fail> {
         (
             r#"{"instances":[{"instantiate":[0,[]]}]},{"aliases":[{"core-export":["func",0,"f"]}]},{"canon":[["lift",0,2,0,[]]]}"#,
             "fault bad-type at instance 0 item 3\n",
+        ),
+        (
+            r#"{"instances":[{"instantiate":[0,[]]}]},{"aliases":[{"core-export":["func",0,"f"]}]},{"canon":[["lift",1,1,0,[]]]}"#,
+            "fault bad-type at instance 0 item 3\n",
+        ),
+        (
+            r#"{"instances":[{"instantiate":[0,[]]}]},{"aliases":[{"core-export":["func",0,"f"]}]},{"canon":[["lift",0,0,0,[]],["lift",0,1,0,[]]]}"#,
+            "fault bad-type at instance 0 item 4\n",
         ),
         // an export of a function that isn't there; each export adds one
         (
