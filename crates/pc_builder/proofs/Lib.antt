@@ -2,3 +2,8 @@
 mod KnownLemmas
 pub mod Growth
 mod PartLemmas
+mod Doing
+mod Marking
+mod Simulation
+mod Sound
+mod TreeLemmas

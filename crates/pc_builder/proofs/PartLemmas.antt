@@ -11,8 +11,12 @@ use Rattle.pc_types.specs.declared.types.InterfaceType.{InterfaceType}
 use Rattle.pc_types.specs.declared.types.InterfaceType.TheVariants as ty
 use Rattle.pc_types.specs.declared.types.TypeDef.{TypeDef}
 use Rattle.pc_builder.specs.Types.{Types, Grows}
-use Rattle.pc_builder.specs.Parts.{plain_type, IsErrorContext, PrimIs, ValIs, MaybeIs, FieldIs, CaseIs}
-use Rattle.pc_builder.specs.Entries.{ReturnsAre}
+use Rattle.pc_builder.specs.Primitive.{plain_type}
+use Rattle.pc_builder.specs.Parts.{IsErrorContext, PrimIs, ValIs, MaybeIs, FieldIs, CaseIs}
+use Rattle.pc_types.specs.declared.parsed.CoreEntity.{CoreEntity}
+use Rattle.pc_types.specs.declared.parsed.CoreEntity.TheVariants as core
+use Rattle.pc_types.specs.declared.parsed.TypeTable.{TypeTable}
+use Rattle.pc_builder.specs.Entries.{ReturnsAre, CoreIs, ImportIs, ExportIs}
 
 -- What holds of items that stand at the same place in two lists.
 module _ {A B : Type 0} where
@@ -72,6 +76,19 @@ module _ (old new : Types) (g : Grows old new) where
   pub returns_grow : (done : List (Option TypeDef)) (v : Option ValType) (ws : List InterfaceType) → ReturnsAre old done v ws → ReturnsAre new done v ws
   returns_grow done None ws h = h
   returns_grow done (Some v) ws h = (h.0, h.1, val_grows done v h.0 h.2)
+
+  core_is_grows : (t : TypeTable) (e f : CoreEntity) → CoreIs old t e f → CoreIs new t e f
+  core_is_grows t (core.Func s) f h = (h.0, h.1, h.2, h.3, g.signatures h.0 h.1 h.4)
+  core_is_grows t core.Table f h = h
+  core_is_grows t (core.Memory is_wide) f h = h
+  core_is_grows t core.Global f h = h
+  core_is_grows t core.Tag f h = h
+
+  pub import_is_grows : (t : TypeTable) (i j : List ℕ × List ℕ × CoreEntity) → ImportIs old t i j → ImportIs new t i j
+  import_is_grows t i j h = (h.0, h.1, core_is_grows t i.2 j.2 h.2)
+
+  pub export_is_grows : (t : TypeTable) (e f : List ℕ × CoreEntity) → ExportIs old t e f → ExportIs new t e f
+  export_is_grows t e f h = (h.0, core_is_grows t e.1 f.1 h.1)
 
 -- a weaker fact of what was answered
 pub if_ok_more : {A E : Type 0} (P Q : A → Type 0) → ((x : A) → P x → Q x) → (r : Result A E) → IfOk r P → IfOk r Q

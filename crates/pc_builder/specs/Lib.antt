@@ -1,9 +1,14 @@
 -- What the public contracts rest on.
 pub mod Types
+pub mod Held
 pub mod Known
-pub mod Conversion
+pub mod Lending
+pub mod Primitive
+pub mod Trees
 -- What the functions inside promise each other.
+pub mod Marks
 pub mod Parts
 pub mod Entries
+pub mod Steps
 pub mod Interned
 pub mod View

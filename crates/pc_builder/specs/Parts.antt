@@ -1,32 +1,18 @@
 -- What the parts of a table entry are in the builder, where `done` has the types of earlier entries by number.
 use Rattle.std.specs.Prelude.{◌≡◌, ℕ, List, Option, None, Some, slice_get, MatchOption}
+use Rattle.pc_types.specs.declared.parsed.Entity.{Entity}
+use Rattle.pc_types.specs.declared.parsed.Entity.TheVariants as entity
 use Rattle.pc_types.specs.declared.parsed.PrimType.{PrimType}
-use Rattle.pc_types.specs.declared.parsed.PrimType.TheVariants as prim
 use Rattle.pc_types.specs.declared.parsed.ValType.{ValType}
 use Rattle.pc_types.specs.declared.parsed.ValType.TheVariants as val
 use Rattle.pc_types.specs.declared.type_index.TypeComponentLocalErrorContextTableIndex.{TypeComponentLocalErrorContextTableIndex}
+use Rattle.pc_types.specs.declared.type_index.TypeResourceTableIndex.{TypeResourceTableIndex}
 use Rattle.pc_types.specs.declared.types.InterfaceType.{InterfaceType}
 use Rattle.pc_types.specs.declared.types.InterfaceType.TheVariants as ty
 use Rattle.pc_types.specs.declared.types.TypeDef.{TypeDef}
 use Rattle.pc_types.specs.declared.types.TypeDef.TheVariants as def
 use Rattle.pc_builder.specs.Types.{Types}
-
--- the value type of a primitive that needs no table
-abbrev pub plain_type : PrimType → Option InterfaceType
-plain_type prim.Bool = Some ty.Bool
-plain_type prim.S8 = Some ty.S8
-plain_type prim.U8 = Some ty.U8
-plain_type prim.S16 = Some ty.S16
-plain_type prim.U16 = Some ty.U16
-plain_type prim.S32 = Some ty.S32
-plain_type prim.U32 = Some ty.U32
-plain_type prim.S64 = Some ty.S64
-plain_type prim.U64 = Some ty.U64
-plain_type prim.F32 = Some ty.F32
-plain_type prim.F64 = Some ty.F64
-plain_type prim.Char = Some ty.Char
-plain_type prim.String = Some ty.String
-plain_type prim.ErrorContext = None
+use Rattle.pc_builder.specs.Primitive.{plain_type}
 
 -- the number is that of the error contexts of the current component instance
 abbrev pub IsErrorContext : Types → TypeComponentLocalErrorContextTableIndex → Type 0
@@ -67,3 +53,24 @@ IsReady done (val.Type_ n) = (w : InterfaceType) × (slice_get done n ≡ Some (
 abbrev pub MayBeReady : List (Option TypeDef) → Option ValType → Type 0
 MayBeReady done None = Unit {0}
 MayBeReady done (Some v) = IsReady done v
+
+-- the type is the one that the table has there
+abbrev pub EntityIs : List (Option TypeDef) → Entity → TypeDef → Type 0
+EntityIs done (entity.Func n) d = slice_get done n ≡ Some (Some d)
+EntityIs done (entity.Instance n) d = slice_get done n ≡ Some (Some d)
+EntityIs done (entity.Component n) d = slice_get done n ≡ Some (Some d)
+EntityIs done (entity.Module n) d = slice_get done n ≡ Some (Some d)
+EntityIs done (entity.Type_ n) d = slice_get done n ≡ Some (Some d)
+EntityIs done entity.Value d = ⊥
+
+-- the same of a name with an entity
+abbrev pub ExternIs : List (Option TypeDef) → List ℕ × Entity → List ℕ × TypeDef → Type 0
+ExternIs done e f = (e.0 ≡ f.0) × EntityIs done e.1 f.1
+
+-- an entity's number is among the done ones
+abbrev pub IsThere : List (Option TypeDef) → Entity → Type 0
+IsThere done e = (d : TypeDef) × EntityIs done e d
+
+-- a resource's number is among the done ones, with the number of its handles
+abbrev pub HasHandles : List (Option TypeDef) → ℕ → Type 0
+HasHandles done n = (i : TypeResourceTableIndex) × (slice_get done n ≡ Some (Some (def.Resource i)))

@@ -1,7 +1,9 @@
 //! The lists of the builder.
 
 ghost use Rattle.std.specs.Prelude.{◌≡◌};
+ghost use Rattle.std.specs.Borrow.{sem};
 ghost use Rattle.pc_builder.specs.Types.{held, no_types};
+ghost use Rattle.pc_builder.specs.Lending.{LendsResources};
 
 use crate::ResourcesBuilder;
 use pc_entity::Interner;
@@ -140,6 +142,21 @@ impl ComponentTypesBuilder {
             signatures: Interner::new(alloc),
             resources: ResourcesBuilder::new(alloc),
         }
+    }
+
+    /// The registered resources.
+    pub fn resources(&self) -> &ResourcesBuilder
+        ensures { result.now ≡ self.now.resources }
+    {
+        &self.resources
+    }
+
+    /// The registered resources, to be changed.
+    pub fn resources_mut(&mut self) -> &mut ResourcesBuilder
+        ensures* writes_back { sem 𝓛 (LendsResources self.entry result) }
+        ensures value { result.now ≡ self.old.resources }
+    {
+        &mut self.resources
     }
 
     /// How many types of a kind are held. The numbers below it name them.

@@ -1,10 +1,12 @@
 //! Entries of a table, converted kind by kind.
 
-ghost use Rattle.std.specs.Prelude.{◌≡◌, Some, Err, All, map, IfOk, slice_get};
+ghost use Rattle.std.specs.Prelude.{◌≡◌, Some, Err, All, IfOk};
 ghost use Rattle.std.specs.List.{AllZip};
 ghost use Rattle.pc_entity.specs.Lists.{names_of};
 ghost use Rattle.pc_builder.specs.Types.{Grows, IsFull};
-ghost use Rattle.pc_builder.specs.Parts.{ValIs, MaybeIs, FieldIs, IsReady, MayBeReady};
+ghost use Rattle.pc_builder.specs.Parts.{ValIs, IsReady, MayBeReady};
+ghost use Rattle.pc_types.specs.declared.type_index.TypeFuncIndex.{TypeFuncIndex};
+ghost use Rattle.pc_types.specs.declared.types.TypeDef.TheVariants as def;
 ghost use Rattle.pc_builder.specs.Entries.{FuncIs, ReturnsAre};
 
 use crate::ComponentTypesBuilder;
@@ -13,7 +15,24 @@ use pc_types::{InterfaceType, TypeDef, TypeError, TypeFunc, TypeFuncIndex, TypeT
 use std::alloc::Global;
 
 impl ComponentTypesBuilder {
-    // A function type.
+    pub(crate) fn func_type_entry(
+        &mut self,
+        done: &[Option<TypeDef>],
+        params: &[(Text, ValType)],
+        returns: Option<ValType>,
+        async_: bool,
+    ) -> Result<TypeDef, TypeError>
+        requires params { All (λ p. IsReady done.now p.1) params.now }
+        requires returns { MayBeReady done.now returns }
+        ensures is { IfOk result (λ d. (i : TypeFuncIndex) × (d ≡ def.ComponentFunc i) × FuncIs self.new done.now params.now returns async_ i) }
+        ensures grows { Grows self.old self.new }
+        ensures never_bad { result ≡ Err TypeError.BadNumber → ⊥ }
+        ensures full { result ≡ Err TypeError.TooMany → IsFull self.new }
+    {
+        Ok(TypeDef::ComponentFunc(self.func_entry(done, params, returns, async_)?))
+    }
+
+    // The number of a function type.
     pub(crate) fn func_entry(
         &mut self,
         done: &[Option<TypeDef>],

@@ -4,11 +4,16 @@
 
 pub mod builder;
 mod convert;
+mod defined;
 mod entry;
+mod extern_type;
 mod intern;
+mod marks;
 mod put;
 mod readers;
 pub mod resources;
+#[cfg(test)]
+mod tests;
 mod value;
 
 pub use builder::ComponentTypesBuilder;

@@ -1,6 +1,6 @@
 //! The resources that are known while types are converted.
 
-ghost use Rattle.std.specs.Prelude.{◌≡◌, ℕ, [], IfOk, OnOk, OnErr, if◌then◌else◌, ◌==◌, Some};
+ghost use Rattle.std.specs.Prelude.{◌≡◌, ℕ, [], OnOk, OnErr, if◌then◌else◌, ◌==◌, Some};
 ghost use Rattle.pc_builder.specs.Known.{resource_of};
 
 use pc_entity::{NoMemory, ResourceIndex, RuntimeComponentInstanceIndex, TryClone};

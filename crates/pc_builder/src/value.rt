@@ -1,18 +1,19 @@
 //! Value types of a table, converted.
 
-ghost use Rattle.std.specs.Prelude.{◌≡◌, ℕ, List, Some, Err, All, take, IfOk, slice_get};
-ghost use Rattle.std.specs.List.{AllZip};
+ghost use Rattle.std.specs.Prelude.{◌≡◌, Some, Err, All, IfOk, slice_get};
 ghost use Rattle.pc_builder.specs.Types.{Grows, IsFull};
-ghost use Rattle.pc_builder.specs.Parts.{plain_type, IsErrorContext, PrimIs, ValIs, MaybeIs, FieldIs, CaseIs, IsReady, MayBeReady};
+ghost use Rattle.pc_builder.specs.Held.{IsHeld};
+ghost use Rattle.pc_builder.specs.Primitive.{plain_type};
+ghost use Rattle.pc_builder.specs.Parts.{IsErrorContext, PrimIs, ValIs, IsReady};
 ghost use Rattle.pc_types.specs.declared.parsed.ValType.TheVariants as val;
 ghost use Rattle.pc_types.specs.declared.types.TypeDef.TheVariants as def;
 ghost use Rattle.pc_types.specs.declared.types.InterfaceType.{InterfaceType};
 
 use crate::ComponentTypesBuilder;
-use pc_entity::{Seq, Text, TryClone};
+use pc_entity::Seq;
 use pc_types::{
     InterfaceType, PrimType, TypeComponentLocalErrorContextTableIndex, TypeDef, TypeError,
-    TypeErrorContextTable, ValType,
+    TypeErrorContextTable, TypeTuple, TypeTupleIndex, ValType,
 };
 
 impl ComponentTypesBuilder {
@@ -27,6 +28,18 @@ impl ComponentTypesBuilder {
     {
         let instance = self.resources.current_instance();
         self.put_error_context_table(TypeErrorContextTable { instance })
+    }
+
+    /// The number of a tuple of these types, which are held.
+    pub fn new_tuple_type(&mut self, types: Vec<InterfaceType>) -> Result<TypeTupleIndex, TypeError>
+        requires held { All (IsHeld self.old) types.items }
+        ensures is { IfOk result (λ i. slice_get self.new.tuples i.0 ≡ Some (record { types = types.items })) }
+        ensures grows { Grows self.old self.new }
+        ensures never_bad { result ≡ Err TypeError.BadNumber → ⊥ }
+        ensures full { result ≡ Err TypeError.TooMany → IsFull self.new }
+    {
+        let types = Seq::from_vec(types);
+        self.put_tuple(TypeTuple { types })
     }
 
     // A primitive.

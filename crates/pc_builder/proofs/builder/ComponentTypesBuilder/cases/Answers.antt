@@ -1,0 +1,30 @@
+use Rattle.std.proofs.Common.{arith, sym, take}
+use Rattle.pc_builder.specs.Parts.{CaseIs}
+use Rattle.pc_builder.proofs.Growth.{grows_trans}
+use Rattle.pc_builder.proofs.PartLemmas.{all_zip_next, all_zip_more}
+use Rattle.pc_builder.proofs.PartLemmas.{case_grows}
+use Rattle.pc_builder.proofs.builder.ComponentTypesBuilder.cases.Goals as goal
+
+pub returns-in_err-maybe_value-clause-grows : goal.returns-in_err-maybe_value-clause-grows
+returns-in_err-maybe_value-clause-grows c =
+    grows_trans c.args.self.now c.loop-case.self c.maybe_value.new.self c.loop-case.invariant.grows c.maybe_value.ensures.grows
+
+pub returns-in_err-push-clause-grows : goal.returns-in_err-push-clause-grows
+returns-in_err-push-clause-grows c =
+    grows_trans c.args.self.now c.loop-case.self c.maybe_value.new.self c.loop-case.invariant.grows c.maybe_value.ensures.grows
+
+pub loop-case-preserved : goal.loop-case-preserved
+loop-case-preserved c =
+    let l = c.loop-case in
+    let x = c.case-item in
+    let s = c.args.done.now in
+    let before = l.self in
+    let after = c.maybe_value.new.self in
+    record {
+      are =
+          rw c.in_ok-push.ensures.ok
+          (all_zip_next (CaseIs after s) c.args.cases.now l.types l.case-index x.result (c.in_ok-name.name, c.in_ok-maybe_value.field-0) (omega arith) x.is
+          (all_zip_more (CaseIs before s) (CaseIs after s) (case_grows before after c.maybe_value.ensures.grows s) (take l.case-index c.args.cases.now) l.types l.invariant.are)
+          (sym c.in_ok-name.ensures, c.in_ok-maybe_value.ensures.is));
+      grows = grows_trans c.args.self.now before after l.invariant.grows c.maybe_value.ensures.grows;
+    }

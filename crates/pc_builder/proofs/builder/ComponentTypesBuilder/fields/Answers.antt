@@ -1,0 +1,30 @@
+use Rattle.std.proofs.Common.{arith, sym, take}
+use Rattle.pc_builder.specs.Parts.{FieldIs}
+use Rattle.pc_builder.proofs.Growth.{grows_trans}
+use Rattle.pc_builder.proofs.PartLemmas.{all_zip_next, all_zip_more}
+use Rattle.pc_builder.proofs.PartLemmas.{field_grows}
+use Rattle.pc_builder.proofs.builder.ComponentTypesBuilder.fields.Goals as goal
+
+pub returns-in_err-value-clause-grows : goal.returns-in_err-value-clause-grows
+returns-in_err-value-clause-grows c =
+    grows_trans c.args.self.now c.loop-field.self c.value.new.self c.loop-field.invariant.grows c.value.ensures.grows
+
+pub returns-in_err-push-clause-grows : goal.returns-in_err-push-clause-grows
+returns-in_err-push-clause-grows c =
+    grows_trans c.args.self.now c.loop-field.self c.value.new.self c.loop-field.invariant.grows c.value.ensures.grows
+
+pub loop-field-preserved : goal.loop-field-preserved
+loop-field-preserved c =
+    let l = c.loop-field in
+    let x = c.field-item in
+    let s = c.args.done.now in
+    let before = l.self in
+    let after = c.value.new.self in
+    record {
+      are =
+          rw c.in_ok-push.ensures.ok
+          (all_zip_next (FieldIs after s) c.args.fields.now l.types l.field-index x.result (c.in_ok-name.name, c.in_ok-value.field-0) (omega arith) x.is
+          (all_zip_more (FieldIs before s) (FieldIs after s) (field_grows before after c.value.ensures.grows s) (take l.field-index c.args.fields.now) l.types l.invariant.are)
+          (sym c.in_ok-name.ensures, c.in_ok-value.ensures.is));
+      grows = grows_trans c.args.self.now before after l.invariant.grows c.value.ensures.grows;
+    }

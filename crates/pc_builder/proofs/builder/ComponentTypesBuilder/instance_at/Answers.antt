@@ -1,0 +1,16 @@
+use Rattle.std.proofs.Common.{subst}
+use Rattle.std.specs.Prelude.{slice_get}
+use Rattle.pc_types.specs.declared.types.TypeDef.TheVariants as def
+use Rattle.pc_types.specs.Table.{is_instance}
+use Rattle.pc_builder.specs.Trees.{IsEntry}
+use Rattle.pc_builder.proofs.Sound.{found_by, instance_kind}
+use Rattle.pc_builder.proofs.builder.ComponentTypesBuilder.instance_at.Goals as goal
+
+pub unreachable-requires : goal.unreachable-requires
+unreachable-requires c =
+    let found = found_by is_instance (slice_get c.args.table.now.types c.args.n) c.requires.kind in
+    let k = instance_kind found.0 c.in_ok-i.field-0 found.2 (c.in_ok-i.ensures.kind found.0 found.1) in
+    c.in_default.not-ComponentInstance k.0 k.1
+
+pub returns-clause-tree : goal.returns-clause-tree
+returns-clause-tree c = subst (λ d. IsEntry c.entry.new.self c.args.table.now c.args.n d) c.in-ComponentInstance.is c.in_ok-i.ensures.tree

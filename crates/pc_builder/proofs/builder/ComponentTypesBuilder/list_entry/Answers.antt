@@ -1,0 +1,17 @@
+use Rattle.std.proofs.Common.{refl}
+use Rattle.pc_builder.proofs.PartLemmas.{val_grows}
+use Rattle.pc_builder.proofs.Growth.{grows_trans}
+use Rattle.pc_builder.proofs.builder.ComponentTypesBuilder.list_entry.Goals as goal
+
+pub returns-in_err-put_list-clause-grows : goal.returns-in_err-put_list-clause-grows
+returns-in_err-put_list-clause-grows c = grows_trans c.args.self.now c.value.new.self c.put_list.new.self c.value.ensures.grows c.put_list.ensures.grows
+
+pub returns-clause-is : goal.returns-clause-is
+returns-clause-is c =
+    let done = c.args.done.now in
+    let part = c.in_ok-element in
+    let last = c.put_list.new.self in
+    (c.in_ok-put_list.field-0, _, refl, c.in_ok-put_list.ensures.held, val_grows c.value.new.self last c.put_list.ensures.grows done c.args.v part.element part.ensures.is)
+
+pub returns-clause-grows : goal.returns-clause-grows
+returns-clause-grows c = grows_trans c.args.self.now c.value.new.self c.put_list.new.self c.value.ensures.grows c.put_list.ensures.grows

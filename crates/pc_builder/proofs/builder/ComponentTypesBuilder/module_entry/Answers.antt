@@ -1,0 +1,34 @@
+use Rattle.std.proofs.Common.{refl}
+use Rattle.pc_builder.specs.Entries.{ExportIs, ImportIs}
+use Rattle.pc_builder.proofs.Growth.{grows_trans}
+use Rattle.pc_builder.proofs.PartLemmas.{all_zip_more, export_is_grows, import_is_grows}
+use Rattle.pc_builder.proofs.builder.ComponentTypesBuilder.module_entry.Goals as goal
+
+pub returns-in_err-exports-clause-grows : goal.returns-in_err-exports-clause-grows
+returns-in_err-exports-clause-grows c =
+    grows_trans c.args.self.now c.module_imports.new.self c.module_exports.new.self c.module_imports.ensures.grows c.module_exports.ensures.grows
+
+pub returns-in_err-put_module-clause-grows : goal.returns-in_err-put_module-clause-grows
+returns-in_err-put_module-clause-grows c =
+    grows_trans c.args.self.now c.module_imports.new.self c.put_module.new.self c.module_imports.ensures.grows
+    (grows_trans c.module_imports.new.self c.module_exports.new.self c.put_module.new.self c.module_exports.ensures.grows c.put_module.ensures.grows)
+
+pub returns-clause-is : goal.returns-clause-is
+returns-clause-is c =
+    let t = c.args.table.now in
+    let last = c.put_module.new.self in
+    let after_imports = grows_trans c.module_imports.new.self c.module_exports.new.self last c.module_exports.ensures.grows c.put_module.ensures.grows in (
+      c.in_ok-put_module.field-0,
+      _,
+      refl,
+      c.in_ok-put_module.ensures.held,
+      all_zip_more (ImportIs c.module_imports.new.self t) (ImportIs last t) (import_is_grows c.module_imports.new.self last after_imports t)
+          c.args.imports.now c.in_ok-imports.imports c.in_ok-imports.ensures.are,
+      all_zip_more (ExportIs c.module_exports.new.self t) (ExportIs last t) (export_is_grows c.module_exports.new.self last c.put_module.ensures.grows t)
+          c.args.exports.now c.in_ok-exports.exports c.in_ok-exports.ensures.are,
+    )
+
+pub returns-clause-grows : goal.returns-clause-grows
+returns-clause-grows c =
+    grows_trans c.args.self.now c.module_imports.new.self c.put_module.new.self c.module_imports.ensures.grows
+    (grows_trans c.module_imports.new.self c.module_exports.new.self c.put_module.new.self c.module_exports.ensures.grows c.put_module.ensures.grows)

@@ -1,0 +1,31 @@
+use Rattle.std.proofs.Common.{refl}
+use Rattle.pc_builder.proofs.Growth.{grows_trans}
+use Rattle.pc_builder.proofs.PartLemmas.{maybe_grows}
+use Rattle.pc_builder.proofs.builder.ComponentTypesBuilder.result_entry.Goals as goal
+
+pub returns-in_err-err-clause-grows : goal.returns-in_err-err-clause-grows
+returns-in_err-err-clause-grows c =
+    grows_trans c.args.self.now c.maybe_value.new.self c.maybe_value-2.new.self c.maybe_value.ensures.grows c.maybe_value-2.ensures.grows
+
+pub returns-in_err-put_result-clause-grows : goal.returns-in_err-put_result-clause-grows
+returns-in_err-put_result-clause-grows c =
+    grows_trans c.args.self.now c.maybe_value.new.self c.put_result.new.self c.maybe_value.ensures.grows
+    (grows_trans c.maybe_value.new.self c.maybe_value-2.new.self c.put_result.new.self c.maybe_value-2.ensures.grows c.put_result.ensures.grows)
+
+pub returns-clause-is : goal.returns-clause-is
+returns-clause-is c =
+    let done = c.args.done.now in
+    let last = c.put_result.new.self in
+    let after_ok = grows_trans c.maybe_value.new.self c.maybe_value-2.new.self last c.maybe_value-2.ensures.grows c.put_result.ensures.grows in (
+      c.in_ok-put_result.field-0,
+      _,
+      refl,
+      c.in_ok-put_result.ensures.held,
+      maybe_grows c.maybe_value.new.self last after_ok done c.args.ok c.in_ok-ok.ok c.in_ok-ok.ensures.is,
+      maybe_grows c.maybe_value-2.new.self last c.put_result.ensures.grows done c.args.err c.in_ok-err.err c.in_ok-err.ensures.is,
+    )
+
+pub returns-clause-grows : goal.returns-clause-grows
+returns-clause-grows c =
+    grows_trans c.args.self.now c.maybe_value.new.self c.put_result.new.self c.maybe_value.ensures.grows
+    (grows_trans c.maybe_value.new.self c.maybe_value-2.new.self c.put_result.new.self c.maybe_value-2.ensures.grows c.put_result.ensures.grows)

@@ -1,0 +1,16 @@
+use Rattle.std.proofs.Common.{subst}
+use Rattle.std.specs.Prelude.{slice_get}
+use Rattle.pc_types.specs.declared.types.TypeDef.TheVariants as def
+use Rattle.pc_types.specs.Table.{is_defined_type}
+use Rattle.pc_builder.specs.Trees.{IsEntry}
+use Rattle.pc_builder.proofs.Sound.{found_by, defined_kind}
+use Rattle.pc_builder.proofs.builder.ComponentTypesBuilder.value_at.Goals as goal
+
+pub unreachable-requires : goal.unreachable-requires
+unreachable-requires c =
+    let found = found_by is_defined_type (slice_get c.args.table.now.types c.args.n) c.requires.kind in
+    let k = defined_kind found.0 c.in_ok-w.field-0 found.2 (c.in_ok-w.ensures.kind found.0 found.1) in
+    c.in_default.not-Interface k.0 k.1
+
+pub returns-clause-tree : goal.returns-clause-tree
+returns-clause-tree c = subst (λ d. IsEntry c.entry.new.self c.args.table.now c.args.n d) c.in-Interface.is c.in_ok-w.ensures.tree

@@ -1,0 +1,18 @@
+use Rattle.std.proofs.Common.{refl}
+use Rattle.pc_builder.specs.Parts.{CaseIs}
+use Rattle.pc_builder.proofs.PartLemmas.{all_zip_more, case_grows}
+use Rattle.pc_builder.proofs.Growth.{grows_trans}
+use Rattle.pc_builder.proofs.builder.ComponentTypesBuilder.variant_entry.Goals as goal
+
+pub returns-in_err-put_variant-clause-grows : goal.returns-in_err-put_variant-clause-grows
+returns-in_err-put_variant-clause-grows c = grows_trans c.args.self.now c.cases.new.self c.put_variant.new.self c.cases.ensures.grows c.put_variant.ensures.grows
+
+pub returns-clause-is : goal.returns-clause-is
+returns-clause-is c =
+    let done = c.args.done.now in
+    let part = c.in_ok-cases in
+    let last = c.put_variant.new.self in
+    (c.in_ok-put_variant.field-0, _, refl, c.in_ok-put_variant.ensures.held, all_zip_more (CaseIs c.cases.new.self done) (CaseIs last done) (case_grows c.cases.new.self last c.put_variant.ensures.grows done) c.args.cases.now part.cases part.ensures.are)
+
+pub returns-clause-grows : goal.returns-clause-grows
+returns-clause-grows c = grows_trans c.args.self.now c.cases.new.self c.put_variant.new.self c.cases.ensures.grows c.put_variant.ensures.grows
