@@ -3,7 +3,6 @@
 ghost use Rattle.std.specs.Prelude.{◌≡◌, ◌≢◌, ◌⊎◌, ◌&&◌, ℕ, None, true, false, Result, IfErr, OnOk};
 ghost use Rattle.std.specs.List.{list_all};
 ghost use Rattle.pc_builder.specs.Types.{Grows, IsFull};
-ghost use Rattle.pc_parsed.specs.Built.{is_built_entry};
 ghost use Rattle.pc_parsed.specs.ItemRows.{has_entry};
 ghost use Rattle.pc_parsed.specs.declared.fault.ItemFault.{ItemFault};
 ghost use Rattle.pc_parsed.specs.declared.fault.ItemFault.TheVariants as fault;
@@ -28,7 +27,6 @@ fn func_type(
     ty: u32,
 ) -> Result<TypeFuncIndex, ReadError>
     requires sound { table_fault table.now ≡ None }
-    requires built { list_all is_built_entry table.now.types ≡ true }
     ensures ok { OnOk result (has_entry table.now is_func ty ≡ true) }
     ensures fault { (k : ItemFault) → result ≡ Err (read_error.Fault k) → (k ≡ fault.BadType) × (has_entry table.now is_func ty ≡ false) }
     ensures full { result ≡ Err read_error.TooMany → IsFull types.new }
@@ -69,7 +67,6 @@ fn type_numbers(
     core: u32,
 ) -> Result<(TypeFuncIndex, ModuleInternedTypeIndex), ReadError>
     requires sound { table_fault table.now ≡ None }
-    requires built { list_all is_built_entry table.now.types ≡ true }
     ensures ok { OnOk result ((has_entry table.now is_func ty && has_signature table.now core) ≡ true) }
     ensures fault { (k : ItemFault) → result ≡ Err (read_error.Fault k)
         → (k ≡ fault.BadType) × ((has_entry table.now is_func ty && has_signature table.now core) ≡ false) }
@@ -120,7 +117,6 @@ impl Frame {
         core: u32,
     ) -> Result<(), ReadError>
         requires sound { table_fault table.now ≡ None }
-        requires built { list_all is_built_entry table.now.types ≡ true }
         ensures lifts { Ends (λ (r : Result Frame ItemFault). (n : ℕ) × (s : ℕ) × (build_lift table.now n s self.old func ty core ≡ r)) self.new result }
         ensures full { result ≡ Err read_error.TooMany → IsFull types.new }
         ensures grows { Grows types.old types.new }

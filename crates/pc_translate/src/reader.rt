@@ -3,7 +3,6 @@
 ghost use Rattle.std.specs.Prelude.{◌≡◌, ◌<◌, ◌≤◌, ◌+◌, None, true, length, IfOk, OnOk};
 ghost use Rattle.std.specs.List.{list_all};
 ghost use Rattle.pc_builder.specs.Types.{Grows, IsFull};
-ghost use Rattle.pc_parsed.specs.Built.{is_built_entry};
 ghost use Rattle.pc_types.specs.Table.{table_fault};
 ghost use Rattle.pc_translate.specs.Building.{Builds, Ends, Reads, empty_frame, read_error_at};
 ghost use Rattle.pc_translate.specs.declared.error.ReadError.TheVariants as read_error;
@@ -41,7 +40,6 @@ impl Frame {
         item: &LocalInitializer,
     ) -> Result<(), ReadError>
         requires sound { table_fault table.now ≡ None }
-        requires built { list_all is_built_entry table.now.types ≡ true }
         requires room { length self.old.initializers < 4294967295 }
         ensures builds { Ends (Builds table.now modules.now self.old item.now) self.new result }
         ensures full { result ≡ Err read_error.TooMany → IsFull types.new }
@@ -85,7 +83,6 @@ fn read_items(
     items: &[LocalInitializer],
 ) -> Result<Frame, Error>
     requires sound { table_fault table.now ≡ None }
-    requires built { list_all is_built_entry table.now.types ≡ true }
     requires few { length items.now < 4294967295 }
     ensures reads { Reads table.now modules.now items.now result }
     ensures full { result ≡ Err Error.TooMany → IsFull types.new }
@@ -109,7 +106,6 @@ pub(crate) fn read_program(
     program: &LocalProgram,
 ) -> Result<Frame, Error>
     requires sound { table_fault table.now ≡ None }
-    requires built { list_all is_built_entry table.now.types ≡ true }
     requires few { length program.now.root.initializers < 4294967295 }
     ensures reads { Reads table.now program.now.modules program.now.root.initializers result }
     ensures full { result ≡ Err Error.TooMany → IsFull types.new }

@@ -15,6 +15,8 @@ pub mod name_set;
 pub mod parsed;
 mod sound_record;
 mod sound_table;
+#[cfg(test)]
+mod tests;
 pub mod trampoline;
 pub mod type_index;
 pub mod types;

@@ -1,0 +1,2 @@
+-- What the functions of this crate rest on.
+mod Lists

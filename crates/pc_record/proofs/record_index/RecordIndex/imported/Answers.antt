@@ -1,0 +1,11 @@
+use Rattle.std.proofs.Common.{ap, length, ◌∙◌}
+use Rattle.pc_types.specs.Record.{imported}
+use Rattle.pc_record.proofs.Lists.{places_count}
+use Rattle.pc_record.proofs.record_index.RecordIndex.imported.Goals as goal
+
+pub returns : goal.returns
+returns c =
+    let kind = c.args.kind in
+    ap length (c.of.ensures ∙ c.self.invariant.positions kind)
+    ∙ places_count kind 0 c.self.inside.record.now.imports
+    ∙ ap (λ r. imported r kind) c.self.view_is

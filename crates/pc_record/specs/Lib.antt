@@ -1,0 +1,4 @@
+-- What the public contracts rest on, beside the words of pc_types: nothing.
+-- What the functions inside promise each other.
+pub mod Indexed
+pub mod Index
