@@ -13,6 +13,8 @@ pub mod payload;
 mod program;
 mod room;
 mod sound;
+#[cfg(test)]
+mod tests;
 
 pub use canon::{CanonItem, CanonOption};
 pub use fault::ItemFault;

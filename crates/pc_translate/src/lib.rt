@@ -12,6 +12,8 @@ mod items;
 mod lift;
 mod plan;
 mod reader;
+#[cfg(test)]
+mod tests;
 mod translator;
 
 pub use translator::{Translator, plan_payloads, translate};
