@@ -1,11 +1,10 @@
 -- A step of a conversion: the next entry gets its type, where it is needed.
-use Rattle.std.proofs.Common.{◌≡◌, ℕ, ◌<◌, ◌≤◌, ◌+◌, Bool, true, false, List, [], ◌∷◌, ◌++◌, length, take, zero, suc, Option, Some, None, refl, sym, ap, ◌∙◌, subst, arith, true≢false, inl, inr, ◌⊎◌}
+use Rattle.std.proofs.Common.{◌≡◌, ℕ, ◌<◌, ◌+◌, Bool, true, false, List, [], ◌∷◌, ◌++◌, length, take, zero, suc, Option, Some, None, refl, sym, ap, ◌∙◌, subst, arith, true≢false, inl, inr, ◌⊎◌}
 use Rattle.std.specs.Prelude.{slice_get, option_and_then}
 use Rattle.std.proofs.lemmas.List.{length-take, length-append}
 use Rattle.std.proofs.lemmas.Option.{none-some, same_Some, slice_get_within}
 use Rattle.pc_entity.specs.Lists.{Kept}
 use Rattle.pc_entity.proofs.Growing.{slice_get-append, slice_get-append_seam}
-use Rattle.pc_numbers.specs.declared.runtime.ResourceIndex.{ResourceIndex}
 use Rattle.pc_types.specs.declared.parsed.DeclType.{DeclType}
 use Rattle.pc_types.specs.declared.parsed.DeclType.TheVariants as entry
 use Rattle.pc_types.specs.declared.parsed.TypeTable.{TypeTable}
@@ -13,11 +12,11 @@ use Rattle.pc_types.specs.declared.types.TypeDef.{TypeDef}
 use Rattle.pc_types.specs.Table.{table_fault}
 use Rattle.pc_types.specs.TypeTree.{Identity, TypeTree, earlier_tree, entry_tree, trees_from}
 use Rattle.pc_builder.specs.Types.{Types, Grows}
-use Rattle.pc_builder.specs.Trees.{HasTree, IsEntry, identities}
+use Rattle.pc_builder.specs.Trees.{IsEntry, identities}
 use Rattle.pc_builder.specs.Entries.{EntryIs, StepIs}
 use Rattle.pc_builder.specs.Marks.{AreClosed, Each, IsMarked, parts_of}
 use Rattle.pc_builder.specs.Steps.{AreDone, IsOfKind, IsReadyEntry}
-use Rattle.pc_builder.proofs.Marking.{each_more}
+use Rattle.pc_builder.proofs.HeldLemmas.{found_at}
 use Rattle.pc_builder.proofs.Simulation.{entry_has, tree_at}
 use Rattle.pc_builder.proofs.Sound.{IsDonePart, parts_below, ready_entry, sound_at}
 use Rattle.pc_builder.proofs.TreeLemmas.{entry_grows}
@@ -50,12 +49,6 @@ take_found [] (suc k) p x h = h
 take_found (y ∷ xs) zero p x h = absurd (none-some x h)
 take_found (y ∷ xs) (suc k) zero x h = h
 take_found (y ∷ xs) (suc k) (suc p) x h = take_found xs k p x h
-
--- there is an item at a place within a list
-found_at : {A : Type 0} (xs : List A) (n : ℕ) → n < length xs → (x : A) × (slice_get xs n ≡ Some x)
-found_at [] n h = absurd (omega (arith, h))
-found_at (x ∷ xs) zero h = (x, refl)
-found_at (x ∷ xs) (suc n) h = found_at xs n (omega (arith, h))
 
 each_both : (P Q R : ℕ → Type 0) → ((n : ℕ) → P n → Q n → R n) → (ns : List ℕ) → Each P ns → Each Q ns → Each R ns
 each_both P Q R both [] h k = tt

@@ -7,3 +7,6 @@ mod Marking
 mod Simulation
 mod Sound
 mod TreeLemmas
+mod FactLemmas
+mod HeldLemmas
+mod TreeFacts

@@ -1,49 +1,15 @@
 -- Trees stay as the builder grows.
-use Rattle.std.proofs.Common.{◌≡◌, ℕ, List, [], ◌∷◌, Option, Some, None, refl, sym, ap, ◌∙◌, subst, Bool, true, false, true≢false, ◌<◌, length, arith}
-use Rattle.std.specs.Prelude.{slice_get}
-use Rattle.std.specs.List.{AllZip}
+use Rattle.std.proofs.Common.{◌≡◌, ℕ, List, [], ◌∷◌, Option, Some, refl, sym, ap, ◌∙◌, subst, Bool, true, false, true≢false, ◌<◌, length, arith}
 use Rattle.pc_numbers.specs.declared.runtime.ResourceIndex.{ResourceIndex}
 use Rattle.pc_types.specs.declared.parsed.CoreEntity.{CoreEntity}
-use Rattle.pc_types.specs.declared.parsed.CoreEntity.TheVariants as core
 use Rattle.pc_types.specs.declared.parsed.Entity.{Entity}
-use Rattle.pc_types.specs.declared.parsed.PrimType.{PrimType}
 use Rattle.pc_types.specs.declared.parsed.TypeTable.{TypeTable}
-use Rattle.pc_types.specs.declared.parsed.ValType.{ValType}
-use Rattle.pc_types.specs.declared.type_index.TypeComponentIndex.{TypeComponentIndex}
-use Rattle.pc_types.specs.declared.type_index.TypeComponentInstanceIndex.{TypeComponentInstanceIndex}
-use Rattle.pc_types.specs.declared.type_index.TypeComponentLocalErrorContextTableIndex.{TypeComponentLocalErrorContextTableIndex}
-use Rattle.pc_types.specs.declared.type_index.TypeEnumIndex.{TypeEnumIndex}
-use Rattle.pc_types.specs.declared.type_index.TypeFlagsIndex.{TypeFlagsIndex}
 use Rattle.pc_types.specs.declared.type_index.TypeFuncIndex.{TypeFuncIndex}
-use Rattle.pc_types.specs.declared.type_index.TypeFutureTableIndex.{TypeFutureTableIndex}
-use Rattle.pc_types.specs.declared.type_index.TypeListIndex.{TypeListIndex}
-use Rattle.pc_types.specs.declared.type_index.TypeModuleIndex.{TypeModuleIndex}
-use Rattle.pc_types.specs.declared.type_index.TypeOptionIndex.{TypeOptionIndex}
-use Rattle.pc_types.specs.declared.type_index.TypeRecordIndex.{TypeRecordIndex}
 use Rattle.pc_types.specs.declared.type_index.TypeResourceTableIndex.{TypeResourceTableIndex}
-use Rattle.pc_types.specs.declared.type_index.TypeResultIndex.{TypeResultIndex}
-use Rattle.pc_types.specs.declared.type_index.TypeStreamTableIndex.{TypeStreamTableIndex}
-use Rattle.pc_types.specs.declared.type_index.TypeTupleIndex.{TypeTupleIndex}
-use Rattle.pc_types.specs.declared.type_index.TypeVariantIndex.{TypeVariantIndex}
 use Rattle.pc_types.specs.declared.types.InterfaceType.{InterfaceType}
-use Rattle.pc_types.specs.declared.types.InterfaceType.TheVariants as ty
-use Rattle.pc_types.specs.declared.types.TypeComponent.{TypeComponent}
-use Rattle.pc_types.specs.declared.types.TypeComponentInstance.{TypeComponentInstance}
 use Rattle.pc_types.specs.declared.types.TypeDef.{TypeDef}
 use Rattle.pc_types.specs.declared.types.TypeDef.TheVariants as def
-use Rattle.pc_types.specs.declared.types.TypeFunc.{TypeFunc}
-use Rattle.pc_types.specs.declared.types.TypeFutureTable.{TypeFutureTable}
-use Rattle.pc_types.specs.declared.types.TypeList.{TypeList}
-use Rattle.pc_types.specs.declared.types.TypeModule.{TypeModule}
-use Rattle.pc_types.specs.declared.types.TypeOption.{TypeOption}
-use Rattle.pc_types.specs.declared.types.TypeRecord.{TypeRecord}
-use Rattle.pc_types.specs.declared.types.TypeResourceTable.{TypeResourceTable}
-use Rattle.pc_types.specs.declared.types.TypeResourceTable.TheVariants as handles
-use Rattle.pc_types.specs.declared.types.TypeResult.{TypeResult}
-use Rattle.pc_types.specs.declared.types.TypeStreamTable.{TypeStreamTable}
-use Rattle.pc_types.specs.declared.types.TypeTuple.{TypeTuple}
-use Rattle.pc_types.specs.declared.types.TypeVariant.{TypeVariant}
-use Rattle.pc_types.specs.TypeTree.{Identity, Resource, CoreTree, TypeTree, Fields, Cases, Trees, MaybeTree, concrete, abstract, core_func, core_table, core_memory, core_global, core_tag, primitive, error_context, record_of, variant_of, list_of, tuple_of, flags_of, enum_of, option_of, result_of, own_of, borrow_of, stream_of, future_of, func_of, instance_of, component_of, module_of, resource_of, no_fields, and_field, no_cases, and_case, no_trees, and_tree, no_tree, a_tree, trees_from, tree_of, val_tree, entity_tree}
+use Rattle.pc_types.specs.TypeTree.{Identity, Resource, CoreTree, TypeTree, Fields, Cases, Trees, MaybeTree, core_func, core_table, core_memory, core_global, core_tag, primitive, error_context, record_of, variant_of, list_of, tuple_of, flags_of, enum_of, option_of, result_of, own_of, borrow_of, stream_of, future_of, func_of, instance_of, component_of, module_of, resource_of, no_fields, and_field, no_cases, and_case, no_trees, and_tree, no_tree, a_tree, tree_of}
 use Rattle.pc_builder.specs.Types.{Types, Grows}
 use Rattle.pc_builder.specs.Trees.{NumbersHandlesOf, CoreHasTree, ImportHasTree, ExportHasTree, HasTree, FieldsHaveTrees, CasesHaveTrees, ValsHaveTrees, MaybeHasTree, ParamsHaveTrees, ResultsHaveTree, ExternsHaveTrees, IsEntry, IsEntity, identities}
 use Rattle.pc_types.specs.declared.parsed.Entity.TheVariants as entity
@@ -152,11 +118,11 @@ entry_grows old new g t n d h who =
     )
 
 -- whether a type is a function type, and its number
-abbrev is_a_func : TypeDef → Bool
+abbrev pub is_a_func : TypeDef → Bool
 is_a_func (def.ComponentFunc i) = true
 is_a_func _ = false
 
-abbrev func_number : TypeDef → ℕ
+abbrev pub func_number : TypeDef → ℕ
 func_number (def.ComponentFunc i) = i.0
 func_number _ = 0
 

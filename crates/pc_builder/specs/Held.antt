@@ -1,5 +1,5 @@
 -- Whether the number in a value type is held.
-use Rattle.std.specs.Prelude.{◌<◌, length}
+use Rattle.std.specs.Prelude.{◌<◌, length, Option, None, Some}
 use Rattle.pc_types.specs.declared.types.InterfaceType.{InterfaceType}
 use Rattle.pc_types.specs.declared.types.InterfaceType.TheVariants as ty
 use Rattle.pc_builder.specs.Types.{Types}
@@ -20,3 +20,8 @@ IsHeld b (ty.Borrow i) = i.0 < length b.resource_tables
 IsHeld b (ty.Future i) = i.0 < length b.future_tables
 IsHeld b (ty.Stream i) = i.0 < length b.stream_tables
 IsHeld b _ = Unit {0}
+
+-- the same of what may be left out
+abbrev pub MayBeHeld : Types → Option InterfaceType → Type 0
+MayBeHeld b None = Unit {0}
+MayBeHeld b (Some w) = IsHeld b w

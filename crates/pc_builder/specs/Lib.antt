@@ -3,6 +3,7 @@ pub mod Types
 pub mod Held
 pub mod Known
 pub mod Lending
+pub mod LendingTypes
 pub mod Primitive
 pub mod Trees
 -- What the functions inside promise each other.
@@ -11,4 +12,5 @@ pub mod Parts
 pub mod Entries
 pub mod Steps
 pub mod Interned
+pub mod Facts
 pub mod View

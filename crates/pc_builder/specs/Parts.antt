@@ -12,6 +12,7 @@ use Rattle.pc_types.specs.declared.types.InterfaceType.TheVariants as ty
 use Rattle.pc_types.specs.declared.types.TypeDef.{TypeDef}
 use Rattle.pc_types.specs.declared.types.TypeDef.TheVariants as def
 use Rattle.pc_builder.specs.Types.{Types}
+use Rattle.pc_builder.specs.Held.{IsHeld}
 use Rattle.pc_builder.specs.Primitive.{plain_type}
 
 -- the number is that of the error contexts of the current component instance
@@ -43,6 +44,10 @@ module _ (b : Types) (done : List (Option TypeDef)) where
   -- the same of a name that may have a type
   abbrev pub CaseIs : List ℕ × Option ValType → List ℕ × Option InterfaceType → Type 0
   CaseIs f g = (f.0 ≡ g.0) × MaybeIs f.1 g.1
+
+-- the done value types are held
+abbrev pub AreHeld : Types → List (Option TypeDef) → Type 0
+AreHeld b done = (n : ℕ) (w : InterfaceType) → slice_get done n ≡ Some (Some (def.Interface w)) → IsHeld b w
 
 -- a value type's number is among the done ones, with a value type
 abbrev pub IsReady : List (Option TypeDef) → ValType → Type 0

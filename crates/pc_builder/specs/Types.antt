@@ -21,7 +21,7 @@ use Rattle.pc_types.specs.declared.types.TypeComponent.{TypeComponent}
 use Rattle.pc_types.specs.declared.types.TypeModule.{TypeModule}
 use Rattle.pc_types.specs.declared.types.TypeKind.{TypeKind}
 use Rattle.pc_types.specs.declared.types.TypeKind.TheVariants as kind
-use Rattle.pc_entity.specs.Lists.{Kept}
+use Rattle.pc_entity.specs.Lists.{AreDistinct, Kept}
 
 -- the resources that are known by their table numbers, and the component instance that types are converted in
 pub record Resources : Type 0 where
@@ -91,6 +91,26 @@ held b kind.Instance = length b.instances
 held b kind.Component = length b.components
 held b kind.Module = length b.modules
 held b kind.Signature = length b.signatures
+
+-- no two types of a kind are equal
+abbrev pub HasDistinct : Types → TypeKind → Type 0
+HasDistinct b kind.Func = AreDistinct b.funcs
+HasDistinct b kind.Tuple = AreDistinct b.tuples
+HasDistinct b kind.Record = AreDistinct b.records
+HasDistinct b kind.Variant = AreDistinct b.variants
+HasDistinct b kind.List = AreDistinct b.lists
+HasDistinct b kind.Option = AreDistinct b.options
+HasDistinct b kind.Result = AreDistinct b.results
+HasDistinct b kind.Flags = AreDistinct b.flags
+HasDistinct b kind.Enum = AreDistinct b.enums
+HasDistinct b kind.ResourceTable = AreDistinct b.resource_tables
+HasDistinct b kind.FutureTable = AreDistinct b.future_tables
+HasDistinct b kind.StreamTable = AreDistinct b.stream_tables
+HasDistinct b kind.ErrorContextTable = AreDistinct b.error_context_tables
+HasDistinct b kind.Instance = AreDistinct b.instances
+HasDistinct b kind.Component = AreDistinct b.components
+HasDistinct b kind.Module = AreDistinct b.modules
+HasDistinct b kind.Signature = AreDistinct b.signatures
 
 -- some list can take no further type
 abbrev pub IsFull : Types → Type 0

@@ -2,6 +2,7 @@
 use Rattle.std.specs.Prelude.{◌≤◌, length}
 use Rattle.pc_builder.specs.declared.builder.ComponentTypesBuilder.TheInside.{Inside}
 use Rattle.pc_builder.specs.Types.{Types}
+use Rattle.pc_builder.specs.Facts.{HaveFacts}
 
 -- the lists as they are
 abbrev pub types_of : Inside → Types
@@ -26,7 +27,7 @@ types_of s = record {
   resources = s.resources;
 }
 
--- no list is past its last number
+-- no list is past its last number, and each type with parts has its facts
 pub record IsWithin (s : Inside) : Type 0 where
   pub funcs : length s.funcs ≤ 4294967294
   pub tuples : length s.tuples ≤ 4294967294
@@ -45,3 +46,4 @@ pub record IsWithin (s : Inside) : Type 0 where
   pub components : length s.components ≤ 4294967294
   pub modules : length s.modules ≤ 4294967294
   pub signatures : length s.signatures ≤ 4294967294
+  pub facts : HaveFacts s.facts s.funcs s.tuples s.records s.variants s.lists s.options s.results

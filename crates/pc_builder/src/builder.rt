@@ -2,11 +2,12 @@
 
 ghost use Rattle.std.specs.Prelude.{◌≡◌};
 ghost use Rattle.std.specs.Borrow.{sem};
-ghost use Rattle.pc_builder.specs.Types.{held, no_types};
+ghost use Rattle.pc_builder.specs.Types.{HasDistinct, held, no_types};
 ghost use Rattle.pc_builder.specs.Lending.{LendsResources};
 
 use crate::ResourcesBuilder;
 use pc_entity::Interner;
+use pc_facts::FactTable;
 use pc_types::{
     CoreFuncSig, TypeComponent, TypeComponentInstance, TypeEnum, TypeErrorContextTable, TypeFlags,
     TypeFunc, TypeFutureTable, TypeKind, TypeList, TypeModule, TypeOption, TypeRecord,
@@ -15,7 +16,8 @@ use pc_types::{
 use std::alloc::Global;
 use std::marker::Model;
 
-/// One list for each kind of type, in which equal types share a number, and the resources that are known.
+/// One list for each kind of type, in which equal types share a number, the facts of the types that have parts, and the
+/// resources that are known.
 pub struct ComponentTypesBuilder {
     pub(crate) alloc: Global,
     pub(crate) funcs: Interner<TypeFunc>,
@@ -35,6 +37,7 @@ pub struct ComponentTypesBuilder {
     pub(crate) components: Interner<TypeComponent>,
     pub(crate) modules: Interner<TypeModule>,
     pub(crate) signatures: Interner<CoreFuncSig>,
+    pub(crate) facts: FactTable,
     pub(crate) resources: ResourcesBuilder,
 }
 
@@ -60,6 +63,7 @@ impl Drop for ComponentTypesBuilder {
             components,
             modules,
             signatures,
+            facts,
             resources,
         } = self;
         drop_values(funcs, tuples, records, variants, lists);
@@ -70,6 +74,7 @@ impl Drop for ComponentTypesBuilder {
             stream_tables,
             error_context_tables,
         );
+        drop_facts(facts);
         drop_externs(instances, components, modules, signatures, resources);
     }
 }
@@ -95,6 +100,8 @@ fn drop_tables(
     _stream_tables: Interner<TypeStreamTable>,
     _error_context_tables: Interner<TypeErrorContextTable>,
 ) {}
+
+fn drop_facts(_facts: FactTable) {}
 
 fn drop_externs(
     _instances: Interner<TypeComponentInstance>,
@@ -140,7 +147,67 @@ impl ComponentTypesBuilder {
             components: Interner::new(alloc),
             modules: Interner::new(alloc),
             signatures: Interner::new(alloc),
+            facts: FactTable::new(alloc),
             resources: ResourcesBuilder::new(alloc),
+        }
+    }
+
+    /// No two types of a kind are equal: equal types share a number.
+    pub fn types_are_distinct(&self, kind: TypeKind)
+        ensures { HasDistinct self.now kind }
+    {
+        match kind {
+            TypeKind::Func => {
+                self.funcs.as_slice();
+            }
+            TypeKind::Tuple => {
+                self.tuples.as_slice();
+            }
+            TypeKind::Record => {
+                self.records.as_slice();
+            }
+            TypeKind::Variant => {
+                self.variants.as_slice();
+            }
+            TypeKind::List => {
+                self.lists.as_slice();
+            }
+            TypeKind::Option => {
+                self.options.as_slice();
+            }
+            TypeKind::Result => {
+                self.results.as_slice();
+            }
+            TypeKind::Flags => {
+                self.flags.as_slice();
+            }
+            TypeKind::Enum => {
+                self.enums.as_slice();
+            }
+            TypeKind::ResourceTable => {
+                self.resource_tables.as_slice();
+            }
+            TypeKind::FutureTable => {
+                self.future_tables.as_slice();
+            }
+            TypeKind::StreamTable => {
+                self.stream_tables.as_slice();
+            }
+            TypeKind::ErrorContextTable => {
+                self.error_context_tables.as_slice();
+            }
+            TypeKind::Instance => {
+                self.instances.as_slice();
+            }
+            TypeKind::Component => {
+                self.components.as_slice();
+            }
+            TypeKind::Module => {
+                self.modules.as_slice();
+            }
+            TypeKind::Signature => {
+                self.signatures.as_slice();
+            }
         }
     }
 

@@ -14,6 +14,7 @@ ghost use Rattle.pc_types.specs.Table.{is_defined_type, is_func, is_instance, is
 ghost use Rattle.pc_builder.specs.Types.{Grows, IsFull};
 ghost use Rattle.pc_builder.specs.Trees.{IsEntity, IsEntry, IsValue};
 ghost use Rattle.pc_builder.specs.Entries.{EntryIs, StepIs};
+ghost use Rattle.pc_builder.specs.Parts.{AreHeld};
 ghost use Rattle.pc_builder.specs.Marks.{entity_parts};
 ghost use Rattle.pc_builder.specs.Steps.{IsOfKind, IsReadyEntry};
 
@@ -261,6 +262,7 @@ impl ComponentTypesBuilder {
         entry: &DeclType,
     ) -> Result<Option<TypeDef>, TypeError>
         requires ready { is_needed ≡ true → IsReadyEntry table.now done.now entry.now }
+        requires held { AreHeld self.old done.now }
         ensures is { IfOk result (λ o. StepIs self.new done.now table.now k entry.now is_needed o) }
         ensures grows { Grows self.old self.new }
         ensures never_bad { result ≡ Err TypeError.BadNumber → ⊥ }
@@ -281,6 +283,7 @@ impl ComponentTypesBuilder {
         entry: &DeclType,
     ) -> Result<TypeDef, TypeError>
         requires ready { IsReadyEntry table.now done.now entry.now }
+        requires held { AreHeld self.old done.now }
         ensures is { IfOk result (λ d. EntryIs self.new done.now table.now n entry.now d) }
         ensures grows { Grows self.old self.new }
         ensures never_bad { result ≡ Err TypeError.BadNumber → ⊥ }

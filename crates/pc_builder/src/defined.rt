@@ -4,7 +4,7 @@ ghost use Rattle.std.specs.Prelude.{◌≡◌, Some, Err, IfOk, slice_get};
 ghost use Rattle.std.specs.List.{All, AllZip};
 ghost use Rattle.pc_types.specs.declared.types.TypeDef.TheVariants as def;
 ghost use Rattle.pc_builder.specs.Types.{Grows, IsFull};
-ghost use Rattle.pc_builder.specs.Parts.{ValIs, MaybeIs, FieldIs, CaseIs, IsReady, MayBeReady, HasHandles};
+ghost use Rattle.pc_builder.specs.Parts.{AreHeld, ValIs, MaybeIs, FieldIs, CaseIs, IsReady, MayBeReady, HasHandles};
 ghost use Rattle.pc_builder.specs.Entries.{DefinedIs, RecordIs, VariantIs, ListIs, TupleIs, FlagsAre, EnumIs, OptionIs, ResultIs, OwnIs, BorrowIs, StreamIs, FutureIs};
 
 use crate::ComponentTypesBuilder;
@@ -36,6 +36,7 @@ impl ComponentTypesBuilder {
         fields: &[(Text, ValType)],
     ) -> Result<TypeDef, TypeError>
         requires ready { All (λ f. IsReady done.now f.1) fields.now }
+        requires held { AreHeld self.old done.now }
         ensures is { IfOk result (λ d. RecordIs self.new done.now fields.now d) }
         ensures grows { Grows self.old self.new }
         ensures never_bad { result ≡ Err TypeError.BadNumber → ⊥ }
@@ -51,6 +52,7 @@ impl ComponentTypesBuilder {
         cases: &[(Text, Option<ValType>)],
     ) -> Result<TypeDef, TypeError>
         requires ready { All (λ c. MayBeReady done.now c.1) cases.now }
+        requires held { AreHeld self.old done.now }
         ensures is { IfOk result (λ d. VariantIs self.new done.now cases.now d) }
         ensures grows { Grows self.old self.new }
         ensures never_bad { result ≡ Err TypeError.BadNumber → ⊥ }
@@ -66,6 +68,7 @@ impl ComponentTypesBuilder {
         v: ValType,
     ) -> Result<TypeDef, TypeError>
         requires ready { IsReady done.now v }
+        requires held { AreHeld self.old done.now }
         ensures is { IfOk result (λ d. ListIs self.new done.now v d) }
         ensures grows { Grows self.old self.new }
         ensures never_bad { result ≡ Err TypeError.BadNumber → ⊥ }
@@ -81,6 +84,7 @@ impl ComponentTypesBuilder {
         vs: &[ValType],
     ) -> Result<TypeDef, TypeError>
         requires ready { All (IsReady done.now) vs.now }
+        requires held { AreHeld self.old done.now }
         ensures is { IfOk result (λ d. TupleIs self.new done.now vs.now d) }
         ensures grows { Grows self.old self.new }
         ensures never_bad { result ≡ Err TypeError.BadNumber → ⊥ }
@@ -116,6 +120,7 @@ impl ComponentTypesBuilder {
         v: ValType,
     ) -> Result<TypeDef, TypeError>
         requires ready { IsReady done.now v }
+        requires held { AreHeld self.old done.now }
         ensures is { IfOk result (λ d. OptionIs self.new done.now v d) }
         ensures grows { Grows self.old self.new }
         ensures never_bad { result ≡ Err TypeError.BadNumber → ⊥ }
@@ -133,6 +138,7 @@ impl ComponentTypesBuilder {
     ) -> Result<TypeDef, TypeError>
         requires ok_ready { MayBeReady done.now ok }
         requires err_ready { MayBeReady done.now err }
+        requires held { AreHeld self.old done.now }
         ensures is { IfOk result (λ d. ResultIs self.new done.now ok err d) }
         ensures grows { Grows self.old self.new }
         ensures never_bad { result ≡ Err TypeError.BadNumber → ⊥ }

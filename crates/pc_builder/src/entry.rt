@@ -4,7 +4,7 @@ ghost use Rattle.std.specs.Prelude.{◌≡◌, Some, Err, All, IfOk};
 ghost use Rattle.std.specs.List.{AllZip};
 ghost use Rattle.pc_entity.specs.Lists.{names_of};
 ghost use Rattle.pc_builder.specs.Types.{Grows, IsFull};
-ghost use Rattle.pc_builder.specs.Parts.{ValIs, IsReady, MayBeReady};
+ghost use Rattle.pc_builder.specs.Parts.{AreHeld, ValIs, IsReady, MayBeReady};
 ghost use Rattle.pc_types.specs.declared.type_index.TypeFuncIndex.{TypeFuncIndex};
 ghost use Rattle.pc_types.specs.declared.types.TypeDef.TheVariants as def;
 ghost use Rattle.pc_builder.specs.Entries.{FuncIs, ReturnsAre};
@@ -24,6 +24,7 @@ impl ComponentTypesBuilder {
     ) -> Result<TypeDef, TypeError>
         requires params { All (λ p. IsReady done.now p.1) params.now }
         requires returns { MayBeReady done.now returns }
+        requires held { AreHeld self.old done.now }
         ensures is { IfOk result (λ d. (i : TypeFuncIndex) × (d ≡ def.ComponentFunc i) × FuncIs self.new done.now params.now returns async_ i) }
         ensures grows { Grows self.old self.new }
         ensures never_bad { result ≡ Err TypeError.BadNumber → ⊥ }
@@ -42,6 +43,7 @@ impl ComponentTypesBuilder {
     ) -> Result<TypeFuncIndex, TypeError>
         requires params { All (λ p. IsReady done.now p.1) params.now }
         requires returns { MayBeReady done.now returns }
+        requires held { AreHeld self.old done.now }
         ensures is { IfOk result (λ i. FuncIs self.new done.now params.now returns async_ i) }
         ensures grows { Grows self.old self.new }
         ensures never_bad { result ≡ Err TypeError.BadNumber → ⊥ }

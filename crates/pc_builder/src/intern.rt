@@ -1,9 +1,10 @@
 //! A type put into its list.
 
 ghost use Rattle.std.specs.Prelude.{◌≡◌, ◌≤◌, length, slice_get, Some, Err, IfOk, Contains};
-ghost use Rattle.pc_builder.specs.Interned.{IsPut};
+ghost use Rattle.pc_builder.specs.Interned.{IsPut, IsPutWith};
 
 use pc_entity::{ExactEq, Interner};
+use pc_facts::{FactList, TypeFacts};
 use pc_types::TypeError;
 
 /// The most types of one kind.
@@ -25,4 +26,26 @@ pub(crate) fn intern<V: ExactEq + Drop>(list: &mut Interner<V>, value: V) -> Res
         Some(key) => Ok(key),
         None => Err(TypeError::TooMany),
     }
+}
+
+/// The same of a type that has facts, which go to the end of their list where the type does.
+pub(crate) fn intern_with<V: ExactEq + Drop>(
+    list: &mut Interner<V>,
+    facts: &mut FactList,
+    value: V,
+    of_value: TypeFacts,
+) -> Result<u32, TypeError>
+    requires within { length list.old ≤ 4294967294 }
+    requires paired { length facts.old ≡ length list.old }
+    ensures held { IfOk result (λ key. slice_get list.new key ≡ Some value) }
+    ensures put { IsPut list.old list.new value }
+    ensures facts { IsPutWith list.old list.new facts.old facts.new value of_value }
+    ensures never_bad { result ≡ Err TypeError.BadNumber → ⊥ }
+    ensures full { result ≡ Err TypeError.TooMany → (length list.new ≡ 4294967294) × (Contains list.new value → ⊥) }
+    ensures within { length list.new ≤ 4294967294 }
+{
+    facts.push(of_value)?;
+    let number = intern(list, value);
+    facts.truncate(list.len());
+    number
 }

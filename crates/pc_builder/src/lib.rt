@@ -9,6 +9,7 @@ mod entry;
 mod extern_type;
 mod intern;
 mod marks;
+pub mod pre_inlining;
 mod put;
 mod readers;
 pub mod resources;
@@ -17,4 +18,5 @@ mod tests;
 mod value;
 
 pub use builder::ComponentTypesBuilder;
+pub use pre_inlining::PreInliningComponentTypes;
 pub use resources::ResourcesBuilder;

@@ -1,11 +1,12 @@
 //! Each kind of type put into its list.
 
-ghost use Rattle.std.specs.Prelude.{◌≡◌, slice_get, Some, Err, IfOk, Contains};
+ghost use Rattle.std.specs.Prelude.{◌≡◌, ◌<◌, length, slice_get, Some, Err, All, IfOk, Contains};
 ghost use Rattle.pc_builder.specs.Types.{Grows, IsFull};
+ghost use Rattle.pc_builder.specs.Held.{IsHeld, MayBeHeld};
 ghost use Rattle.pc_builder.specs.Interned.{IsPut};
 
 use crate::ComponentTypesBuilder;
-use crate::intern::intern;
+use crate::intern::{intern, intern_with};
 use pc_entity::ModuleInternedTypeIndex;
 use pc_types::{
     CoreFuncSig, TypeComponent, TypeComponentIndex, TypeComponentInstance,
@@ -20,6 +21,8 @@ use pc_types::{
 impl ComponentTypesBuilder {
     #[tactic(auto, using(crate::proofs::Growth::grows_funcs, crate::proofs::Growth::full_funcs))]
     pub(crate) fn put_func(&mut self, value: TypeFunc) -> Result<TypeFuncIndex, TypeError>
+        requires params { value.params.0 < length self.old.tuples }
+        requires results { value.results.0 < length self.old.tuples }
         ensures held { IfOk result (λ i. slice_get self.new.funcs i.0 ≡ Some value) }
         ensures put { IsPut self.old.funcs self.new.funcs value }
         ensures rest { self.new ≡ record self.old { funcs = self.new.funcs } }
@@ -27,11 +30,14 @@ impl ComponentTypesBuilder {
         ensures never_bad { result ≡ Err TypeError.BadNumber → ⊥ }
         ensures full { result ≡ Err TypeError.TooMany → IsFull self.new × (Contains self.new.funcs value → ⊥) }
     {
-        Ok(TypeFuncIndex(intern(&mut self.funcs, value)?))
+        let facts = self.facts.of_func(&value);
+        let number = intern_with(&mut self.funcs, &mut self.facts.funcs, value, facts)?;
+        Ok(TypeFuncIndex(number))
     }
 
     #[tactic(auto, using(crate::proofs::Growth::grows_tuples, crate::proofs::Growth::full_tuples))]
     pub(crate) fn put_tuple(&mut self, value: TypeTuple) -> Result<TypeTupleIndex, TypeError>
+        requires parts { All (IsHeld self.old) value.types }
         ensures held { IfOk result (λ i. slice_get self.new.tuples i.0 ≡ Some value) }
         ensures put { IsPut self.old.tuples self.new.tuples value }
         ensures rest { self.new ≡ record self.old { tuples = self.new.tuples } }
@@ -39,7 +45,9 @@ impl ComponentTypesBuilder {
         ensures never_bad { result ≡ Err TypeError.BadNumber → ⊥ }
         ensures full { result ≡ Err TypeError.TooMany → IsFull self.new × (Contains self.new.tuples value → ⊥) }
     {
-        Ok(TypeTupleIndex(intern(&mut self.tuples, value)?))
+        let facts = self.facts.of_tuple(&value);
+        let number = intern_with(&mut self.tuples, &mut self.facts.tuples, value, facts)?;
+        Ok(TypeTupleIndex(number))
     }
 
     #[tactic(auto, using(crate::proofs::Growth::grows_records, crate::proofs::Growth::full_records))]
@@ -47,6 +55,7 @@ impl ComponentTypesBuilder {
         &mut self,
         value: TypeRecord,
     ) -> Result<TypeRecordIndex, TypeError>
+        requires parts { All (λ f. IsHeld self.old f.1) value.fields }
         ensures held { IfOk result (λ i. slice_get self.new.records i.0 ≡ Some value) }
         ensures put { IsPut self.old.records self.new.records value }
         ensures rest { self.new ≡ record self.old { records = self.new.records } }
@@ -54,11 +63,14 @@ impl ComponentTypesBuilder {
         ensures never_bad { result ≡ Err TypeError.BadNumber → ⊥ }
         ensures full { result ≡ Err TypeError.TooMany → IsFull self.new × (Contains self.new.records value → ⊥) }
     {
-        Ok(TypeRecordIndex(intern(&mut self.records, value)?))
+        let facts = self.facts.of_record(&value);
+        let number = intern_with(&mut self.records, &mut self.facts.records, value, facts)?;
+        Ok(TypeRecordIndex(number))
     }
 
     #[tactic(auto, using(crate::proofs::Growth::grows_variants, crate::proofs::Growth::full_variants))]
     pub(crate) fn put_variant(&mut self, value: TypeVariant) -> Result<TypeVariantIndex, TypeError>
+        requires parts { All (λ c. MayBeHeld self.old c.1) value.cases }
         ensures held { IfOk result (λ i. slice_get self.new.variants i.0 ≡ Some value) }
         ensures put { IsPut self.old.variants self.new.variants value }
         ensures rest { self.new ≡ record self.old { variants = self.new.variants } }
@@ -66,11 +78,14 @@ impl ComponentTypesBuilder {
         ensures never_bad { result ≡ Err TypeError.BadNumber → ⊥ }
         ensures full { result ≡ Err TypeError.TooMany → IsFull self.new × (Contains self.new.variants value → ⊥) }
     {
-        Ok(TypeVariantIndex(intern(&mut self.variants, value)?))
+        let facts = self.facts.of_variant(&value);
+        let number = intern_with(&mut self.variants, &mut self.facts.variants, value, facts)?;
+        Ok(TypeVariantIndex(number))
     }
 
     #[tactic(auto, using(crate::proofs::Growth::grows_lists, crate::proofs::Growth::full_lists))]
     pub(crate) fn put_list(&mut self, value: TypeList) -> Result<TypeListIndex, TypeError>
+        requires part { IsHeld self.old value.element }
         ensures held { IfOk result (λ i. slice_get self.new.lists i.0 ≡ Some value) }
         ensures put { IsPut self.old.lists self.new.lists value }
         ensures rest { self.new ≡ record self.old { lists = self.new.lists } }
@@ -78,11 +93,14 @@ impl ComponentTypesBuilder {
         ensures never_bad { result ≡ Err TypeError.BadNumber → ⊥ }
         ensures full { result ≡ Err TypeError.TooMany → IsFull self.new × (Contains self.new.lists value → ⊥) }
     {
-        Ok(TypeListIndex(intern(&mut self.lists, value)?))
+        let facts = self.facts.of_list(&value);
+        let number = intern_with(&mut self.lists, &mut self.facts.lists, value, facts)?;
+        Ok(TypeListIndex(number))
     }
 
     #[tactic(auto, using(crate::proofs::Growth::grows_options, crate::proofs::Growth::full_options))]
     pub(crate) fn put_option(&mut self, value: TypeOption) -> Result<TypeOptionIndex, TypeError>
+        requires part { IsHeld self.old value.ty }
         ensures held { IfOk result (λ i. slice_get self.new.options i.0 ≡ Some value) }
         ensures put { IsPut self.old.options self.new.options value }
         ensures rest { self.new ≡ record self.old { options = self.new.options } }
@@ -90,11 +108,15 @@ impl ComponentTypesBuilder {
         ensures never_bad { result ≡ Err TypeError.BadNumber → ⊥ }
         ensures full { result ≡ Err TypeError.TooMany → IsFull self.new × (Contains self.new.options value → ⊥) }
     {
-        Ok(TypeOptionIndex(intern(&mut self.options, value)?))
+        let facts = self.facts.of_option(&value);
+        let number = intern_with(&mut self.options, &mut self.facts.options, value, facts)?;
+        Ok(TypeOptionIndex(number))
     }
 
     #[tactic(auto, using(crate::proofs::Growth::grows_results, crate::proofs::Growth::full_results))]
     pub(crate) fn put_result(&mut self, value: TypeResult) -> Result<TypeResultIndex, TypeError>
+        requires ok { MayBeHeld self.old value.ok }
+        requires err { MayBeHeld self.old value.err }
         ensures held { IfOk result (λ i. slice_get self.new.results i.0 ≡ Some value) }
         ensures put { IsPut self.old.results self.new.results value }
         ensures rest { self.new ≡ record self.old { results = self.new.results } }
@@ -102,7 +124,9 @@ impl ComponentTypesBuilder {
         ensures never_bad { result ≡ Err TypeError.BadNumber → ⊥ }
         ensures full { result ≡ Err TypeError.TooMany → IsFull self.new × (Contains self.new.results value → ⊥) }
     {
-        Ok(TypeResultIndex(intern(&mut self.results, value)?))
+        let facts = self.facts.of_result(&value);
+        let number = intern_with(&mut self.results, &mut self.facts.results, value, facts)?;
+        Ok(TypeResultIndex(number))
     }
 
     #[tactic(auto, using(crate::proofs::Growth::grows_flags, crate::proofs::Growth::full_flags))]

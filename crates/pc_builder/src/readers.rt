@@ -1,9 +1,16 @@
 //! The types by number.
 
 ghost use Rattle.std.specs.Prelude.{◌≡◌, ◌<◌, length, slice_get, Some};
+ghost use Rattle.pc_numbers.specs.declared.runtime.ResourceIndex.{ResourceIndex};
+ghost use Rattle.pc_types.specs.declared.types.InterfaceType.TheVariants as ty;
+ghost use Rattle.pc_types.specs.declared.types.TypeDef.TheVariants as def;
+ghost use Rattle.pc_types.specs.TypeTree.{Identity, TypeTree};
+ghost use Rattle.pc_facts.specs.Facts.{facts_of, has_handle};
+ghost use Rattle.pc_builder.specs.Trees.{HasTree};
 
 use crate::ComponentTypesBuilder;
 use pc_entity::ModuleInternedTypeIndex;
+use pc_facts::TypeFacts;
 use pc_types::{
     CoreFuncSig, TypeComponent, TypeComponentIndex, TypeComponentInstance,
     TypeComponentInstanceIndex, TypeComponentLocalErrorContextTableIndex, TypeEnum, TypeEnumIndex,
@@ -17,7 +24,9 @@ use pc_types::{
 impl ComponentTypesBuilder {
     pub fn func(&self, i: TypeFuncIndex) -> &TypeFunc
         requires held { i.0 < length self.now.funcs }
-        ensures { slice_get self.now.funcs i.0 ≡ Some result.now }
+        ensures is { slice_get self.now.funcs i.0 ≡ Some result.now }
+        ensures params { result.now.params.0 < length self.now.tuples }
+        ensures results { result.now.results.0 < length self.now.tuples }
     {
         self.funcs.get(i.0).unwrap()
     }
@@ -153,5 +162,22 @@ impl ComponentTypesBuilder {
         ensures { result ≡ length self.now.error_context_tables }
     {
         self.error_context_tables.len()
+    }
+
+    /// Which types stand anywhere in a tuple.
+    pub fn tuple_facts(&self, i: TypeTupleIndex) -> TypeFacts
+        requires held { i.0 < length self.now.tuples }
+        ensures { (who : ResourceIndex → Identity) (tree : TypeTree) → HasTree self.now who (def.Interface (ty.Tuple i)) tree → result ≡ facts_of tree }
+    {
+        self.facts.tuples.get(i.0)
+    }
+
+    /// Whether a handle to a resource, a future, a stream or an error context stands anywhere in a function's parameters
+    /// or results. What a stream or a future carries isn't entered.
+    pub fn func_contains_any_handle(&self, i: TypeFuncIndex) -> bool
+        requires held { i.0 < length self.now.funcs }
+        ensures { (who : ResourceIndex → Identity) (tree : TypeTree) → HasTree self.now who (def.ComponentFunc i) tree → result ≡ has_handle (facts_of tree) }
+    {
+        self.facts.funcs.get(i.0).has_handle()
     }
 }

@@ -1,8 +1,9 @@
-ghost use Rattle.std.specs.Prelude.{◌≡◌, true, None};
+ghost use Rattle.std.specs.Prelude.{◌≡◌, ◌<◌, length, true, None};
 ghost use Rattle.pc_types.specs.Table.{table_fault};
 
 use super::*;
 use pc_entity::{ResourceIndex, RuntimeComponentInstanceIndex, Seq, Text, TryClone};
+use pc_facts::TypeFacts;
 use pc_types::{
     CoreEntity, CoreFuncSig, DeclType, Entity, InterfaceType, PrimType, TypeComponentIndex,
     TypeDef, TypeError, TypeFuncIndex, TypeKind, TypeListIndex, TypeOptionIndex, TypeTable,
@@ -504,5 +505,198 @@ fn numbers_handles(
         .register_resource(9, ResourceIndex(0))?;
     assert!(rt; types.resources().lookup(9) == Some(ResourceIndex(0)));
     assert!(rt; types.resource_id(9).map(|i| i.0) == Ok(0));
+    Ok(())
+}
+
+// Entries 0 to 5: a resource, its handles, a stream of strings, a future and an error context.
+fn push_plain_handles(types: &mut Seq<DeclType>) -> Result<(), Fail> {
+    types.push(DeclType::Resource)?;
+    types.push(DeclType::Own(0))?;
+    types.push(DeclType::Borrow(0))?;
+    types.push(DeclType::Stream(Some(string())))?;
+    types.push(DeclType::Future(None))?;
+    types.push(DeclType::Val(ValType::Prim(PrimType::ErrorContext)))?;
+    Ok(())
+}
+
+// Entries 6 to 9: a record, a variant, a list and a tuple with one of those in it.
+fn push_handles_inside(alloc: Global, types: &mut Seq<DeclType>) -> Result<(), Fail> {
+    types.push(DeclType::Record(two(alloc, ValType::Type_(1), string())?))?;
+    types.push(DeclType::Variant(two(alloc, None, Some(ValType::Type_(2)))?))?;
+    types.push(DeclType::List(ValType::Type_(3)))?;
+    let vs = vec![in alloc; string(), ValType::Type_(4)]?;
+    types.push(DeclType::Tuple(Seq::from_vec(vs)))?;
+    Ok(())
+}
+
+// Entries 10 to 14: an option and two results with one further in, and a result and a list without.
+fn push_handles_further_in(types: &mut Seq<DeclType>) -> Result<(), Fail> {
+    types.push(DeclType::Option(ValType::Type_(5)))?;
+    types.push(DeclType::Result {
+        ok: None,
+        err: Some(ValType::Type_(6)),
+    })?;
+    types.push(DeclType::Result {
+        ok: Some(ValType::Type_(10)),
+        err: None,
+    })?;
+    types.push(DeclType::Result {
+        ok: Some(string()),
+        err: None,
+    })?;
+    types.push(DeclType::List(string()))?;
+    Ok(())
+}
+
+// Two functions: one that takes a string and gives the entry, and one that takes a string and the entry.
+fn push_both_ways(alloc: Global, types: &mut Seq<DeclType>, entry: u32) -> Result<(), Fail> {
+    types.push(DeclType::Func {
+        params: one(alloc, "a", string())?,
+        result: Some(ValType::Type_(entry)),
+        async_: false,
+    })?;
+    types.push(DeclType::Func {
+        params: two(alloc, string(), ValType::Type_(entry))?,
+        result: None,
+        async_: false,
+    })?;
+    Ok(())
+}
+
+// Values, and from entry 15 on two functions for each of the entries 1 to 14.
+fn table_of_handles(alloc: Global) -> Result<TypeTable, Fail> {
+    let mut types = Seq::new(alloc);
+    push_plain_handles(&mut types)?;
+    push_handles_inside(alloc, &mut types)?;
+    push_handles_further_in(&mut types)?;
+    for entry in 1..15 {
+        push_both_ways(alloc, &mut types, entry)?;
+    }
+    Ok(TypeTable {
+        core_funcs: Seq::new(alloc),
+        types,
+    })
+}
+
+// The facts of a function's parameters and results, and whether it has a handle.
+fn facts_at(
+    alloc: Global,
+    types: &mut ComponentTypesBuilder,
+    table: &TypeTable,
+    n: u32,
+) -> Option<(TypeFacts, TypeFacts, bool)> {
+    if !is_sound(alloc, table) {
+        return None;
+    }
+    match types.convert_func(table, n) {
+        Ok(i) => Some(facts_under(types, i)),
+        Err(_) => None,
+    }
+}
+
+fn facts_under(types: &ComponentTypesBuilder, i: TypeFuncIndex) -> (TypeFacts, TypeFacts, bool)
+    requires { i.0 < length types.now.funcs }
+{
+    let func = types.func(i);
+    (
+        types.tuple_facts(func.params),
+        types.tuple_facts(func.results),
+        types.func_contains_any_handle(i),
+    )
+}
+
+#[test]
+fn handles_are_found_wherever_they_stand(rt: HostRuntime) -> Result<(), Fail> {
+    let mut types = ComponentTypesBuilder::new(rt.alloc());
+    finds_handles(&rt, rt.alloc(), &mut types)
+}
+
+fn finds_handles(
+    rt: &impl Abort,
+    alloc: Global,
+    types: &mut ComponentTypesBuilder,
+) -> Result<(), Fail> {
+    let table = table_of_handles(alloc)?;
+    for entry in 1..15 {
+        let is_handle = entry < 13;
+        for n in [2 * entry + 13, 2 * entry + 14] {
+            let has = facts_at(alloc, types, &table, n).map(|f| f.2);
+            assert!(rt; has == Some(is_handle), "at {n}");
+        }
+    }
+    Ok(())
+}
+
+// Facts in the order of their fields.
+fn facts_in_order(has: [bool; 7]) -> TypeFacts {
+    TypeFacts {
+        string: has[0],
+        list: has[1],
+        own: has[2],
+        borrow: has[3],
+        future: has[4],
+        stream: has[5],
+        error_context: has[6],
+    }
+}
+
+#[test]
+fn each_part_gives_its_facts(rt: HostRuntime) -> Result<(), Fail> {
+    let mut types = ComponentTypesBuilder::new(rt.alloc());
+    gives_facts(&rt, rt.alloc(), &mut types)
+}
+
+fn gives_facts(
+    rt: &impl Abort,
+    alloc: Global,
+    types: &mut ComponentTypesBuilder,
+) -> Result<(), Fail> {
+    let table = table_of_handles(alloc)?;
+    let (o, i) = (false, true);
+    let of_entries = [
+        [o, o, i, o, o, o, o],
+        [o, o, o, i, o, o, o],
+        [o, o, o, o, o, i, o],
+        [o, o, o, o, i, o, o],
+        [o, o, o, o, o, o, i],
+        [i, o, i, o, o, o, o],
+        [o, o, o, i, o, o, o],
+        [o, i, o, o, o, i, o],
+        [i, o, o, o, i, o, o],
+        [o, o, o, o, o, o, i],
+        [i, o, i, o, o, o, o],
+        [o, o, o, o, o, o, i],
+        [i, o, o, o, o, o, o],
+        [i, i, o, o, o, o, o],
+    ];
+    let mut text = TypeFacts::none();
+    text.string = true;
+    for k in 0..14 {
+        let facts = facts_in_order(of_entries[k as usize]);
+        let n = 2 * k + 15;
+        let given = facts_at(alloc, types, &table, n);
+        assert!(rt; given == Some((text, facts, facts.has_handle())), "at {n}");
+        let taken = facts_at(alloc, types, &table, n + 1);
+        let both = text.join(facts);
+        assert!(rt;
+            taken == Some((both, TypeFacts::none(), facts.has_handle())),
+            "at {n}"
+        );
+    }
+    Ok(())
+}
+
+#[test]
+fn a_lent_builder_is_read_and_changed(rt: HostRuntime) -> Result<(), Fail> {
+    let mut types = ComponentTypesBuilder::new(rt.alloc());
+    lends(&rt, &mut types)
+}
+
+fn lends(rt: &impl Abort, types: &mut ComponentTypesBuilder) -> Result<(), Fail> {
+    let mut lent = PreInliningComponentTypes::new(types);
+    assert_eq!(rt; lent.types().held(TypeKind::ErrorContextTable), 0);
+    lent.types_mut_for_inlining().error_context_table_type()?;
+    assert_eq!(rt; lent.types().held(TypeKind::ErrorContextTable), 1);
+    types.types_are_distinct(TypeKind::ErrorContextTable);
     Ok(())
 }

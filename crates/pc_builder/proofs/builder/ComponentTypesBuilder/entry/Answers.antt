@@ -1,12 +1,13 @@
-use Rattle.std.proofs.Common.{[], ◌∷◌, ◌≡◌, ◌+◌, ◌∙◌, ap, arith, false, length, refl, subst, sym, get_or}
+use Rattle.std.proofs.Common.{[], ◌∷◌, ◌≡◌, ◌+◌, ◌∙◌, ap, arith, length, refl, subst, sym}
 use Rattle.std.specs.Prelude.{Some, slice_get}
 use Rattle.std.proofs.lemmas.List.{length-append}
 use Rattle.std.proofs.lemmas.Option.{slice_get-get_or, slice_get_read}
 use Rattle.pc_builder.specs.Entries.{StepIs}
-use Rattle.pc_builder.specs.Marks.{IsMarked}
+use Rattle.pc_builder.specs.Parts.{AreHeld}
 use Rattle.pc_builder.specs.Steps.{AreDone, IsReadyEntry}
 use Rattle.pc_builder.proofs.Doing.{done_step, ready_step}
 use Rattle.pc_builder.proofs.Growth.{grows_trans}
+use Rattle.pc_builder.proofs.HeldLemmas.{done_held}
 use Rattle.pc_builder.proofs.builder.ComponentTypesBuilder.entry.Goals as goal
 
 pub step-requires : goal.step-requires
@@ -26,6 +27,7 @@ step-requires c =
       ready = λ needed.
           subst (λ done. IsReadyEntry t done e) (sym c.as_slice.ensures)
           (ready_step t c.requires.sound l.self c.in_ok-marks.marks.items l.done e c.in_ok-marks.ensures.closed at (here ∙ ap (λ b. Some b) needed) l.invariant.done);
+      held = subst (AreHeld l.self) (sym c.as_slice.ensures) (done_held l.self t c.in_ok-marks.marks.items l.done l.invariant.done);
     }
 
 pub returns-in_err-converted-clause-grows : goal.returns-in_err-converted-clause-grows

@@ -1,8 +1,22 @@
-use Rattle.std.proofs.Common.{refl}
+use Rattle.std.proofs.Common.{ℕ, List, refl}
+use Rattle.pc_types.specs.declared.types.InterfaceType.{InterfaceType}
 use Rattle.pc_builder.specs.Parts.{FieldIs}
 use Rattle.pc_builder.proofs.PartLemmas.{all_zip_more, field_grows}
 use Rattle.pc_builder.proofs.Growth.{grows_trans}
+use Rattle.pc_builder.specs.Held.{IsHeld}
+use Rattle.pc_builder.proofs.HeldLemmas.{all_by_zip, are_held_grow, val_held}
 use Rattle.pc_builder.proofs.builder.ComponentTypesBuilder.record_entry.Goals as goal
+
+pub put_record_type-requires : goal.put_record_type-requires
+put_record_type-requires c =
+    let b = c.fields.new.self in
+    let done = c.args.done.now in
+    let held = are_held_grow c.args.self.now b c.fields.ensures.grows done c.requires.held in
+    record {
+      parts =
+          all_by_zip (FieldIs b done) (λ (g : List ℕ × InterfaceType). IsHeld b g.1) (λ f g h. val_held b done held f.1 g.1 h.1)
+          c.args.fields.now c.in_ok-fields.fields c.in_ok-fields.ensures.are;
+    }
 
 pub returns-in_err-put_record_type-clause-grows : goal.returns-in_err-put_record_type-clause-grows
 returns-in_err-put_record_type-clause-grows c = grows_trans c.args.self.now c.fields.new.self c.put_record_type.new.self c.fields.ensures.grows c.put_record_type.ensures.grows

@@ -1,7 +1,21 @@
 use Rattle.std.proofs.Common.{refl}
 use Rattle.pc_builder.proofs.Growth.{grows_trans}
 use Rattle.pc_builder.proofs.PartLemmas.{maybe_grows}
+use Rattle.pc_builder.proofs.HeldLemmas.{are_held_grow, maybe_held}
 use Rattle.pc_builder.proofs.builder.ComponentTypesBuilder.result_entry.Goals as goal
+
+pub put_result-requires : goal.put_result-requires
+put_result-requires c =
+    let a = c.args.self.now in
+    let first = c.maybe_value.new.self in
+    let b = c.maybe_value-2.new.self in
+    let done = c.args.done.now in
+    let g = c.maybe_value-2.ensures.grows in
+    let held = are_held_grow a b (grows_trans a first b c.maybe_value.ensures.grows g) done c.requires.held in
+    record {
+      ok = maybe_held b done held c.args.ok c.in_ok-ok.ok (maybe_grows first b g done c.args.ok c.in_ok-ok.ok c.in_ok-ok.ensures.is);
+      err = maybe_held b done held c.args.err c.in_ok-err.err c.in_ok-err.ensures.is;
+    }
 
 pub returns-in_err-err-clause-grows : goal.returns-in_err-err-clause-grows
 returns-in_err-err-clause-grows c =

@@ -1,8 +1,22 @@
-use Rattle.std.proofs.Common.{refl}
+use Rattle.std.proofs.Common.{ℕ, List, Option, refl}
+use Rattle.pc_types.specs.declared.types.InterfaceType.{InterfaceType}
 use Rattle.pc_builder.specs.Parts.{CaseIs}
 use Rattle.pc_builder.proofs.PartLemmas.{all_zip_more, case_grows}
 use Rattle.pc_builder.proofs.Growth.{grows_trans}
+use Rattle.pc_builder.specs.Held.{MayBeHeld}
+use Rattle.pc_builder.proofs.HeldLemmas.{all_by_zip, are_held_grow, maybe_held}
 use Rattle.pc_builder.proofs.builder.ComponentTypesBuilder.variant_entry.Goals as goal
+
+pub put_variant-requires : goal.put_variant-requires
+put_variant-requires c =
+    let b = c.cases.new.self in
+    let done = c.args.done.now in
+    let held = are_held_grow c.args.self.now b c.cases.ensures.grows done c.requires.held in
+    record {
+      parts =
+          all_by_zip (CaseIs b done) (λ (g : List ℕ × Option InterfaceType). MayBeHeld b g.1) (λ f g h. maybe_held b done held f.1 g.1 h.1)
+          c.args.cases.now c.in_ok-cases.cases c.in_ok-cases.ensures.are;
+    }
 
 pub returns-in_err-put_variant-clause-grows : goal.returns-in_err-put_variant-clause-grows
 returns-in_err-put_variant-clause-grows c = grows_trans c.args.self.now c.cases.new.self c.put_variant.new.self c.cases.ensures.grows c.put_variant.ensures.grows
