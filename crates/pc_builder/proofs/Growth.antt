@@ -1,6 +1,5 @@
 -- A list that grows, and the builder with it.
-use Rattle.std.proofs.Common.{◌≡◌, ℕ, List, [], ◌∷◌, ◌++◌, length, refl, sym, subst, ◌∙◌, inl, inr}
-use Rattle.std.specs.Prelude.{◌⊎◌}
+use Rattle.std.proofs.Common.{◌≡◌, List, [], ◌∷◌, length, refl, sym, subst, ◌∙◌, inl, inr}
 use Rattle.pc_entity.specs.Lists.{Kept}
 use Rattle.pc_entity.proofs.Growing.{append_kept, kept_refl, kept_trans}
 use Rattle.pc_types.specs.declared.types.TypeFunc.{TypeFunc}

@@ -1,5 +1,5 @@
 -- Marks on the entries that are needed.
-use Rattle.std.proofs.Common.{◌≡◌, ℕ, ◌<◌, ◌≤◌, ◌+◌, Bool, true, false, List, [], ◌∷◌, ◌++◌, length, zero, suc, Option, Some, None, refl, sym, ap, ◌∙◌, subst, arith, true≢false, inl, inr, ◌⊎◌, if◌then◌else◌, take, get_or}
+use Rattle.std.proofs.Common.{◌≡◌, ℕ, ◌<◌, ◌≤◌, ◌+◌, Bool, true, false, List, [], ◌∷◌, ◌++◌, length, zero, suc, Some, refl, sym, ap, ◌∙◌, subst, arith, true≢false, inl, inr, ◌⊎◌, if◌then◌else◌, take, get_or}
 use Rattle.std.specs.Prelude.{slice_get, slice_set}
 use Rattle.std.specs.List.{flat_map}
 use Rattle.std.proofs.lemmas.List.{length-set, append-nil}

@@ -1,11 +1,11 @@
 -- What an entry is in the builder has the entry's tree, where its parts have theirs.
-use Rattle.std.proofs.Common.{◌≡◌, ℕ, ◌<◌, ◌+◌, Bool, List, [], ◌∷◌, ◌++◌, length, take, zero, suc, Option, Some, None, refl, sym, ap, ◌∙◌, subst, arith, ◌==◌, if◌then◌else◌, true, false, true≢false}
-use Rattle.std.specs.Prelude.{slice_get, option_and_then, map}
+use Rattle.std.proofs.Common.{◌≡◌, ℕ, ◌+◌, Bool, List, [], ◌∷◌, ◌++◌, length, zero, suc, Option, Some, None, refl, sym, ap, ◌∙◌, subst, arith, ◌==◌, if◌then◌else◌, true, false, true≢false}
+use Rattle.std.specs.Prelude.{slice_get, option_and_then}
 use Rattle.std.specs.Option.{option_map}
 use Rattle.std.specs.List.{AllZip}
 use Rattle.std.specs.Cmp.{nat_eq_equiv}
 use Rattle.std.proofs.lemmas.List.{length-append}
-use Rattle.std.proofs.lemmas.Option.{none-some, same_Some, slice_get_within}
+use Rattle.std.proofs.lemmas.Option.{none-some, same_Some}
 use Rattle.pc_entity.specs.Lists.{Kept, map_all, names_of}
 use Rattle.pc_entity.proofs.Growing.{append_kept, kept_refl, kept_trans, slice_get-append_seam}
 use Rattle.pc_types.specs.declared.parsed.PrimType.TheVariants as prim
@@ -17,49 +17,19 @@ use Rattle.pc_numbers.specs.declared.runtime.ResourceIndex.{ResourceIndex}
 use Rattle.pc_types.specs.declared.parsed.CoreEntity.{CoreEntity}
 use Rattle.pc_types.specs.declared.parsed.CoreEntity.TheVariants as core
 use Rattle.pc_types.specs.declared.parsed.Entity.{Entity}
-use Rattle.pc_types.specs.declared.parsed.PrimType.{PrimType}
 use Rattle.pc_types.specs.declared.parsed.TypeTable.{TypeTable}
 use Rattle.pc_types.specs.declared.parsed.ValType.{ValType}
-use Rattle.pc_types.specs.declared.type_index.TypeComponentIndex.{TypeComponentIndex}
-use Rattle.pc_types.specs.declared.type_index.TypeComponentInstanceIndex.{TypeComponentInstanceIndex}
-use Rattle.pc_types.specs.declared.type_index.TypeComponentLocalErrorContextTableIndex.{TypeComponentLocalErrorContextTableIndex}
-use Rattle.pc_types.specs.declared.type_index.TypeEnumIndex.{TypeEnumIndex}
-use Rattle.pc_types.specs.declared.type_index.TypeFlagsIndex.{TypeFlagsIndex}
-use Rattle.pc_types.specs.declared.type_index.TypeFuncIndex.{TypeFuncIndex}
-use Rattle.pc_types.specs.declared.type_index.TypeFutureTableIndex.{TypeFutureTableIndex}
-use Rattle.pc_types.specs.declared.type_index.TypeListIndex.{TypeListIndex}
-use Rattle.pc_types.specs.declared.type_index.TypeModuleIndex.{TypeModuleIndex}
-use Rattle.pc_types.specs.declared.type_index.TypeOptionIndex.{TypeOptionIndex}
-use Rattle.pc_types.specs.declared.type_index.TypeRecordIndex.{TypeRecordIndex}
 use Rattle.pc_types.specs.declared.type_index.TypeResourceTableIndex.{TypeResourceTableIndex}
-use Rattle.pc_types.specs.declared.type_index.TypeResultIndex.{TypeResultIndex}
-use Rattle.pc_types.specs.declared.type_index.TypeStreamTableIndex.{TypeStreamTableIndex}
-use Rattle.pc_types.specs.declared.type_index.TypeTupleIndex.{TypeTupleIndex}
-use Rattle.pc_types.specs.declared.type_index.TypeVariantIndex.{TypeVariantIndex}
 use Rattle.pc_types.specs.declared.types.InterfaceType.{InterfaceType}
 use Rattle.pc_types.specs.declared.types.InterfaceType.TheVariants as ty
-use Rattle.pc_types.specs.declared.types.TypeComponent.{TypeComponent}
-use Rattle.pc_types.specs.declared.types.TypeComponentInstance.{TypeComponentInstance}
 use Rattle.pc_types.specs.declared.types.TypeDef.{TypeDef}
 use Rattle.pc_types.specs.declared.types.TypeDef.TheVariants as def
-use Rattle.pc_types.specs.declared.types.TypeFunc.{TypeFunc}
-use Rattle.pc_types.specs.declared.types.TypeFutureTable.{TypeFutureTable}
-use Rattle.pc_types.specs.declared.types.TypeList.{TypeList}
-use Rattle.pc_types.specs.declared.types.TypeModule.{TypeModule}
-use Rattle.pc_types.specs.declared.types.TypeOption.{TypeOption}
-use Rattle.pc_types.specs.declared.types.TypeRecord.{TypeRecord}
-use Rattle.pc_types.specs.declared.types.TypeResourceTable.{TypeResourceTable}
-use Rattle.pc_types.specs.declared.types.TypeResourceTable.TheVariants as handles
-use Rattle.pc_types.specs.declared.types.TypeResult.{TypeResult}
-use Rattle.pc_types.specs.declared.types.TypeStreamTable.{TypeStreamTable}
-use Rattle.pc_types.specs.declared.types.TypeTuple.{TypeTuple}
-use Rattle.pc_types.specs.declared.types.TypeVariant.{TypeVariant}
-use Rattle.pc_types.specs.TypeTree.{Identity, Resource, CoreTree, TypeTree, Fields, Cases, Trees, MaybeTree, concrete, abstract, core_func, core_table, core_memory, core_global, core_tag, primitive, error_context, record_of, variant_of, list_of, tuple_of, flags_of, enum_of, option_of, result_of, own_of, borrow_of, stream_of, future_of, func_of, instance_of, component_of, module_of, resource_of, no_fields, and_field, no_cases, and_case, no_trees, and_tree, no_tree, a_tree, trees_from, tree_of, val_tree, entity_tree}
+use Rattle.pc_types.specs.TypeTree.{Identity, Resource, CoreTree, TypeTree, Fields, Cases, Trees, MaybeTree, core_func, core_table, core_memory, core_global, core_tag, primitive, error_context, record_of, variant_of, list_of, tuple_of, flags_of, enum_of, option_of, result_of, own_of, borrow_of, stream_of, future_of, func_of, instance_of, component_of, module_of, resource_of, no_fields, and_field, no_cases, and_case, no_trees, and_tree, no_tree, a_tree, trees_from, val_tree, entity_tree}
 use Rattle.pc_types.specs.TypeTree.{earlier_tree, maybe_tree, fields_tree, cases_tree, vals_tree, externs_tree, entry_tree, core_tree, module_import_tree, module_export_tree, own_tree, borrow_tree, resource_from, identity_of}
 use Rattle.pc_builder.specs.Types.{Types}
 use Rattle.pc_builder.specs.Known.{resource_of as known_resource}
 use Rattle.pc_builder.specs.Trees.{AreHandlesOf, NumbersHandlesOf, CoreHasTree, ImportHasTree, ExportHasTree, HasTree, FieldsHaveTrees, CasesHaveTrees, ValsHaveTrees, MaybeHasTree, ParamsHaveTrees, ResultsHaveTree, ExternsHaveTrees, identities}
-use Rattle.pc_builder.specs.Parts.{PrimIs, ValIs, MaybeIs, FieldIs, CaseIs, EntityIs, ExternIs}
+use Rattle.pc_builder.specs.Parts.{ValIs, MaybeIs, FieldIs, CaseIs, EntityIs, ExternIs}
 use Rattle.pc_builder.specs.Entries.{ReturnsAre, CoreIs, ImportIs, ExportIs, EntryIs, handles_of, handles_from}
 
 -- the identity of a known resource is that of the resource

@@ -1,6 +1,6 @@
 -- What a sound table says of the parts of its entries.
-use Rattle.std.proofs.Common.{◌≡◌, ℕ, ◌<◌, ◌+◌, Bool, true, false, List, [], ◌∷◌, ◌++◌, length, take, zero, suc, Option, Some, None, refl, sym, ap, ◌∙◌, subst, arith, true≢false, ◌&&◌, ◌||◌, if◌then◌else◌}
-use Rattle.std.specs.Prelude.{slice_get, nat_lt, map}
+use Rattle.std.proofs.Common.{◌≡◌, ℕ, ◌<◌, Bool, true, false, List, [], ◌∷◌, ◌++◌, length, take, zero, suc, Option, Some, None, refl, sym, ap, ◌∙◌, subst, arith, true≢false, ◌&&◌, ◌||◌, if◌then◌else◌}
+use Rattle.std.specs.Prelude.{slice_get, map}
 use Rattle.std.specs.List.{All, list_all, list_any, flat_map}
 use Rattle.std.proofs.lemmas.Bool.{ltb-true}
 use Rattle.std.proofs.lemmas.List.{append_assoc, append-nil}
@@ -27,7 +27,7 @@ use Rattle.pc_types.specs.Names.{are_distinct, distinct_names, same_pair}
 use Rattle.pc_types.specs.Record.{is_typed}
 use Rattle.pc_types.specs.Table.{EntryFault, entry_fault, fault_or, fault_from, table_fault, is_none_or, is_some_and, is_sound_entry, is_sound_val, is_sound_entity, holds_value, is_value, is_resource, is_func, is_instance, is_module, is_defined_type}
 use Rattle.pc_builder.specs.Marks.{Each, parts_of, val_parts, maybe_parts, field_parts, case_parts, entity_parts, extern_parts}
-use Rattle.pc_builder.specs.Parts.{IsReady, MayBeReady, EntityIs, IsThere, HasHandles}
+use Rattle.pc_builder.specs.Parts.{IsReady, MayBeReady, IsThere, HasHandles}
 use Rattle.pc_builder.specs.Steps.{IsOfKind, IsReadyEntry}
 use Rattle.pc_builder.proofs.Marking.{each_append, each_front, each_back}
 

@@ -1,5 +1,5 @@
 -- Which entries an entry names, and marks on entries by number.
-use Rattle.std.specs.Prelude.{◌≡◌, ℕ, ◌≤◌, Bool, true, List, [], ◌∷◌, ◌++◌, length, Option, None, Some, slice_get, slice_set}
+use Rattle.std.specs.Prelude.{◌≡◌, ℕ, ◌≤◌, Bool, true, List, [], ◌∷◌, ◌++◌, Option, None, Some, slice_get, slice_set}
 use Rattle.std.specs.List.{flat_map}
 use Rattle.pc_types.specs.declared.parsed.DeclType.{DeclType}
 use Rattle.pc_types.specs.declared.parsed.DeclType.TheVariants as entry

@@ -1,5 +1,5 @@
 -- The types of the entries below a number, as a conversion has them.
-use Rattle.std.specs.Prelude.{◌≡◌, ℕ, ◌<◌, Bool, true, List, length, Option, None, Some, slice_get}
+use Rattle.std.specs.Prelude.{◌≡◌, ℕ, ◌<◌, Bool, true, List, length, Option, Some, slice_get}
 use Rattle.std.specs.List.{All}
 use Rattle.pc_types.specs.declared.parsed.CoreEntity.{CoreEntity}
 use Rattle.pc_types.specs.declared.parsed.DeclType.{DeclType}

@@ -1,12 +1,11 @@
 -- What a number of the builder stands for: the type tree that comes of replacing each number by what its list holds, where
 -- `who` says which resource a resource number is.
-use Rattle.std.specs.Prelude.{◌≡◌, ℕ, Bool, List, [], ◌∷◌, map, Option, None, Some, slice_get}
+use Rattle.std.specs.Prelude.{◌≡◌, ℕ, List, [], ◌∷◌, map, Option, None, Some, slice_get}
 use Rattle.std.specs.List.{AllZip}
 use Rattle.pc_numbers.specs.declared.runtime.ResourceIndex.{ResourceIndex}
 use Rattle.pc_types.specs.declared.parsed.CoreEntity.{CoreEntity}
 use Rattle.pc_types.specs.declared.parsed.CoreEntity.TheVariants as core
 use Rattle.pc_types.specs.declared.parsed.Entity.{Entity}
-use Rattle.pc_types.specs.declared.parsed.PrimType.{PrimType}
 use Rattle.pc_types.specs.declared.parsed.TypeTable.{TypeTable}
 use Rattle.pc_types.specs.declared.parsed.ValType.{ValType}
 use Rattle.pc_types.specs.declared.type_index.TypeComponentIndex.{TypeComponentIndex}

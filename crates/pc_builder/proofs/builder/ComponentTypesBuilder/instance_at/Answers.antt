@@ -1,6 +1,5 @@
 use Rattle.std.proofs.Common.{subst}
 use Rattle.std.specs.Prelude.{slice_get}
-use Rattle.pc_types.specs.declared.types.TypeDef.TheVariants as def
 use Rattle.pc_types.specs.Table.{is_instance}
 use Rattle.pc_builder.specs.Trees.{IsEntry}
 use Rattle.pc_builder.proofs.Sound.{found_by, instance_kind}
