@@ -14,6 +14,11 @@ abbrev begin_at : ℕ → List ℕ → ℕ → ℕ
 begin_at start ends zero = start
 begin_at start ends (suc k) = get_or ends k 0
 
+-- the last place is not below the first
+pub ascend_last : (start : ℕ) (ends : List ℕ) (last : ℕ) → Ascend start ends last → start ≤ last
+ascend_last start [] last h = h
+ascend_last start (e ∷ ends) last h = let later = ascend_last e ends last h.1 in omega arith
+
 module _ {X : Type 0} where
   -- the items of two lists of lists
   pub flat-append : (xs ys : List (List X)) → flat (xs ++ ys) ≡ flat xs ++ flat ys
@@ -66,10 +71,6 @@ module _ {X : Type 0} where
       × (begin_at start ends k ≤ get_or ends k 0) × (get_or ends k 0 ≤ last)
   cut_at_from start items [] last k h below = absurd (omega arith)
   cut_at_from start items (e ∷ ends) last zero h below = (refl, h.0, ascend_last e ends last h.1)
-    where
-      ascend_last : (s : ℕ) (es : List ℕ) (l : ℕ) → Ascend s es l → s ≤ l
-      ascend_last s [] l a = a
-      ascend_last s (x ∷ xs) l a = let r = ascend_last x xs l a.1 in omega arith
   cut_at_from start items (e ∷ ends) last (suc zero) h below = cut_at_from e items ends last zero h.1 (omega arith)
   cut_at_from start items (e ∷ ends) last (suc (suc k)) h below = cut_at_from e items ends last (suc k) h.1 (omega arith)
 

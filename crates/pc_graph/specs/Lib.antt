@@ -3,6 +3,7 @@ pub mod Classes
 pub mod Digraph
 pub mod Laws
 pub mod Listed
+pub mod Numbered
 pub mod Steps
 pub mod Tour
 -- What the functions inside promise each other.

@@ -10,6 +10,7 @@ mod filter_nodes;
 mod graph;
 mod laws;
 mod scc;
+mod scc_iter;
 mod search;
 #[cfg(test)]
 mod tests;
@@ -20,3 +21,4 @@ pub use filter_nodes::FilterNodes;
 pub use graph::Graph;
 pub use laws::{runs_are_tours, tours_meet_the_reachable};
 pub use scc::{Scc, StronglyConnectedComponents};
+pub use scc_iter::{SccIter, SccKeys, SccValues};

@@ -7,6 +7,7 @@ ghost use Rattle.pc_graph.specs.Classes.{AreComponents, start_of};
 ghost use Rattle.pc_graph.specs.Digraph.{Digraph};
 ghost use Rattle.pc_graph.specs.Searching.{Search, StandsFor};
 
+use crate::scc_iter::SccValues;
 use crate::search::PathSearch;
 use crate::{Dfs, Graph};
 use pc_entity::NoMemory;
@@ -103,10 +104,17 @@ impl<Node: EntityRef> StronglyConnectedComponents<Node> {
         let end = self.ends[place];
         part(self.nodes.as_slice(), start, end)
     }
+
+    /// The nodes of each component, in the order of their numbers.
+    pub fn values(&self) -> SccValues<'_, Node>
+        ensures { result ≡ self.now }
+    {
+        SccValues::new(self.nodes.as_slice(), self.ends.as_slice())
+    }
 }
 
 /// The items from one place to another.
-fn part<T>(items: &[T], start: usize, end: usize) -> &[T]
+pub(crate) fn part<T>(items: &[T], start: usize, end: usize) -> &[T]
     requires ordered { start ≤ end }
     requires within { end ≤ length items.now }
     ensures { result.now ≡ slice_range items.now start end }

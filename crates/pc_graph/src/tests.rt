@@ -324,6 +324,25 @@ fn components_stand_as_they_are_left(rt: HostRuntime) -> Result<(), Fail> {
 }
 
 #[test]
+fn components_are_told_with_their_numbers(rt: HostRuntime) -> Result<(), Fail> {
+    let graph = graph_of(rt.alloc(), 3, &[(0, 1), (1, 0), (1, 2)])?;
+    let components = StronglyConnectedComponents::new(rt.alloc(), &graph)?;
+    let mut told = Vec::new(rt.alloc());
+    for (number, nodes) in components.iter() {
+        for node in nodes {
+            told.push((number.0, node.0))?;
+        }
+    }
+    assert!(rt; told.as_slice() == [(0, 2), (1, 0), (1, 1)].as_slice());
+    let mut keys = components.keys();
+    assert_eq!(rt; keys.len(), 2);
+    assert!(rt; keys.next() == Some(Scc(0)) && keys.next() == Some(Scc(1)));
+    assert!(rt; keys.next().is_none());
+    assert_eq!(rt; components.values().map(|nodes| nodes.len()).max(), Some(2));
+    Ok(())
+}
+
+#[test]
 fn each_graph_of_three_nodes_has_its_classes(rt: HostRuntime) -> Result<(), Fail> {
     for bits in 0..512u32 {
         let reach = plain_reach(bits);
