@@ -3,6 +3,7 @@ mod Components
 mod Listing
 mod Lists
 mod Members
+mod Noting
 mod Numbers
 mod Parts
 mod Pushing

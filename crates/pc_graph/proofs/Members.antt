@@ -58,3 +58,11 @@ module _ {X : Type 0} where
   distinct_more xs x distinct fresh zero (suc j) y first second = absurd (fresh (contains_got xs j x (second ∙ sym first)))
   distinct_more xs x distinct fresh (suc i) zero y first second = absurd (fresh (contains_got xs i x (first ∙ sym second)))
   distinct_more xs x distinct fresh (suc i) (suc j) y first second = ap suc (distinct i j y first second)
+
+  -- what is contained is found at a place
+  pub contains_place : (xs : List X) (x : X) → Contains xs x → (k : ℕ) × (slice_get xs k ≡ Some x)
+  contains_place [] x h = absurd (contains_none x h)
+  contains_place (y ∷ ys) x h = elim (contains_cases ys y x h) [
+    | inl one ↦ (0, ap Some (sym one))
+    | inr more ↦ (let (k, is) = contains_place ys x more in (suc k, is))
+  ]

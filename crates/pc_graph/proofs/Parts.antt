@@ -6,7 +6,7 @@ use Rattle.std.proofs.lemmas.List.Elements.{Contains-append_left, Contains-appen
 use Rattle.pc_entity.specs.Lists.{AreDistinct}
 use Rattle.pc_graph.specs.Classes.{Ascend, EndWith, IsPart, cut, ends_from, flat, start_of}
 use Rattle.pc_graph.specs.Searching.{IsUnique}
-use Rattle.pc_graph.proofs.Members.{contains_cases, contains_first, contains_from_reversed, contains_later, contains_none, distinct_more}
+use Rattle.pc_graph.proofs.Members.{contains_cases, contains_first, contains_from_reversed, contains_got, contains_later, contains_none, contains_place, distinct_more}
 use Rattle.pc_graph.proofs.Pushing.{reverse_push}
 
 -- where a list begins, behind others
@@ -131,6 +131,36 @@ module _ {X : Type 0} where
       none_got : (k : ℕ) (y : X) → slice_get [] k ≡ Some y → ⊥
       none_got k y e = cc
   unique_distinct (x ∷ xs) h i j y first second = distinct_more xs x (unique_distinct xs h.1) h.0 i j y first second
+
+  distinct_unique : (xs : List X) → AreDistinct xs → IsUnique xs
+  distinct_unique [] h = tt
+  distinct_unique (x ∷ xs) h = (
+    λ there. (let (k, is) = contains_place xs x there in let same : 0 ≡ suc k = h 0 (suc k) x refl is in absurd (omega arith)),
+    distinct_unique xs (λ i j y first second. let same : suc i ≡ suc j = h (suc i) (suc j) y first second in omega arith),
+  )
+
+  -- no item stands in two of the lists
+  lists_apart : (xs : List (List X)) (i k : ℕ) (one other : List X) (x : X) → IsUnique (flat xs) → i < k → slice_get xs i ≡ Some one
+      → slice_get xs k ≡ Some other → Contains one x → Contains other x → ⊥
+  lists_apart [] i k one other x h below first second l r = cc
+  lists_apart (y ∷ ys) i zero one other x h below first second l r = absurd (omega arith)
+  lists_apart (y ∷ ys) zero (suc k) one other x h below first second l r =
+      let same : one ≡ y = cc in
+      unique_apart y (flat ys) h x (subst (λ z. Contains z x) same l) (contains_flat ys other x (contains_got ys k other second) r)
+  lists_apart (y ∷ ys) (suc i) (suc k) one other x h below first second l r =
+      lists_apart ys i k one other x (unique_right y (flat ys) h) (omega arith) first second l r
+
+  pub distinct_apart : (xs : List (List X)) (i k : ℕ) (one other : List X) (x : X) → AreDistinct (flat xs) → i < k → slice_get xs i ≡ Some one
+      → slice_get xs k ≡ Some other → Contains one x → Contains other x → ⊥
+  distinct_apart xs i k one other x h = lists_apart xs i k one other x (distinct_unique (flat xs) h)
+
+  -- an item of all lists stands in one of them
+  pub in_some_list : (xs : List (List X)) (x : X) → Contains (flat xs) x → (i : ℕ) × (list : List X) × (slice_get xs i ≡ Some list) × Contains list x
+  in_some_list [] x there = absurd (contains_none x there)
+  in_some_list (y ∷ ys) x there = elim (Contains-append_cases y (flat ys) x there) [
+    | inl here ↦ (0, y, refl, here)
+    | inr more ↦ (let (i, list, is, later) = in_some_list ys x more in (suc i, list, is, later))
+  ]
 
   -- an item that stands once and last has nothing behind it
   pub nothing_behind : (before behind start : List X) (x : X) → IsUnique (before ++ x ∷ behind) → before ++ x ∷ behind ≡ start ++ x ∷ []

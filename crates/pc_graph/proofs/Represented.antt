@@ -39,13 +39,13 @@ module _ {Node : Type 0} (number : Node → ℕ) (injective : (a b : Node) → n
     | inr apart ↦ inr ((λ e. apart.1 (ap number e)), value_at-set_other places (number n) (number m) v apart.1)
   ]
 
-  -- the nodes taken so far are noted as closed, and others as before
-  pub closed_more : (places later old : Defaulted ℕ) (group more : List Node) (n : Node) → later ≡ with_value_at places (number n) 1
+  -- the nodes so far are noted with the value, and others as before
+  pub set_more : (v : ℕ) (places later old : Defaulted ℕ) (group more : List Node) (n : Node) → later ≡ with_value_at places (number n) v
       → more ≡ group ++ n ∷ []
-      → ((m : Node) → Contains group m → value_at places (number m) ≡ 1)
-      → (m : Node) → Contains more m → value_at later (number m) ≡ 1
-  closed_more places later old group more n set pushed before m there =
-      ap (λ p. value_at p (number m)) set ∙ elim (noted_set places n m 1) [
+      → ((m : Node) → Contains group m → value_at places (number m) ≡ v)
+      → (m : Node) → Contains more m → value_at later (number m) ≡ v
+  set_more v places later old group more n set pushed before m there =
+      ap (λ p. value_at p (number m)) set ∙ elim (noted_set places n m v) [
         | inl same ↦ same.1
         | inr apart ↦ apart.1 ∙ elim (Contains-push_cases group n m (subst (λ ns. Contains ns m) pushed there)) [
           | inl old' ↦ before m old'
@@ -53,12 +53,12 @@ module _ {Node : Type 0} (number : Node → ℕ) (injective : (a b : Node) → n
         ]
       ]
 
-  pub others_more : (places later old : Defaulted ℕ) (group more : List Node) (n : Node) → later ≡ with_value_at places (number n) 1
+  pub others_more : (v : ℕ) (places later old : Defaulted ℕ) (group more : List Node) (n : Node) → later ≡ with_value_at places (number n) v
       → more ≡ group ++ n ∷ []
       → ((m : Node) → ¬ (Contains group m) → value_at places (number m) ≡ value_at old (number m))
       → (m : Node) → ¬ (Contains more m) → value_at later (number m) ≡ value_at old (number m)
-  others_more places later old group more n set pushed before m apart_from =
-      ap (λ p. value_at p (number m)) set ∙ elim (noted_set places n m 1) [
+  others_more v places later old group more n set pushed before m apart_from =
+      ap (λ p. value_at p (number m)) set ∙ elim (noted_set places n m v) [
         | inl same ↦ absurd (apart_from (subst (λ ns. Contains ns m) (sym pushed) (subst (λ z. Contains (group ++ n ∷ []) z) (sym same.0) (Contains-push group n))))
         | inr apart ↦ apart.1 ∙ before m (λ old'. apart_from (subst (λ ns. Contains ns m) (sym pushed) (Contains-append_left group (n ∷ []) m old')))
       ]

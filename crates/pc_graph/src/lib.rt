@@ -6,6 +6,7 @@
 
 mod dfs;
 mod entity_graph;
+mod evaporation;
 mod filter_nodes;
 mod graph;
 mod laws;
@@ -17,6 +18,7 @@ mod tests;
 
 pub use dfs::{Dfs, DfsEvent};
 pub use entity_graph::{EntityGraph, GraphError};
+pub use evaporation::Evaporation;
 pub use filter_nodes::FilterNodes;
 pub use graph::Graph;
 pub use laws::{runs_are_tours, tours_meet_the_reachable};

@@ -3,7 +3,8 @@
 ghost use Rattle.std.specs.Prelude.{◌≡◌, ◌<◌, ◌≤◌, ◌^◌, ◌++◌, ℕ, List, [], Some, length, not, nat_eq, slice_get, slice_range, IfOk};
 ghost use Rattle.pc_entity.specs.SecondaryMap.{value_at};
 ghost use Rattle.std.proofs.Common.{refl, rules};
-ghost use Rattle.pc_graph.specs.Classes.{AreComponents, start_of};
+ghost use Rattle.pc_entity.specs.Lists.{AreDistinct};
+ghost use Rattle.pc_graph.specs.Classes.{AreComponents, flat, start_of};
 ghost use Rattle.pc_graph.specs.Digraph.{Digraph};
 ghost use Rattle.pc_graph.specs.Searching.{Search, StandsFor};
 
@@ -51,13 +52,15 @@ pub struct StronglyConnectedComponents<Node> {
 
 impl<Node> Model for StronglyConnectedComponents<Node> {
     ghost use Rattle.std.specs.Prelude.{List, length, ◌≤◌};
-    ghost use Rattle.pc_graph.specs.Classes.{Ascend, cut};
+    ghost use Rattle.pc_entity.specs.Lists.{AreDistinct};
+    ghost use Rattle.pc_graph.specs.Classes.{Ascend, cut, flat};
 
     ghost Value = { List (List Node) };
 
     ghost view = { λ s. cut 0 s.nodes.items s.ends.items };
 
-    ghost invariant = { λ s. Ascend 0 s.ends.items (length s.nodes.items) × (length s.ends.items ≤ 4294967295) };
+    ghost invariant = { λ s. Ascend 0 s.ends.items (length s.nodes.items) × (length s.ends.items ≤ 4294967295)
+        × AreDistinct (flat (cut 0 s.nodes.items s.ends.items)) };
 }
 
 impl<Node: EntityRef> StronglyConnectedComponents<Node> {
@@ -110,6 +113,13 @@ impl<Node: EntityRef> StronglyConnectedComponents<Node> {
         ensures { result ≡ self.now }
     {
         SccValues::new(self.nodes.as_slice(), self.ends.as_slice())
+    }
+
+    /// No node stands in two components.
+    pub(crate) fn once(&self)
+        ensures { AreDistinct (flat self.now) }
+    {
+        let _ends = self.ends.len();
     }
 }
 

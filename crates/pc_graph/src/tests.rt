@@ -361,6 +361,103 @@ fn each_graph_of_three_nodes_has_its_classes(rt: HostRuntime) -> Result<(), Fail
     Ok(())
 }
 
+/// The numbers of the components that have an edge into each component.
+fn evaporation_of<G: Graph<FuncIndex>>(alloc: Global, graph: &G) -> Result<Vec<Vec<u32>>, NoMemory>
+    requires { (d : Digraph FuncIndex) × G.Shows graph.now d }
+{
+    let components = StronglyConnectedComponents::new(alloc, graph)?;
+    let evaporation = components.evaporation(alloc, graph)?;
+    let mut lists = Vec::new(alloc);
+    for number in components.keys() {
+        let mut list = Vec::new(alloc);
+        for other in evaporation.reverse_edges(number) {
+            list.push(other.0)?;
+        }
+        lists.push(list)?;
+    }
+    Ok(lists)
+}
+
+#[test]
+fn edges_lead_from_the_listed_components(rt: HostRuntime) -> Result<(), Fail> {
+    let chain = [
+        (0, 0),
+        (0, 1),
+        (1, 2),
+        (1, 3),
+        (2, 1),
+        (3, 5),
+        (4, 3),
+        (5, 4),
+    ];
+    let graph = graph_of(rt.alloc(), 6, &chain)?;
+    assert!(rt;
+        are(
+            evaporation_of(rt.alloc(), &graph)?.as_slice(),
+            &[&[1], &[2], &[]]
+        )
+    );
+    let apart = graph_of(rt.alloc(), 2, &[])?;
+    assert!(rt; are(evaporation_of(rt.alloc(), &apart)?.as_slice(), &[&[], &[]]));
+    // Two edges between the same components, and edges from two components into one.
+    let fan = graph_of(rt.alloc(), 3, &[(0, 1), (0, 1), (2, 1), (0, 2)])?;
+    assert!(rt;
+        are(
+            evaporation_of(rt.alloc(), &fan)?.as_slice(),
+            &[&[1, 2], &[2], &[]]
+        )
+    );
+    Ok(())
+}
+
+/// The list of this number, none past the lists.
+fn list_at(lists: &[Vec<u32>], number: u32) -> &[u32] {
+    match lists.get(number as usize) {
+        Some(list) => list.as_slice(),
+        None => &[],
+    }
+}
+
+/// Whether one of these nodes has an edge to one of those, where bit 3a + b of `bits` is the edge from a to b.
+fn leads(bits: u32, from: &[u32], into: &[u32]) -> bool {
+    let mut found = false;
+    for a in 0..3u32 {
+        for b in 0..3u32 {
+            if (bits >> (3 * a + b)) & 1 == 1 && from.contains(&a) && into.contains(&b) {
+                found = true;
+            }
+        }
+    }
+    found
+}
+
+#[test]
+fn each_graph_of_three_nodes_has_its_evaporation(rt: HostRuntime) -> Result<(), Fail> {
+    for bits in 0..512u32 {
+        let graph = small_graph(rt.alloc(), bits)?;
+        let components = components_of(rt.alloc(), &graph)?;
+        let lists = evaporation_of(rt.alloc(), &graph)?;
+        assert_eq!(rt; lists.len(), components.len());
+        for i in 0..3u32 {
+            for j in 0..3u32 {
+                let from = list_at(components.as_slice(), j);
+                let into = list_at(components.as_slice(), i);
+                let count = list_at(lists.as_slice(), i)
+                    .iter()
+                    .filter(|number| **number == j)
+                    .count();
+                let want = if i != j && leads(bits, from, into) {
+                    1
+                } else {
+                    0
+                };
+                assert_eq!(rt; count, want, "from {j} into {i} in {bits}");
+            }
+        }
+    }
+    Ok(())
+}
+
 #[test]
 fn the_components_of_a_path_and_of_a_cycle_of_200000_nodes(rt: HostRuntime) -> Result<(), Fail> {
     let nodes = numbers(rt.alloc(), 200000)?;

@@ -1,7 +1,7 @@
 use Rattle.std.proofs.Common.{◌≡◌, ◌-◌, ◌++◌, ◌∷◌, [], ◌∙◌, ap, sym, subst, refl, reverse, drop, inl, inr, length, append_assoc, arith}
 use Rattle.std.specs.List.{Contains}
 use Rattle.std.proofs.lemmas.List.{append-nil, drop_all}
-use Rattle.pc_graph.proofs.Represented.{closed_more, drop_left, others_more, taken_more}
+use Rattle.pc_graph.proofs.Represented.{drop_left, others_more, set_more, taken_more}
 use Rattle.pc_graph.proofs.Members.{contains_none}
 use Rattle.pc_graph.proofs.search.close_group.Goals as goal
 
@@ -34,9 +34,9 @@ loop-left-preserved g c =
       whole = inl (omega arith);
       moved = c.in_ok-push.ensures.items ∙ ap (λ ns. ns ++ node ∷ []) c.loop-left.invariant.moved
           ∙ append_assoc c.args.nodes.now.items group (node ∷ []) ∙ ap (λ ns. c.args.nodes.now.items ++ ns) (sym pushed);
-      closed = closed_more number injective c.loop-left.places c.set.new.self c.args.places.now group more node c.in_ok-set.ensures.ok
+      closed = set_more number injective 1 c.loop-left.places c.set.new.self c.args.places.now group more node c.in_ok-set.ensures.ok
           pushed c.loop-left.invariant.closed;
-      others = others_more number injective c.loop-left.places c.set.new.self c.args.places.now group more node c.in_ok-set.ensures.ok
+      others = others_more number injective 1 c.loop-left.places c.set.new.self c.args.places.now group more node c.in_ok-set.ensures.ok
           pushed c.loop-left.invariant.others;
     }
 
