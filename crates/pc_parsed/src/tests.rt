@@ -1,6 +1,8 @@
 use super::*;
 use pc_entity::{EntityIndex, FuncIndex, Seq, Text};
-use pc_types::{CoreFuncSig, CoreKind, DeclType, Error, ModuleRecord, Place, TypeTable, Unsupported};
+use pc_types::{
+    CoreFuncSig, CoreKind, DeclType, Error, ModuleRecord, Place, TypeTable, Unsupported,
+};
 use std::alloc::Global;
 use std::test::*;
 
@@ -143,9 +145,28 @@ fn items_are_collected_in_order(rt: HostRuntime) -> Result<(), Fail> {
     let items = program.root.initializers.as_slice();
     assert_eq!(rt; items.len(), 5);
     assert!(rt; matches!(items[0], LocalInitializer::ModuleStatic { ty: 1, .. }));
-    assert!(rt; matches!(items[1], LocalInitializer::ModuleInstantiate { module: 0, .. }));
-    assert!(rt; matches!(items[2], LocalInitializer::AliasCoreExport { instance: 0, .. }));
-    assert!(rt; matches!(items[3], LocalInitializer::Lift { func: 0, ty: 0, core: 0 }));
+    assert!(rt;
+        matches!(
+            items[1],
+            LocalInitializer::ModuleInstantiate { module: 0, .. }
+        )
+    );
+    assert!(rt;
+        matches!(
+            items[2],
+            LocalInitializer::AliasCoreExport { instance: 0, .. }
+        )
+    );
+    assert!(rt;
+        matches!(
+            items[3],
+            LocalInitializer::Lift {
+                func: 0,
+                ty: 0,
+                core: 0
+            }
+        )
+    );
     assert!(rt; matches!(items[4], LocalInitializer::Export { index: 0, .. }));
     Ok(())
 }
