@@ -54,7 +54,7 @@ pub record Gains (f : Frame) (i : LocalInitializer) (g : Frame) : Type 0 where
   pub steps : length g.initializers ≤ length f.initializers + 1
 
 -- what was found, and what came of it
-found_ok : {A B : Type 0} (k : ItemFault) (o : Option A) (go : A → Result B ItemFault) (y : B) (P : Type 0)
+pub found_ok : {A B : Type 0} (k : ItemFault) (o : Option A) (go : A → Result B ItemFault) (y : B) (P : Type 0)
     → ((x : A) → go x ≡ Ok y → P) → found k o go ≡ Ok y → P
 found_ok k None go y P next h = absurd (by h)
   where

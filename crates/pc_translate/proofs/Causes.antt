@@ -18,6 +18,7 @@ use Rattle.pc_translate.proofs.Adding.{frame_few}
 use Rattle.pc_translate.proofs.Translating.{parts, frame_names, translated, faulted}
 use Rattle.pc_translate.specs.Building
 use Rattle.pc_translate.specs.declared.frame.Frame.{Frame}
+use Rattle.pc_translate.specs.Held.{FrameHeld}
 use Rattle.pc_translate.specs.Planning.{IsPlanOf, export_name}
 use Rattle.pc_translate.specs.Translation.{Translates, HasCause}
 use Rattle.pc_types.specs.declared.error.Error.{Error}
@@ -65,10 +66,10 @@ module _ (t : TypeTable) (exposed : Option (List ℕ)) (limit : ℕ) (ps : List 
       omega (arith, room, own, few)
 
   pub translates : (types : Types) (f : Frame) (c : Component) (mts : List ModuleTranslation) → is_numbered t ps ≡ true → nat_lt 0 limit ≡ true
-      → Building.Reads t program.modules program.root.initializers (Ok f) → IsPlanOf f types c → map module_view mts ≡ program.modules
+      → Building.Reads t program.modules program.root.initializers (Ok f) → FrameHeld types f → IsPlanOf f types c → map module_view mts ≡ program.modules
       → Translates t exposed limit ps types (record { component = c }) mts
-  translates types f c mts numbered begins b is_plan same =
-      translated t exposed limit ps types f c mts numbered begins ok (parts t exposed ps ok) (of_payloads (Ok f) b) is_plan (same ∙ is_program.modules)
+  translates types f c mts numbered begins b frame_held is_plan same =
+      translated t exposed limit ps types f c mts numbered begins ok (parts t exposed ps ok) (of_payloads (Ok f) b) frame_held is_plan (same ∙ is_program.modules)
 
   -- the cause of a fault at an item
   fault_cause : (types : Types) (k : ItemFault) (n : ℕ) → is_numbered t ps ≡ true → nat_lt 0 limit ≡ true

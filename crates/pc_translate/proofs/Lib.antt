@@ -8,6 +8,7 @@ mod Simulation
 mod Reading
 mod Ending
 mod Trees
+mod Holding
 mod Naming
 mod Adding
 mod Translating

@@ -1,12 +1,14 @@
 -- Names that are exported once.
-use Rattle.std.proofs.Common.{◌≡◌, ℕ, ◌+◌, ◌≤◌, suc, List, [], ◌∷◌, ◌++◌, length, map, take, drop, None, Bool, true, false, refl, sym, ◌∙◌, subst, arith, zero-add, ◌⊎◌, inl, inr, ◌||◌, not, true≢false}
+use Rattle.std.proofs.Common.{◌≡◌, ℕ, ◌+◌, ◌≤◌, zero, suc, List, [], ◌∷◌, ◌++◌, length, map, take, drop, None, Some, Bool, true, false, refl, sym, ap, ◌∙◌, subst, arith, zero-add, ◌⊎◌, inl, inr, ◌||◌, not, true≢false}
+use Rattle.std.specs.Prelude.{slice_get}
 use Rattle.std.specs.List.{AllZip, list_any}
 use Rattle.std.specs.Str.{bytes_eq}
 use Rattle.std.proofs.lemmas.Slice.Eq.{bytes_eq-Decides}
 use Rattle.std.proofs.lemmas.List.{length-append, map-append, take-append-drop}
-use Rattle.pc_entity.specs.Lists.{value_of, Kept}
+use Rattle.std.proofs.lemmas.Option.{none-some, same_Some}
+use Rattle.pc_entity.specs.Lists.{AreDistinct, value_of, Kept}
 use Rattle.pc_entity.proofs.Elements.{and_true}
-use Rattle.pc_entity.proofs.Growing.{kept_refl, append_kept}
+use Rattle.pc_entity.proofs.Growing.{kept_refl, append_kept, slice_get-append, slice_get-append_seam}
 use Rattle.pc_info.specs.declared.export.Export.{Export}
 use Rattle.pc_info.specs.declared.export.Export.TheVariants as export
 use Rattle.pc_numbers.specs.declared.module_entity.ModuleInternedTypeIndex.{ModuleInternedTypeIndex}
@@ -93,9 +95,36 @@ exported_next xs x old new s a =
         each = subst (λ (items : List Export). AllZip (IsExportOf new.signatures) (xs ++ x ∷ []) items) (sym a.items)
             (zip_push (IsExportOf new.signatures) xs old.items x a.item
             (zip_weaker (IsExportOf old.signatures) (IsExportOf new.signatures) (export_kept old.signatures new.signatures a.kept) xs old.items s.exports.each) a.is_it);
+        used = λ (k : ℕ) (x : ModuleInternedTypeIndex) at. elim (a.used k x at) [
+          | inl before ↦
+              let u = s.exports.used k x before in
+              (u.0, u.1, subst (λ (items : List Export). slice_get items u.0 ≡ Some u.1) (sym a.items) (slice_get-append old.items (a.item ∷ []) u.0 u.1 u.2), u.3)
+          | inr own ↦
+              (length old.items, a.item, subst (λ (items : List Export). slice_get items (length old.items) ≡ Some a.item) (sym a.items) (slice_get-append_seam old.items a.item []), own)
+        ];
       };
       few = rw (length-append xs (x ∷ [])) (omega arith);
     }
+
+-- what is found in a list with one more item at the end
+pub found_in_push : {A : Type 0} (xs : List A) (y : A) (k : ℕ) (x : A) → slice_get (xs ++ y ∷ []) k ≡ Some x → (slice_get xs k ≡ Some x) ⊎ (x ≡ y)
+found_in_push [] y zero x h = inr (sym (same_Some y x h))
+found_in_push [] y (suc k) x h = absurd (none-some x h)
+found_in_push (z ∷ xs) y zero x h = inl h
+found_in_push (z ∷ xs) y (suc k) x h = found_in_push xs y k x h
+
+-- a number of an interner that gained at most one value was a number before, or is that of the value
+pub interned_used : (old new : List ModuleInternedTypeIndex) (v : ModuleInternedTypeIndex) (key : ℕ)
+    → (new ≡ old) ⊎ (new ≡ old ++ v ∷ []) → slice_get new key ≡ Some v → AreDistinct new
+    → (k : ℕ) (s : ModuleInternedTypeIndex) → slice_get new k ≡ Some s → (slice_get old k ≡ Some s) ⊎ (key ≡ k)
+interned_used old new v key h held distinct k s at =
+    elim h [
+      | inl e ↦ inl (subst (λ (xs : List ModuleInternedTypeIndex). slice_get xs k ≡ Some s) e at)
+      | inr e ↦ elim (found_in_push old v k s (subst (λ (xs : List ModuleInternedTypeIndex). slice_get xs k ≡ Some s) e at)) [
+        | inl before ↦ inl before
+        | inr is ↦ inr (distinct key k v held (at ∙ ap Some is))
+      ]
+    ]
 
 -- what an interner that gained at most one value keeps
 pub interned_kept : (old new : List ModuleInternedTypeIndex) (v : ModuleInternedTypeIndex) → (new ≡ old) ⊎ (new ≡ old ++ v ∷ []) → Kept old new

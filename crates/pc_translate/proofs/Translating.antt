@@ -31,6 +31,7 @@ use Rattle.pc_semantics.specs.Machine.{RuntimeInstance, named_node, owned_of, ru
 use Rattle.pc_semantics.specs.PlanView as plan
 use Rattle.pc_translate.proofs.Adding.{all_names, list_names}
 use Rattle.pc_translate.proofs.Ending.{all_nodes, runs_within}
+use Rattle.pc_translate.proofs.Holding.{plan_names}
 use Rattle.pc_translate.proofs.Means.{zip_length}
 use Rattle.pc_translate.proofs.Reading.{Ends, items_agree}
 use Rattle.pc_translate.proofs.Standing
@@ -38,6 +39,7 @@ use Rattle.pc_translate.proofs.Trees.{has_trees}
 use Rattle.pc_translate.specs.Building
 use Rattle.pc_translate.specs.declared.frame.Frame.{Frame}
 use Rattle.pc_translate.specs.declared.frame.NamedFunction.{NamedFunction}
+use Rattle.pc_translate.specs.Held.{FrameHeld}
 use Rattle.pc_translate.specs.Planning.{IsPlanOf, IsExportOf, entries_from, export_name, plain_entry}
 use Rattle.pc_translate.specs.Translation.{Translates}
 use Rattle.pc_types.specs.declared.error.Place.TheVariants as place
@@ -220,9 +222,9 @@ reading_is t exposed limit ps o begins h = rw (begins, h) refl
 -- a frame that was read to the end, and its plan
 pub translated : (t : TypeTable) (exposed : Option (List ℕ)) (limit : ℕ) (ps : List Payload) (types : Types) (f : Frame) (c : Component) (mts : List ModuleTranslation)
     → is_numbered t ps ≡ true → nat_lt 0 limit ≡ true → is_translatable t exposed ps ≡ true → Parts t ps
-    → Building.BuildsAll t (modules_of ps) 0 (body_items ps) Building.empty_frame (Ok f) → IsPlanOf f types c → map module_view mts ≡ modules_of ps
+    → Building.BuildsAll t (modules_of ps) 0 (body_items ps) Building.empty_frame (Ok f) → FrameHeld types f → IsPlanOf f types c → map module_view mts ≡ modules_of ps
     → Translates t exposed limit ps types (record { component = c }) mts
-translated t exposed limit ps types f c mts numbered begins ok q b is_plan same_modules =
+translated t exposed limit ps types f c mts numbered begins ok q b frame_held is_plan same_modules =
     let p : plan.PlanView TypeNumber = view (record { component = c }) mts in
     let counted : nat_lt 0 p.counts.component_instances ≡ true = rw (ap (λ (k : plan.Counts). k.component_instances) is_plan.counts) refl in
     let sound : list_all (is_sound t) p.handed_in ≡ true = rw same_modules q.modules in
@@ -271,6 +273,7 @@ translated t exposed limit ps types f c mts numbered begins ok q b is_plan same_
         error_context_tables = length types.error_context_tables;
       });
       shared = subst (λ (os : List CanonicalOptions). AreDistinct os) (sym is_plan.options) (distinct_entries is_plan.signatures is_plan.distinct);
+      names = plan_names types f c frame_held is_plan;
       items = record {
         as_many = sym count ∙ sym (ap length names ∙ length_entries 0 f.exports);
         in_order = λ n x at. entry_number 0 n f.exports x (ap (λ (es : List (List ℕ × (ExportIndex × ComponentExternData))). slice_get es n) (sym names) ∙ at) ∙ zero-add n;

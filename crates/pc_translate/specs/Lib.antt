@@ -3,4 +3,5 @@ pub mod Translation
 -- What the functions inside promise each other.
 pub mod Index
 pub mod Building
+pub mod Held
 pub mod Planning

@@ -1,5 +1,5 @@
 -- What makes a plan of the functions that a frame exports.
-use Rattle.std.specs.Prelude.{◌≡◌, ℕ, ◌+◌, ◌≤◌, ◌++◌, false, List, [], ◌∷◌, length, map, Some, None, slice_get}
+use Rattle.std.specs.Prelude.{◌≡◌, ◌⊎◌, ℕ, ◌+◌, ◌≤◌, ◌++◌, false, List, [], ◌∷◌, length, map, Some, None, slice_get}
 use Rattle.std.specs.List.{AllZip}
 use Rattle.pc_numbers.specs.declared.runtime.ExportIndex.{ExportIndex}
 use Rattle.pc_numbers.specs.declared.module_entity.ModuleInternedTypeIndex.{ModuleInternedTypeIndex}
@@ -13,6 +13,7 @@ use Rattle.pc_entity.specs.Lists.{AreDistinct, Kept}
 use Rattle.pc_builder.specs.Types.{Types}
 use Rattle.pc_info.specs.View.{counts_view}
 use Rattle.pc_semantics.specs.PlanView.{Counts}
+use Rattle.pc_translate.specs.Translation.{HasOptions}
 use Rattle.pc_translate.specs.declared.plan.Exported.{Exported}
 use Rattle.pc_translate.specs.declared.frame.Frame.{Frame}
 use Rattle.pc_translate.specs.declared.frame.NamedFunction.{NamedFunction}
@@ -50,6 +51,9 @@ pub record Exports (xs : List NamedFunction) (entries : List (List ℕ × (Expor
     (signatures : List ModuleInternedTypeIndex) : Type 0 where
   pub names : entries ≡ entries_from 0 xs
   pub each : AllZip (IsExportOf signatures) xs items
+  -- each signature is that of an export
+  pub used : (k : ℕ) (s : ModuleInternedTypeIndex) → slice_get signatures k ≡ Some s
+      → (n : ℕ) × (e : Export) × (slice_get items n ≡ Some e) × HasOptions k e
 
 -- one more function is exported: its item and its name stand at the ends, and no signature loses its number
 pub record AddsExport (old new : Exported) (x : NamedFunction) : Type 0 where
@@ -58,6 +62,8 @@ pub record AddsExport (old new : Exported) (x : NamedFunction) : Type 0 where
   pub items : new.items ≡ old.items ++ item ∷ []
   pub names : new.names ≡ old.names ++ (x.name.name, (record { 0 = length old.items }, extern_data x.name)) ∷ []
   pub kept : Kept old.signatures new.signatures
+  -- each signature was there, or is that of this export
+  pub used : (k : ℕ) (s : ModuleInternedTypeIndex) → slice_get new.signatures k ≡ Some s → (slice_get old.signatures k ≡ Some s) ⊎ HasOptions k item
   pub few : length new.signatures ≤ length old.signatures + 1
 
 -- the counts of a frame's plan, where the types builder holds these types: each step makes a core instance

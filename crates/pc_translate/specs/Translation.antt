@@ -1,5 +1,5 @@
 -- The theorem: the plan that a translation answers does what the nested reading of the payloads says.
-use Rattle.std.specs.Prelude.{◌≡◌, ℕ, Bool, true, false, List, map, length, nat_lt, slice_get, Option, Some, ◌&&◌, ◌⊎◌}
+use Rattle.std.specs.Prelude.{◌≡◌, ◌<◌, ℕ, Bool, true, false, List, map, length, nat_lt, slice_get, Option, Some, ◌&&◌, ◌⊎◌}
 use Rattle.pc_builder.specs.Types.{Types, IsFull}
 use Rattle.pc_entity.specs.Lists.{AreDistinct}
 use Rattle.pc_numbers.specs.declared.runtime.ExportIndex.{ExportIndex}
@@ -14,6 +14,9 @@ use Rattle.pc_semantics.specs.PlanView.{PlanView, Counts}
 use Rattle.pc_info.specs.declared.component.Component.{Component}
 use Rattle.pc_info.specs.declared.component.ComponentTranslation.{ComponentTranslation}
 use Rattle.pc_info.specs.declared.component.ModuleTranslation.{ModuleTranslation}
+use Rattle.pc_info.specs.declared.export.Export.{Export}
+use Rattle.pc_info.specs.declared.export.Export.TheVariants as export
+use Rattle.pc_info.specs.declared.options.CanonicalOptions.{CanonicalOptions}
 use Rattle.pc_info.specs.View.{view, has_items, module_view, counts_view}
 use Rattle.pc_parsed.specs.declared.payload.Payload.{Payload}
 use Rattle.pc_parsed.specs.declared.fault.ItemFault.TheVariants.{Invalid, BadType}
@@ -59,6 +62,20 @@ pub record NumbersItems (c : Component) : Type 0 where
   pub as_many : length c.export_items ≡ length c.exports
   pub in_order : (n : ℕ) (e : List ℕ × (ExportIndex × ComponentExternData)) → slice_get c.exports n ≡ Some e → e.1.0.0 ≡ n
 
+-- an exported function has a type that the builder holds, and an options entry
+abbrev pub IsHeldExport : Types → List CanonicalOptions → Export → Type 0
+IsHeldExport types options (export.LiftedFunction ty func o) = (ty.0 < length types.funcs) × (o.0 < length options)
+
+-- an export has the options of this number
+abbrev pub HasOptions : ℕ → Export → Type 0
+HasOptions n (export.LiftedFunction ty func o) = o.0 ≡ n
+
+-- what an export names is there, and an options entry is there for an export
+pub record NamesHeld (c : Component) (types : Types) : Type 0 where
+  pub exports : (n : ℕ) (e : Export) → slice_get c.export_items n ≡ Some e → IsHeldExport types c.options e
+  pub signatures : (n : ℕ) (o : CanonicalOptions) → slice_get c.options n ≡ Some o → o.core_type.0 < length types.signatures
+  pub used : (n : ℕ) → n < length c.options → (k : ℕ) × (e : Export) × (slice_get c.export_items k ≡ Some e) × HasOptions n e
+
 -- a plan and its modules are what a translation of payloads is to answer, where the types builder holds these types
 -- afterwards
 pub record Translates (t : TypeTable) (exposed : Option (List ℕ)) (limit : ℕ) (ps : List Payload) (types : Types)
@@ -76,6 +93,8 @@ pub record Translates (t : TypeTable) (exposed : Option (List ℕ)) (limit : ℕ
   pub counts : counts_view plan.component ≡ counts_of result types
   -- lifts with equal options share an options entry
   pub shared : AreDistinct plan.component.options
+  -- types, signatures and options are there, and each options entry is used
+  pub names : NamesHeld plan.component types
   -- each export of the plan has its item
   pub items : NumbersItems plan.component
   pub held : has_items plan ≡ true

@@ -1,6 +1,6 @@
 //! Lifting core functions.
 
-ghost use Rattle.std.specs.Prelude.{◌≡◌, ◌≢◌, ◌⊎◌, ◌&&◌, ℕ, None, true, false, Result, IfErr, OnOk};
+ghost use Rattle.std.specs.Prelude.{◌≡◌, ◌≢◌, ◌⊎◌, ◌<◌, ◌&&◌, ℕ, None, true, false, length, Result, IfErr, IfOk, OnOk};
 ghost use Rattle.std.specs.List.{list_all};
 ghost use Rattle.pc_builder.specs.Types.{Grows, IsFull};
 ghost use Rattle.pc_parsed.specs.ItemRows.{has_entry};
@@ -9,6 +9,7 @@ ghost use Rattle.pc_parsed.specs.declared.fault.ItemFault.TheVariants as fault;
 ghost use Rattle.pc_types.specs.Record.{has_signature};
 ghost use Rattle.pc_types.specs.Table.{is_func, table_fault};
 ghost use Rattle.pc_translate.specs.Building.{Becomes, Ends, build_lift, build_lifted};
+ghost use Rattle.pc_translate.specs.Held.{FrameHeld};
 ghost use Rattle.pc_translate.specs.declared.error.ReadError.TheVariants as read_error;
 ghost use Rattle.pc_translate.specs.declared.frame.Frame.{Frame};
 
@@ -30,6 +31,7 @@ fn func_type(
     ensures ok { OnOk result (has_entry table.now is_func ty ≡ true) }
     ensures fault { (k : ItemFault) → result ≡ Err (read_error.Fault k) → (k ≡ fault.BadType) × (has_entry table.now is_func ty ≡ false) }
     ensures full { result ≡ Err read_error.TooMany → IsFull types.new }
+    ensures held { IfOk result (λ i. i.0 < length types.new.funcs) }
     ensures grows { Grows types.old types.new }
 {
     match types.convert_func(table, ty) {
@@ -49,6 +51,7 @@ fn signature(
     ensures ok { OnOk result (has_signature table.now core ≡ true) }
     ensures fault { (k : ItemFault) → result ≡ Err (read_error.Fault k) → (k ≡ fault.BadType) × (has_signature table.now core ≡ false) }
     ensures full { result ≡ Err read_error.TooMany → IsFull types.new }
+    ensures held { IfOk result (λ i. i.0 < length types.new.signatures) }
     ensures grows { Grows types.old types.new }
 {
     match types.core_sig(table, core) {
@@ -71,6 +74,7 @@ fn type_numbers(
     ensures fault { (k : ItemFault) → result ≡ Err (read_error.Fault k)
         → (k ≡ fault.BadType) × ((has_entry table.now is_func ty && has_signature table.now core) ≡ false) }
     ensures full { result ≡ Err read_error.TooMany → IsFull types.new }
+    ensures held { IfOk result (λ numbers. (numbers.0.0 < length types.new.funcs) × (numbers.1.0 < length types.new.signatures)) }
     ensures grows { Grows types.old types.new }
 {
     let ty = match func_type(types, table, ty) {
@@ -119,6 +123,7 @@ impl Frame {
         requires sound { table_fault table.now ≡ None }
         ensures lifts { Ends (λ (r : Result Frame ItemFault). (n : ℕ) × (s : ℕ) × (build_lift table.now n s self.old func ty core ≡ r)) self.new result }
         ensures full { result ≡ Err read_error.TooMany → IsFull types.new }
+        ensures held { FrameHeld types.old self.old → OnOk result (FrameHeld types.new self.new) }
         ensures grows { Grows types.old types.new }
     {
         let (ty, core_type) = match type_numbers(types, table, ty, core) {

@@ -5,6 +5,7 @@ ghost use Rattle.std.specs.List.{list_all};
 ghost use Rattle.pc_builder.specs.Types.{Grows, IsFull};
 ghost use Rattle.pc_types.specs.Table.{table_fault};
 ghost use Rattle.pc_translate.specs.Building.{Builds, Ends, Reads, empty_frame, read_error_at};
+ghost use Rattle.pc_translate.specs.Held.{FrameHeld};
 ghost use Rattle.pc_translate.specs.declared.error.ReadError.TheVariants as read_error;
 
 use crate::core_modules::CoreModules;
@@ -43,6 +44,7 @@ impl Frame {
         requires room { length self.old.initializers < 4294967295 }
         ensures builds { Ends (Builds table.now modules.now self.old item.now) self.new result }
         ensures full { result ≡ Err read_error.TooMany → IsFull types.new }
+        ensures held { FrameHeld types.old self.old → OnOk result (FrameHeld types.new self.new) }
         ensures grows { Grows types.old types.new }
     {
         match item {
@@ -85,6 +87,7 @@ fn read_items(
     requires sound { table_fault table.now ≡ None }
     requires few { length items.now < 4294967295 }
     ensures reads { Reads table.now modules.now items.now result }
+    ensures held { IfOk result (λ frame. FrameHeld types.new frame) }
     ensures full { result ≡ Err Error.TooMany → IsFull types.new }
     ensures grows { Grows types.old types.new }
 {
@@ -108,6 +111,7 @@ pub(crate) fn read_program(
     requires sound { table_fault table.now ≡ None }
     requires few { length program.now.root.initializers < 4294967295 }
     ensures reads { Reads table.now program.now.modules program.now.root.initializers result }
+    ensures held { IfOk result (λ frame. FrameHeld types.new frame) }
     ensures full { result ≡ Err Error.TooMany → IsFull types.new }
     ensures grows { Grows types.old types.new }
 {

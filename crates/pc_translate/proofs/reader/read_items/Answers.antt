@@ -16,5 +16,6 @@ loop-i-preserved c =
     let at : drop i items ≡ item ∷ drop (i + 1) items = rw add-one (drop-cons items i item within ∙ (λ j. sym is_it j ∷ drop (suc i) items)) in
     record {
       so_far = read_next c.args.table.now c.args.modules.now items i item c.loop-i.frame c.read.new.self at c.loop-i.invariant.so_far c.in-Ok.ensures.builds;
+      held = c.in-Ok.ensures.held c.loop-i.invariant.held;
       grows = grows_trans _ _ _ c.loop-i.invariant.grows c.in-Ok.ensures.grows;
     }

@@ -42,4 +42,4 @@ returns-clause-translated c =
     Causes.translates c.args.table.now exposed limit c.args.payloads.now c.in_ok-program.program c.in_ok-program.ensures.program
     c.in_ok-program.ensures.translatable c.read_program.new.types c.in-Ok.frame c.in_ok-component.component c.in_ok-modules.modules
     (grind (rules, c.if-not-is_numbered.false, c.is_numbered.ensures)) begins c.in-Ok.ensures.reads
-    c.in_ok-component.ensures c.in_ok-modules.ensures
+    c.in-Ok.ensures.held c.in_ok-component.ensures c.in_ok-modules.ensures
