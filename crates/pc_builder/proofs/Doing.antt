@@ -1,49 +1,31 @@
--- A step of a conversion: the next entry gets its type, where it is needed.
-use Rattle.std.proofs.Common.{◌≡◌, ℕ, ◌<◌, ◌+◌, Bool, true, false, List, [], ◌∷◌, ◌++◌, length, take, zero, suc, Option, Some, None, refl, sym, ap, ◌∙◌, subst, arith, true≢false, inl, inr, ◌⊎◌}
-use Rattle.std.specs.Prelude.{slice_get, option_and_then}
-use Rattle.std.proofs.lemmas.List.{length-take, length-append}
+-- A step of a conversion: an entry gets its type, once what it names has.
+use Rattle.std.proofs.Common.{◌≡◌, ℕ, ◌<◌, ◌≤◌, ◌+◌, List, [], ◌∷◌, length, take, zero, suc, Option, Some, None, refl, sym, ap, ◌∙◌, subst, arith, inl, inr, ◌⊎◌}
+use Rattle.std.specs.Prelude.{slice_get, slice_set, option_and_then}
+use Rattle.std.proofs.lemmas.List.{length-set, length-take}
 use Rattle.std.proofs.lemmas.Option.{none-some, same_Some, slice_get_within}
 use Rattle.pc_entity.specs.Lists.{Kept}
-use Rattle.pc_entity.proofs.Growing.{slice_get-append, slice_get-append_seam}
+use Rattle.pc_entity.proofs.Growing.{slice_get-set_same, take-next}
 use Rattle.pc_types.specs.declared.parsed.DeclType.{DeclType}
 use Rattle.pc_types.specs.declared.parsed.DeclType.TheVariants as entry
 use Rattle.pc_types.specs.declared.parsed.TypeTable.{TypeTable}
 use Rattle.pc_types.specs.declared.types.TypeDef.{TypeDef}
+use Rattle.pc_types.specs.declared.types.TypeDef.TheVariants as def
 use Rattle.pc_types.specs.Table.{table_fault}
 use Rattle.pc_types.specs.TypeTree.{Identity, TypeTree, earlier_tree, entry_tree, trees_from}
-use Rattle.pc_builder.specs.Types.{Types, Grows}
+use Rattle.pc_builder.specs.Types.{Types}
 use Rattle.pc_builder.specs.Trees.{IsEntry, identities}
-use Rattle.pc_builder.specs.Entries.{EntryIs, StepIs}
-use Rattle.pc_builder.specs.Marks.{AreClosed, Each, IsMarked, parts_of}
-use Rattle.pc_builder.specs.Steps.{AreDone, IsOfKind, IsReadyEntry}
-use Rattle.pc_builder.proofs.HeldLemmas.{found_at}
+use Rattle.pc_builder.specs.Converted.{AreConverted, IsOfKind}
+use Rattle.pc_builder.specs.Entries.{EntryIs}
+use Rattle.pc_builder.specs.Needed.{AreNeeded, Ascend, Each, IsAmong, IsDone, parts_of}
+use Rattle.pc_builder.specs.Parts.{AreHeld}
+use Rattle.pc_builder.specs.Steps.{IsReadyEntry}
+use Rattle.pc_builder.proofs.HeldLemmas.{converted_held, found_at}
+use Rattle.pc_builder.proofs.Needing.{each_among, each_append, each_more}
 use Rattle.pc_builder.proofs.Simulation.{entry_has, tree_at}
 use Rattle.pc_builder.proofs.Sound.{IsDonePart, parts_below, ready_entry, sound_at}
-use Rattle.pc_builder.proofs.TreeLemmas.{entry_grows}
-
--- an item of a list with one more at its end is an earlier one, or that one
-last_or_before : {A : Type 0} (xs : List A) (y : A) (n : ℕ) (z : A) → slice_get (xs ++ y ∷ []) n ≡ Some z
-    → (slice_get xs n ≡ Some z) ⊎ ((n ≡ length xs) × (y ≡ z))
-last_or_before [] y zero z h = inr (refl, same_Some y z h)
-last_or_before [] y (suc n) z h = absurd (none-some z h)
-last_or_before (x ∷ xs) y zero z h = inl h
-last_or_before (x ∷ xs) y (suc n) z h = elim (last_or_before xs y n z h) as (λ _. (slice_get (x ∷ xs) (suc n) ≡ Some z) ⊎ ((suc n ≡ suc (length xs)) × (y ≡ z))) [
-  | inl before ↦ inl before
-  | inr last ↦ inr (ap suc last.0, last.1)
-]
-
--- a number below the next one is below this one, or it
-below_or_at : (k n : ℕ) → n < k + 1 → (n < k) ⊎ (n ≡ k)
-below_or_at zero zero h = inr refl
-below_or_at zero (suc n) h = absurd (omega (arith, h))
-below_or_at (suc k) zero h = inl (omega arith)
-below_or_at (suc k) (suc n) h = elim (below_or_at k n (omega (arith, h))) as (λ _. (suc n < suc k) ⊎ (suc n ≡ suc k)) [
-  | inl below ↦ inl (omega (arith, below))
-  | inr same ↦ inr (ap suc same)
-]
 
 -- an item in front of a place is an item
-take_found : {A : Type 0} (xs : List A) (k p : ℕ) (x : A) → slice_get (take k xs) p ≡ Some x → slice_get xs p ≡ Some x
+pub take_found : {A : Type 0} (xs : List A) (k p : ℕ) (x : A) → slice_get (take k xs) p ≡ Some x → slice_get xs p ≡ Some x
 take_found [] zero p x h = h
 take_found [] (suc k) p x h = h
 take_found (y ∷ xs) zero p x h = absurd (none-some x h)
@@ -76,104 +58,147 @@ kind_of_entry b done t n (entry.Component imports exports) d h = (h.0, h.2)
 kind_of_entry b done t n (entry.Module imports exports) d h = (h.0, h.2)
 
 -- a tree among those in front is the one among all
-earlier_back : (known : List (ℕ × Identity)) (c : ℕ) (t : TypeTable) (before all : List (Option TypeTree)) → Kept before all → (n : ℕ) → n < length before
+pub earlier_back : (known : List (ℕ × Identity)) (c : ℕ) (t : TypeTable) (before all : List (Option TypeTree)) → Kept before all → (n : ℕ) → n < length before
     → (tree : TypeTree) → earlier_tree known c t all n ≡ Some tree → earlier_tree known c t before n ≡ Some tree
 earlier_back known c t before all kept n within tree h =
     let f = found_at before n within in
     ap (option_and_then (λ x. x)) f.1 ∙ sym (ap (option_and_then (λ x. x)) (kept n f.0 f.1)) ∙ h
 
-module _ (t : TypeTable) (sound : table_fault t ≡ None) where
-  -- the parts of a needed entry are done
-  pub ready_step : (b : Types) (marks : List Bool) (done : List (Option TypeDef)) (e : DeclType) → AreClosed t 0 marks
-      → slice_get t.types (length done) ≡ Some e → IsMarked marks (length done) → AreDone b t marks done → IsReadyEntry t done e
-  ready_step b marks done e closed at marked are =
-      let here = sound_at t (length done) e sound at in
-      let earlier = take (length done) t.types in
-      ready_entry t earlier done e here.0 here.1
-      (each_both (IsMarked marks) (λ p. p < length earlier) (IsDonePart t earlier done)
-      (λ p is_marked below.
-      let x = are.marked p (omega (arith, below, length-take (length done) t.types, slice_get_within t.types (length done) e at)) is_marked in
-      (x.0, x.1, λ f found. are.kinds p x.0 f x.1 (take_found t.types (length done) p f found)))
-      (parts_of e) (closed.parts (length done) e (omega arith) marked at) (parts_below t earlier e here.0))
+-- an item stays where one is written at its place or another
+set_found : {A : Type 0} (xs : List A) (k n : ℕ) (y z : A) → slice_get (slice_set xs k y) n ≡ Some z → ((n ≡ k) × (y ≡ z)) ⊎ (slice_get xs n ≡ Some z)
+set_found [] k n y z h = inr h
+set_found (x ∷ xs) zero zero y z h = inl (refl, same_Some y z h)
+set_found (x ∷ xs) zero (suc n) y z h = inr h
+set_found (x ∷ xs) (suc k) zero y z h = inr h
+set_found (x ∷ xs) (suc k) (suc n) y z h = elim (set_found xs k n y z h) as (λ _. ((suc n ≡ suc k) × (y ≡ z)) ⊎ (slice_get (x ∷ xs) (suc n) ≡ Some z)) [
+  | inl here ↦ inl (ap suc here.0, here.1)
+  | inr old ↦ inr old
+]
 
-  -- the type of the next entry has its tree
-  next_entry : (b : Types) (marks : List Bool) (done : List (Option TypeDef)) (e : DeclType) (d : TypeDef)
-      → slice_get t.types (length done) ≡ Some e → AreDone b t marks done → EntryIs b done t (length done) e d → IsEntry b t (length done) d
-  next_entry b marks done e d at are is who =
+-- what is done stays done where an entry gets its type
+pub done_kept : (done : List (Option TypeDef)) (k n : ℕ) (d : TypeDef) → IsDone done n → IsDone (slice_set done k (Some d)) n
+done_kept [] k n d h = h
+done_kept (x ∷ xs) zero zero d h = (d, refl)
+done_kept (x ∷ xs) zero (suc n) d h = h
+done_kept (x ∷ xs) (suc k) zero d h = h
+done_kept (x ∷ xs) (suc k) (suc n) d h = done_kept xs k n d h
+
+pub done_here : (done : List (Option TypeDef)) (k : ℕ) (d : TypeDef) → k < length done → IsDone (slice_set done k (Some d)) k
+done_here done k d within = (d, slice_get-set_same done k (Some d) within)
+
+-- an item is in front of a later place
+take_here : {A : Type 0} (xs : List A) (k p : ℕ) (x : A) → p < k → slice_get xs p ≡ Some x → slice_get (take k xs) p ≡ Some x
+take_here [] zero p x below h = h
+take_here [] (suc k) p x below h = h
+take_here (y ∷ xs) zero p x below h = absurd (omega (arith, below))
+take_here (y ∷ xs) (suc k) zero x below h = h
+take_here (y ∷ xs) (suc k) (suc p) x below h = take_here xs k p x (omega (arith, below)) h
+
+-- of numbers that ascend, those below one of them stand in front of it
+pub among_earlier : (ns : List ℕ) (i k p : ℕ) → Ascend ns → slice_get ns i ≡ Some k → IsAmong p ns → p < k → IsAmong p (take i ns)
+among_earlier [] i k p rise at among below = absurd among
+among_earlier (n ∷ ns) zero k p rise at among below = elim among as (λ _. IsAmong p []) [
+  | inl same ↦ omega (arith, below, same, same_Some n k at)
+  | inr later ↦ omega (arith, below, same_Some n k at, each_among (λ m. n < m) ns p rise.0 later)
+]
+among_earlier (n ∷ ns) (suc i) k p rise at among below = elim among as (λ _. IsAmong p (n ∷ take i ns)) [
+  | inl same ↦ inl same
+  | inr later ↦ inr (among_earlier ns i k p rise.1 at later below)
+]
+
+-- what stands at a place is one of the numbers
+pub among_at : (ns : List ℕ) (i k : ℕ) → slice_get ns i ≡ Some k → IsAmong k ns
+among_at [] i k at = absurd (none-some k at)
+among_at (n ∷ ns) zero k at = inl (sym (same_Some n k at))
+among_at (n ∷ ns) (suc i) k at = inr (among_at ns i k at)
+
+-- the value types in front of a place are held
+pub front_held : (b : Types) (t : TypeTable) (done : List (Option TypeDef)) (k : ℕ) → AreConverted b t done → AreHeld b (take k done)
+front_held b t done k are n w found = converted_held b t done are n w (take_found done k n (Some (def.Interface w)) found)
+
+module _ (t : TypeTable) (sound : table_fault t ≡ None) where
+  -- what a needed entry names is ready
+  pub ready_step : (b : Types) (done : List (Option TypeDef)) (k : ℕ) (e : DeclType) → AreConverted b t done → slice_get t.types k ≡ Some e
+      → Each (IsDone done) (parts_of e) → IsReadyEntry t (take k done) e
+  ready_step b done k e are at parts =
+      let here = sound_at t k e sound at in
+      let earlier = take k t.types in
+      ready_entry t earlier (take k done) e here.0 here.1
+      (each_both (IsDone done) (λ p. p < length earlier) (IsDonePart t earlier (take k done))
+      (λ p x below. (
+        x.0,
+        take_here done k p (Some x.0) (omega (arith, below, length-take k t.types)) x.1,
+        λ f found. are.kinds p x.0 f x.1 (take_found t.types k p f found),
+      ))
+      (parts_of e) parts (parts_below t earlier e here.0))
+
+  -- the type of a converted entry has its tree
+  converted_entry : (b : Types) (done : List (Option TypeDef)) (k : ℕ) (e : DeclType) (d : TypeDef) → slice_get t.types k ≡ Some e → AreConverted b t done
+      → EntryIs b (take k done) t k e d → IsEntry b t k d
+  converted_entry b done k e d at are is who =
       let known = identities who b.resources.known in
       let c = b.resources.current.0 in
-      let x = tree_at known c t [] t.types (length done) e at in
-      let has = entry_has b who t done x.0
+      let x = tree_at known c t [] t.types k e at in
+      let has = entry_has b who t (take k done) x.0
       (λ n f found.
-      let old = are.entries n f found who in
-      (old.0, earlier_back known c t x.0 (trees_from known c t [] t.types) x.2 n (omega (arith, x.1, slice_get_within done n (Some f) found)) old.0 old.1, old.2))
-      (length done) e d (omega (arith, x.1)) is in
+      let old = are.entries n f (take_found done k n (Some f) found) who in
+      let within = slice_get_within (take k done) n (Some f) found in
+      (old.0, earlier_back known c t x.0 (trees_from known c t [] t.types) x.2 n (omega (arith, x.1, within, length-take k done)) old.0 old.1, old.2))
+      k e d (omega (arith, x.1)) is in
       let here = subst (λ m. slice_get (trees_from known c t [] t.types) m ≡ Some (entry_tree known c t x.0 e)) (omega arith) x.3 in
       (has.0, ap (option_and_then (λ o. o)) here ∙ has.1, has.2)
 
-  -- the entries so far stay done as the builder grows
-  done_grows : (old new : Types) → Grows old new → (marks : List Bool) (done : List (Option TypeDef)) → AreDone old t marks done → AreDone new t marks done
-  done_grows old new g marks done are = record {
-    marked = are.marked;
-    kinds = are.kinds;
-    entries = λ n d found. entry_grows old new g t n d (are.entries n d found);
-  }
-
   -- one entry more
-  one_more : (b : Types) (marks : List Bool) (done : List (Option TypeDef)) (e : DeclType) (is_needed : Bool) (o : Option TypeDef)
-      → slice_get t.types (length done) ≡ Some e → slice_get marks (length done) ≡ Some is_needed
-      → StepIs b done t (length done) e is_needed o → AreDone b t marks done → AreDone b t marks (done ++ o ∷ [])
-  one_more b marks done e false o at here is are = record {
-    marked = λ n within is_marked.
-        elim (before n within) as (λ _. (d : TypeDef) × (slice_get (done ++ o ∷ []) n ≡ Some (Some d))) [
-          | inl below ↦ (let x = are.marked n below is_marked in (x.0, slice_get-append done (o ∷ []) n (Some x.0) x.1))
-          | inr same ↦ absurd (true≢false (same_Some true false (sym (subst (λ m. slice_get marks m ≡ Some true) same is_marked) ∙ here)))
+  pub one_more : (b : Types) (done : List (Option TypeDef)) (k : ℕ) (e : DeclType) (d : TypeDef) → slice_get t.types k ≡ Some e → AreConverted b t done
+      → EntryIs b (take k done) t k e d → AreConverted b t (slice_set done k (Some d))
+  one_more b done k e d at are is = record {
+    room = length-set done k (Some d) ∙ are.room;
+    kinds = λ n f g found at_n.
+        elim (set_found done k n (Some d) (Some f) found) as (λ _. IsOfKind g f) [
+          | inl here ↦ (
+              let same = same_Some e g (sym at ∙ subst (λ m. slice_get t.types m ≡ Some g) here.0 at_n) in
+              subst (λ h. IsOfKind h f) same (subst (λ x. IsOfKind e x) (same_Some d f here.1) (kind_of_entry b (take k done) t k e d is)))
+          | inr old ↦ are.kinds n f g old at_n
         ];
-    kinds = λ n d f found at_n.
-        elim (last_or_before done o n (Some d) found) as (λ _. IsOfKind f d) [
-          | inl old ↦ are.kinds n d f old at_n
-          | inr last ↦ absurd (none-some d (sym is ∙ last.1))
-        ];
-    entries = λ n d found.
-        elim (last_or_before done o n (Some d) found) as (λ _. IsEntry b t n d) [
-          | inl old ↦ are.entries n d old
-          | inr last ↦ absurd (none-some d (sym is ∙ last.1))
+    entries = λ n f found.
+        elim (set_found done k n (Some d) (Some f) found) as (λ _. IsEntry b t n f) [
+          | inl here ↦ subst (λ m. IsEntry b t m f) (sym here.0)
+              (subst (λ x. IsEntry b t k x) (same_Some d f here.1) (converted_entry b done k e d at are is))
+          | inr old ↦ are.entries n f old
         ];
   }
-    where
-      before : (n : ℕ) → n < length (done ++ o ∷ []) → (n < length done) ⊎ (n ≡ length done)
-      before n within = below_or_at (length done) n (omega (arith, within, length-append done (o ∷ [])))
-  one_more b marks done e true o at here is are =
-      let now = sym is.1 in
-      record {
-        marked = λ n within is_marked.
-            elim (before n within) as (λ _. (d : TypeDef) × (slice_get (done ++ o ∷ []) n ≡ Some (Some d))) [
-              | inl below ↦ (let x = are.marked n below is_marked in (x.0, slice_get-append done (o ∷ []) n (Some x.0) x.1))
-              | inr same ↦ (is.0, subst (λ m. slice_get (done ++ o ∷ []) m ≡ Some (Some is.0)) (sym same) (slice_get-append_seam done o [] ∙ ap Some is.1))
-            ];
-        kinds = λ n d f found at_n.
-            elim (last_or_before done o n (Some d) found) as (λ _. IsOfKind f d) [
-              | inl old ↦ are.kinds n d f old at_n
-              | inr last ↦ (
-                  let same_type = same_Some is.0 d (now ∙ last.1) in
-                  let same_entry = same_Some e f (sym at ∙ subst (λ m. slice_get t.types m ≡ Some f) last.0 at_n) in
-                  subst (λ g. IsOfKind g d) same_entry (subst (λ x. IsOfKind e x) same_type (kind_of_entry b done t (length done) e is.0 is.2)))
-            ];
-        entries = λ n d found.
-            elim (last_or_before done o n (Some d) found) as (λ _. IsEntry b t n d) [
-              | inl old ↦ are.entries n d old
-              | inr last ↦ (
-                  let same_type = same_Some is.0 d (now ∙ last.1) in
-                  subst (λ m. IsEntry b t m d) (sym last.0) (subst (λ x. IsEntry b t (length done) x) same_type (next_entry b marks done e is.0 at are is.2)))
-            ];
-      }
-    where
-      before : (n : ℕ) → n < length (done ++ o ∷ []) → (n < length done) ⊎ (n ≡ length done)
-      before n within = below_or_at (length done) n (omega (arith, within, length-append done (o ∷ [])))
 
-  -- a step of a conversion
-  pub done_step : (old new : Types) → Grows old new → (marks : List Bool) (done : List (Option TypeDef)) (e : DeclType) (is_needed : Bool) (o : Option TypeDef)
-      → slice_get t.types (length done) ≡ Some e → slice_get marks (length done) ≡ Some is_needed
-      → StepIs new done t (length done) e is_needed o → AreDone old t marks done → AreDone new t marks (done ++ o ∷ [])
-  done_step old new g marks done e is_needed o at here is are =
-      one_more new marks done e is_needed o at here is (done_grows old new g marks done are)
+  -- what the next of the needed entries names is done
+  pub parts_done : (before done : List (Option TypeDef)) (n : ℕ) (order : List ℕ) → AreNeeded t before n order → (i k : ℕ) → slice_get order i ≡ Some k
+      → Each (IsDone done) (take i order) → ((m : ℕ) → IsDone before m → IsDone done m)
+      → (e : DeclType) → slice_get t.types k ≡ Some e → Each (IsDone done) (parts_of e)
+  parts_done before done n order needed i k here so_far kept e at =
+      let earlier = take k t.types in
+      each_both (λ p. IsDone before p ⊎ IsAmong p order) (λ p. p < length earlier) (IsDone done)
+      (λ p either below. elim either as (λ _. IsDone done p) [
+        | inl old ↦ kept p old
+        | inr among ↦ each_among (IsDone done) (take i order) p so_far
+            (among_earlier order i k p needed.ascend here among (omega (arith, below, length-take k t.types)))
+      ])
+      (parts_of e) (needed.closed k e (among_at order i k here) at) (parts_below t earlier e (sound_at t k e sound at).0)
+
+-- one entry more is done
+pub done_next : (old new : List (Option TypeDef)) (order : List ℕ) (i k : ℕ) → slice_get order i ≡ Some k → ((m : ℕ) → IsDone old m → IsDone new m)
+    → Each (IsDone old) (take i order) → IsDone new k → Each (IsDone new) (take (i + 1) order)
+done_next old new order i k here kept so_far last =
+    subst (Each (IsDone new)) (sym (take-next order i k here))
+    (each_append (IsDone new) (take i order) (k ∷ []) (each_more (IsDone old) (IsDone new) kept (take i order) so_far) (last, tt))
+
+-- all are done where the list is gone through
+done_all : (done : List (Option TypeDef)) (order : List ℕ) (i : ℕ) → length order ≤ i → Each (IsDone done) (take i order) → Each (IsDone done) order
+done_all done [] i all h = tt
+done_all done (n ∷ ns) zero all h = absurd (omega (arith, all))
+done_all done (n ∷ ns) (suc i) all h = (h.0, done_all done ns i (omega (arith, all)) h.1)
+
+-- and so is the asked entry
+pub asked_done : (t : TypeTable) (before done : List (Option TypeDef)) (n : ℕ) (order : List ℕ) → AreNeeded t before n order → (i : ℕ) → length order ≤ i
+    → Each (IsDone done) (take i order) → ((m : ℕ) → IsDone before m → IsDone done m) → IsDone done n
+asked_done t before done n order needed i all so_far kept = elim needed.asked as (λ _. IsDone done n) [
+  | inl old ↦ kept n old
+  | inr among ↦ each_among (IsDone done) order n (done_all done order i all so_far) among
+]

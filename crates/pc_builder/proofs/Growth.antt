@@ -1,5 +1,7 @@
 -- A list that grows, and the builder with it.
-use Rattle.std.proofs.Common.{◌≡◌, List, [], ◌∷◌, length, refl, sym, subst, ◌∙◌, inl, inr}
+use Rattle.std.proofs.Common.{◌≡◌, ◌≤◌, ℕ, List, [], ◌∷◌, length, Contains, Some, refl, sym, subst, ◌∙◌, inl, inr, arith, get_or}
+use Rattle.std.specs.Prelude.{slice_get}
+use Rattle.std.proofs.lemmas.Option.{same_Some, slice_get-get_or, slice_get_within}
 use Rattle.pc_entity.specs.Lists.{Kept}
 use Rattle.pc_entity.proofs.Growing.{append_kept, kept_refl, kept_trans}
 use Rattle.pc_types.specs.declared.types.TypeFunc.{TypeFunc}
@@ -20,8 +22,9 @@ use Rattle.pc_types.specs.declared.types.TypeComponent.{TypeComponent}
 use Rattle.pc_types.specs.declared.types.TypeModule.{TypeModule}
 use Rattle.pc_types.specs.declared.parsed.CoreFuncSig.{CoreFuncSig}
 use Rattle.pc_types.specs.declared.types.TypeKind.TheVariants as kind
-use Rattle.pc_builder.specs.Types.{Types, Grows, IsFull}
+use Rattle.pc_builder.specs.Types.{Types, Grows, HasNumber, IsBuilder, IsTooFullFor}
 use Rattle.pc_builder.specs.Interned.{IsPut}
+use Rattle.pc_builder.proofs.HeldLemmas.{found_at}
 
 -- a list into which a type was put keeps its look-ups
 pub put_kept : {V : Type 0} (old new : List V) (value : V) → IsPut old new value → Kept old new
@@ -162,54 +165,123 @@ grows_signatures old new value rest put =
     let kept = put_kept old.signatures new.signatures value put in
     subst (Grows old) (sym rest) (search (kept_refl, kept))
 
--- a full list makes the builder full
-pub full_funcs : (b : Types) → length b.funcs ≡ 4294967294 → IsFull b
-full_funcs b h = (kind.Func, h)
+-- what was found is contained
+contains_at : {V : Type 0} (xs : List V) (n : ℕ) (x : V) → slice_get xs n ≡ Some x → Contains xs x
+contains_at xs n x h =
+    let within = slice_get_within xs n x h in
+    (n, within, same_Some (get_or xs n x) x (sym (slice_get-get_or xs n x within) ∙ h))
 
-pub full_tuples : (b : Types) → length b.tuples ≡ 4294967294 → IsFull b
-full_tuples b h = (kind.Tuple, h)
+-- a full list that lacks a type lacks it for good
+none_more : {V : Type 0} (old new : List V) (value : V) → length old ≡ 4294967294 → (Contains old value → ⊥)
+    → Kept old new → length new ≤ 4294967294 → HasNumber new value → ⊥
+none_more old new value full absent kept within has =
+    let f = found_at old has.0 (omega (arith, full, within, slice_get_within new has.0 value has.1)) in
+    absent (contains_at old has.0 value (f.1 ∙ sym (kept has.0 f.0 f.1) ∙ has.1))
 
-pub full_records : (b : Types) → length b.records ≡ 4294967294 → IsFull b
-full_records b h = (kind.Record, h)
+-- a builder with a full list that lacks a type is too full for it
+pub full_funcs : (b : Types) (value : TypeFunc) → length b.funcs ≡ 4294967294 → (Contains b.funcs value → ⊥) → IsTooFullFor b (λ next. HasNumber next.funcs value)
+full_funcs b value full absent = record {
+  full = (kind.Func, full);
+  none = λ next g is has. none_more b.funcs next.funcs value full absent g.funcs (is.within kind.Func) has;
+}
 
-pub full_variants : (b : Types) → length b.variants ≡ 4294967294 → IsFull b
-full_variants b h = (kind.Variant, h)
+pub full_tuples : (b : Types) (value : TypeTuple) → length b.tuples ≡ 4294967294 → (Contains b.tuples value → ⊥) → IsTooFullFor b (λ next. HasNumber next.tuples value)
+full_tuples b value full absent = record {
+  full = (kind.Tuple, full);
+  none = λ next g is has. none_more b.tuples next.tuples value full absent g.tuples (is.within kind.Tuple) has;
+}
 
-pub full_lists : (b : Types) → length b.lists ≡ 4294967294 → IsFull b
-full_lists b h = (kind.List, h)
+pub full_records : (b : Types) (value : TypeRecord) → length b.records ≡ 4294967294 → (Contains b.records value → ⊥) → IsTooFullFor b (λ next. HasNumber next.records value)
+full_records b value full absent = record {
+  full = (kind.Record, full);
+  none = λ next g is has. none_more b.records next.records value full absent g.records (is.within kind.Record) has;
+}
 
-pub full_options : (b : Types) → length b.options ≡ 4294967294 → IsFull b
-full_options b h = (kind.Option, h)
+pub full_variants : (b : Types) (value : TypeVariant) → length b.variants ≡ 4294967294 → (Contains b.variants value → ⊥) → IsTooFullFor b (λ next. HasNumber next.variants value)
+full_variants b value full absent = record {
+  full = (kind.Variant, full);
+  none = λ next g is has. none_more b.variants next.variants value full absent g.variants (is.within kind.Variant) has;
+}
 
-pub full_results : (b : Types) → length b.results ≡ 4294967294 → IsFull b
-full_results b h = (kind.Result, h)
+pub full_lists : (b : Types) (value : TypeList) → length b.lists ≡ 4294967294 → (Contains b.lists value → ⊥) → IsTooFullFor b (λ next. HasNumber next.lists value)
+full_lists b value full absent = record {
+  full = (kind.List, full);
+  none = λ next g is has. none_more b.lists next.lists value full absent g.lists (is.within kind.List) has;
+}
 
-pub full_flags : (b : Types) → length b.flags ≡ 4294967294 → IsFull b
-full_flags b h = (kind.Flags, h)
+pub full_options : (b : Types) (value : TypeOption) → length b.options ≡ 4294967294 → (Contains b.options value → ⊥) → IsTooFullFor b (λ next. HasNumber next.options value)
+full_options b value full absent = record {
+  full = (kind.Option, full);
+  none = λ next g is has. none_more b.options next.options value full absent g.options (is.within kind.Option) has;
+}
 
-pub full_enums : (b : Types) → length b.enums ≡ 4294967294 → IsFull b
-full_enums b h = (kind.Enum, h)
+pub full_results : (b : Types) (value : TypeResult) → length b.results ≡ 4294967294 → (Contains b.results value → ⊥) → IsTooFullFor b (λ next. HasNumber next.results value)
+full_results b value full absent = record {
+  full = (kind.Result, full);
+  none = λ next g is has. none_more b.results next.results value full absent g.results (is.within kind.Result) has;
+}
 
-pub full_resource_tables : (b : Types) → length b.resource_tables ≡ 4294967294 → IsFull b
-full_resource_tables b h = (kind.ResourceTable, h)
+pub full_flags : (b : Types) (value : TypeFlags) → length b.flags ≡ 4294967294 → (Contains b.flags value → ⊥) → IsTooFullFor b (λ next. HasNumber next.flags value)
+full_flags b value full absent = record {
+  full = (kind.Flags, full);
+  none = λ next g is has. none_more b.flags next.flags value full absent g.flags (is.within kind.Flags) has;
+}
 
-pub full_future_tables : (b : Types) → length b.future_tables ≡ 4294967294 → IsFull b
-full_future_tables b h = (kind.FutureTable, h)
+pub full_enums : (b : Types) (value : TypeEnum) → length b.enums ≡ 4294967294 → (Contains b.enums value → ⊥) → IsTooFullFor b (λ next. HasNumber next.enums value)
+full_enums b value full absent = record {
+  full = (kind.Enum, full);
+  none = λ next g is has. none_more b.enums next.enums value full absent g.enums (is.within kind.Enum) has;
+}
 
-pub full_stream_tables : (b : Types) → length b.stream_tables ≡ 4294967294 → IsFull b
-full_stream_tables b h = (kind.StreamTable, h)
+pub full_resource_tables : (b : Types) (value : TypeResourceTable) → length b.resource_tables ≡ 4294967294 → (Contains b.resource_tables value → ⊥) → IsTooFullFor b (λ next. HasNumber next.resource_tables value)
+full_resource_tables b value full absent = record {
+  full = (kind.ResourceTable, full);
+  none = λ next g is has. none_more b.resource_tables next.resource_tables value full absent g.resource_tables (is.within kind.ResourceTable) has;
+}
 
-pub full_error_context_tables : (b : Types) → length b.error_context_tables ≡ 4294967294 → IsFull b
-full_error_context_tables b h = (kind.ErrorContextTable, h)
+pub full_future_tables : (b : Types) (value : TypeFutureTable) → length b.future_tables ≡ 4294967294 → (Contains b.future_tables value → ⊥) → IsTooFullFor b (λ next. HasNumber next.future_tables value)
+full_future_tables b value full absent = record {
+  full = (kind.FutureTable, full);
+  none = λ next g is has. none_more b.future_tables next.future_tables value full absent g.future_tables (is.within kind.FutureTable) has;
+}
 
-pub full_instances : (b : Types) → length b.instances ≡ 4294967294 → IsFull b
-full_instances b h = (kind.Instance, h)
+pub full_stream_tables : (b : Types) (value : TypeStreamTable) → length b.stream_tables ≡ 4294967294 → (Contains b.stream_tables value → ⊥) → IsTooFullFor b (λ next. HasNumber next.stream_tables value)
+full_stream_tables b value full absent = record {
+  full = (kind.StreamTable, full);
+  none = λ next g is has. none_more b.stream_tables next.stream_tables value full absent g.stream_tables (is.within kind.StreamTable) has;
+}
 
-pub full_components : (b : Types) → length b.components ≡ 4294967294 → IsFull b
-full_components b h = (kind.Component, h)
+pub full_error_context_tables : (b : Types) (value : TypeErrorContextTable) → length b.error_context_tables ≡ 4294967294 → (Contains b.error_context_tables value → ⊥) → IsTooFullFor b (λ next. HasNumber next.error_context_tables value)
+full_error_context_tables b value full absent = record {
+  full = (kind.ErrorContextTable, full);
+  none = λ next g is has. none_more b.error_context_tables next.error_context_tables value full absent g.error_context_tables (is.within kind.ErrorContextTable) has;
+}
 
-pub full_modules : (b : Types) → length b.modules ≡ 4294967294 → IsFull b
-full_modules b h = (kind.Module, h)
+pub full_instances : (b : Types) (value : TypeComponentInstance) → length b.instances ≡ 4294967294 → (Contains b.instances value → ⊥) → IsTooFullFor b (λ next. HasNumber next.instances value)
+full_instances b value full absent = record {
+  full = (kind.Instance, full);
+  none = λ next g is has. none_more b.instances next.instances value full absent g.instances (is.within kind.Instance) has;
+}
 
-pub full_signatures : (b : Types) → length b.signatures ≡ 4294967294 → IsFull b
-full_signatures b h = (kind.Signature, h)
+pub full_components : (b : Types) (value : TypeComponent) → length b.components ≡ 4294967294 → (Contains b.components value → ⊥) → IsTooFullFor b (λ next. HasNumber next.components value)
+full_components b value full absent = record {
+  full = (kind.Component, full);
+  none = λ next g is has. none_more b.components next.components value full absent g.components (is.within kind.Component) has;
+}
+
+pub full_modules : (b : Types) (value : TypeModule) → length b.modules ≡ 4294967294 → (Contains b.modules value → ⊥) → IsTooFullFor b (λ next. HasNumber next.modules value)
+full_modules b value full absent = record {
+  full = (kind.Module, full);
+  none = λ next g is has. none_more b.modules next.modules value full absent g.modules (is.within kind.Module) has;
+}
+
+pub full_signatures : (b : Types) (value : CoreFuncSig) → length b.signatures ≡ 4294967294 → (Contains b.signatures value → ⊥) → IsTooFullFor b (λ next. HasNumber next.signatures value)
+full_signatures b value full absent = record {
+  full = (kind.Signature, full);
+  none = λ next g is has. none_more b.signatures next.signatures value full absent g.signatures (is.within kind.Signature) has;
+}
+
+-- a builder that is too full for what another thing wants is too full for that
+pub too_full : (b : Types) (P Q : Types → Type 0) → ((next : Types) → Grows b next → IsBuilder next → Q next → P next)
+    → IsTooFullFor b P → IsTooFullFor b Q
+too_full b P Q wants h = record { full = h.full; none = λ next g is q. h.none next g is (wants next g is q) }

@@ -22,7 +22,7 @@ use Rattle.pc_builder.specs.Held.{IsHeld, MayBeHeld}
 use Rattle.pc_builder.specs.Primitive.{plain_type}
 use Rattle.pc_builder.specs.Trees.{HasTree}
 use Rattle.pc_builder.specs.Parts.{AreHeld, PrimIs, ValIs, MaybeIs, IsErrorContext}
-use Rattle.pc_builder.specs.Steps.{AreDone}
+use Rattle.pc_builder.specs.Converted.{AreConverted}
 use Rattle.pc_builder.specs.Entries.{ReturnsAre}
 
 -- there is an item at a place within a list
@@ -139,9 +139,9 @@ module _ (b : Types) where
   value_held who w (module_of imports exports) h = absurd (true≢false (ap is_value_type h.2))
   value_held who w (resource_of r) h = absurd (true≢false (ap is_value_type h.1))
 
-  -- the entries so far are held
-  pub done_held : (t : TypeTable) (marks : List Bool) (done : List (Option TypeDef)) → AreDone b t marks done → AreHeld b done
-  done_held t marks done are n w found =
+  -- the converted value types are held
+  pub converted_held : (t : TypeTable) (done : List (Option TypeDef)) → AreConverted b t done → AreHeld b done
+  converted_held t done are n w found =
       let who = (λ (r : ResourceIndex). declared 0) in
       let x = are.entries n (def.Interface w) found who in
       value_held who w x.0 x.2

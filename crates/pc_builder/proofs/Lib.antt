@@ -3,10 +3,14 @@ mod KnownLemmas
 pub mod Growth
 mod PartLemmas
 mod Doing
-mod Marking
+mod Needing
 mod Simulation
+mod OneNumber
+mod Reading
+mod Refusing
+mod Passing
 mod Sound
-mod TreeLemmas
+pub mod TreeLemmas
 mod FactLemmas
 mod HeldLemmas
 mod TreeFacts

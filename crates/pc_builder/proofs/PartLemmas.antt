@@ -1,8 +1,9 @@
 -- The parts of an entry stay what they are as the builder grows.
-use Rattle.std.proofs.Common.{◌≡◌, ℕ, ◌<◌, ◌+◌, List, [], ◌∷◌, ◌++◌, length, take, get_or, Option, None, Some, sym, ap, ◌∙◌, subst}
+use Rattle.std.proofs.Common.{◌≡◌, ℕ, ◌<◌, ◌+◌, List, [], ◌∷◌, ◌++◌, length, take, get_or, zero, suc, arith, Option, None, Some, sym, ap, ◌∙◌, subst}
 use Rattle.std.specs.Prelude.{slice_get, MatchOption, Result, Ok, Err, IfOk}
 use Rattle.std.specs.List.{AllZip}
 use Rattle.std.proofs.lemmas.Grind.{take_at_read}
+use Rattle.std.proofs.lemmas.Option.{none-some}
 use Rattle.pc_types.specs.declared.parsed.PrimType.{PrimType}
 use Rattle.pc_types.specs.declared.parsed.ValType.{ValType}
 use Rattle.pc_types.specs.declared.parsed.ValType.TheVariants as val
@@ -41,6 +42,13 @@ module _ {A B : Type 0} where
   all_zip_more R S more [] (y ∷ ys) h = absurd h
   all_zip_more R S more (x ∷ xs) [] h = absurd h
   all_zip_more R S more (x ∷ xs) (y ∷ ys) h = (more x y h.0, all_zip_more R S more xs ys h.1)
+
+  -- an item of the first list has one at its place
+  pub zip_here : (R : A → B → Type 0) (xs : List A) (ys : List B) (i : ℕ) (x : A) → i < length xs → x ≡ get_or xs i x → AllZip R xs ys → (y : B) × R x y
+  zip_here R [] ys i x within is h = absurd (omega (arith, within))
+  zip_here R (a ∷ xs) [] i x within is h = absurd h
+  zip_here R (a ∷ xs) (b ∷ ys) zero x within is h = (b, subst (λ z. R z b) (sym is) h.0)
+  zip_here R (a ∷ xs) (b ∷ ys) (suc i) x within is h = zip_here R xs ys i x (omega (arith, within)) is h.1
 
 module _ (old new : Types) (g : Grows old new) where
   pub error_context_grows : (i : TypeComponentLocalErrorContextTableIndex) → IsErrorContext old i → IsErrorContext new i
@@ -94,3 +102,14 @@ module _ (old new : Types) (g : Grows old new) where
 pub if_ok_more : {A E : Type 0} (P Q : A → Type 0) → ((x : A) → P x → Q x) → (r : Result A E) → IfOk r P → IfOk r Q
 if_ok_more P Q more (Ok x) h = more x h
 if_ok_more P Q more (Err e) h = tt
+
+-- a primitive that needs a table has its number
+pub table_of : (b : Types) (p : PrimType) (w : InterfaceType) → plain_type p ≡ None → PrimIs b p w
+    → (i : TypeComponentLocalErrorContextTableIndex) × IsErrorContext b i
+table_of b p w none h = by (plain_type p) none h
+  where
+    by : (o : Option InterfaceType) → o ≡ None
+        → MatchOption o ((i : TypeComponentLocalErrorContextTableIndex) × (w ≡ ty.ErrorContext i) × IsErrorContext b i) (λ t. w ≡ t)
+        → (i : TypeComponentLocalErrorContextTableIndex) × IsErrorContext b i
+    by None same k = (k.0, k.2)
+    by (Some t) same k = absurd (none-some t (sym same))

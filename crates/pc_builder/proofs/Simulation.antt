@@ -33,7 +33,7 @@ use Rattle.pc_builder.specs.Parts.{ValIs, MaybeIs, FieldIs, CaseIs, EntityIs, Ex
 use Rattle.pc_builder.specs.Entries.{ReturnsAre, CoreIs, ImportIs, ExportIs, EntryIs, handles_of, handles_from}
 
 -- the identity of a known resource is that of the resource
-known_identity : (who : ResourceIndex → Identity) (known : List (ℕ × ResourceIndex)) (n : ℕ)
+pub known_identity : (who : ResourceIndex → Identity) (known : List (ℕ × ResourceIndex)) (n : ℕ)
     → identity_of (identities who known) n ≡ option_map who (known_resource known n)
 known_identity who [] n = refl
 known_identity who (k ∷ known) n = first (k.0 == n) (n == k.0) (nat_eq_equiv.symm k.0 n) (known_identity who known n)

@@ -26,10 +26,11 @@ use Rattle.pc_types.specs.declared.types.TypeDef.TheVariants as def
 use Rattle.pc_types.specs.Names.{are_distinct, distinct_names, same_pair}
 use Rattle.pc_types.specs.Record.{is_typed}
 use Rattle.pc_types.specs.Table.{EntryFault, entry_fault, fault_or, fault_from, table_fault, is_none_or, is_some_and, is_sound_entry, is_sound_val, is_sound_entity, holds_value, is_value, is_resource, is_func, is_instance, is_module, is_defined_type}
-use Rattle.pc_builder.specs.Marks.{Each, parts_of, val_parts, maybe_parts, field_parts, case_parts, entity_parts, extern_parts}
+use Rattle.pc_builder.specs.Needed.{Each, parts_of, val_parts, maybe_parts, field_parts, case_parts, entity_parts, extern_parts}
 use Rattle.pc_builder.specs.Parts.{IsReady, MayBeReady, IsThere, HasHandles}
-use Rattle.pc_builder.specs.Steps.{IsOfKind, IsReadyEntry}
-use Rattle.pc_builder.proofs.Marking.{each_append, each_front, each_back}
+use Rattle.pc_builder.specs.Converted.{IsOfKind}
+use Rattle.pc_builder.specs.Steps.{IsReadyEntry}
+use Rattle.pc_builder.proofs.Needing.{each_append, each_front, each_back}
 
 -- an entry without a fault is sound and holds no component value
 unfaulted : (t : TypeTable) (earlier : List DeclType) (e : DeclType) → entry_fault t earlier e ≡ None

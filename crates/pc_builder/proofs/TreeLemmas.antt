@@ -11,11 +11,12 @@ use Rattle.pc_types.specs.declared.types.TypeDef.{TypeDef}
 use Rattle.pc_types.specs.declared.types.TypeDef.TheVariants as def
 use Rattle.pc_types.specs.TypeTree.{Identity, Resource, CoreTree, TypeTree, Fields, Cases, Trees, MaybeTree, core_func, core_table, core_memory, core_global, core_tag, primitive, error_context, record_of, variant_of, list_of, tuple_of, flags_of, enum_of, option_of, result_of, own_of, borrow_of, stream_of, future_of, func_of, instance_of, component_of, module_of, resource_of, no_fields, and_field, no_cases, and_case, no_trees, and_tree, no_tree, a_tree, tree_of}
 use Rattle.pc_builder.specs.Types.{Types, Grows}
+use Rattle.pc_builder.specs.Converted.{AreConverted}
 use Rattle.pc_builder.specs.Trees.{NumbersHandlesOf, CoreHasTree, ImportHasTree, ExportHasTree, HasTree, FieldsHaveTrees, CasesHaveTrees, ValsHaveTrees, MaybeHasTree, ParamsHaveTrees, ResultsHaveTree, ExternsHaveTrees, IsEntry, IsEntity, identities}
 use Rattle.pc_types.specs.declared.parsed.Entity.TheVariants as entity
 use Rattle.pc_types.specs.TypeTree.{declared}
 use Rattle.std.proofs.lemmas.Option.{slice_get_within}
-use Rattle.pc_builder.specs.Marks.{entity_parts}
+use Rattle.pc_builder.specs.Needed.{entity_parts}
 use Rattle.pc_builder.proofs.PartLemmas.{all_zip_more}
 
 module _ (old new : Types) (g : Grows old new) (who : ResourceIndex → Identity) where
@@ -117,6 +118,14 @@ entry_grows old new g t n d h who =
       tree_grows old new g who d was.0 was.2,
     )
 
+-- the types so far stay those of their entries as the builder grows
+pub converted_grows : (old new : Types) → Grows old new → (t : TypeTable) (done : List (Option TypeDef)) → AreConverted old t done → AreConverted new t done
+converted_grows old new g t done are = record {
+  room = are.room;
+  kinds = are.kinds;
+  entries = λ n d found. entry_grows old new g t n d (are.entries n d found);
+}
+
 -- whether a type is a function type, and its number
 abbrev pub is_a_func : TypeDef → Bool
 is_a_func (def.ComponentFunc i) = true
@@ -169,3 +178,12 @@ entity_is b t (entity.Component m) n d is h = subst (λ k. IsEntry b t k d) (sym
 entity_is b t (entity.Module m) n d is h = subst (λ k. IsEntry b t k d) (sym (ap first_of is)) h
 entity_is b t (entity.Type_ m) n d is h = subst (λ k. IsEntry b t k d) (sym (ap first_of is)) h
 entity_is b t entity.Value n d is h = absurd (omega (arith, ap length is))
+
+-- the entry that an entity names has the entity's tree
+pub entity_was : (b : Types) (t : TypeTable) (e : Entity) (n : ℕ) (d : TypeDef) → entity_parts e ≡ n ∷ [] → IsEntity b t e d → IsEntry b t n d
+entity_was b t (entity.Func m) n d is h = subst (λ k. IsEntry b t k d) (ap first_of is) h
+entity_was b t (entity.Instance m) n d is h = subst (λ k. IsEntry b t k d) (ap first_of is) h
+entity_was b t (entity.Component m) n d is h = subst (λ k. IsEntry b t k d) (ap first_of is) h
+entity_was b t (entity.Module m) n d is h = subst (λ k. IsEntry b t k d) (ap first_of is) h
+entity_was b t (entity.Type_ m) n d is h = subst (λ k. IsEntry b t k d) (ap first_of is) h
+entity_was b t entity.Value n d is h = absurd (omega (arith, ap length is))

@@ -1,5 +1,5 @@
 -- What the entries of a table are in the builder, where `done` has the types of earlier entries by number.
-use Rattle.std.specs.Prelude.{◌≡◌, ℕ, Bool, true, false, List, [], ◌∷◌, Option, None, Some, slice_get}
+use Rattle.std.specs.Prelude.{◌≡◌, ℕ, Bool, List, [], ◌∷◌, Option, None, Some, slice_get}
 use Rattle.std.specs.List.{AllZip}
 use Rattle.pc_numbers.specs.declared.runtime.ResourceIndex.{ResourceIndex}
 use Rattle.pc_types.specs.declared.parsed.CoreEntity.{CoreEntity}
@@ -199,8 +199,3 @@ EntryIs b done t n (entry.Future v) d = FutureIs b done v d
 EntryIs b done t n (entry.Instance exports) d = InstanceIs b done exports d
 EntryIs b done t n (entry.Component imports exports) d = ComponentIs b done imports exports d
 EntryIs b done t n (entry.Module imports exports) d = ModuleIs b t imports exports d
-
--- the same of an entry that may be left out, as no other needs it
-abbrev pub StepIs : Types → List (Option TypeDef) → TypeTable → ℕ → DeclType → Bool → Option TypeDef → Type 0
-StepIs b done t n e false o = o ≡ None
-StepIs b done t n e true o = (d : TypeDef) × (o ≡ Some d) × EntryIs b done t n e d

@@ -6,8 +6,9 @@ pub mod Lending
 pub mod LendingTypes
 pub mod Primitive
 pub mod Trees
+pub mod Converted
 -- What the functions inside promise each other.
-pub mod Marks
+pub mod Needed
 pub mod Parts
 pub mod Entries
 pub mod Steps

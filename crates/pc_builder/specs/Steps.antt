@@ -1,5 +1,5 @@
--- The types of the entries below a number, as a conversion has them.
-use Rattle.std.specs.Prelude.{◌≡◌, ℕ, ◌<◌, Bool, true, List, length, Option, Some, slice_get}
+-- Whether what an entry names is done.
+use Rattle.std.specs.Prelude.{◌≡◌, ℕ, true, List, Option}
 use Rattle.std.specs.List.{All}
 use Rattle.pc_types.specs.declared.parsed.CoreEntity.{CoreEntity}
 use Rattle.pc_types.specs.declared.parsed.DeclType.{DeclType}
@@ -7,28 +7,9 @@ use Rattle.pc_types.specs.declared.parsed.DeclType.TheVariants as entry
 use Rattle.pc_types.specs.declared.parsed.Entity.{Entity}
 use Rattle.pc_types.specs.declared.parsed.TypeTable.{TypeTable}
 use Rattle.pc_types.specs.declared.parsed.ValType.{ValType}
-use Rattle.pc_types.specs.declared.type_index.TypeComponentIndex.{TypeComponentIndex}
-use Rattle.pc_types.specs.declared.type_index.TypeComponentInstanceIndex.{TypeComponentInstanceIndex}
-use Rattle.pc_types.specs.declared.type_index.TypeFuncIndex.{TypeFuncIndex}
-use Rattle.pc_types.specs.declared.type_index.TypeModuleIndex.{TypeModuleIndex}
-use Rattle.pc_types.specs.declared.type_index.TypeResourceTableIndex.{TypeResourceTableIndex}
-use Rattle.pc_types.specs.declared.types.InterfaceType.{InterfaceType}
 use Rattle.pc_types.specs.declared.types.TypeDef.{TypeDef}
-use Rattle.pc_types.specs.declared.types.TypeDef.TheVariants as def
 use Rattle.pc_types.specs.Record.{is_typed}
-use Rattle.pc_builder.specs.Types.{Types}
-use Rattle.pc_builder.specs.Trees.{IsEntry}
 use Rattle.pc_builder.specs.Parts.{IsReady, MayBeReady, IsThere, HasHandles}
-use Rattle.pc_builder.specs.Marks.{IsMarked}
-
--- the type is of the kind of the entry
-abbrev pub IsOfKind : DeclType → TypeDef → Type 0
-IsOfKind entry.Resource d = (i : TypeResourceTableIndex) × (d ≡ def.Resource i)
-IsOfKind (entry.Func params result is_async) d = (i : TypeFuncIndex) × (d ≡ def.ComponentFunc i)
-IsOfKind (entry.Instance exports) d = (i : TypeComponentInstanceIndex) × (d ≡ def.ComponentInstance i)
-IsOfKind (entry.Component imports exports) d = (i : TypeComponentIndex) × (d ≡ def.Component i)
-IsOfKind (entry.Module imports exports) d = (i : TypeModuleIndex) × (d ≡ def.Module i)
-IsOfKind _ d = (w : InterfaceType) × (d ≡ def.Interface w)
 
 -- what an entry names is among the done ones
 abbrev pub IsReadyEntry : TypeTable → List (Option TypeDef) → DeclType → Type 0
@@ -54,9 +35,3 @@ IsReadyEntry t done (entry.Component imports exports) =
 IsReadyEntry t done (entry.Module imports exports) =
     All (λ (i : List ℕ × List ℕ × CoreEntity). is_typed t i.2 ≡ true) imports
     × All (λ (e : List ℕ × CoreEntity). is_typed t e.1 ≡ true) exports
-
--- the entries below `k` that are marked have types with their trees, of their kinds
-pub record AreDone (b : Types) (t : TypeTable) (marks : List Bool) (done : List (Option TypeDef)) : Type 0 where
-  pub marked : (n : ℕ) → n < length done → IsMarked marks n → (d : TypeDef) × (slice_get done n ≡ Some (Some d))
-  pub kinds : (n : ℕ) (d : TypeDef) (e : DeclType) → slice_get done n ≡ Some (Some d) → slice_get t.types n ≡ Some e → IsOfKind e d
-  pub entries : (n : ℕ) (d : TypeDef) → slice_get done n ≡ Some (Some d) → IsEntry b t n d

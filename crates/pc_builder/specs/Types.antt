@@ -1,5 +1,5 @@
 -- What the types builder holds: one list for each kind of type, and the resources that are known.
-use Rattle.std.specs.Prelude.{◌≡◌, ℕ, List, [], length}
+use Rattle.std.specs.Prelude.{◌≡◌, ◌≤◌, ℕ, List, [], length, Some, slice_get}
 use Rattle.pc_numbers.specs.declared.runtime.ResourceIndex.{ResourceIndex}
 use Rattle.pc_numbers.specs.declared.runtime.RuntimeComponentInstanceIndex.{RuntimeComponentInstanceIndex}
 use Rattle.pc_types.specs.declared.parsed.CoreFuncSig.{CoreFuncSig}
@@ -136,3 +136,17 @@ pub record Grows (old new : Types) : Type 0 where
   pub modules : Kept old.modules new.modules
   pub signatures : Kept old.signatures new.signatures
   pub resources : new.resources ≡ old.resources
+
+-- the type has a number in the list
+abbrev pub HasNumber : {V : Type 0} → List V → V → Type 0
+HasNumber types type = (n : ℕ) × (slice_get types n ≡ Some type)
+
+-- at most 4294967294 types of each kind, and no two of a kind are equal
+pub record IsBuilder (b : Types) : Type 0 where
+  pub within : (k : TypeKind) → held b k ≤ 4294967294
+  pub distinct : (k : TypeKind) → HasDistinct b k
+
+-- some list can take no further type, and no builder that keeps these types has P
+pub record IsTooFullFor (b : Types) (P : Types → Type 0) : Type 0 where
+  pub full : IsFull b
+  pub none : (next : Types) → Grows b next → IsBuilder next → P next → ⊥

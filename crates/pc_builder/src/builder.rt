@@ -2,7 +2,7 @@
 
 ghost use Rattle.std.specs.Prelude.{◌≡◌};
 ghost use Rattle.std.specs.Borrow.{sem};
-ghost use Rattle.pc_builder.specs.Types.{HasDistinct, held, no_types};
+ghost use Rattle.pc_builder.specs.Types.{IsBuilder, held, no_types};
 ghost use Rattle.pc_builder.specs.Lending.{LendsResources};
 
 use crate::ResourcesBuilder;
@@ -152,63 +152,27 @@ impl ComponentTypesBuilder {
         }
     }
 
-    /// No two types of a kind are equal: equal types share a number.
-    pub fn types_are_distinct(&self, kind: TypeKind)
-        ensures { HasDistinct self.now kind }
+    /// No list is past its bound, and no two types of a kind are equal: equal types share a number.
+    pub fn types_are_distinct(&self)
+        ensures { IsBuilder self.now }
     {
-        match kind {
-            TypeKind::Func => {
-                self.funcs.as_slice();
-            }
-            TypeKind::Tuple => {
-                self.tuples.as_slice();
-            }
-            TypeKind::Record => {
-                self.records.as_slice();
-            }
-            TypeKind::Variant => {
-                self.variants.as_slice();
-            }
-            TypeKind::List => {
-                self.lists.as_slice();
-            }
-            TypeKind::Option => {
-                self.options.as_slice();
-            }
-            TypeKind::Result => {
-                self.results.as_slice();
-            }
-            TypeKind::Flags => {
-                self.flags.as_slice();
-            }
-            TypeKind::Enum => {
-                self.enums.as_slice();
-            }
-            TypeKind::ResourceTable => {
-                self.resource_tables.as_slice();
-            }
-            TypeKind::FutureTable => {
-                self.future_tables.as_slice();
-            }
-            TypeKind::StreamTable => {
-                self.stream_tables.as_slice();
-            }
-            TypeKind::ErrorContextTable => {
-                self.error_context_tables.as_slice();
-            }
-            TypeKind::Instance => {
-                self.instances.as_slice();
-            }
-            TypeKind::Component => {
-                self.components.as_slice();
-            }
-            TypeKind::Module => {
-                self.modules.as_slice();
-            }
-            TypeKind::Signature => {
-                self.signatures.as_slice();
-            }
-        }
+        self.funcs.as_slice();
+        self.tuples.as_slice();
+        self.records.as_slice();
+        self.variants.as_slice();
+        self.lists.as_slice();
+        self.options.as_slice();
+        self.results.as_slice();
+        self.flags.as_slice();
+        self.enums.as_slice();
+        self.resource_tables.as_slice();
+        self.future_tables.as_slice();
+        self.stream_tables.as_slice();
+        self.error_context_tables.as_slice();
+        self.instances.as_slice();
+        self.components.as_slice();
+        self.modules.as_slice();
+        self.signatures.as_slice();
     }
 
     /// The registered resources.

@@ -1,9 +1,11 @@
 //! Entries of a table that are defined types, converted kind by kind.
 
-ghost use Rattle.std.specs.Prelude.{◌≡◌, Some, Err, IfOk, slice_get};
+ghost use Rattle.std.specs.Prelude.{◌≡◌, ℕ, List, Option, Some, Err, IfOk, slice_get};
 ghost use Rattle.std.specs.List.{All, AllZip};
+ghost use Rattle.pc_types.specs.declared.types.InterfaceType.{InterfaceType};
+ghost use Rattle.pc_types.specs.declared.types.TypeDef.{TypeDef};
 ghost use Rattle.pc_types.specs.declared.types.TypeDef.TheVariants as def;
-ghost use Rattle.pc_builder.specs.Types.{Grows, IsFull};
+ghost use Rattle.pc_builder.specs.Types.{Grows, IsTooFullFor};
 ghost use Rattle.pc_builder.specs.Parts.{AreHeld, ValIs, MaybeIs, FieldIs, CaseIs, IsReady, MayBeReady, HasHandles};
 ghost use Rattle.pc_builder.specs.Entries.{DefinedIs, RecordIs, VariantIs, ListIs, TupleIs, FlagsAre, EnumIs, OptionIs, ResultIs, OwnIs, BorrowIs, StreamIs, FutureIs};
 
@@ -25,7 +27,7 @@ impl ComponentTypesBuilder {
         ensures is { IfOk result (λ d. DefinedIs self.new done.now v d) }
         ensures grows { Grows self.old self.new }
         ensures never_bad { result ≡ Err TypeError.BadNumber → ⊥ }
-        ensures full { result ≡ Err TypeError.TooMany → IsFull self.new }
+        ensures full { result ≡ Err TypeError.TooMany → IsTooFullFor self.new (λ b. (d : TypeDef) × DefinedIs b done.now v d) }
     {
         Ok(TypeDef::Interface(self.value(done, v)?))
     }
@@ -40,7 +42,7 @@ impl ComponentTypesBuilder {
         ensures is { IfOk result (λ d. RecordIs self.new done.now fields.now d) }
         ensures grows { Grows self.old self.new }
         ensures never_bad { result ≡ Err TypeError.BadNumber → ⊥ }
-        ensures full { result ≡ Err TypeError.TooMany → IsFull self.new }
+        ensures full { result ≡ Err TypeError.TooMany → IsTooFullFor self.new (λ b. (d : TypeDef) × RecordIs b done.now fields.now d) }
     {
         let fields = self.fields(done, fields)?;
         Ok(TypeDef::Interface(InterfaceType::Record(self.put_record_type(TypeRecord { fields })?)))
@@ -56,7 +58,7 @@ impl ComponentTypesBuilder {
         ensures is { IfOk result (λ d. VariantIs self.new done.now cases.now d) }
         ensures grows { Grows self.old self.new }
         ensures never_bad { result ≡ Err TypeError.BadNumber → ⊥ }
-        ensures full { result ≡ Err TypeError.TooMany → IsFull self.new }
+        ensures full { result ≡ Err TypeError.TooMany → IsTooFullFor self.new (λ b. (d : TypeDef) × VariantIs b done.now cases.now d) }
     {
         let cases = self.cases(done, cases)?;
         Ok(TypeDef::Interface(InterfaceType::Variant(self.put_variant(TypeVariant { cases })?)))
@@ -72,7 +74,7 @@ impl ComponentTypesBuilder {
         ensures is { IfOk result (λ d. ListIs self.new done.now v d) }
         ensures grows { Grows self.old self.new }
         ensures never_bad { result ≡ Err TypeError.BadNumber → ⊥ }
-        ensures full { result ≡ Err TypeError.TooMany → IsFull self.new }
+        ensures full { result ≡ Err TypeError.TooMany → IsTooFullFor self.new (λ b. (d : TypeDef) × ListIs b done.now v d) }
     {
         let element = self.value(done, v)?;
         Ok(TypeDef::Interface(InterfaceType::List(self.put_list(TypeList { element })?)))
@@ -88,7 +90,7 @@ impl ComponentTypesBuilder {
         ensures is { IfOk result (λ d. TupleIs self.new done.now vs.now d) }
         ensures grows { Grows self.old self.new }
         ensures never_bad { result ≡ Err TypeError.BadNumber → ⊥ }
-        ensures full { result ≡ Err TypeError.TooMany → IsFull self.new }
+        ensures full { result ≡ Err TypeError.TooMany → IsTooFullFor self.new (λ b. (d : TypeDef) × TupleIs b done.now vs.now d) }
     {
         let types = self.values(done, vs)?;
         Ok(TypeDef::Interface(InterfaceType::Tuple(self.put_tuple(TypeTuple { types })?)))
@@ -98,7 +100,7 @@ impl ComponentTypesBuilder {
         ensures is { IfOk result (λ d. FlagsAre self.new names.now d) }
         ensures grows { Grows self.old self.new }
         ensures never_bad { result ≡ Err TypeError.BadNumber → ⊥ }
-        ensures full { result ≡ Err TypeError.TooMany → IsFull self.new }
+        ensures full { result ≡ Err TypeError.TooMany → IsTooFullFor self.new (λ b. (d : TypeDef) × FlagsAre b names.now d) }
     {
         let names = names.try_clone(self.alloc)?;
         Ok(TypeDef::Interface(InterfaceType::Flags(self.put_flags(TypeFlags { names })?)))
@@ -108,7 +110,7 @@ impl ComponentTypesBuilder {
         ensures is { IfOk result (λ d. EnumIs self.new names.now d) }
         ensures grows { Grows self.old self.new }
         ensures never_bad { result ≡ Err TypeError.BadNumber → ⊥ }
-        ensures full { result ≡ Err TypeError.TooMany → IsFull self.new }
+        ensures full { result ≡ Err TypeError.TooMany → IsTooFullFor self.new (λ b. (d : TypeDef) × EnumIs b names.now d) }
     {
         let names = names.try_clone(self.alloc)?;
         Ok(TypeDef::Interface(InterfaceType::Enum(self.put_enum_type(TypeEnum { names })?)))
@@ -124,7 +126,7 @@ impl ComponentTypesBuilder {
         ensures is { IfOk result (λ d. OptionIs self.new done.now v d) }
         ensures grows { Grows self.old self.new }
         ensures never_bad { result ≡ Err TypeError.BadNumber → ⊥ }
-        ensures full { result ≡ Err TypeError.TooMany → IsFull self.new }
+        ensures full { result ≡ Err TypeError.TooMany → IsTooFullFor self.new (λ b. (d : TypeDef) × OptionIs b done.now v d) }
     {
         let ty = self.value(done, v)?;
         Ok(TypeDef::Interface(InterfaceType::Option(self.put_option(TypeOption { ty })?)))
@@ -142,7 +144,7 @@ impl ComponentTypesBuilder {
         ensures is { IfOk result (λ d. ResultIs self.new done.now ok err d) }
         ensures grows { Grows self.old self.new }
         ensures never_bad { result ≡ Err TypeError.BadNumber → ⊥ }
-        ensures full { result ≡ Err TypeError.TooMany → IsFull self.new }
+        ensures full { result ≡ Err TypeError.TooMany → IsTooFullFor self.new (λ b. (d : TypeDef) × ResultIs b done.now ok err d) }
     {
         let ok = self.maybe_value(done, ok)?;
         let err = self.maybe_value(done, err)?;
@@ -158,7 +160,7 @@ impl ComponentTypesBuilder {
         ensures is { IfOk result (λ d. StreamIs self.new done.now v d) }
         ensures grows { Grows self.old self.new }
         ensures never_bad { result ≡ Err TypeError.BadNumber → ⊥ }
-        ensures full { result ≡ Err TypeError.TooMany → IsFull self.new }
+        ensures full { result ≡ Err TypeError.TooMany → IsTooFullFor self.new (λ b. (d : TypeDef) × StreamIs b done.now v d) }
     {
         let payload = self.maybe_value(done, v)?;
         let instance = self.resources.current_instance();
@@ -177,7 +179,7 @@ impl ComponentTypesBuilder {
         ensures is { IfOk result (λ d. FutureIs self.new done.now v d) }
         ensures grows { Grows self.old self.new }
         ensures never_bad { result ≡ Err TypeError.BadNumber → ⊥ }
-        ensures full { result ≡ Err TypeError.TooMany → IsFull self.new }
+        ensures full { result ≡ Err TypeError.TooMany → IsTooFullFor self.new (λ b. (d : TypeDef) × FutureIs b done.now v d) }
     {
         let payload = self.maybe_value(done, v)?;
         let instance = self.resources.current_instance();
@@ -197,7 +199,7 @@ impl ComponentTypesBuilder {
         ensures are { IfOk result (λ gs. AllZip (FieldIs self.new done.now) fields.now gs) }
         ensures grows { Grows self.old self.new }
         ensures never_bad { result ≡ Err TypeError.BadNumber → ⊥ }
-        ensures full { result ≡ Err TypeError.TooMany → IsFull self.new }
+        ensures full { result ≡ Err TypeError.TooMany → IsTooFullFor self.new (λ b. (gs : List (List ℕ × InterfaceType)) × AllZip (FieldIs b done.now) fields.now gs) }
     {
         let mut types = Seq::new(self.alloc);
         for field in fields {
@@ -217,7 +219,7 @@ impl ComponentTypesBuilder {
         ensures are { IfOk result (λ gs. AllZip (CaseIs self.new done.now) cases.now gs) }
         ensures grows { Grows self.old self.new }
         ensures never_bad { result ≡ Err TypeError.BadNumber → ⊥ }
-        ensures full { result ≡ Err TypeError.TooMany → IsFull self.new }
+        ensures full { result ≡ Err TypeError.TooMany → IsTooFullFor self.new (λ b. (gs : List (List ℕ × Option InterfaceType)) × AllZip (CaseIs b done.now) cases.now gs) }
     {
         let mut types = Seq::new(self.alloc);
         for case in cases {
@@ -237,7 +239,7 @@ impl ComponentTypesBuilder {
         ensures are { IfOk result (λ ws. AllZip (ValIs self.new done.now) vs.now ws) }
         ensures grows { Grows self.old self.new }
         ensures never_bad { result ≡ Err TypeError.BadNumber → ⊥ }
-        ensures full { result ≡ Err TypeError.TooMany → IsFull self.new }
+        ensures full { result ≡ Err TypeError.TooMany → IsTooFullFor self.new (λ b. (ws : List InterfaceType) × AllZip (ValIs b done.now) vs.now ws) }
     {
         let mut types = Seq::new(self.alloc);
         for v in vs {
@@ -256,7 +258,7 @@ impl ComponentTypesBuilder {
         ensures is { IfOk result (λ w. MaybeIs self.new done.now v w) }
         ensures grows { Grows self.old self.new }
         ensures never_bad { result ≡ Err TypeError.BadNumber → ⊥ }
-        ensures full { result ≡ Err TypeError.TooMany → IsFull self.new }
+        ensures full { result ≡ Err TypeError.TooMany → IsTooFullFor self.new (λ b. (w : Option InterfaceType) × MaybeIs b done.now v w) }
     {
         match v {
             Some(v) => Ok(Some(self.value(done, v)?)),

@@ -1,11 +1,13 @@
 //! Entries of a table, converted kind by kind.
 
-ghost use Rattle.std.specs.Prelude.{◌≡◌, Some, Err, All, IfOk};
+ghost use Rattle.std.specs.Prelude.{◌≡◌, List, Some, Err, All, IfOk};
 ghost use Rattle.std.specs.List.{AllZip};
 ghost use Rattle.pc_entity.specs.Lists.{names_of};
-ghost use Rattle.pc_builder.specs.Types.{Grows, IsFull};
+ghost use Rattle.pc_builder.specs.Types.{Grows, IsTooFullFor};
 ghost use Rattle.pc_builder.specs.Parts.{AreHeld, ValIs, IsReady, MayBeReady};
 ghost use Rattle.pc_types.specs.declared.type_index.TypeFuncIndex.{TypeFuncIndex};
+ghost use Rattle.pc_types.specs.declared.types.InterfaceType.{InterfaceType};
+ghost use Rattle.pc_types.specs.declared.types.TypeDef.{TypeDef};
 ghost use Rattle.pc_types.specs.declared.types.TypeDef.TheVariants as def;
 ghost use Rattle.pc_builder.specs.Entries.{FuncIs, ReturnsAre};
 
@@ -28,7 +30,7 @@ impl ComponentTypesBuilder {
         ensures is { IfOk result (λ d. (i : TypeFuncIndex) × (d ≡ def.ComponentFunc i) × FuncIs self.new done.now params.now returns async_ i) }
         ensures grows { Grows self.old self.new }
         ensures never_bad { result ≡ Err TypeError.BadNumber → ⊥ }
-        ensures full { result ≡ Err TypeError.TooMany → IsFull self.new }
+        ensures full { result ≡ Err TypeError.TooMany → IsTooFullFor self.new (λ b. (d : TypeDef) × (i : TypeFuncIndex) × (d ≡ def.ComponentFunc i) × FuncIs b done.now params.now returns async_ i) }
     {
         Ok(TypeDef::ComponentFunc(self.func_entry(done, params, returns, async_)?))
     }
@@ -47,7 +49,7 @@ impl ComponentTypesBuilder {
         ensures is { IfOk result (λ i. FuncIs self.new done.now params.now returns async_ i) }
         ensures grows { Grows self.old self.new }
         ensures never_bad { result ≡ Err TypeError.BadNumber → ⊥ }
-        ensures full { result ≡ Err TypeError.TooMany → IsFull self.new }
+        ensures full { result ≡ Err TypeError.TooMany → IsTooFullFor self.new (λ b. (i : TypeFuncIndex) × FuncIs b done.now params.now returns async_ i) }
     {
         let param_names = names(self.alloc, params)?;
         let types = self.param_types(done, params)?;
@@ -72,7 +74,7 @@ impl ComponentTypesBuilder {
         ensures are { IfOk result (λ ws. AllZip (λ p w. ValIs self.new done.now p.1 w) params.now ws) }
         ensures grows { Grows self.old self.new }
         ensures never_bad { result ≡ Err TypeError.BadNumber → ⊥ }
-        ensures full { result ≡ Err TypeError.TooMany → IsFull self.new }
+        ensures full { result ≡ Err TypeError.TooMany → IsTooFullFor self.new (λ b. (ws : List InterfaceType) × AllZip (λ p w. ValIs b done.now p.1 w) params.now ws) }
     {
         let mut types = Seq::new(self.alloc);
         for param in params {
@@ -91,7 +93,7 @@ impl ComponentTypesBuilder {
         ensures are { IfOk result (λ ws. ReturnsAre self.new done.now returns ws) }
         ensures grows { Grows self.old self.new }
         ensures never_bad { result ≡ Err TypeError.BadNumber → ⊥ }
-        ensures full { result ≡ Err TypeError.TooMany → IsFull self.new }
+        ensures full { result ≡ Err TypeError.TooMany → IsTooFullFor self.new (λ b. (ws : List InterfaceType) × ReturnsAre b done.now returns ws) }
     {
         match returns {
             Some(v) => self.one_type(done, v),
@@ -109,7 +111,7 @@ impl ComponentTypesBuilder {
         ensures is { IfOk result (λ ws. ReturnsAre self.new done.now (Some v) ws) }
         ensures grows { Grows self.old self.new }
         ensures never_bad { result ≡ Err TypeError.BadNumber → ⊥ }
-        ensures full { result ≡ Err TypeError.TooMany → IsFull self.new }
+        ensures full { result ≡ Err TypeError.TooMany → IsTooFullFor self.new (λ b. (ws : List InterfaceType) × ReturnsAre b done.now (Some v) ws) }
     {
         let w = self.value(done, v)?;
         let mut types = Seq::new(self.alloc);

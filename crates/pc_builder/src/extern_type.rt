@@ -1,10 +1,12 @@
 //! Entries of a table that are instances, components, core modules and resources, converted.
 
-ghost use Rattle.std.specs.Prelude.{◌≡◌, true, None, Some, Err, IfOk, slice_get};
+ghost use Rattle.std.specs.Prelude.{◌≡◌, ℕ, List, true, None, Some, Err, IfOk, slice_get};
 ghost use Rattle.std.specs.List.{All, AllZip};
+ghost use Rattle.pc_types.specs.declared.parsed.CoreEntity.{CoreEntity};
+ghost use Rattle.pc_types.specs.declared.types.TypeDef.{TypeDef};
 ghost use Rattle.pc_types.specs.Record.{is_typed};
 ghost use Rattle.pc_builder.specs.Known.{resource_of};
-ghost use Rattle.pc_builder.specs.Types.{Grows, IsFull};
+ghost use Rattle.pc_builder.specs.Types.{Grows, HasNumber, IsTooFullFor};
 ghost use Rattle.pc_builder.specs.Parts.{EntityIs, ExternIs, IsThere};
 ghost use Rattle.pc_builder.specs.Entries.{CoreIs, ComponentIs, ExportIs, ImportIs, InstanceIs, ModuleIs, ResourceIs, handles_of};
 
@@ -23,7 +25,7 @@ impl ComponentTypesBuilder {
         ensures grows { Grows self.old self.new }
         ensures bad { result ≡ Err TypeError.BadNumber → resource_of self.old.resources.known n ≡ None }
         ensures missing { resource_of self.old.resources.known n ≡ None → result ≡ Err TypeError.BadNumber }
-        ensures full { result ≡ Err TypeError.TooMany → IsFull self.new }
+        ensures full { result ≡ Err TypeError.TooMany → IsTooFullFor self.new (λ b. HasNumber b.resource_tables (handles_of b.resources n)) }
     {
         let instance = self.resources.current_instance();
         match self.resources.lookup(n) {
@@ -36,7 +38,7 @@ impl ComponentTypesBuilder {
         ensures is { IfOk result (λ d. ResourceIs self.new n d) }
         ensures grows { Grows self.old self.new }
         ensures never_bad { result ≡ Err TypeError.BadNumber → ⊥ }
-        ensures full { result ≡ Err TypeError.TooMany → IsFull self.new }
+        ensures full { result ≡ Err TypeError.TooMany → IsTooFullFor self.new (λ b. (d : TypeDef) × ResourceIs b n d) }
     {
         Ok(TypeDef::Resource(self.handles(n)?))
     }
@@ -46,7 +48,7 @@ impl ComponentTypesBuilder {
         ensures is { IfOk result (λ i. slice_get self.new.resource_tables i.0 ≡ Some (handles_of self.new.resources n)) }
         ensures grows { Grows self.old self.new }
         ensures never_bad { result ≡ Err TypeError.BadNumber → ⊥ }
-        ensures full { result ≡ Err TypeError.TooMany → IsFull self.new }
+        ensures full { result ≡ Err TypeError.TooMany → IsTooFullFor self.new (λ b. HasNumber b.resource_tables (handles_of b.resources n)) }
     {
         let instance = self.resources.current_instance();
         match self.resources.lookup(n) {
@@ -64,7 +66,7 @@ impl ComponentTypesBuilder {
         ensures is { IfOk result (λ d. InstanceIs self.new done.now exports.now d) }
         ensures grows { Grows self.old self.new }
         ensures never_bad { result ≡ Err TypeError.BadNumber → ⊥ }
-        ensures full { result ≡ Err TypeError.TooMany → IsFull self.new }
+        ensures full { result ≡ Err TypeError.TooMany → IsTooFullFor self.new (λ b. (d : TypeDef) × InstanceIs b done.now exports.now d) }
     {
         let exports = externs(self.alloc, done, exports)?;
         Ok(TypeDef::ComponentInstance(self.put_instance(TypeComponentInstance { exports })?))
@@ -81,7 +83,7 @@ impl ComponentTypesBuilder {
         ensures is { IfOk result (λ d. ComponentIs self.new done.now imports.now exports.now d) }
         ensures grows { Grows self.old self.new }
         ensures never_bad { result ≡ Err TypeError.BadNumber → ⊥ }
-        ensures full { result ≡ Err TypeError.TooMany → IsFull self.new }
+        ensures full { result ≡ Err TypeError.TooMany → IsTooFullFor self.new (λ b. (d : TypeDef) × ComponentIs b done.now imports.now exports.now d) }
     {
         let imports = externs(self.alloc, done, imports)?;
         let exports = externs(self.alloc, done, exports)?;
@@ -99,7 +101,7 @@ impl ComponentTypesBuilder {
         ensures is { IfOk result (λ d. ModuleIs self.new table.now imports.now exports.now d) }
         ensures grows { Grows self.old self.new }
         ensures never_bad { result ≡ Err TypeError.BadNumber → ⊥ }
-        ensures full { result ≡ Err TypeError.TooMany → IsFull self.new }
+        ensures full { result ≡ Err TypeError.TooMany → IsTooFullFor self.new (λ b. (d : TypeDef) × ModuleIs b table.now imports.now exports.now d) }
     {
         let imports = self.module_imports(table, imports)?;
         let exports = self.module_exports(table, exports)?;
@@ -115,7 +117,7 @@ impl ComponentTypesBuilder {
         ensures are { IfOk result (λ is. AllZip (ImportIs self.new table.now) imports.now is) }
         ensures grows { Grows self.old self.new }
         ensures never_bad { result ≡ Err TypeError.BadNumber → ⊥ }
-        ensures full { result ≡ Err TypeError.TooMany → IsFull self.new }
+        ensures full { result ≡ Err TypeError.TooMany → IsTooFullFor self.new (λ b. (is : List (List ℕ × List ℕ × CoreEntity)) × AllZip (ImportIs b table.now) imports.now is) }
     {
         let mut types = Seq::new(self.alloc);
         for import in imports {
@@ -133,7 +135,7 @@ impl ComponentTypesBuilder {
         ensures is { IfOk result (λ i. ImportIs self.new table.now import.now i) }
         ensures grows { Grows self.old self.new }
         ensures never_bad { result ≡ Err TypeError.BadNumber → ⊥ }
-        ensures full { result ≡ Err TypeError.TooMany → IsFull self.new }
+        ensures full { result ≡ Err TypeError.TooMany → IsTooFullFor self.new (λ b. (i : List ℕ × List ℕ × CoreEntity) × ImportIs b table.now import.now i) }
     {
         let entity = self.core_entity(table, import.2)?;
         let module = import.0.try_clone(self.alloc)?;
@@ -150,7 +152,7 @@ impl ComponentTypesBuilder {
         ensures are { IfOk result (λ es. AllZip (ExportIs self.new table.now) exports.now es) }
         ensures grows { Grows self.old self.new }
         ensures never_bad { result ≡ Err TypeError.BadNumber → ⊥ }
-        ensures full { result ≡ Err TypeError.TooMany → IsFull self.new }
+        ensures full { result ≡ Err TypeError.TooMany → IsTooFullFor self.new (λ b. (es : List (List ℕ × CoreEntity)) × AllZip (ExportIs b table.now) exports.now es) }
     {
         let mut types = Seq::new(self.alloc);
         for export in exports {
@@ -166,7 +168,7 @@ impl ComponentTypesBuilder {
         ensures is { IfOk result (λ f. CoreIs self.new table.now e f) }
         ensures grows { Grows self.old self.new }
         ensures never_bad { result ≡ Err TypeError.BadNumber → ⊥ }
-        ensures full { result ≡ Err TypeError.TooMany → IsFull self.new }
+        ensures full { result ≡ Err TypeError.TooMany → IsTooFullFor self.new (λ b. (f : CoreEntity) × CoreIs b table.now e f) }
     {
         match e {
             CoreEntity::Func(s) => Ok(CoreEntity::Func(self.core_sig(table, s)?.0)),

@@ -4,11 +4,12 @@
 
 pub mod builder;
 mod convert;
+pub mod converted;
 mod defined;
 mod entry;
 mod extern_type;
 mod intern;
-mod marks;
+mod parts;
 pub mod pre_inlining;
 mod put;
 mod readers;
@@ -18,5 +19,6 @@ mod tests;
 mod value;
 
 pub use builder::ComponentTypesBuilder;
+pub use converted::Converted;
 pub use pre_inlining::PreInliningComponentTypes;
 pub use resources::ResourcesBuilder;

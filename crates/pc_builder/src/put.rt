@@ -1,7 +1,7 @@
 //! Each kind of type put into its list.
 
-ghost use Rattle.std.specs.Prelude.{◌≡◌, ◌<◌, length, slice_get, Some, Err, All, IfOk, Contains};
-ghost use Rattle.pc_builder.specs.Types.{Grows, IsFull};
+ghost use Rattle.std.specs.Prelude.{◌≡◌, ◌<◌, length, slice_get, Some, Err, All, IfOk};
+ghost use Rattle.pc_builder.specs.Types.{Grows, HasNumber, IsTooFullFor};
 ghost use Rattle.pc_builder.specs.Held.{IsHeld, MayBeHeld};
 ghost use Rattle.pc_builder.specs.Interned.{IsPut};
 
@@ -19,7 +19,7 @@ use pc_types::{
 };
 
 impl ComponentTypesBuilder {
-    #[tactic(auto, using(crate::proofs::Growth::grows_funcs, crate::proofs::Growth::full_funcs))]
+    #[tactic(auto, using(crate::proofs::Growth::grows_funcs))]
     pub(crate) fn put_func(&mut self, value: TypeFunc) -> Result<TypeFuncIndex, TypeError>
         requires params { value.params.0 < length self.old.tuples }
         requires results { value.results.0 < length self.old.tuples }
@@ -28,14 +28,14 @@ impl ComponentTypesBuilder {
         ensures rest { self.new ≡ record self.old { funcs = self.new.funcs } }
         ensures grows { Grows self.old self.new }
         ensures never_bad { result ≡ Err TypeError.BadNumber → ⊥ }
-        ensures full { result ≡ Err TypeError.TooMany → IsFull self.new × (Contains self.new.funcs value → ⊥) }
+        ensures full { result ≡ Err TypeError.TooMany → IsTooFullFor self.new (λ b. HasNumber b.funcs value) }
     {
         let facts = self.facts.of_func(&value);
         let number = intern_with(&mut self.funcs, &mut self.facts.funcs, value, facts)?;
         Ok(TypeFuncIndex(number))
     }
 
-    #[tactic(auto, using(crate::proofs::Growth::grows_tuples, crate::proofs::Growth::full_tuples))]
+    #[tactic(auto, using(crate::proofs::Growth::grows_tuples))]
     pub(crate) fn put_tuple(&mut self, value: TypeTuple) -> Result<TypeTupleIndex, TypeError>
         requires parts { All (IsHeld self.old) value.types }
         ensures held { IfOk result (λ i. slice_get self.new.tuples i.0 ≡ Some value) }
@@ -43,14 +43,14 @@ impl ComponentTypesBuilder {
         ensures rest { self.new ≡ record self.old { tuples = self.new.tuples } }
         ensures grows { Grows self.old self.new }
         ensures never_bad { result ≡ Err TypeError.BadNumber → ⊥ }
-        ensures full { result ≡ Err TypeError.TooMany → IsFull self.new × (Contains self.new.tuples value → ⊥) }
+        ensures full { result ≡ Err TypeError.TooMany → IsTooFullFor self.new (λ b. HasNumber b.tuples value) }
     {
         let facts = self.facts.of_tuple(&value);
         let number = intern_with(&mut self.tuples, &mut self.facts.tuples, value, facts)?;
         Ok(TypeTupleIndex(number))
     }
 
-    #[tactic(auto, using(crate::proofs::Growth::grows_records, crate::proofs::Growth::full_records))]
+    #[tactic(auto, using(crate::proofs::Growth::grows_records))]
     pub(crate) fn put_record_type(
         &mut self,
         value: TypeRecord,
@@ -61,14 +61,14 @@ impl ComponentTypesBuilder {
         ensures rest { self.new ≡ record self.old { records = self.new.records } }
         ensures grows { Grows self.old self.new }
         ensures never_bad { result ≡ Err TypeError.BadNumber → ⊥ }
-        ensures full { result ≡ Err TypeError.TooMany → IsFull self.new × (Contains self.new.records value → ⊥) }
+        ensures full { result ≡ Err TypeError.TooMany → IsTooFullFor self.new (λ b. HasNumber b.records value) }
     {
         let facts = self.facts.of_record(&value);
         let number = intern_with(&mut self.records, &mut self.facts.records, value, facts)?;
         Ok(TypeRecordIndex(number))
     }
 
-    #[tactic(auto, using(crate::proofs::Growth::grows_variants, crate::proofs::Growth::full_variants))]
+    #[tactic(auto, using(crate::proofs::Growth::grows_variants))]
     pub(crate) fn put_variant(&mut self, value: TypeVariant) -> Result<TypeVariantIndex, TypeError>
         requires parts { All (λ c. MayBeHeld self.old c.1) value.cases }
         ensures held { IfOk result (λ i. slice_get self.new.variants i.0 ≡ Some value) }
@@ -76,14 +76,14 @@ impl ComponentTypesBuilder {
         ensures rest { self.new ≡ record self.old { variants = self.new.variants } }
         ensures grows { Grows self.old self.new }
         ensures never_bad { result ≡ Err TypeError.BadNumber → ⊥ }
-        ensures full { result ≡ Err TypeError.TooMany → IsFull self.new × (Contains self.new.variants value → ⊥) }
+        ensures full { result ≡ Err TypeError.TooMany → IsTooFullFor self.new (λ b. HasNumber b.variants value) }
     {
         let facts = self.facts.of_variant(&value);
         let number = intern_with(&mut self.variants, &mut self.facts.variants, value, facts)?;
         Ok(TypeVariantIndex(number))
     }
 
-    #[tactic(auto, using(crate::proofs::Growth::grows_lists, crate::proofs::Growth::full_lists))]
+    #[tactic(auto, using(crate::proofs::Growth::grows_lists))]
     pub(crate) fn put_list(&mut self, value: TypeList) -> Result<TypeListIndex, TypeError>
         requires part { IsHeld self.old value.element }
         ensures held { IfOk result (λ i. slice_get self.new.lists i.0 ≡ Some value) }
@@ -91,14 +91,14 @@ impl ComponentTypesBuilder {
         ensures rest { self.new ≡ record self.old { lists = self.new.lists } }
         ensures grows { Grows self.old self.new }
         ensures never_bad { result ≡ Err TypeError.BadNumber → ⊥ }
-        ensures full { result ≡ Err TypeError.TooMany → IsFull self.new × (Contains self.new.lists value → ⊥) }
+        ensures full { result ≡ Err TypeError.TooMany → IsTooFullFor self.new (λ b. HasNumber b.lists value) }
     {
         let facts = self.facts.of_list(&value);
         let number = intern_with(&mut self.lists, &mut self.facts.lists, value, facts)?;
         Ok(TypeListIndex(number))
     }
 
-    #[tactic(auto, using(crate::proofs::Growth::grows_options, crate::proofs::Growth::full_options))]
+    #[tactic(auto, using(crate::proofs::Growth::grows_options))]
     pub(crate) fn put_option(&mut self, value: TypeOption) -> Result<TypeOptionIndex, TypeError>
         requires part { IsHeld self.old value.ty }
         ensures held { IfOk result (λ i. slice_get self.new.options i.0 ≡ Some value) }
@@ -106,14 +106,14 @@ impl ComponentTypesBuilder {
         ensures rest { self.new ≡ record self.old { options = self.new.options } }
         ensures grows { Grows self.old self.new }
         ensures never_bad { result ≡ Err TypeError.BadNumber → ⊥ }
-        ensures full { result ≡ Err TypeError.TooMany → IsFull self.new × (Contains self.new.options value → ⊥) }
+        ensures full { result ≡ Err TypeError.TooMany → IsTooFullFor self.new (λ b. HasNumber b.options value) }
     {
         let facts = self.facts.of_option(&value);
         let number = intern_with(&mut self.options, &mut self.facts.options, value, facts)?;
         Ok(TypeOptionIndex(number))
     }
 
-    #[tactic(auto, using(crate::proofs::Growth::grows_results, crate::proofs::Growth::full_results))]
+    #[tactic(auto, using(crate::proofs::Growth::grows_results))]
     pub(crate) fn put_result(&mut self, value: TypeResult) -> Result<TypeResultIndex, TypeError>
         requires ok { MayBeHeld self.old value.ok }
         requires err { MayBeHeld self.old value.err }
@@ -122,38 +122,38 @@ impl ComponentTypesBuilder {
         ensures rest { self.new ≡ record self.old { results = self.new.results } }
         ensures grows { Grows self.old self.new }
         ensures never_bad { result ≡ Err TypeError.BadNumber → ⊥ }
-        ensures full { result ≡ Err TypeError.TooMany → IsFull self.new × (Contains self.new.results value → ⊥) }
+        ensures full { result ≡ Err TypeError.TooMany → IsTooFullFor self.new (λ b. HasNumber b.results value) }
     {
         let facts = self.facts.of_result(&value);
         let number = intern_with(&mut self.results, &mut self.facts.results, value, facts)?;
         Ok(TypeResultIndex(number))
     }
 
-    #[tactic(auto, using(crate::proofs::Growth::grows_flags, crate::proofs::Growth::full_flags))]
+    #[tactic(auto, using(crate::proofs::Growth::grows_flags))]
     pub(crate) fn put_flags(&mut self, value: TypeFlags) -> Result<TypeFlagsIndex, TypeError>
         ensures held { IfOk result (λ i. slice_get self.new.flags i.0 ≡ Some value) }
         ensures put { IsPut self.old.flags self.new.flags value }
         ensures rest { self.new ≡ record self.old { flags = self.new.flags } }
         ensures grows { Grows self.old self.new }
         ensures never_bad { result ≡ Err TypeError.BadNumber → ⊥ }
-        ensures full { result ≡ Err TypeError.TooMany → IsFull self.new × (Contains self.new.flags value → ⊥) }
+        ensures full { result ≡ Err TypeError.TooMany → IsTooFullFor self.new (λ b. HasNumber b.flags value) }
     {
         Ok(TypeFlagsIndex(intern(&mut self.flags, value)?))
     }
 
-    #[tactic(auto, using(crate::proofs::Growth::grows_enums, crate::proofs::Growth::full_enums))]
+    #[tactic(auto, using(crate::proofs::Growth::grows_enums))]
     pub(crate) fn put_enum_type(&mut self, value: TypeEnum) -> Result<TypeEnumIndex, TypeError>
         ensures held { IfOk result (λ i. slice_get self.new.enums i.0 ≡ Some value) }
         ensures put { IsPut self.old.enums self.new.enums value }
         ensures rest { self.new ≡ record self.old { enums = self.new.enums } }
         ensures grows { Grows self.old self.new }
         ensures never_bad { result ≡ Err TypeError.BadNumber → ⊥ }
-        ensures full { result ≡ Err TypeError.TooMany → IsFull self.new × (Contains self.new.enums value → ⊥) }
+        ensures full { result ≡ Err TypeError.TooMany → IsTooFullFor self.new (λ b. HasNumber b.enums value) }
     {
         Ok(TypeEnumIndex(intern(&mut self.enums, value)?))
     }
 
-    #[tactic(auto, using(crate::proofs::Growth::grows_resource_tables, crate::proofs::Growth::full_resource_tables))]
+    #[tactic(auto, using(crate::proofs::Growth::grows_resource_tables))]
     pub(crate) fn put_resource_table(
         &mut self,
         value: TypeResourceTable,
@@ -163,12 +163,12 @@ impl ComponentTypesBuilder {
         ensures rest { self.new ≡ record self.old { resource_tables = self.new.resource_tables } }
         ensures grows { Grows self.old self.new }
         ensures never_bad { result ≡ Err TypeError.BadNumber → ⊥ }
-        ensures full { result ≡ Err TypeError.TooMany → IsFull self.new × (Contains self.new.resource_tables value → ⊥) }
+        ensures full { result ≡ Err TypeError.TooMany → IsTooFullFor self.new (λ b. HasNumber b.resource_tables value) }
     {
         Ok(TypeResourceTableIndex(intern(&mut self.resource_tables, value)?))
     }
 
-    #[tactic(auto, using(crate::proofs::Growth::grows_future_tables, crate::proofs::Growth::full_future_tables))]
+    #[tactic(auto, using(crate::proofs::Growth::grows_future_tables))]
     pub(crate) fn put_future_table(
         &mut self,
         value: TypeFutureTable,
@@ -178,12 +178,12 @@ impl ComponentTypesBuilder {
         ensures rest { self.new ≡ record self.old { future_tables = self.new.future_tables } }
         ensures grows { Grows self.old self.new }
         ensures never_bad { result ≡ Err TypeError.BadNumber → ⊥ }
-        ensures full { result ≡ Err TypeError.TooMany → IsFull self.new × (Contains self.new.future_tables value → ⊥) }
+        ensures full { result ≡ Err TypeError.TooMany → IsTooFullFor self.new (λ b. HasNumber b.future_tables value) }
     {
         Ok(TypeFutureTableIndex(intern(&mut self.future_tables, value)?))
     }
 
-    #[tactic(auto, using(crate::proofs::Growth::grows_stream_tables, crate::proofs::Growth::full_stream_tables))]
+    #[tactic(auto, using(crate::proofs::Growth::grows_stream_tables))]
     pub(crate) fn put_stream_table(
         &mut self,
         value: TypeStreamTable,
@@ -193,12 +193,12 @@ impl ComponentTypesBuilder {
         ensures rest { self.new ≡ record self.old { stream_tables = self.new.stream_tables } }
         ensures grows { Grows self.old self.new }
         ensures never_bad { result ≡ Err TypeError.BadNumber → ⊥ }
-        ensures full { result ≡ Err TypeError.TooMany → IsFull self.new × (Contains self.new.stream_tables value → ⊥) }
+        ensures full { result ≡ Err TypeError.TooMany → IsTooFullFor self.new (λ b. HasNumber b.stream_tables value) }
     {
         Ok(TypeStreamTableIndex(intern(&mut self.stream_tables, value)?))
     }
 
-    #[tactic(auto, using(crate::proofs::Growth::grows_error_context_tables, crate::proofs::Growth::full_error_context_tables))]
+    #[tactic(auto, using(crate::proofs::Growth::grows_error_context_tables))]
     pub(crate) fn put_error_context_table(
         &mut self,
         value: TypeErrorContextTable,
@@ -208,12 +208,12 @@ impl ComponentTypesBuilder {
         ensures rest { self.new ≡ record self.old { error_context_tables = self.new.error_context_tables } }
         ensures grows { Grows self.old self.new }
         ensures never_bad { result ≡ Err TypeError.BadNumber → ⊥ }
-        ensures full { result ≡ Err TypeError.TooMany → IsFull self.new × (Contains self.new.error_context_tables value → ⊥) }
+        ensures full { result ≡ Err TypeError.TooMany → IsTooFullFor self.new (λ b. HasNumber b.error_context_tables value) }
     {
         Ok(TypeComponentLocalErrorContextTableIndex(intern(&mut self.error_context_tables, value)?))
     }
 
-    #[tactic(auto, using(crate::proofs::Growth::grows_instances, crate::proofs::Growth::full_instances))]
+    #[tactic(auto, using(crate::proofs::Growth::grows_instances))]
     pub(crate) fn put_instance(
         &mut self,
         value: TypeComponentInstance,
@@ -223,12 +223,12 @@ impl ComponentTypesBuilder {
         ensures rest { self.new ≡ record self.old { instances = self.new.instances } }
         ensures grows { Grows self.old self.new }
         ensures never_bad { result ≡ Err TypeError.BadNumber → ⊥ }
-        ensures full { result ≡ Err TypeError.TooMany → IsFull self.new × (Contains self.new.instances value → ⊥) }
+        ensures full { result ≡ Err TypeError.TooMany → IsTooFullFor self.new (λ b. HasNumber b.instances value) }
     {
         Ok(TypeComponentInstanceIndex(intern(&mut self.instances, value)?))
     }
 
-    #[tactic(auto, using(crate::proofs::Growth::grows_components, crate::proofs::Growth::full_components))]
+    #[tactic(auto, using(crate::proofs::Growth::grows_components))]
     pub(crate) fn put_component(
         &mut self,
         value: TypeComponent,
@@ -238,24 +238,24 @@ impl ComponentTypesBuilder {
         ensures rest { self.new ≡ record self.old { components = self.new.components } }
         ensures grows { Grows self.old self.new }
         ensures never_bad { result ≡ Err TypeError.BadNumber → ⊥ }
-        ensures full { result ≡ Err TypeError.TooMany → IsFull self.new × (Contains self.new.components value → ⊥) }
+        ensures full { result ≡ Err TypeError.TooMany → IsTooFullFor self.new (λ b. HasNumber b.components value) }
     {
         Ok(TypeComponentIndex(intern(&mut self.components, value)?))
     }
 
-    #[tactic(auto, using(crate::proofs::Growth::grows_modules, crate::proofs::Growth::full_modules))]
+    #[tactic(auto, using(crate::proofs::Growth::grows_modules))]
     pub(crate) fn put_module(&mut self, value: TypeModule) -> Result<TypeModuleIndex, TypeError>
         ensures held { IfOk result (λ i. slice_get self.new.modules i.0 ≡ Some value) }
         ensures put { IsPut self.old.modules self.new.modules value }
         ensures rest { self.new ≡ record self.old { modules = self.new.modules } }
         ensures grows { Grows self.old self.new }
         ensures never_bad { result ≡ Err TypeError.BadNumber → ⊥ }
-        ensures full { result ≡ Err TypeError.TooMany → IsFull self.new × (Contains self.new.modules value → ⊥) }
+        ensures full { result ≡ Err TypeError.TooMany → IsTooFullFor self.new (λ b. HasNumber b.modules value) }
     {
         Ok(TypeModuleIndex(intern(&mut self.modules, value)?))
     }
 
-    #[tactic(auto, using(crate::proofs::Growth::grows_signatures, crate::proofs::Growth::full_signatures))]
+    #[tactic(auto, using(crate::proofs::Growth::grows_signatures))]
     pub(crate) fn put_signature(
         &mut self,
         value: CoreFuncSig,
@@ -265,7 +265,7 @@ impl ComponentTypesBuilder {
         ensures rest { self.new ≡ record self.old { signatures = self.new.signatures } }
         ensures grows { Grows self.old self.new }
         ensures never_bad { result ≡ Err TypeError.BadNumber → ⊥ }
-        ensures full { result ≡ Err TypeError.TooMany → IsFull self.new × (Contains self.new.signatures value → ⊥) }
+        ensures full { result ≡ Err TypeError.TooMany → IsTooFullFor self.new (λ b. HasNumber b.signatures value) }
     {
         Ok(ModuleInternedTypeIndex(intern(&mut self.signatures, value)?))
     }

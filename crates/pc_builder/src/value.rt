@@ -1,12 +1,13 @@
 //! Value types of a table, converted.
 
 ghost use Rattle.std.specs.Prelude.{◌≡◌, Some, Err, All, IfOk, slice_get};
-ghost use Rattle.pc_builder.specs.Types.{Grows, IsFull};
+ghost use Rattle.pc_builder.specs.Types.{Grows, HasNumber, IsTooFullFor};
 ghost use Rattle.pc_builder.specs.Held.{IsHeld};
 ghost use Rattle.pc_builder.specs.Primitive.{plain_type};
 ghost use Rattle.pc_builder.specs.Parts.{IsErrorContext, PrimIs, ValIs, IsReady};
 ghost use Rattle.pc_types.specs.declared.parsed.ValType.TheVariants as val;
 ghost use Rattle.pc_types.specs.declared.types.TypeDef.TheVariants as def;
+ghost use Rattle.pc_types.specs.declared.type_index.TypeComponentLocalErrorContextTableIndex.{TypeComponentLocalErrorContextTableIndex};
 ghost use Rattle.pc_types.specs.declared.types.InterfaceType.{InterfaceType};
 
 use crate::ComponentTypesBuilder;
@@ -24,7 +25,7 @@ impl ComponentTypesBuilder {
         ensures is { IfOk result (λ i. IsErrorContext self.new i) }
         ensures grows { Grows self.old self.new }
         ensures never_bad { result ≡ Err TypeError.BadNumber → ⊥ }
-        ensures full { result ≡ Err TypeError.TooMany → IsFull self.new }
+        ensures full { result ≡ Err TypeError.TooMany → IsTooFullFor self.new (λ b. (i : TypeComponentLocalErrorContextTableIndex) × IsErrorContext b i) }
     {
         let instance = self.resources.current_instance();
         self.put_error_context_table(TypeErrorContextTable { instance })
@@ -36,7 +37,7 @@ impl ComponentTypesBuilder {
         ensures is { IfOk result (λ i. slice_get self.new.tuples i.0 ≡ Some (record { types = types.items })) }
         ensures grows { Grows self.old self.new }
         ensures never_bad { result ≡ Err TypeError.BadNumber → ⊥ }
-        ensures full { result ≡ Err TypeError.TooMany → IsFull self.new }
+        ensures full { result ≡ Err TypeError.TooMany → IsTooFullFor self.new (λ b. HasNumber b.tuples (record { types = types.items })) }
     {
         let types = Seq::from_vec(types);
         self.put_tuple(TypeTuple { types })
@@ -47,7 +48,7 @@ impl ComponentTypesBuilder {
         ensures is { IfOk result (λ w. PrimIs self.new p w) }
         ensures grows { Grows self.old self.new }
         ensures never_bad { result ≡ Err TypeError.BadNumber → ⊥ }
-        ensures full { result ≡ Err TypeError.TooMany → IsFull self.new }
+        ensures full { result ≡ Err TypeError.TooMany → IsTooFullFor self.new (λ b. (w : InterfaceType) × PrimIs b p w) }
     {
         match plain_type(p) {
             Some(w) => Ok(w),
@@ -65,7 +66,7 @@ impl ComponentTypesBuilder {
         ensures is { IfOk result (λ w. ValIs self.new done.now v w) }
         ensures grows { Grows self.old self.new }
         ensures never_bad { result ≡ Err TypeError.BadNumber → ⊥ }
-        ensures full { result ≡ Err TypeError.TooMany → IsFull self.new }
+        ensures full { result ≡ Err TypeError.TooMany → IsTooFullFor self.new (λ b. (w : InterfaceType) × ValIs b done.now v w) }
     {
         match v {
             ValType::Prim(p) => self.primitive(p),

@@ -1,3 +1,6 @@
+use Rattle.pc_builder.proofs.Refusing.{by_number}
+use Rattle.pc_builder.proofs.Reading.{prim_from}
+use Rattle.pc_builder.proofs.Growth.{too_full}
 use Rattle.std.proofs.Common.{[], Some, sym, subst}
 use Rattle.std.proofs.lemmas.Option.{none-some}
 use Rattle.pc_types.specs.declared.parsed.ValType.TheVariants as val
@@ -24,3 +27,16 @@ returns-in-Type_-clause-tree c =
     if_ok_more (λ w. IsEntry b t c.in-Type_.n (def.Interface w)) (IsValue b t c.args.v.now)
     (λ w h. subst (λ v. IsValue b t v w) (sym c.in-Type_.is) h)
     c.defined_type.result c.defined_type.ensures.tree
+
+pub returns-in-Prim-clause-full : goal.returns-in-Prim-clause-full
+returns-in-Prim-clause-full c h =
+    let t = c.args.table.now in
+    too_full _ _ _
+    (λ next g is q.
+    let has = subst (λ v. IsValue next t v q.0) c.in-Prim.is q.1 by_number in
+    (q.0, prim_from next by_number t (trees_in next by_number t) c.in-Prim.p q.0 has.0 has.1 has.2))
+    (c.primitive.ensures.full h)
+
+pub returns-in-Type_-clause-full : goal.returns-in-Type_-clause-full
+returns-in-Type_-clause-full c h =
+    too_full _ _ _ (λ next g is q. (q.0, subst (λ v. IsValue next c.args.table.now v q.0) c.in-Type_.is q.1)) (c.defined_type.ensures.full h)

@@ -1,7 +1,8 @@
+use Rattle.pc_builder.proofs.Passing.{passed_on}
 use Rattle.std.proofs.Common.{arith, sym, take}
 use Rattle.pc_builder.specs.Parts.{FieldIs}
 use Rattle.pc_builder.proofs.Growth.{grows_trans}
-use Rattle.pc_builder.proofs.PartLemmas.{all_zip_next, all_zip_more}
+use Rattle.pc_builder.proofs.PartLemmas.{all_zip_next, all_zip_more, zip_here}
 use Rattle.pc_builder.proofs.PartLemmas.{field_grows}
 use Rattle.pc_builder.proofs.builder.ComponentTypesBuilder.fields.Goals as goal
 
@@ -28,3 +29,10 @@ loop-field-preserved c =
           (sym c.in_ok-name.ensures, c.in_ok-value.ensures.is));
       grows = grows_trans c.args.self.now before after l.invariant.grows c.value.ensures.grows;
     }
+
+pub returns-in_err-value-clause-full : goal.returns-in_err-value-clause-full
+returns-in_err-value-clause-full c =
+    passed_on c.from_residual-in_err-value.result c.in_err-value.field-0.0 _ _ _ c.from_residual-in_err-value.ensures.1 c.in_err-value.ensures.full
+    (λ next g is q.
+    let here = zip_here (FieldIs next c.args.done.now) c.args.fields.now q.0 c.loop-field.field-index c.field-item.result (omega arith) c.field-item.is q.1 in
+    (here.0.1, here.1.1))

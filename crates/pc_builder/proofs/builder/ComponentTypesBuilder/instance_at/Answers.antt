@@ -1,3 +1,5 @@
+use Rattle.pc_types.specs.declared.types.TypeDef.TheVariants.{ComponentInstance}
+use Rattle.pc_builder.proofs.Passing.{passed_on}
 use Rattle.std.proofs.Common.{subst}
 use Rattle.std.specs.Prelude.{slice_get}
 use Rattle.pc_types.specs.Table.{is_instance}
@@ -13,3 +15,8 @@ unreachable-requires c =
 
 pub returns-clause-tree : goal.returns-clause-tree
 returns-clause-tree c = subst (λ d. IsEntry c.entry.new.self c.args.table.now c.args.n d) c.in-ComponentInstance.is c.in_ok-i.ensures.tree
+
+pub returns-in_err-i-clause-full : goal.returns-in_err-i-clause-full
+returns-in_err-i-clause-full c =
+    passed_on c.from_residual.result c.in_err-i.field-0.0 _ _ _ c.from_residual.ensures.1 c.in_err-i.ensures.full
+    (λ next g is q. (ComponentInstance q.0, q.1))

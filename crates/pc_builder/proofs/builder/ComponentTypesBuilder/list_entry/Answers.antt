@@ -1,4 +1,6 @@
-use Rattle.std.proofs.Common.{refl}
+use Rattle.pc_builder.proofs.OneNumber.{one_val}
+use Rattle.pc_builder.proofs.Passing.{passed_on}
+use Rattle.std.proofs.Common.{refl, Some, ap, ◌∙◌}
 use Rattle.pc_builder.proofs.PartLemmas.{val_grows}
 use Rattle.pc_builder.proofs.Growth.{grows_trans}
 use Rattle.pc_builder.proofs.HeldLemmas.{are_held_grow, val_held}
@@ -22,3 +24,14 @@ returns-clause-is c =
 
 pub returns-clause-grows : goal.returns-clause-grows
 returns-clause-grows c = grows_trans c.args.self.now c.value.new.self c.put_list.new.self c.value.ensures.grows c.put_list.ensures.grows
+
+pub returns-in_err-put_list-clause-full : goal.returns-in_err-put_list-clause-full
+returns-in_err-put_list-clause-full c =
+    let done = c.args.done.now in
+    let first = c.value.new.self in
+    let part = c.in_ok-element in
+    passed_on c.from_residual-in_err-put_list.result c.in_err-put_list.field-0.0 _ _ _ c.from_residual-in_err-put_list.ensures.1 c.in_err-put_list.ensures.full
+    (λ next g is q.
+    let grow = grows_trans first c.put_list.new.self next c.put_list.ensures.grows g in
+    let same = one_val next is.distinct done c.args.v q.1.1.element part.element q.1.4 (val_grows first next grow done c.args.v part.element part.ensures.is) in
+    (q.1.0.0, q.1.3 ∙ ap (λ x. Some (record { element = x })) same))

@@ -1,7 +1,8 @@
+use Rattle.pc_builder.proofs.Passing.{passed_on}
 use Rattle.std.proofs.Common.{arith, sym, take}
 use Rattle.pc_builder.specs.Entries.{ExportIs}
 use Rattle.pc_builder.proofs.Growth.{grows_trans}
-use Rattle.pc_builder.proofs.PartLemmas.{all_zip_next, all_zip_more}
+use Rattle.pc_builder.proofs.PartLemmas.{all_zip_next, all_zip_more, zip_here}
 use Rattle.pc_builder.proofs.PartLemmas.{export_is_grows}
 use Rattle.pc_builder.proofs.builder.ComponentTypesBuilder.module_exports.Goals as goal
 
@@ -28,3 +29,10 @@ loop-export-preserved c =
           (sym c.in_ok-name.ensures, c.in_ok-core_entity.ensures.is));
       grows = grows_trans c.args.self.now before after l.invariant.grows c.core_entity.ensures.grows;
     }
+
+pub returns-in_err-core_entity-clause-full : goal.returns-in_err-core_entity-clause-full
+returns-in_err-core_entity-clause-full c =
+    passed_on c.from_residual-in_err-core_entity.result c.in_err-core_entity.field-0.0 _ _ _ c.from_residual-in_err-core_entity.ensures.1 c.in_err-core_entity.ensures.full
+    (λ next g is q.
+    let here = zip_here (ExportIs next c.args.table.now) c.args.exports.now q.0 c.loop-export.export-index c.export-item.result (omega arith) c.export-item.is q.1 in
+    (here.0.1, here.1.1))

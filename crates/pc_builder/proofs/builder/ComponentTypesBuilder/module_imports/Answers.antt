@@ -1,7 +1,8 @@
+use Rattle.pc_builder.proofs.Passing.{passed_on}
 use Rattle.std.proofs.Common.{arith, take}
 use Rattle.pc_builder.specs.Entries.{ImportIs}
 use Rattle.pc_builder.proofs.Growth.{grows_trans}
-use Rattle.pc_builder.proofs.PartLemmas.{all_zip_next, all_zip_more}
+use Rattle.pc_builder.proofs.PartLemmas.{all_zip_next, all_zip_more, zip_here}
 use Rattle.pc_builder.proofs.PartLemmas.{import_is_grows}
 use Rattle.pc_builder.proofs.builder.ComponentTypesBuilder.module_imports.Goals as goal
 
@@ -28,3 +29,10 @@ loop-import-preserved c =
           c.in_ok-module_import.ensures.is);
       grows = grows_trans c.args.self.now before after l.invariant.grows c.module_import.ensures.grows;
     }
+
+pub returns-in_err-module_import-clause-full : goal.returns-in_err-module_import-clause-full
+returns-in_err-module_import-clause-full c =
+    passed_on c.from_residual.result c.in_err-module_import.field-0.0 _ _ _ c.from_residual.ensures.1 c.in_err-module_import.ensures.full
+    (λ next g is q.
+    let here = zip_here (ImportIs next c.args.table.now) c.args.imports.now q.0 c.loop-import.import-index c.import-item.result (omega arith) c.import-item.is q.1 in
+    here)

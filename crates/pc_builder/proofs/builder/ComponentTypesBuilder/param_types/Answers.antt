@@ -1,7 +1,8 @@
+use Rattle.pc_builder.proofs.Passing.{passed_on}
 use Rattle.std.proofs.Common.{arith, take}
 use Rattle.pc_builder.specs.Parts.{ValIs}
 use Rattle.pc_builder.proofs.Growth.{grows_trans}
-use Rattle.pc_builder.proofs.PartLemmas.{all_zip_next, all_zip_more, val_grows}
+use Rattle.pc_builder.proofs.PartLemmas.{all_zip_next, all_zip_more, val_grows, zip_here}
 use Rattle.pc_builder.proofs.builder.ComponentTypesBuilder.param_types.Goals as goal
 
 pub returns-in_err-value-clause-grows : goal.returns-in_err-value-clause-grows
@@ -23,3 +24,10 @@ loop-param-preserved c =
           c.in_ok-value.ensures.is);
       grows = grows_trans c.args.self.now c.loop-param.self c.value.new.self c.loop-param.invariant.grows c.value.ensures.grows;
     }
+
+pub returns-in_err-value-clause-full : goal.returns-in_err-value-clause-full
+returns-in_err-value-clause-full c =
+    passed_on c.from_residual.result c.in_err-value.field-0.0 _ _ _ c.from_residual.ensures.1 c.in_err-value.ensures.full
+    (λ next g is q.
+    let here = zip_here (λ p w. ValIs next c.args.done.now p.1 w) c.args.params.now q.0 c.loop-param.param-index c.param-item.result (omega arith) c.param-item.is q.1 in
+    here)

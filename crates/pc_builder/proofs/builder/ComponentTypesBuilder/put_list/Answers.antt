@@ -3,7 +3,8 @@ use Rattle.std.proofs.lemmas.Slice.Zip.{AllZip-long}
 use Rattle.pc_facts.specs.Table.{ListHas}
 use Rattle.pc_builder.specs.View.{types_of}
 use Rattle.pc_builder.proofs.FactLemmas.{known, put_lists}
-use Rattle.pc_builder.proofs.Growth.{grows_lists}
+use Rattle.pc_builder.proofs.Growth.{full_lists, grows_lists}
+use Rattle.pc_builder.proofs.Passing.{passed}
 use Rattle.pc_builder.proofs.builder.ComponentTypesBuilder.put_list.Goals as goal
 
 pub of_list-facts-requires : goal.of_list-facts-requires
@@ -37,3 +38,8 @@ invariant_of-self-2 c =
 
 pub returns-clause-grows : goal.returns-clause-grows
 returns-clause-grows c = rw (← c.self.view_is) (grows_lists _ _ c.args.value refl c.intern_with.ensures.put)
+
+pub returns-in_err-number-clause-full : goal.returns-in_err-number-clause-full
+returns-in_err-number-clause-full c h =
+    let refused = passed c.from_residual.result c.in_err-number.field-0.0 c.from_residual.ensures.1 c.in_err-number.ensures.full h in
+    full_lists _ c.args.value refused.0 refused.1

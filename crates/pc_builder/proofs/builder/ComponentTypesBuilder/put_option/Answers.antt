@@ -3,7 +3,8 @@ use Rattle.std.proofs.lemmas.Slice.Zip.{AllZip-long}
 use Rattle.pc_facts.specs.Table.{OptionHas}
 use Rattle.pc_builder.specs.View.{types_of}
 use Rattle.pc_builder.proofs.FactLemmas.{known, put_options}
-use Rattle.pc_builder.proofs.Growth.{grows_options}
+use Rattle.pc_builder.proofs.Growth.{full_options, grows_options}
+use Rattle.pc_builder.proofs.Passing.{passed}
 use Rattle.pc_builder.proofs.builder.ComponentTypesBuilder.put_option.Goals as goal
 
 pub of_option-facts-requires : goal.of_option-facts-requires
@@ -37,3 +38,8 @@ invariant_of-self-2 c =
 
 pub returns-clause-grows : goal.returns-clause-grows
 returns-clause-grows c = rw (← c.self.view_is) (grows_options _ _ c.args.value refl c.intern_with.ensures.put)
+
+pub returns-in_err-number-clause-full : goal.returns-in_err-number-clause-full
+returns-in_err-number-clause-full c h =
+    let refused = passed c.from_residual.result c.in_err-number.field-0.0 c.from_residual.ensures.1 c.in_err-number.ensures.full h in
+    full_options _ c.args.value refused.0 refused.1

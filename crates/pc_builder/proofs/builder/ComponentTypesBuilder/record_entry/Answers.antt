@@ -1,4 +1,6 @@
-use Rattle.std.proofs.Common.{ℕ, List, refl}
+use Rattle.pc_builder.proofs.OneNumber.{one_fields}
+use Rattle.pc_builder.proofs.Passing.{passed_on}
+use Rattle.std.proofs.Common.{ℕ, List, refl, Some, ap, ◌∙◌}
 use Rattle.pc_types.specs.declared.types.InterfaceType.{InterfaceType}
 use Rattle.pc_builder.specs.Parts.{FieldIs}
 use Rattle.pc_builder.proofs.PartLemmas.{all_zip_more, field_grows}
@@ -30,3 +32,14 @@ returns-clause-is c =
 
 pub returns-clause-grows : goal.returns-clause-grows
 returns-clause-grows c = grows_trans c.args.self.now c.fields.new.self c.put_record_type.new.self c.fields.ensures.grows c.put_record_type.ensures.grows
+
+pub returns-in_err-put_record_type-clause-full : goal.returns-in_err-put_record_type-clause-full
+returns-in_err-put_record_type-clause-full c =
+    let done = c.args.done.now in
+    let first = c.fields.new.self in
+    let part = c.in_ok-fields in
+    passed_on c.from_residual-in_err-put_record_type.result c.in_err-put_record_type.field-0.0 _ _ _ c.from_residual-in_err-put_record_type.ensures.1 c.in_err-put_record_type.ensures.full
+    (λ next g is q.
+    let grow = grows_trans first c.put_record_type.new.self next c.put_record_type.ensures.grows g in
+    let same = one_fields next is.distinct done c.args.fields.now q.1.1.fields part.fields q.1.4 (all_zip_more (FieldIs first done) (FieldIs next done) (field_grows first next grow done) c.args.fields.now part.fields part.ensures.are) in
+    (q.1.0.0, q.1.3 ∙ ap (λ x. Some (record { fields = x })) same))

@@ -1,4 +1,6 @@
-use Rattle.std.proofs.Common.{refl}
+use Rattle.pc_builder.proofs.OneNumber.{one_maybe}
+use Rattle.pc_builder.proofs.Passing.{passed_on}
+use Rattle.std.proofs.Common.{refl, Some, ◌∙◌}
 use Rattle.pc_builder.proofs.Growth.{grows_trans}
 use Rattle.pc_builder.proofs.PartLemmas.{maybe_grows}
 use Rattle.pc_builder.proofs.HeldLemmas.{are_held_grow, maybe_held}
@@ -43,3 +45,18 @@ pub returns-clause-grows : goal.returns-clause-grows
 returns-clause-grows c =
     grows_trans c.args.self.now c.maybe_value.new.self c.put_result.new.self c.maybe_value.ensures.grows
     (grows_trans c.maybe_value.new.self c.maybe_value-2.new.self c.put_result.new.self c.maybe_value-2.ensures.grows c.put_result.ensures.grows)
+
+pub returns-in_err-put_result-clause-full : goal.returns-in_err-put_result-clause-full
+returns-in_err-put_result-clause-full c =
+    let done = c.args.done.now in
+    let first = c.maybe_value.new.self in
+    let second = c.maybe_value-2.new.self in
+    let ok = c.in_ok-ok in
+    let err = c.in_ok-err in
+    passed_on c.from_residual-in_err-put_result.result c.in_err-put_result.field-0.0 _ _ _ c.from_residual-in_err-put_result.ensures.1 c.in_err-put_result.ensures.full
+    (λ next g is q.
+    let after = grows_trans second c.put_result.new.self next c.put_result.ensures.grows g in
+    let grow = grows_trans first second next c.maybe_value-2.ensures.grows after in
+    let same_ok = one_maybe next is.distinct done c.args.ok q.1.1.ok ok.ok q.1.4 (maybe_grows first next grow done c.args.ok ok.ok ok.ensures.is) in
+    let same_err = one_maybe next is.distinct done c.args.err q.1.1.err err.err q.1.5 (maybe_grows second next after done c.args.err err.err err.ensures.is) in
+    (q.1.0.0, q.1.3 ∙ (λ i. Some (record { ok = same_ok i; err = same_err i }))))

@@ -1,3 +1,5 @@
+use Rattle.pc_types.specs.declared.types.TypeDef.TheVariants.{Interface}
+use Rattle.pc_builder.proofs.Passing.{passed_on}
 use Rattle.std.proofs.Common.{subst}
 use Rattle.std.specs.Prelude.{slice_get}
 use Rattle.pc_types.specs.Table.{is_defined_type}
@@ -13,3 +15,8 @@ unreachable-requires c =
 
 pub returns-clause-tree : goal.returns-clause-tree
 returns-clause-tree c = subst (λ d. IsEntry c.entry.new.self c.args.table.now c.args.n d) c.in-Interface.is c.in_ok-w.ensures.tree
+
+pub returns-in_err-w-clause-full : goal.returns-in_err-w-clause-full
+returns-in_err-w-clause-full c =
+    passed_on c.from_residual.result c.in_err-w.field-0.0 _ _ _ c.from_residual.ensures.1 c.in_err-w.ensures.full
+    (λ next g is q. (Interface q.0, q.1))

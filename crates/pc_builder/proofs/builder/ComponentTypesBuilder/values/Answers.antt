@@ -1,10 +1,11 @@
+use Rattle.pc_builder.proofs.Passing.{passed_on}
 use Rattle.std.proofs.Common.{arith, get_or, take}
 use Rattle.std.proofs.lemmas.List.{get_or_default}
 use Rattle.pc_types.specs.declared.parsed.PrimType.TheVariants.{Bool}
 use Rattle.pc_types.specs.declared.parsed.ValType.TheVariants.{Prim}
 use Rattle.pc_builder.specs.Parts.{ValIs}
 use Rattle.pc_builder.proofs.Growth.{grows_trans}
-use Rattle.pc_builder.proofs.PartLemmas.{all_zip_next, all_zip_more}
+use Rattle.pc_builder.proofs.PartLemmas.{all_zip_next, all_zip_more, zip_here}
 use Rattle.pc_builder.proofs.PartLemmas.{val_grows}
 use Rattle.pc_builder.proofs.builder.ComponentTypesBuilder.values.Goals as goal
 
@@ -33,3 +34,11 @@ loop-v-preserved c =
           c.in_ok-value.ensures.is);
       grows = grows_trans c.args.self.now before after l.invariant.grows c.value.ensures.grows;
     }
+
+pub returns-in_err-value-clause-full : goal.returns-in_err-value-clause-full
+returns-in_err-value-clause-full c =
+    let vs = c.args.vs.now in
+    let l = c.loop-v in
+    let v = get_or vs l.v-index (Prim Bool) in
+    passed_on c.from_residual.result c.in_err-value.field-0.0 _ _ _ c.from_residual.ensures.1 c.in_err-value.ensures.full
+    (λ next g is q. zip_here (ValIs next c.args.done.now) vs q.0 l.v-index v (omega arith) (get_or_default vs l.v-index (Prim Bool) v c.loop-v-test.true) q.1)

@@ -1,4 +1,6 @@
-use Rattle.std.proofs.Common.{ℕ, List, Option, refl}
+use Rattle.pc_builder.proofs.OneNumber.{one_cases}
+use Rattle.pc_builder.proofs.Passing.{passed_on}
+use Rattle.std.proofs.Common.{ℕ, List, Option, refl, Some, ap, ◌∙◌}
 use Rattle.pc_types.specs.declared.types.InterfaceType.{InterfaceType}
 use Rattle.pc_builder.specs.Parts.{CaseIs}
 use Rattle.pc_builder.proofs.PartLemmas.{all_zip_more, case_grows}
@@ -30,3 +32,14 @@ returns-clause-is c =
 
 pub returns-clause-grows : goal.returns-clause-grows
 returns-clause-grows c = grows_trans c.args.self.now c.cases.new.self c.put_variant.new.self c.cases.ensures.grows c.put_variant.ensures.grows
+
+pub returns-in_err-put_variant-clause-full : goal.returns-in_err-put_variant-clause-full
+returns-in_err-put_variant-clause-full c =
+    let done = c.args.done.now in
+    let first = c.cases.new.self in
+    let part = c.in_ok-cases in
+    passed_on c.from_residual-in_err-put_variant.result c.in_err-put_variant.field-0.0 _ _ _ c.from_residual-in_err-put_variant.ensures.1 c.in_err-put_variant.ensures.full
+    (λ next g is q.
+    let grow = grows_trans first c.put_variant.new.self next c.put_variant.ensures.grows g in
+    let same = one_cases next is.distinct done c.args.cases.now q.1.1.cases part.cases q.1.4 (all_zip_more (CaseIs first done) (CaseIs next done) (case_grows first next grow done) c.args.cases.now part.cases part.ensures.are) in
+    (q.1.0.0, q.1.3 ∙ ap (λ x. Some (record { cases = x })) same))
