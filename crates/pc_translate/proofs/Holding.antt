@@ -1,7 +1,6 @@
 -- What frames and plans name is held.
-use Rattle.std.proofs.Common.{◌≡◌, ◌<◌, ℕ, zero, suc, List, [], ◌∷◌, ◌++◌, length, map, get_or, Option, Some, None, Result, Ok, Err, Bool, true, false, refl, sym, ap, ◌∙◌, subst, arith, ◌⊎◌, inl, inr, ◌&&◌, if◌then◌else◌}
+use Rattle.std.proofs.Common.{◌≡◌, ◌<◌, ℕ, zero, suc, List, [], ◌∷◌, ◌++◌, length, map, get_or, Option, Some, None, Result, Ok, Err, Bool, true, false, refl, sym, ap, ◌∙◌, subst, arith, inl, inr, if◌then◌else◌}
 use Rattle.std.specs.Prelude.{⊤, slice_get, OnOk, option_and_then}
-use Rattle.std.specs.List.{AllZip}
 use Rattle.std.proofs.lemmas.List.{length-map}
 use Rattle.std.proofs.lemmas.Option.{none-some, same_Some, slice_get-get_or, slice_get_within}
 use Rattle.pc_builder.specs.Types.{Types, Grows}
@@ -11,12 +10,11 @@ use Rattle.pc_info.specs.declared.export.Export.{Export}
 use Rattle.pc_info.specs.declared.export.Export.TheVariants as export
 use Rattle.pc_info.specs.declared.options.CanonicalOptions.{CanonicalOptions}
 use Rattle.pc_numbers.specs.declared.module_entity.ModuleInternedTypeIndex.{ModuleInternedTypeIndex}
-use Rattle.pc_parsed.specs.declared.fault.ItemFault.{ItemFault}
 use Rattle.pc_parsed.specs.declared.payload.ExternName.{ExternName}
 use Rattle.pc_parsed.specs.declared.fault.ItemFault.TheVariants.{BadType, Invalid}
 use Rattle.pc_parsed.specs.ItemRows.{found, has_entry}
 use Rattle.pc_translate.proofs.Adding.{found_ok, same_ok}
-use Rattle.pc_translate.proofs.Means.{Means, neither, both, zip_at}
+use Rattle.pc_translate.proofs.Means.{Means, both, zip_at}
 use Rattle.pc_translate.proofs.Naming.{found_in_push}
 use Rattle.pc_translate.specs.Building
 use Rattle.pc_translate.specs.declared.error.ReadError.{ReadError}

@@ -9,6 +9,7 @@ mod Reading
 mod Ending
 mod Trees
 mod Holding
+mod Numbering
 mod Naming
 mod Adding
 mod Translating

@@ -1,5 +1,5 @@
 -- What the builder's numbers say of a lift.
-use Rattle.std.proofs.Common.{◌≡◌, ℕ, ◌≤◌, List, [], ◌∷◌, length, Option, Some, None, Result, Ok, Err, Bool, true, false, refl, sym, ap, true≢false, ◌&&◌}
+use Rattle.std.proofs.Common.{◌≡◌, ℕ, length, Some, None, Result, Ok, Err, true, false, refl, sym, ap, ◌&&◌}
 use Rattle.pc_parsed.specs.declared.fault.ItemFault.{ItemFault}
 use Rattle.pc_parsed.specs.declared.fault.ItemFault.TheVariants.{BadType}
 use Rattle.pc_parsed.specs.ItemRows.{has_entry}
@@ -7,7 +7,7 @@ use Rattle.pc_translate.specs.Building.{Becomes, Ends, build_lift, build_lifted}
 use Rattle.pc_translate.specs.declared.error.ReadError.{ReadError}
 use Rattle.pc_translate.specs.declared.error.ReadError.TheVariants as read_error
 use Rattle.pc_translate.specs.declared.frame.Frame.{Frame}
-use Rattle.std.specs.Prelude.{⊤, slice_get, nat_lt}
+use Rattle.std.specs.Prelude.{⊤, slice_get}
 use Rattle.std.proofs.lemmas.Bool.{le-ltb, lt-ltb}
 use Rattle.std.proofs.lemmas.Option.{slice_get_within}
 use Rattle.pc_translate.proofs.Simulation.{past}

@@ -1,9 +1,14 @@
--- Which frames name types and signatures that the types builder holds.
-use Rattle.std.specs.Prelude.{◌≡◌, ◌<◌, ℕ, length, Some, slice_get}
+-- Which frames name types and signatures that the types builder holds, and which numbers are those of a table.
+use Rattle.std.specs.Prelude.{◌≡◌, ◌<◌, ℕ, List, length, Option, Some, slice_get}
+use Rattle.pc_numbers.specs.declared.module_entity.ModuleInternedTypeIndex.{ModuleInternedTypeIndex}
+use Rattle.pc_types.specs.declared.parsed.CoreFuncSig.{CoreFuncSig}
+use Rattle.pc_types.specs.declared.parsed.TypeTable.{TypeTable}
+use Rattle.pc_builder.specs.Converted.{AreConverted}
 use Rattle.pc_builder.specs.Types.{Types}
 use Rattle.pc_translate.specs.declared.frame.Frame.{Frame}
 use Rattle.pc_translate.specs.declared.frame.LiftedFunction.{LiftedFunction}
 use Rattle.pc_translate.specs.declared.frame.NamedFunction.{NamedFunction}
+use Rattle.pc_translate.specs.declared.numbers.Numbers.{Numbers}
 
 -- the type and the signature of a function are held
 abbrev pub IsHeldFunction : Types → LiftedFunction → Type 0
@@ -13,3 +18,17 @@ IsHeldFunction types x = (x.ty.0 < length types.funcs) × (x.core_type.0 < lengt
 pub record FrameHeld (types : Types) (f : Frame) : Type 0 where
   pub funcs : (n : ℕ) (x : LiftedFunction) → slice_get f.funcs n ≡ Some x → IsHeldFunction types x
   pub exports : (n : ℕ) (x : NamedFunction) → slice_get f.exports n ≡ Some x → IsHeldFunction types x.function
+
+-- the number is that of signature `n` of the table
+abbrev pub IsSignature : Types → TypeTable → ℕ → ModuleInternedTypeIndex → Type 0
+IsSignature types t n i =
+    (s : CoreFuncSig) × (slice_get t.core_funcs n ≡ Some s) × (slice_get types.signatures i.0 ≡ Some s)
+
+-- each signature that has a number has its own
+abbrev pub AreSignatures : Types → TypeTable → List (Option ModuleInternedTypeIndex) → Type 0
+AreSignatures types t numbers = (n : ℕ) (i : ModuleInternedTypeIndex) → slice_get numbers n ≡ Some (Some i) → IsSignature types t n i
+
+-- the numbers are those of the table's entries and signatures
+pub record AreNumbers (types : Types) (t : TypeTable) (x : Numbers) : Type 0 where
+  pub converted : AreConverted types t x.converted
+  pub signatures : AreSignatures types t x.signatures.items

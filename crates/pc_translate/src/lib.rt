@@ -10,6 +10,7 @@ mod error;
 mod frame;
 mod items;
 mod lift;
+mod numbers;
 mod plan;
 mod reader;
 #[cfg(test)]

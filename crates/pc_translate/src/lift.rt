@@ -1,20 +1,23 @@
 //! Lifting core functions.
 
-ghost use Rattle.std.specs.Prelude.{◌≡◌, ◌≢◌, ◌⊎◌, ◌<◌, ◌&&◌, ℕ, None, true, false, length, Result, IfErr, IfOk, OnOk};
+ghost use Rattle.std.specs.Prelude.{◌≡◌, ◌≢◌, ◌⊎◌, ◌<◌, ◌&&◌, ℕ, None, Some, true, false, length, slice_get, slice_set, Result, IfErr, IfOk, IfSome, OnOk};
 ghost use Rattle.std.specs.List.{list_all};
+ghost use Rattle.pc_builder.specs.Trees.{IsEntry};
 ghost use Rattle.pc_builder.specs.Types.{Grows, IsFull};
 ghost use Rattle.pc_parsed.specs.ItemRows.{has_entry};
 ghost use Rattle.pc_parsed.specs.declared.fault.ItemFault.{ItemFault};
 ghost use Rattle.pc_parsed.specs.declared.fault.ItemFault.TheVariants as fault;
+ghost use Rattle.pc_types.specs.declared.types.TypeDef.TheVariants as def;
 ghost use Rattle.pc_types.specs.Record.{has_signature};
 ghost use Rattle.pc_types.specs.Table.{is_func, table_fault};
 ghost use Rattle.pc_translate.specs.Building.{Becomes, Ends, build_lift, build_lifted};
-ghost use Rattle.pc_translate.specs.Held.{FrameHeld};
+ghost use Rattle.pc_translate.specs.Held.{AreNumbers, AreSignatures, FrameHeld, IsSignature};
 ghost use Rattle.pc_translate.specs.declared.error.ReadError.TheVariants as read_error;
 ghost use Rattle.pc_translate.specs.declared.frame.Frame.{Frame};
 
 use crate::error::ReadError;
 use crate::frame::{Frame, LiftedFunction};
+use crate::numbers::Numbers;
 use pc_builder::ComponentTypesBuilder;
 use pc_entity::TryClone;
 use pc_parsed::ItemFault;
@@ -25,16 +28,20 @@ use std::alloc::Global;
 fn func_type(
     types: &mut ComponentTypesBuilder,
     table: &TypeTable,
+    numbers: &mut Numbers,
     ty: u32,
 ) -> Result<TypeFuncIndex, ReadError>
     requires sound { table_fault table.now ≡ None }
+    requires numbers { AreNumbers types.old table.now numbers.old }
+    ensures numbers { AreNumbers types.new table.now numbers.new }
+    ensures is { IfOk result (λ i. IsEntry types.new table.now ty (def.ComponentFunc i)) }
     ensures ok { OnOk result (has_entry table.now is_func ty ≡ true) }
     ensures fault { (k : ItemFault) → result ≡ Err (read_error.Fault k) → (k ≡ fault.BadType) × (has_entry table.now is_func ty ≡ false) }
     ensures full { result ≡ Err read_error.TooMany → IsFull types.new }
     ensures held { IfOk result (λ i. i.0 < length types.new.funcs) }
     ensures grows { Grows types.old types.new }
 {
-    match types.convert_func(table, ty) {
+    match types.convert_func_with(table, ty, &mut numbers.converted) {
         Ok(index) => Ok(index),
         Err(TypeError::BadNumber) => Err(ReadError::Fault(ItemFault::BadType)),
         Err(TypeError::TooMany) => Err(ReadError::TooMany),
@@ -46,8 +53,69 @@ fn func_type(
 fn signature(
     types: &mut ComponentTypesBuilder,
     table: &TypeTable,
+    numbers: &mut Numbers,
     core: u32,
 ) -> Result<ModuleInternedTypeIndex, ReadError>
+    requires numbers { AreNumbers types.old table.now numbers.old }
+    ensures numbers { AreNumbers types.new table.now numbers.new }
+    ensures is { IfOk result (λ i. IsSignature types.new table.now core i) }
+    ensures ok { OnOk result (has_signature table.now core ≡ true) }
+    ensures fault { (k : ItemFault) → result ≡ Err (read_error.Fault k) → (k ≡ fault.BadType) × (has_signature table.now core ≡ false) }
+    ensures full { result ≡ Err read_error.TooMany → IsFull types.new }
+    ensures held { IfOk result (λ i. i.0 < length types.new.signatures) }
+    ensures grows { Grows types.old types.new }
+{
+    match number_at(numbers.signatures.as_slice(), core) {
+        Some(index) => Ok(index),
+        None => new_signature(types, table, &mut numbers.signatures, core),
+    }
+}
+
+/// The number of a signature, if it has one.
+fn number_at(
+    signatures: &[Option<ModuleInternedTypeIndex>],
+    core: u32,
+) -> Option<ModuleInternedTypeIndex>
+    ensures { IfSome result (λ i. slice_get signatures.now core ≡ Some (Some i)) }
+{
+    match signatures.get(core as usize) {
+        Some(number) => *number,
+        None => None,
+    }
+}
+
+/// The same of one that has no number yet.
+fn new_signature(
+    types: &mut ComponentTypesBuilder,
+    table: &TypeTable,
+    signatures: &mut Vec<Option<ModuleInternedTypeIndex>>,
+    core: u32,
+) -> Result<ModuleInternedTypeIndex, ReadError>
+    requires signatures { AreSignatures types.old table.now signatures.old.items }
+    ensures signatures { AreSignatures types.new table.now signatures.new.items }
+    ensures is { IfOk result (λ i. IsSignature types.new table.now core i) }
+    ensures ok { OnOk result (has_signature table.now core ≡ true) }
+    ensures fault { (k : ItemFault) → result ≡ Err (read_error.Fault k) → (k ≡ fault.BadType) × (has_signature table.now core ≡ false) }
+    ensures full { result ≡ Err read_error.TooMany → IsFull types.new }
+    ensures held { IfOk result (λ i. i.0 < length types.new.signatures) }
+    ensures grows { Grows types.old types.new }
+{
+    match core_signature(types, table, core) {
+        Ok(index) => {
+            note(signatures, core, index);
+            Ok(index)
+        }
+        Err(error) => Err(error),
+    }
+}
+
+/// A core signature, put into the builder.
+fn core_signature(
+    types: &mut ComponentTypesBuilder,
+    table: &TypeTable,
+    core: u32,
+) -> Result<ModuleInternedTypeIndex, ReadError>
+    ensures is { IfOk result (λ i. IsSignature types.new table.now core i) }
     ensures ok { OnOk result (has_signature table.now core ≡ true) }
     ensures fault { (k : ItemFault) → result ≡ Err (read_error.Fault k) → (k ≡ fault.BadType) × (has_signature table.now core ≡ false) }
     ensures full { result ≡ Err read_error.TooMany → IsFull types.new }
@@ -62,14 +130,30 @@ fn signature(
     }
 }
 
+/// A signature gets its number.
+fn note(
+    signatures: &mut Vec<Option<ModuleInternedTypeIndex>>,
+    core: u32,
+    index: ModuleInternedTypeIndex,
+)
+    ensures { signatures.new.items ≡ slice_set signatures.old.items core (Some index) }
+{
+    if (core as usize) < signatures.len() {
+        signatures[core as usize] = Some(index);
+    }
+}
+
 /// The builder's numbers of a function type and of a core signature.
 fn type_numbers(
     types: &mut ComponentTypesBuilder,
     table: &TypeTable,
+    numbers: &mut Numbers,
     ty: u32,
     core: u32,
 ) -> Result<(TypeFuncIndex, ModuleInternedTypeIndex), ReadError>
     requires sound { table_fault table.now ≡ None }
+    requires numbers { AreNumbers types.old table.now numbers.old }
+    ensures numbers { AreNumbers types.new table.now numbers.new }
     ensures ok { OnOk result ((has_entry table.now is_func ty && has_signature table.now core) ≡ true) }
     ensures fault { (k : ItemFault) → result ≡ Err (read_error.Fault k)
         → (k ≡ fault.BadType) × ((has_entry table.now is_func ty && has_signature table.now core) ≡ false) }
@@ -77,11 +161,11 @@ fn type_numbers(
     ensures held { IfOk result (λ numbers. (numbers.0.0 < length types.new.funcs) × (numbers.1.0 < length types.new.signatures)) }
     ensures grows { Grows types.old types.new }
 {
-    let ty = match func_type(types, table, ty) {
+    let ty = match func_type(types, table, numbers, ty) {
         Ok(ty) => ty,
         Err(error) => return Err(error),
     };
-    match signature(types, table, core) {
+    match signature(types, table, numbers, core) {
         Ok(core_type) => Ok((ty, core_type)),
         Err(error) => Err(error),
     }
@@ -116,17 +200,20 @@ impl Frame {
         alloc: Global,
         types: &mut ComponentTypesBuilder,
         table: &TypeTable,
+        numbers: &mut Numbers,
         func: u32,
         ty: u32,
         core: u32,
     ) -> Result<(), ReadError>
         requires sound { table_fault table.now ≡ None }
+        requires numbers { AreNumbers types.old table.now numbers.old }
+        ensures numbers { AreNumbers types.new table.now numbers.new }
         ensures lifts { Ends (λ (r : Result Frame ItemFault). (n : ℕ) × (s : ℕ) × (build_lift table.now n s self.old func ty core ≡ r)) self.new result }
         ensures full { result ≡ Err read_error.TooMany → IsFull types.new }
         ensures held { FrameHeld types.old self.old → OnOk result (FrameHeld types.new self.new) }
         ensures grows { Grows types.old types.new }
     {
-        let (ty, core_type) = match type_numbers(types, table, ty, core) {
+        let (ty, core_type) = match type_numbers(types, table, numbers, ty, core) {
             Ok(numbers) => numbers,
             Err(error) => return Err(error),
         };

@@ -5,12 +5,13 @@ ghost use Rattle.std.specs.List.{list_all};
 ghost use Rattle.pc_builder.specs.Types.{Grows, IsFull};
 ghost use Rattle.pc_types.specs.Table.{table_fault};
 ghost use Rattle.pc_translate.specs.Building.{Builds, Ends, Reads, empty_frame, read_error_at};
-ghost use Rattle.pc_translate.specs.Held.{FrameHeld};
+ghost use Rattle.pc_translate.specs.Held.{AreNumbers, FrameHeld};
 ghost use Rattle.pc_translate.specs.declared.error.ReadError.TheVariants as read_error;
 
 use crate::core_modules::CoreModules;
 use crate::error::ReadError;
 use crate::frame::Frame;
+use crate::numbers::Numbers;
 use pc_builder::ComponentTypesBuilder;
 use pc_entity::Seq;
 use pc_parsed::{ItemFault, LocalInitializer, LocalProgram};
@@ -37,11 +38,14 @@ impl Frame {
         alloc: Global,
         types: &mut ComponentTypesBuilder,
         table: &TypeTable,
+        numbers: &mut Numbers,
         modules: &CoreModules<'_>,
         item: &LocalInitializer,
     ) -> Result<(), ReadError>
         requires sound { table_fault table.now ≡ None }
+        requires numbers { AreNumbers types.old table.now numbers.old }
         requires room { length self.old.initializers < 4294967295 }
+        ensures numbers { AreNumbers types.new table.now numbers.new }
         ensures builds { Ends (Builds table.now modules.now self.old item.now) self.new result }
         ensures full { result ≡ Err read_error.TooMany → IsFull types.new }
         ensures held { FrameHeld types.old self.old → OnOk result (FrameHeld types.new self.new) }
@@ -56,7 +60,7 @@ impl Frame {
                 modules, *instance, name,
             ),
             LocalInitializer::Lift { func, ty, core } => self.read_lift(
-                alloc, types, table, *func, *ty, *core,
+                alloc, types, table, numbers, *func, *ty, *core,
             ),
             LocalInitializer::Export { name, index } => self.read_export(alloc, name, *index),
         }
@@ -81,10 +85,12 @@ fn read_items(
     alloc: Global,
     types: &mut ComponentTypesBuilder,
     table: &TypeTable,
+    numbers: &mut Numbers,
     modules: &CoreModules<'_>,
     items: &[LocalInitializer],
 ) -> Result<Frame, Error>
     requires sound { table_fault table.now ≡ None }
+    requires numbers { AreNumbers types.old table.now numbers.old }
     requires few { length items.now < 4294967295 }
     ensures reads { Reads table.now modules.now items.now result }
     ensures held { IfOk result (λ frame. FrameHeld types.new frame) }
@@ -93,7 +99,7 @@ fn read_items(
 {
     let mut frame = Frame::new(alloc);
     for (i, item) in items.iter().enumerate() {
-        match frame.read(alloc, types, table, modules, item) {
+        match frame.read(alloc, types, table, numbers, modules, item) {
             Ok(()) => {}
             Err(error) => return Err(error_at(error, i as u64)),
         }
@@ -116,10 +122,12 @@ pub(crate) fn read_program(
     ensures grows { Grows types.old types.new }
 {
     let modules = CoreModules::new(alloc, program.modules.as_slice())?;
+    let mut numbers = Numbers::new(alloc, table)?;
     read_items(
         alloc,
         types,
         table,
+        &mut numbers,
         &modules,
         program.root.initializers.as_slice(),
     )

@@ -7,7 +7,7 @@ use pc_parsed::{
 };
 use pc_types::{
     CoreFuncSig, CoreKind, DeclType, Error, ModuleRecord, Place, PrimType, TypeKind, TypeTable,
-    Unsupported, ValType,
+    Unsupported, ValType, WasmValType,
 };
 use std::alloc::Global;
 use std::process::Abort;
@@ -23,30 +23,44 @@ fn one<T: Drop>(alloc: Global, item: T) -> Result<Seq<T>, Fail> {
     Ok(list)
 }
 
-// One core signature, and as entries a function that takes a u32 and a module.
-fn table(alloc: Global) -> Result<TypeTable, Fail> {
-    let mut types = Seq::new(alloc);
-    types.push(DeclType::Func {
+fn func_taking_u32(alloc: Global) -> Result<DeclType, Fail> {
+    Ok(DeclType::Func {
         params: one(alloc, (text(alloc, "x")?, ValType::Prim(PrimType::U32)))?,
         result: None,
         async_: false,
-    })?;
+    })
+}
+
+fn signature_of(alloc: Global, params: usize) -> Result<CoreFuncSig, Fail> {
+    let params = vec![in alloc; WasmValType::I32; params]?;
+    Ok(CoreFuncSig {
+        params: Seq::from_vec(params),
+        results: Seq::new(alloc),
+    })
+}
+
+// A core signature of so many parameters, and as entries as many functions that take a u32 and then a module.
+fn table_of(alloc: Global, functions: u32, params: usize) -> Result<TypeTable, Fail> {
+    let mut types = Seq::new(alloc);
+    for _ in 0..functions {
+        types.push(func_taking_u32(alloc)?)?;
+    }
     types.push(DeclType::Module {
         imports: Seq::new(alloc),
         exports: Seq::new(alloc),
     })?;
-    let signature = CoreFuncSig {
-        params: Seq::new(alloc),
-        results: Seq::new(alloc),
-    };
     Ok(TypeTable {
-        core_funcs: one(alloc, signature)?,
+        core_funcs: one(alloc, signature_of(alloc, params)?)?,
         types,
     })
 }
 
+fn table(alloc: Global) -> Result<TypeTable, Fail> {
+    table_of(alloc, 1, 0)
+}
+
 // A module with one function, which it exports as `f`.
-fn module(alloc: Global) -> Result<Payload, Fail> {
+fn module(alloc: Global, ty: u32) -> Result<Payload, Fail> {
     let entity = EntityIndex::Function(FuncIndex(0));
     Ok(Payload::ModuleSection {
         record_: ModuleRecord {
@@ -58,7 +72,7 @@ fn module(alloc: Global) -> Result<Payload, Fail> {
             tags: 0,
             exports: one(alloc, (text(alloc, "f")?, entity))?,
         },
-        ty: 1,
+        ty,
     })
 }
 
@@ -102,7 +116,7 @@ fn body(alloc: Global, name: &str) -> Result<Vec<Payload>, Fail> {
     payloads.push(Payload::Version {
         encoding: Encoding::Component,
     })?;
-    payloads.push(module(alloc)?)?;
+    payloads.push(module(alloc, 1)?)?;
     payloads.push(instance(alloc)?)?;
     payloads.push(alias(alloc, name)?)?;
     payloads.push(lift(alloc)?)?;
@@ -137,6 +151,35 @@ fn a_lifted_function_is_planned(rt: HostRuntime) -> Result<(), Fail> {
     assert_eq!(rt; plan.component.num_runtime_instances, 1);
     assert_eq!(rt; plan.component.exports.len(), 1);
     assert!(rt; plan.component.exports.contains("run"));
+    Ok(())
+}
+
+// One instance of a module, whose function is lifted to each of as many types.
+fn lifted_often(alloc: Global, functions: u32) -> Result<Vec<Payload>, Fail> {
+    let mut lifts = Seq::new(alloc);
+    for ty in 0..functions {
+        lifts.push(CanonItem::Lift(0, ty, 0, Seq::new(alloc)))?;
+    }
+    let mut payloads = Vec::new(alloc);
+    payloads.push(Payload::Version {
+        encoding: Encoding::Component,
+    })?;
+    payloads.push(module(alloc, functions)?)?;
+    payloads.push(instance(alloc)?)?;
+    payloads.push(alias(alloc, "f")?)?;
+    payloads.push(Payload::ComponentCanonicalSection(lifts))?;
+    payloads.push(Payload::End)?;
+    Ok(payloads)
+}
+
+// A look through the table for each lift, or a look at its signature, would take minutes.
+#[test]
+fn many_types_are_each_met_once(rt: HostRuntime) -> Result<(), Fail> {
+    let alloc = rt.alloc();
+    let table = table_of(alloc, 100_000, 1_000_000)?;
+    let payloads = lifted_often(alloc, 100_000)?;
+    let (plan, _) = plan_payloads(alloc, &ONE, &table, None, payloads.as_slice())?;
+    assert_eq!(rt; plan.component.initializers.len(), 1);
     Ok(())
 }
 

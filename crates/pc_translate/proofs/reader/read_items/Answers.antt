@@ -17,5 +17,6 @@ loop-i-preserved c =
     record {
       so_far = read_next c.args.table.now c.args.modules.now items i item c.loop-i.frame c.read.new.self at c.loop-i.invariant.so_far c.in-Ok.ensures.builds;
       held = c.in-Ok.ensures.held c.loop-i.invariant.held;
+      numbers = c.in-Ok.ensures.numbers;
       grows = grows_trans _ _ _ c.loop-i.invariant.grows c.in-Ok.ensures.grows;
     }
