@@ -491,3 +491,26 @@ fn the_components_of_a_path_and_of_a_cycle_of_200000_nodes(rt: HostRuntime) -> R
     );
     Ok(())
 }
+
+// Two edges lead from each other node into node 0, whose component is left first.
+#[test]
+fn the_edges_of_a_star_of_200000_nodes_are_reversed(rt: HostRuntime) -> Result<(), Fail> {
+    let nodes = numbers(rt.alloc(), 200000)?;
+    let star = EntityGraph::new(
+        rt.alloc(),
+        nodes.as_slice(),
+        |node, into| -> Result<(), NoMemory> {
+            if node.0 > 0 {
+                into.push(FuncIndex(0))?;
+                into.push(FuncIndex(0))?;
+            }
+            Ok(())
+        },
+    )
+    .map_err(|_| NoMemory)?;
+    let lists = evaporation_of(rt.alloc(), &star)?;
+    assert_eq!(rt; lists.len(), 200000);
+    assert_eq!(rt; list_at(lists.as_slice(), 0).len(), 199999);
+    assert_eq!(rt; list_at(lists.as_slice(), 1).len(), 0);
+    Ok(())
+}
