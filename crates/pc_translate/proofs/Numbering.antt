@@ -1,6 +1,6 @@
 -- The numbers of a table's entries and signatures stay theirs.
 use Rattle.std.proofs.Common.{◌≡◌, ◌<◌, ℕ, zero, suc, true, List, [], ◌∷◌, length, Option, None, Some, refl, sym, ap, subst, inl, inr}
-use Rattle.std.specs.Prelude.{◌⊎◌, slice_get, slice_set, replicate}
+use Rattle.std.specs.Prelude.{◌⊎◌, option_and_then, slice_get, slice_set, replicate}
 use Rattle.std.proofs.lemmas.Bool.{lt-ltb}
 use Rattle.std.proofs.lemmas.Option.{none-some, same_Some, slice_get_within}
 use Rattle.pc_numbers.specs.declared.module_entity.ModuleInternedTypeIndex.{ModuleInternedTypeIndex}
@@ -47,6 +47,12 @@ signature_there types t n i h = lt-ltb n (length t.core_funcs) (slice_get_within
 -- and the number is held
 pub signature_held : (types : Types) (t : TypeTable) (n : ℕ) (i : ModuleInternedTypeIndex) → IsSignature types t n i → i.0 < length types.signatures
 signature_held types t n i h = slice_get_within types.signatures i.0 h.0 h.2
+
+-- a number that is found stands there
+pub number_there : {A : Type 0} (ns : List (Option A)) (n : ℕ) (i : A) → option_and_then (λ x. x) (slice_get ns n) ≡ Some i → slice_get ns n ≡ Some (Some i)
+number_there [] n i h = absurd (none-some i h)
+number_there (x ∷ ns) zero i h = ap Some h
+number_there (x ∷ ns) (suc n) i h = number_there ns n i h
 
 -- where nothing has a number yet, all of them are right
 none_of_none : {A : Type 0} (k n : ℕ) (x : A) → slice_get (replicate k None) n ≡ Some (Some x) → ⊥

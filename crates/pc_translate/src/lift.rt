@@ -1,6 +1,6 @@
 //! Lifting core functions.
 
-ghost use Rattle.std.specs.Prelude.{◌≡◌, ◌≢◌, ◌⊎◌, ◌<◌, ◌&&◌, ℕ, None, Some, true, false, length, slice_get, slice_set, Result, IfErr, IfOk, IfSome, OnOk};
+ghost use Rattle.std.specs.Prelude.{◌≡◌, ◌≢◌, ◌⊎◌, ◌<◌, ◌&&◌, ℕ, None, Some, true, false, length, option_and_then, slice_get, slice_set, Result, IfErr, IfOk, OnOk};
 ghost use Rattle.std.specs.List.{list_all};
 ghost use Rattle.pc_builder.specs.Trees.{IsEntry};
 ghost use Rattle.pc_builder.specs.Types.{Grows, IsFull};
@@ -76,7 +76,7 @@ fn number_at(
     signatures: &[Option<ModuleInternedTypeIndex>],
     core: u32,
 ) -> Option<ModuleInternedTypeIndex>
-    ensures { IfSome result (λ i. slice_get signatures.now core ≡ Some (Some i)) }
+    ensures { result ≡ option_and_then (λ number. number) (slice_get signatures.now core) }
 {
     match signatures.get(core as usize) {
         Some(number) => *number,

@@ -1,15 +1,16 @@
-use Rattle.std.proofs.Common.{◌≡◌, Some, subst}
-use Rattle.std.specs.Prelude.{slice_get}
+use Rattle.std.proofs.Common.{ap, sym, ◌∙◌}
+use Rattle.std.specs.Prelude.{option_and_then, slice_get}
 use Rattle.pc_builder.proofs.TreeLemmas.{converted_grows}
 use Rattle.pc_translate.specs.Held.{IsSignature}
-use Rattle.pc_translate.proofs.Numbering.{signature_held, signature_there}
+use Rattle.pc_translate.proofs.Numbering.{number_there, signature_held, signature_there}
 use Rattle.pc_translate.proofs.lift.signature.Goals as goal
 
 -- a number that was noted is that of the signature
 noted : (c : goal.In-Some) → IsSignature c.args.types.now c.args.table.now c.args.core c.in-Some.index
 noted c =
     c.requires.numbers.signatures c.args.core c.in-Some.index
-    (subst (λ ns. slice_get ns c.args.core ≡ Some (Some c.in-Some.index)) c.as_slice.ensures.value c.in-Some.ensures)
+    (number_there c.args.numbers.now.signatures.items c.args.core c.in-Some.index
+    (ap (λ ns. option_and_then (λ x. x) (slice_get ns c.args.core)) (sym c.as_slice.ensures.value) ∙ sym c.number_at.ensures ∙ c.in-Some.is))
 
 pub returns-in-Some-clause-is : goal.returns-in-Some-clause-is
 returns-in-Some-clause-is c = noted c
