@@ -27,7 +27,8 @@ module _ {V : Type 0} (m : Defaulted V) where
 
   -- a number has the value that was set
   pub value_at-set_same : (key : ℕ) (value : V) → value_at (with_value_at m key value) key ≡ value
-  value_at-set_same key value = ap (λ o. unwrap_or o m.default) (slice_get-set_same (filled m (key + 1)) key value (room key))
+  value_at-set_same key value =
+      ap (λ o. unwrap_or o m.default) (slice_get-set_same (filled m (key + 1)) key value (room key))
 
   -- another number keeps its value
   pub value_at-set_other : (key other : ℕ) (value : V) → other ≢ key

@@ -9,7 +9,8 @@ use std::alloc::Global;
 use std::collections::BTreeSet;
 use std::marker::{Model, PhantomData};
 
-/// A set of numbers. A contract sees a finite set. Its size goes with the numbers that are held, and not with the greatest.
+/// A set of numbers. A contract sees a finite set. Its size goes with the numbers that are held, and not with the
+/// greatest.
 #[derive(Drop)]
 pub struct EntitySet<K> {
     numbers: BTreeSet<u32>,

@@ -1,9 +1,11 @@
 //! Lists, texts and maps that contracts see as plain lists, and the numbers that name their entries.
 //!
-//! A contract sees a `Vec` or a `String` with its capacity and its pointer. The types here show it the items and the bytes
-//! alone, so that two values which a client can't tell apart are equal, and structs and enums over them compare by `==`.
+//! A contract sees a `Vec` or a `String` with its capacity and its pointer. The types here show it the items and the
+//! bytes alone, so that two values which a client can't tell apart are equal, and structs and enums over them compare
+//! by `==`.
 #![tactic(auto)]
 
+mod by_name;
 mod entity_set;
 mod interner;
 mod packed_option;
@@ -11,12 +13,11 @@ mod primary_map;
 mod secondary_map;
 mod seq;
 mod string_pool;
-#[cfg(test)]
-mod tests;
 mod text;
 mod text_map;
 mod try_clone;
 
+pub use by_name::first_values;
 pub use entity_set::EntitySet;
 pub use interner::Interner;
 pub use packed_option::PackedOption;

@@ -15,12 +15,14 @@ pub enum PackedOption<K> {
 }
 
 impl<K> PackedOption<K> {
+    /// No number.
     pub fn none() -> PackedOption<K>
         ensures { as_option result ≡ None }
     {
         PackedOption::None
     }
 
+    /// The number `key`.
     pub fn some(key: K) -> PackedOption<K>
         ensures { as_option result ≡ Some key }
     {
@@ -29,6 +31,7 @@ impl<K> PackedOption<K> {
 }
 
 impl<K: Copy> PackedOption<K> {
+    /// The number that is held, or none, as an option of std.
     pub fn expand(self) -> Option<K>
         ensures { result ≡ as_option self }
     {
@@ -38,6 +41,7 @@ impl<K: Copy> PackedOption<K> {
         }
     }
 
+    /// Whether no number is held.
     pub fn is_none(self) -> bool
         ensures { IsTrue result ↔ (as_option self ≡ None) }
     {

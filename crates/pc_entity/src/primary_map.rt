@@ -38,7 +38,7 @@ impl<K: EntityRef, V> PrimaryMap<K, V> {
         }
     }
 
-    /// The same values, in the same memory. The first has number 0.
+    /// The values of a vector, in the same memory. The first has number 0.
     pub fn from_vec(values: Vec<V>) -> PrimaryMap<K, V>
         ensures { result ≡ values.items }
     {
@@ -48,7 +48,7 @@ impl<K: EntityRef, V> PrimaryMap<K, V> {
         }
     }
 
-    /// The same values, in the same memory.
+    /// The values as a vector, in the same memory.
     pub fn into_vec(self) -> Vec<V>
         ensures { result.items ≡ self }
     {
@@ -78,6 +78,7 @@ impl<K: EntityRef, V> PrimaryMap<K, V> {
         self.values.len()
     }
 
+    /// Whether no value was added.
     pub fn is_empty(&self) -> bool
         ensures { result ≡ nat_eq (length self.now) 0 }
     {

@@ -8,7 +8,8 @@ use pc_numbers::EntityRef;
 use std::alloc::Global;
 use std::marker::{Model, PhantomData};
 
-/// A value for every number: a list, and a default for each number past its end. A contract sees the list and the default.
+/// A value for every number: a list, and a default for each number past its end. A contract sees the list and the
+/// default.
 #[derive(Drop)]
 pub struct SecondaryMap<K, V> {
     values: Vec<V>,
@@ -66,6 +67,7 @@ impl<K: EntityRef, V: Copy> SecondaryMap<K, V> {
         self.values.len()
     }
 
+    /// Whether no value is held, so that every number has the default.
     pub fn is_empty(&self) -> bool
         ensures { result ≡ nat_eq (length self.now.items) 0 }
     {

@@ -47,14 +47,14 @@ impl<T> Seq<T> {
         })
     }
 
-    /// The same items, in the same memory.
+    /// The items of a vector, in the same memory.
     pub fn from_vec(items: Vec<T>) -> Seq<T>
         ensures { result ≡ items.items }
     {
         Seq { items }
     }
 
-    /// The same items, in the same memory.
+    /// The items as a vector, in the same memory.
     pub fn into_vec(self) -> Vec<T>
         ensures { result.items ≡ self }
     {
@@ -76,12 +76,14 @@ impl<T> Seq<T> {
         self.items.as_slice().iter()
     }
 
+    /// The number of items.
     pub fn len(&self) -> usize
         ensures { result ≡ length self.now }
     {
         self.items.len()
     }
 
+    /// Whether there are no items.
     pub fn is_empty(&self) -> bool
         ensures { result ≡ nat_eq (length self.now) 0 }
     {

@@ -1,6 +1,7 @@
 //! A list of distinct texts, in which equal texts share a number.
 
-ghost use Rattle.std.specs.Prelude.{◌≡◌, ◌++◌, ◌∷◌, ◌<◌, ◌⊎◌, [], length, slice_get, Contains, Some, IfSome, IfNone, IfOk, OnOk, OnErr};
+ghost use Rattle.std.specs.Prelude.{◌≡◌, ◌++◌, ◌∷◌, ◌<◌, ◌⊎◌, [], length, slice_get, Contains, Some, IfSome, IfNone};
+ghost use Rattle.std.specs.Prelude.{IfOk, OnOk, OnErr};
 ghost use Rattle.std.proofs.Common.{refl, rules};
 ghost use Rattle.pc_entity.specs.Lists.{AreDistinct};
 

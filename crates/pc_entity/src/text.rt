@@ -51,14 +51,14 @@ impl Text {
         })
     }
 
-    /// The same text, in the same memory.
+    /// The text of a string, in the same memory.
     pub fn from_string(text: String) -> Text
         ensures { result ≡ string_bytes text }
     {
         Text { text }
     }
 
-    /// The same text, in the same memory.
+    /// The text as a string, in the same memory.
     pub fn into_string(self) -> String
         ensures { string_bytes result ≡ self }
     {
@@ -79,6 +79,7 @@ impl Text {
         self.text.len()
     }
 
+    /// Whether it has no bytes.
     pub fn is_empty(&self) -> bool
         ensures { result ≡ nat_eq (length self.now) 0 }
     {

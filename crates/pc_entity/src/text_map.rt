@@ -97,8 +97,8 @@ impl<V: Drop> TextMap<V> {
         Ok(())
     }
 
-    /// Puts `value` at `name`, and answers the value that stood there. A name that is absent is added at the end, and only
-    /// then is a refusal possible, which drops the name and the value.
+    /// Puts `value` at `name`, and answers the value that stood there. A name that is absent is added at the end, and
+    /// only then is a refusal possible, which drops the name and the value.
     pub fn insert(&mut self, name: Text, value: V) -> Result<Option<V>, NoMemory>
         ensures old { IfOk result (λ old. old ≡ value_of name self.old) }
         ensures ok { OnOk result (self.new ≡ with_value self.old name value) }

@@ -44,10 +44,12 @@ module _ {A : Type 0} where
       (h.0, join h.1 x, h.2, joined_push R ws w h.1 x h.3 r, ap (λ y. join y x) h.4 ∙ join_assoc h.0 h.1 x)
 
   -- a step of a loop over the items
-  pub joined_next : (R : A → TypeFacts → Type 0) (ws : List A) (i : ℕ) (w : A) (a x : TypeFacts) → i < length ws → w ≡ get_or ws i w
+  pub joined_next : (R : A → TypeFacts → Type 0) (ws : List A) (i : ℕ) (w : A) (a x : TypeFacts) → i < length ws
+      → w ≡ get_or ws i w
       → AreJoined R (take i ws) a → R w x → AreJoined R (take (i + 1) ws) (join a x)
   joined_next R ws i w a x within is h r =
-      subst (λ l. AreJoined R l (join a x)) (sym ((take_at_read ws i w within).1 ∙ ap (λ z. take i ws ++ z ∷ []) (sym is)))
+      subst (λ l. AreJoined R l (join a x))
+      (sym ((take_at_read ws i w within).1 ∙ ap (λ z. take i ws ++ z ∷ []) (sym is)))
       (joined_push R (take i ws) w a x h r)
 
   -- a weaker relation

@@ -60,7 +60,8 @@ module _ (old new : FactTable) (k : Keeps old new) where
 
   pub variant_keeps : (v : TypeVariant) (x : TypeFacts) → VariantHas old v x → VariantHas new v x
   variant_keeps v x h =
-      joined_more (λ (c : List ℕ × Option InterfaceType). MayHaveFacts old c.1) (λ (c : List ℕ × Option InterfaceType). MayHaveFacts new c.1)
+      joined_more (λ (c : List ℕ × Option InterfaceType). MayHaveFacts old c.1)
+      (λ (c : List ℕ × Option InterfaceType). MayHaveFacts new c.1)
       (λ c y q. may_keep c.1 y q) v.cases x h
 
   pub list_keeps : (l : TypeList) (x : TypeFacts) → ListHas old l x → ListHas new l x

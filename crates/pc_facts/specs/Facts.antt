@@ -6,7 +6,15 @@ use Rattle.pc_facts.specs.declared.facts.TypeFacts.{TypeFacts}
 
 -- none of these types stands there
 abbrev pub no_facts : TypeFacts
-no_facts = record { string = false; list = false; own = false; borrow = false; future = false; stream = false; error_context = false }
+no_facts = record {
+  string = false;
+  list = false;
+  own = false;
+  borrow = false;
+  future = false;
+  stream = false;
+  error_context = false;
+}
 
 -- what stands in one of the two
 abbrev pub join : TypeFacts → TypeFacts → TypeFacts
@@ -24,26 +32,89 @@ join a b = record {
 abbrev pub has_handle : TypeFacts → Bool
 has_handle a = a.own || a.borrow || a.future || a.stream || a.error_context
 
+-- a string alone
 abbrev pub a_string : TypeFacts
-a_string = record { string = true; list = false; own = false; borrow = false; future = false; stream = false; error_context = false }
+a_string = record {
+  string = true;
+  list = false;
+  own = false;
+  borrow = false;
+  future = false;
+  stream = false;
+  error_context = false;
+}
 
+-- a list alone
 abbrev pub a_list : TypeFacts
-a_list = record { string = false; list = true; own = false; borrow = false; future = false; stream = false; error_context = false }
+a_list = record {
+  string = false;
+  list = true;
+  own = false;
+  borrow = false;
+  future = false;
+  stream = false;
+  error_context = false;
+}
 
+-- an owned handle alone
 abbrev pub an_own : TypeFacts
-an_own = record { string = false; list = false; own = true; borrow = false; future = false; stream = false; error_context = false }
+an_own = record {
+  string = false;
+  list = false;
+  own = true;
+  borrow = false;
+  future = false;
+  stream = false;
+  error_context = false;
+}
 
+-- a borrowed handle alone
 abbrev pub a_borrow : TypeFacts
-a_borrow = record { string = false; list = false; own = false; borrow = true; future = false; stream = false; error_context = false }
+a_borrow = record {
+  string = false;
+  list = false;
+  own = false;
+  borrow = true;
+  future = false;
+  stream = false;
+  error_context = false;
+}
 
+-- a future alone
 abbrev pub a_future : TypeFacts
-a_future = record { string = false; list = false; own = false; borrow = false; future = true; stream = false; error_context = false }
+a_future = record {
+  string = false;
+  list = false;
+  own = false;
+  borrow = false;
+  future = true;
+  stream = false;
+  error_context = false;
+}
 
+-- a stream alone
 abbrev pub a_stream : TypeFacts
-a_stream = record { string = false; list = false; own = false; borrow = false; future = false; stream = true; error_context = false }
+a_stream = record {
+  string = false;
+  list = false;
+  own = false;
+  borrow = false;
+  future = false;
+  stream = true;
+  error_context = false;
+}
 
+-- an error context alone
 abbrev pub an_error_context : TypeFacts
-an_error_context = record { string = false; list = false; own = false; borrow = false; future = false; stream = false; error_context = true }
+an_error_context = record {
+  string = false;
+  list = false;
+  own = false;
+  borrow = false;
+  future = false;
+  stream = false;
+  error_context = true;
+}
 
 abbrev mutual
   -- which types stand anywhere in the tree; what a stream or a future carries isn't entered
@@ -69,18 +140,22 @@ abbrev mutual
   facts_of (module_of imports exports) = no_facts
   facts_of (resource_of r) = no_facts
 
+  -- what stands in one of the fields
   pub facts_of_fields : Fields → TypeFacts
   facts_of_fields no_fields = no_facts
   facts_of_fields (and_field name t ts) = join (facts_of t) (facts_of_fields ts)
 
+  -- what stands in one of the cases
   pub facts_of_cases : Cases → TypeFacts
   facts_of_cases no_cases = no_facts
   facts_of_cases (and_case name t ts) = join (facts_of_maybe t) (facts_of_cases ts)
 
+  -- what stands in one of the trees
   pub facts_of_all : Trees → TypeFacts
   facts_of_all no_trees = no_facts
   facts_of_all (and_tree t ts) = join (facts_of t) (facts_of_all ts)
 
+  -- what stands in a tree that may be left out
   pub facts_of_maybe : MaybeTree → TypeFacts
   facts_of_maybe no_tree = no_facts
   facts_of_maybe (a_tree t) = facts_of t

@@ -34,6 +34,7 @@ module _ (f : FactTable) where
   Knows (ty.Result i) = i.0 < length f.results
   Knows _ = Unit {0}
 
+  -- the table has the facts of a value type that may be left out
   abbrev pub MayKnow : Option InterfaceType → Type 0
   MayKnow None = Unit {0}
   MayKnow (Some w) = Knows w
@@ -58,7 +59,7 @@ module _ (f : FactTable) where
   HasFacts (ty.ErrorContext i) x = x ≡ an_error_context
   HasFacts _ x = x ≡ no_facts
 
-  -- the same of what may be left out
+  -- these are the facts of a value type that may be left out
   abbrev pub MayHaveFacts : Option InterfaceType → TypeFacts → Type 0
   MayHaveFacts None x = x ≡ no_facts
   MayHaveFacts (Some w) x = HasFacts w x
@@ -66,23 +67,30 @@ module _ (f : FactTable) where
   -- these are the facts of the function type
   abbrev pub FuncHas : TypeFunc → TypeFacts → Type 0
   FuncHas g x =
-      (y z : TypeFacts) × (slice_get f.tuples g.params.0 ≡ Some y) × (slice_get f.tuples g.results.0 ≡ Some z) × (x ≡ join y z)
+      (y z : TypeFacts) × (slice_get f.tuples g.params.0 ≡ Some y) × (slice_get f.tuples g.results.0 ≡ Some z)
+      × (x ≡ join y z)
 
+  -- these are the facts of the tuple type
   abbrev pub TupleHas : TypeTuple → TypeFacts → Type 0
   TupleHas t x = AreJoined HasFacts t.types x
 
+  -- these are the facts of the record type
   abbrev pub RecordHas : TypeRecord → TypeFacts → Type 0
   RecordHas r x = AreJoined (λ (g : List ℕ × InterfaceType). HasFacts g.1) r.fields x
 
+  -- these are the facts of the variant type
   abbrev pub VariantHas : TypeVariant → TypeFacts → Type 0
   VariantHas v x = AreJoined (λ (c : List ℕ × Option InterfaceType). MayHaveFacts c.1) v.cases x
 
+  -- these are the facts of the list type, itself among them
   abbrev pub ListHas : TypeList → TypeFacts → Type 0
   ListHas l x = (y : TypeFacts) × HasFacts l.element y × (x ≡ join a_list y)
 
+  -- these are the facts of the option type
   abbrev pub OptionHas : TypeOption → TypeFacts → Type 0
   OptionHas o x = HasFacts o.ty x
 
+  -- these are the facts of the result type
   abbrev pub ResultHas : TypeResult → TypeFacts → Type 0
   ResultHas r x = (y z : TypeFacts) × MayHaveFacts r.ok y × MayHaveFacts r.err z × (x ≡ join y z)
 

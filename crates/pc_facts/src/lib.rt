@@ -5,8 +5,6 @@
 pub mod facts;
 pub mod list;
 pub mod table;
-#[cfg(test)]
-mod tests;
 
 pub use facts::TypeFacts;
 pub use list::FactList;

@@ -40,6 +40,7 @@ impl FactList {
         self.items[i as usize]
     }
 
+    /// Adds the facts of the next number. On a refusal the list stays as it was.
     pub fn push(&mut self, facts: TypeFacts) -> Result<(), NoMemory>
         ensures ok { OnOk result (self.new ≡ self.old ++ facts ∷ []) }
         ensures err { OnErr result (self.new ≡ self.old) }

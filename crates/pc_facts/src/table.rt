@@ -1,7 +1,8 @@
 //! The facts of interned types, and of types made of them.
 
 ghost use Rattle.std.specs.Prelude.{◌≡◌, All};
-ghost use Rattle.pc_facts.specs.Table.{no_table, Knows, MayKnow, KnowsFunc, HasFacts, MayHaveFacts, FuncHas, TupleHas, RecordHas, VariantHas, ListHas, OptionHas, ResultHas, AreJoined};
+ghost use Rattle.pc_facts.specs.Table.{no_table, Knows, MayKnow, KnowsFunc, HasFacts, MayHaveFacts, FuncHas};
+ghost use Rattle.pc_facts.specs.Table.{TupleHas, RecordHas, VariantHas, ListHas, OptionHas, ResultHas, AreJoined};
 
 use crate::{FactList, TypeFacts};
 use pc_entity::Text;
@@ -62,7 +63,7 @@ impl FactTable {
         facts
     }
 
-    /// The same of what may be left out.
+    /// The facts of a value type that may be left out, which has none where it is.
     pub fn maybe_facts(&self, w: Option<InterfaceType>) -> TypeFacts
         requires known { MayKnow self.now w }
         ensures { MayHaveFacts self.now w result }

@@ -8,8 +8,8 @@ use std::hash::Hash;
 
 /// A type whose `==` is equality of values.
 ///
-/// `Eq` alone says that `==` is an equivalence, which might hold of values that differ. Where equal values are to share a
-/// number, the number must stand for one value.
+/// `Eq` alone says that `==` is an equivalence, which might hold of values that differ. Where equal values are to share
+/// a number, the number must stand for one value.
 pub trait ExactEq: Eq + Hash {
     // Values that compare equal are the same value.
     ghost exact: { (a b : Self) → Self.eq a b ≡ true → a ≡ b };

@@ -4,10 +4,8 @@
 #![tactic(auto)]
 
 mod entities;
-mod exports;
+mod import_index;
 mod positions;
 pub mod record_index;
-#[cfg(test)]
-mod tests;
 
 pub use record_index::RecordIndex;

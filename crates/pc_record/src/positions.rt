@@ -3,52 +3,29 @@
 ghost use Rattle.std.specs.Prelude.{◌≡◌, IfOk};
 ghost use Rattle.std.specs.List.{filter_map};
 ghost use Rattle.pc_types.specs.Record.{places_from, import_signature, import_width};
-ghost use Rattle.pc_record.specs.Indexed.{ArePlacesOf, places_at};
+ghost use Rattle.pc_record.specs.Indexed.{ArePlacesOf};
 
 use pc_entity::{NoMemory, Seq, Text};
-use pc_types::{CoreEntity, CoreKind};
+use pc_types::{ByKind, CoreEntity, CoreKind};
 use std::alloc::Global;
 
 /// The places of the imports of each kind, in order.
-#[derive(Drop)]
-pub(crate) struct Positions {
-    funcs: Seq<usize>,
-    tables: Seq<usize>,
-    memories: Seq<usize>,
-    globals: Seq<usize>,
-    tags: Seq<usize>,
+pub(crate) fn positions(
+    alloc: Global,
+    imports: &[(Text, Text, CoreEntity)],
+) -> Result<ByKind<Seq<usize>>, NoMemory>
+    ensures { IfOk result (λ places. ArePlacesOf imports.now places) }
+{
+    Ok(ByKind {
+        funcs: places(alloc, imports, CoreKind::Func)?,
+        tables: places(alloc, imports, CoreKind::Table)?,
+        memories: places(alloc, imports, CoreKind::Memory)?,
+        globals: places(alloc, imports, CoreKind::Global)?,
+        tags: places(alloc, imports, CoreKind::Tag)?,
+    })
 }
 
-impl Positions {
-    pub(crate) fn new(
-        alloc: Global,
-        imports: &[(Text, Text, CoreEntity)],
-    ) -> Result<Positions, NoMemory>
-        ensures { IfOk result (λ positions. ArePlacesOf imports.now positions) }
-    {
-        Ok(Positions {
-            funcs: places(alloc, imports, CoreKind::Func)?,
-            tables: places(alloc, imports, CoreKind::Table)?,
-            memories: places(alloc, imports, CoreKind::Memory)?,
-            globals: places(alloc, imports, CoreKind::Global)?,
-            tags: places(alloc, imports, CoreKind::Tag)?,
-        })
-    }
-
-    pub(crate) fn of(&self, kind: CoreKind) -> &[usize]
-        ensures { result.now ≡ places_at self.now kind }
-    {
-        match kind {
-            CoreKind::Func => self.funcs.as_slice(),
-            CoreKind::Table => self.tables.as_slice(),
-            CoreKind::Memory => self.memories.as_slice(),
-            CoreKind::Global => self.globals.as_slice(),
-            CoreKind::Tag => self.tags.as_slice(),
-        }
-    }
-}
-
-/// The places of the imports of a kind, in order.
+// The places of the imports of a kind, in order.
 fn places(
     alloc: Global,
     imports: &[(Text, Text, CoreEntity)],

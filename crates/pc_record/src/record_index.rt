@@ -1,31 +1,23 @@
 //! Questions to a module record, answered without a look through its imports.
 
 ghost use Rattle.std.specs.Prelude.{◌≡◌, ◌<◌, ◌++◌, length, nat_lt, slice_get, IfOk};
-ghost use Rattle.pc_types.specs.Record.{imported, index_number, index_kind, import_place, imported_entity, export_of, func_signatures, memory_widths};
+ghost use Rattle.pc_types.specs.Record.{imported, index_number, index_kind, import_place, imported_entity, export_of};
+ghost use Rattle.pc_types.specs.Record.{func_signatures, memory_widths};
 
-use crate::entities::entities;
-use crate::exports::first_exports;
-use crate::positions::{Positions, signatures, widths};
-use pc_entity::{EntityIndex, FuncIndex, MemoryIndex, NoMemory, Seq, TextMap};
+use crate::import_index::ImportIndex;
+use pc_entity::{EntityIndex, FuncIndex, MemoryIndex, NoMemory, TextMap, first_values};
 use pc_types::{CoreKind, ModuleRecord, entity_number};
 use std::alloc::Global;
 use std::marker::Model;
 
-/// A module record with an index of its imports and exports, made once. A contract sees the record, and each call answers
-/// what the record's call of the same name does.
+/// A module record with an index of its imports and exports, made once. A contract sees the record, and each call
+/// answers what the record's call of the same name does.
 ///
 /// A call on imports takes constant time, and one on a name that of a look-up in a map.
 #[derive(Drop)]
 pub struct RecordIndex<'a> {
     record: &'a ModuleRecord,
-    /// Where the imports of each kind stand.
-    positions: Positions,
-    /// The entity that each import is.
-    entities: Seq<EntityIndex>,
-    /// The signature numbers of the imported functions.
-    signatures: Seq<u32>,
-    /// Whether each imported memory is 64-bit.
-    widths: Seq<bool>,
+    imports: ImportIndex,
     /// The entity of the first export of each name.
     exports: TextMap<EntityIndex>,
 }
@@ -47,18 +39,11 @@ impl<'a> RecordIndex<'a> {
         requires numbered { length record.now.imports < 4294967295 }
         ensures { IfOk result (λ index. index ≡ record.now) }
     {
-        let imports = record.imports.as_slice();
-        let positions = Positions::new(alloc, imports)?;
-        let entities = entities(alloc, imports)?;
-        let signatures = signatures(alloc, imports)?;
-        let widths = widths(alloc, imports)?;
-        let exports = first_exports(alloc, record.exports.as_slice())?;
+        let imports = ImportIndex::new(alloc, record.imports.as_slice())?;
+        let exports = first_values(alloc, record.exports.as_slice())?;
         Ok(RecordIndex {
             record,
-            positions,
-            entities,
-            signatures,
-            widths,
+            imports,
             exports,
         })
     }
@@ -74,7 +59,7 @@ impl<'a> RecordIndex<'a> {
     pub fn imported(&self, kind: CoreKind) -> usize
         ensures { result ≡ imported self.now kind }
     {
-        self.positions.of(kind).len()
+        self.imports.positions.of(kind).len()
     }
 
     /// Whether an entity is imported.
@@ -88,15 +73,15 @@ impl<'a> RecordIndex<'a> {
     pub fn import_position(&self, entity: EntityIndex) -> Option<usize>
         ensures { result ≡ import_place self.now entity }
     {
-        let places = self.positions.of(CoreKind::of(entity));
-        places.get(entity_number(entity) as usize).copied()
+        let places = self.imports.positions.of(CoreKind::of(entity));
+        item(places.as_slice(), entity_number(entity) as usize)
     }
 
     /// The entity that the import at a place is.
     pub fn import_index(&self, position: usize) -> Option<EntityIndex>
         ensures { result ≡ imported_entity self.now position }
     {
-        item(self.entities.as_slice(), position)
+        item(self.imports.entities.as_slice(), position)
     }
 
     /// The entity of the first export of a name.
@@ -111,7 +96,7 @@ impl<'a> RecordIndex<'a> {
         ensures { result ≡ slice_get (func_signatures self.now) f.0 }
     {
         at(
-            self.signatures.as_slice(),
+            self.imports.signatures.as_slice(),
             self.record.funcs.as_slice(),
             f.0,
         )
@@ -121,7 +106,11 @@ impl<'a> RecordIndex<'a> {
     pub fn memory64(&self, m: MemoryIndex) -> Option<bool>
         ensures { result ≡ slice_get (memory_widths self.now) m.0 }
     {
-        at(self.widths.as_slice(), self.record.memories.as_slice(), m.0)
+        at(
+            self.imports.widths.as_slice(),
+            self.record.memories.as_slice(),
+            m.0,
+        )
     }
 }
 

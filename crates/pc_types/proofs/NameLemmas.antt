@@ -1,5 +1,5 @@
 -- Names in a set, and names that stand twice in a list.
-use Rattle.std.proofs.Common.{◌≡◌, ◌<◌, ◌+◌, suc, get_or, drop, ℕ, Bool, true, false, ◌||◌, ◌&&◌, not, List, [], ◌∷◌, ◌++◌, map, take, length, cond, refl, sym, ap, ◌∙◌, arith, Bor, true≢false}
+use Rattle.std.proofs.Common.{◌≡◌, ◌<◌, ◌+◌, suc, get_or, drop, ℕ, Bool, true, false, ◌||◌, ◌&&◌, not, List, [], ◌∷◌, ◌++◌, map, take, length, cond, refl, sym, ap, ◌∙◌, Bor, true≢false}
 use Rattle.std.specs.List.{list_any}
 use Rattle.std.specs.declared.cmp.Ordering.{Ordering}
 use Rattle.std.specs.declared.cmp.Ordering.TheVariants.{Less, Equal, Greater}
@@ -16,7 +16,7 @@ use Rattle.std.proofs.lemmas.List.{take-append-drop, map_push, map-append}
 use Rattle.std.proofs.Math.Seq.{drop-cons}
 use Rattle.std.proofs.lemmas.List.Folds.{list_any-append}
 use Rattle.pc_entity.proofs.Elements.{and_true, true_and}
-use Rattle.pc_types.specs.Names.{has_name, distinct_names, are_distinct, same_pair}
+use Rattle.pc_types.specs.Names.{has_name, are_distinct, same_pair}
 
 -- neither part of a disjunction that fails
 or_false : (a b : Bool) → (a || b) ≡ false → (a ≡ false) × (b ≡ false)
@@ -70,18 +70,23 @@ abbrev compare_pairs : Bor (List ℕ) × Bor (List ℕ) → Bor (List ℕ) × Bo
 compare_pairs x y = ordering_then (slice_cmp nat_cmp x.0.now y.0.now) (slice_cmp nat_cmp x.1.now y.1.now)
 
 -- such references compare equal exactly where the texts are the same
-is_eq-pairs : (x y : Bor (List ℕ) × Bor (List ℕ)) → is_eq (compare_pairs x y) ≡ same_pair (x.0.now, x.1.now) (y.0.now, y.1.now)
-is_eq-pairs x y = by (slice_cmp nat_cmp x.0.now y.0.now) (is_eq-slice_cmp x.0.now y.0.now) (is_eq-slice_cmp x.1.now y.1.now)
+is_eq-pairs : (x y : Bor (List ℕ) × Bor (List ℕ))
+    → is_eq (compare_pairs x y) ≡ same_pair (x.0.now, x.1.now) (y.0.now, y.1.now)
+is_eq-pairs x y =
+    by (slice_cmp nat_cmp x.0.now y.0.now) (is_eq-slice_cmp x.0.now y.0.now) (is_eq-slice_cmp x.1.now y.1.now)
   where
-    by : (o : Ordering) → is_eq o ≡ bytes_eq x.0.now y.0.now → is_eq (slice_cmp nat_cmp x.1.now y.1.now) ≡ bytes_eq x.1.now y.1.now
-        → is_eq (ordering_then o (slice_cmp nat_cmp x.1.now y.1.now)) ≡ (bytes_eq x.0.now y.0.now && bytes_eq x.1.now y.1.now)
+    by : (o : Ordering) → is_eq o ≡ bytes_eq x.0.now y.0.now
+        → is_eq (slice_cmp nat_cmp x.1.now y.1.now) ≡ bytes_eq x.1.now y.1.now
+        → is_eq (ordering_then o (slice_cmp nat_cmp x.1.now y.1.now))
+        ≡ (bytes_eq x.0.now y.0.now && bytes_eq x.1.now y.1.now)
     by Less e f = λ i. e i && bytes_eq x.1.now y.1.now
     by Equal e f = rw (← e) f
     by Greater e f = λ i. e i && bytes_eq x.1.now y.1.now
 
 -- a pair is among those behind the keys of a set exactly where the set has it
 pub same_pair-keys : (keys : List (Bor (List ℕ) × Bor (List ℕ))) (q : Bor (List ℕ) × Bor (List ℕ))
-    → list_any (same_pair (q.0.now, q.1.now)) (map (λ k. (k.0.now, k.1.now)) keys) ≡ list_any (is_at (compare_pairs q)) keys
+    → list_any (same_pair (q.0.now, q.1.now)) (map (λ k. (k.0.now, k.1.now)) keys)
+    ≡ list_any (is_at (compare_pairs q)) keys
 same_pair-keys [] q = refl
 same_pair-keys (k ∷ ks) q = λ i. sym (is_eq-pairs q k) i || same_pair-keys ks q i
 
@@ -116,7 +121,8 @@ module _ {A : Type 0} (same : A → A → Bool) (mirrored : (a b : A) → same a
       by false h = refl
 
   -- an item that is like one before makes the list repeat itself
-  pub are_distinct-met : (xs ys : List A) (y : A) → list_any (same y) xs ≡ true → are_distinct same (xs ++ y ∷ ys) ≡ false
+  pub are_distinct-met : (xs ys : List A) (y : A) → list_any (same y) xs ≡ true
+      → are_distinct same (xs ++ y ∷ ys) ≡ false
   are_distinct-met [] ys y met = absurd (true≢false (sym met))
   are_distinct-met (x ∷ xs) ys y met = by (same y x) refl met (are_distinct-met xs ys y)
     where
@@ -134,34 +140,45 @@ module _ {A : Type 0} (same : A → A → Bool) (mirrored : (a b : A) → same a
       by true is met later =
           rw (list_any-append (same x) xs (y ∷ ys), mirrored x y, is)
           (hides (list_any (same x) xs) (list_any (same x) ys) (are_distinct same (xs ++ y ∷ ys)))
-      by false is met later = none (not (list_any (same x) (xs ++ y ∷ ys))) (are_distinct same (xs ++ y ∷ ys)) (later met)
+      by false is met later =
+          none (not (list_any (same x) (xs ++ y ∷ ys))) (are_distinct same (xs ++ y ∷ ys)) (later met)
 
 -- A list of items, seen through f, at the item x of number i.
-module _ {A B : Type 0} (f : A → B) (items : List A) (i : ℕ) (x : A) (within : i < length items) (is : x ≡ get_or items i x) where
+module _ {A B : Type 0} (f : A → B) (items : List A) (i : ℕ) (x : A)
+    (within : i < length items) (is : x ≡ get_or items i x) where
   -- the items up to x are those before and x
   pub map-take_next : map f (take (i + 1) items) ≡ map f (take i items) ++ f x ∷ []
   map-take_next =
-      ap (map f) ((take_at_read items i x within).1 ∙ ap (λ y. take i items ++ y ∷ []) (sym is)) ∙ map_push f (take i items) x
+      ap (map f) ((take_at_read items i x within).1 ∙ ap (λ y. take i items ++ y ∷ []) (sym is))
+      ∙ map_push f (take i items) x
 
   -- the items are those before, x and those behind
   pub map-split : map f items ≡ map f (take i items) ++ f x ∷ map f (drop (suc i) items)
   map-split =
-      ap (map f) (sym (take-append-drop i items) ∙ ap (λ l. take i items ++ l) (drop-cons items i x within ∙ ap (λ y. y ∷ drop (suc i) items) (sym is)))
+      ap (map f) (sym (take-append-drop i items)
+      ∙ ap (λ l. take i items ++ l) (drop-cons items i x within ∙ ap (λ y. y ∷ drop (suc i) items) (sym is)))
       ∙ map-append f (take i items) (x ∷ drop (suc i) items)
 
   module _ (same : B → B → Bool) (mirrored : (a b : B) → same a b ≡ same b a) where
     -- x is like none before, and the items up to it are distinct
-    pub are_distinct-next : are_distinct same (map f (take i items)) ≡ true → list_any (same (f x)) (map f (take i items)) ≡ false
+    pub are_distinct-next : are_distinct same (map f (take i items)) ≡ true
+        → list_any (same (f x)) (map f (take i items)) ≡ false
         → are_distinct same (map f (take (i + 1) items)) ≡ true
-    are_distinct-next distinct new = rw map-take_next (are_distinct-push same mirrored (map f (take i items)) (f x) distinct new)
+    are_distinct-next distinct new =
+        rw map-take_next (are_distinct-push same mirrored (map f (take i items)) (f x) distinct new)
 
     -- x is like one before, and the items are not distinct
-    pub are_distinct-again : list_any (same (f x)) (map f (take i items)) ≡ true → are_distinct same (map f items) ≡ false
-    are_distinct-again met = rw map-split (are_distinct-met same mirrored (map f (take i items)) (map f (drop (suc i) items)) (f x) met)
+    pub are_distinct-again : list_any (same (f x)) (map f (take i items)) ≡ true
+        → are_distinct same (map f items) ≡ false
+    are_distinct-again met =
+        rw map-split (are_distinct-met same mirrored (map f (take i items)) (map f (drop (suc i) items)) (f x) met)
 
     -- what is like one of the items up to x is like one before or like x
-    pub list_any-next : (y : B) → list_any (same y) (map f (take (i + 1) items)) ≡ (same y (f x) || list_any (same y) (map f (take i items)))
-    list_any-next y = rw (map-take_next, list_any-append (same y) (map f (take i items)) (f x ∷ [])) (swapped (list_any (same y) (map f (take i items))) (same y (f x)))
+    pub list_any-next : (y : B)
+        → list_any (same y) (map f (take (i + 1) items)) ≡ (same y (f x) || list_any (same y) (map f (take i items)))
+    list_any-next y =
+        rw (map-take_next, list_any-append (same y) (map f (take i items)) (f x ∷ []))
+        (swapped (list_any (same y) (map f (take i items))) (same y (f x)))
       where
         swapped : (a b : Bool) → (a || (b || false)) ≡ (b || a)
         swapped true true = refl

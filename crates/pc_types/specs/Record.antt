@@ -1,5 +1,5 @@
 -- What a module record says of the entities of its core module.
-use Rattle.std.specs.Prelude.{ℕ, ◌+◌, ◌-◌, ◌<◌, Bool, true, false, List, [], ◌∷◌, ◌++◌, length, take, map, count_by, Option, Some, None, ◌&&◌, nat_lt, nat_le, if◌then◌else◌, slice_get, option_map}
+use Rattle.std.specs.Prelude.{ℕ, ◌+◌, Bool, true, false, List, [], ◌∷◌, ◌++◌, length, take, count_by, Option, Some, None, ◌&&◌, nat_lt, nat_le, if◌then◌else◌, slice_get, option_map}
 use Rattle.std.specs.List.{list_all, filter_map}
 use Rattle.pc_numbers.specs.declared.entity_index.EntityIndex.{EntityIndex}
 use Rattle.pc_numbers.specs.declared.entity_index.EntityIndex.TheVariants as index
@@ -90,7 +90,8 @@ import_place r e = slice_get (places_from (index_kind e) 0 r.imports) (index_num
 -- the entity that the import at a place is
 abbrev pub imported_entity : ModuleRecord → ℕ → Option EntityIndex
 imported_entity r place =
-    option_map (λ (i : List ℕ × List ℕ × CoreEntity). entity_at (kind_of i.2) (count_by (imports_kind (kind_of i.2)) (take place r.imports)))
+    option_map (λ (i : List ℕ × List ℕ × CoreEntity).
+    entity_at (kind_of i.2) (count_by (imports_kind (kind_of i.2)) (take place r.imports)))
     (slice_get r.imports place)
 
 -- the signature number of an imported function

@@ -1,10 +1,8 @@
 -- When a type table is sound: each entry names earlier entries of the kind that the place wants, core
 -- signatures that the table holds, and no name twice in one list.
-use Rattle.std.specs.Prelude.{ℕ, ◌+◌, Bool, true, false, List, [], ◌∷◌, ◌++◌, length, map, Option, Some, None, ◌&&◌, ◌||◌, nat_lt, if◌then◌else◌, slice_get}
+use Rattle.std.specs.Prelude.{ℕ, Bool, true, false, List, [], ◌∷◌, ◌++◌, length, map, Option, Some, None, ◌&&◌, ◌||◌, nat_lt, if◌then◌else◌, slice_get}
 use Rattle.std.specs.List.{list_all, list_any}
-use Rattle.pc_types.specs.declared.parsed.CoreFuncSig.{CoreFuncSig}
 use Rattle.pc_types.specs.declared.parsed.CoreEntity.{CoreEntity}
-use Rattle.pc_types.specs.declared.parsed.CoreEntity.TheVariants as core
 use Rattle.pc_types.specs.declared.parsed.Entity.{Entity}
 use Rattle.pc_types.specs.declared.parsed.Entity.TheVariants as entity
 use Rattle.pc_types.specs.declared.parsed.ValType.{ValType}
@@ -30,22 +28,27 @@ abbrev pub is_none_or : {A : Type 0} → (A → Bool) → Option A → Bool
 is_none_or test None = true
 is_none_or test (Some x) = test x
 
+-- a resource type
 abbrev pub is_resource : DeclType → Bool
 is_resource entry.Resource = true
 is_resource _ = false
 
+-- a function type
 abbrev pub is_func : DeclType → Bool
 is_func (entry.Func params result is_async) = true
 is_func _ = false
 
+-- an instance type
 abbrev pub is_instance : DeclType → Bool
 is_instance (entry.Instance exports) = true
 is_instance _ = false
 
+-- a component type
 abbrev pub is_component : DeclType → Bool
 is_component (entry.Component imports exports) = true
 is_component _ = false
 
+-- a module type
 abbrev pub is_module : DeclType → Bool
 is_module (entry.Module imports exports) = true
 is_module _ = false
@@ -78,7 +81,7 @@ abbrev pub are_sound_fields : List DeclType → List (List ℕ × ValType) → B
 are_sound_fields earlier fields =
     list_all (λ (f : List ℕ × ValType). is_sound_val earlier f.1) fields && distinct_names (names_of fields)
 
--- the same where a name may stand without a type
+-- the named value types of a list, each of which may be left out, are sound, and no name stands twice
 abbrev pub are_sound_cases : List DeclType → List (List ℕ × Option ValType) → Bool
 are_sound_cases earlier cases =
     list_all (λ (c : List ℕ × Option ValType). is_none_or (is_sound_val earlier) c.1) cases
@@ -117,6 +120,7 @@ is_sound_entry t earlier (entry.Module imports exports) =
     && are_distinct same_pair (map (λ (i : List ℕ × List ℕ × CoreEntity). (i.0, i.1)) imports)
     && distinct_names (names_of exports)
 
+-- a component value
 abbrev pub is_value : Entity → Bool
 is_value entity.Value = true
 is_value _ = false
@@ -133,8 +137,10 @@ pub data EntryFault : Type 0 where
   bad_entry : EntryFault
   value_entry : EntryFault
 
+-- what is wrong with an entry after these earlier ones, if anything is
 abbrev pub entry_fault : TypeTable → List DeclType → DeclType → Option EntryFault
-entry_fault t earlier e = if is_sound_entry t earlier e then (if holds_value e then Some value_entry else None) else Some bad_entry
+entry_fault t earlier e =
+    if is_sound_entry t earlier e then (if holds_value e then Some value_entry else None) else Some bad_entry
 
 -- a fault at this number, or else what comes later
 abbrev pub fault_or : ℕ → Option EntryFault → Option (ℕ × EntryFault) → Option (ℕ × EntryFault)

@@ -38,6 +38,7 @@ pub data CoreTree : Type 0 where
   core_tag : CoreTree
 
 mutual
+  -- what a type is
   pub data TypeTree : Type 0 where
     primitive : PrimType → TypeTree
     error_context : (component_instance : ℕ) → TypeTree
@@ -69,10 +70,12 @@ mutual
     no_cases : Cases
     and_case : (name : List ℕ) → MaybeTree → Cases → Cases
 
+  -- types, in order
   pub data Trees : Type 0 where
     no_trees : Trees
     and_tree : TypeTree → Trees → Trees
 
+  -- a type that may be left out
   pub data MaybeTree : Type 0 where
     no_tree : MaybeTree
     a_tree : TypeTree → MaybeTree
@@ -85,9 +88,11 @@ core_tree t (core.Memory is_wide) = Some (core_memory is_wide)
 core_tree t core.Global = Some core_global
 core_tree t core.Tag = Some core_tag
 
+-- an import of a module type, with the signature of a function
 abbrev pub module_import_tree : TypeTable → List ℕ × List ℕ × CoreEntity → Option (List ℕ × List ℕ × CoreTree)
 module_import_tree t i = option_map {U = List ℕ × List ℕ × CoreTree} (λ c. (i.0, i.1, c)) (core_tree t i.2)
 
+-- an export of a module type, with the signature of a function
 abbrev pub module_export_tree : TypeTable → List ℕ × CoreEntity → Option (List ℕ × CoreTree)
 module_export_tree t e = option_map {U = List ℕ × CoreTree} (λ c. (e.0, c)) (core_tree t e.1)
 
@@ -101,10 +106,12 @@ abbrev pub resource_from : (component_instance number : ℕ) → Option Identity
 resource_from c n (Some i) = concrete i c
 resource_from c n None = abstract n
 
+-- an owned handle to a resource
 abbrev pub own_tree : TypeTree → Option TypeTree
 own_tree (resource_of r) = Some (own_of r)
 own_tree _ = None
 
+-- a borrowed handle to a resource
 abbrev pub borrow_tree : TypeTree → Option TypeTree
 borrow_tree (resource_of r) = Some (borrow_of r)
 borrow_tree _ = None
@@ -116,15 +123,18 @@ module _ (known : List (ℕ × Identity)) (c : ℕ) (t : TypeTable) where
   abbrev pub earlier_tree : List (Option TypeTree) → ℕ → Option TypeTree
   earlier_tree earlier n = option_and_then (λ tree. tree) (slice_get earlier n)
 
+  -- the tree of a value type
   abbrev pub val_tree : List (Option TypeTree) → ValType → Option TypeTree
   val_tree earlier (val.Prim ErrorContext) = Some (error_context c)
   val_tree earlier (val.Prim p) = Some (primitive p)
   val_tree earlier (val.Type_ n) = earlier_tree earlier n
 
+  -- the tree of a value type that may be left out
   abbrev pub maybe_tree : List (Option TypeTree) → Option ValType → Option MaybeTree
   maybe_tree earlier None = Some no_tree
   maybe_tree earlier (Some v) = option_map a_tree (val_tree earlier v)
 
+  -- the tree of an entity, by the entry that it names; a component value has none
   abbrev pub entity_tree : List (Option TypeTree) → Entity → Option TypeTree
   entity_tree earlier (entity.Func n) = earlier_tree earlier n
   entity_tree earlier (entity.Instance n) = earlier_tree earlier n
@@ -133,21 +143,25 @@ module _ (known : List (ℕ × Identity)) (c : ℕ) (t : TypeTable) where
   entity_tree earlier (entity.Type_ n) = earlier_tree earlier n
   entity_tree earlier entity.Value = None
 
+  -- the trees of named value types
   abbrev pub fields_tree : List (Option TypeTree) → List (List ℕ × ValType) → Option Fields
   fields_tree earlier [] = Some no_fields
   fields_tree earlier (f ∷ fs) =
       option_and_then (λ tree. option_map (and_field f.0 tree) (fields_tree earlier fs)) (val_tree earlier f.1)
 
+  -- the trees of named entities
   abbrev pub externs_tree : List (Option TypeTree) → List (List ℕ × Entity) → Option Fields
   externs_tree earlier [] = Some no_fields
   externs_tree earlier (e ∷ es) =
       option_and_then (λ tree. option_map (and_field e.0 tree) (externs_tree earlier es)) (entity_tree earlier e.1)
 
+  -- the trees of named value types that may be left out
   abbrev pub cases_tree : List (Option TypeTree) → List (List ℕ × Option ValType) → Option Cases
   cases_tree earlier [] = Some no_cases
   cases_tree earlier (x ∷ xs) =
       option_and_then (λ tree. option_map (and_case x.0 tree) (cases_tree earlier xs)) (maybe_tree earlier x.1)
 
+  -- the trees of value types
   abbrev pub vals_tree : List (Option TypeTree) → List ValType → Option Trees
   vals_tree earlier [] = Some no_trees
   vals_tree earlier (v ∷ vs) =
@@ -155,9 +169,11 @@ module _ (known : List (ℕ × Identity)) (c : ℕ) (t : TypeTable) where
 
   -- the tree of the entry that stands after the earlier ones
   abbrev pub entry_tree : List (Option TypeTree) → DeclType → Option TypeTree
-  entry_tree earlier entry.Resource = Some (resource_of (resource_from c (length earlier) (identity_of known (length earlier))))
+  entry_tree earlier entry.Resource =
+      Some (resource_of (resource_from c (length earlier) (identity_of known (length earlier))))
   entry_tree earlier (entry.Func params result is_async) =
-      option_and_then (λ ps. option_map (λ r. func_of ps r is_async) (maybe_tree earlier result)) (fields_tree earlier params)
+      option_and_then (λ ps. option_map (λ r. func_of ps r is_async) (maybe_tree earlier result))
+      (fields_tree earlier params)
   entry_tree earlier (entry.Val v) = val_tree earlier v
   entry_tree earlier (entry.Record fields) = option_map record_of (fields_tree earlier fields)
   entry_tree earlier (entry.Variant cases) = option_map variant_of (cases_tree earlier cases)
@@ -176,7 +192,8 @@ module _ (known : List (ℕ × Identity)) (c : ℕ) (t : TypeTable) where
   entry_tree earlier (entry.Component imports exports) =
       option_and_then (λ i. option_map (component_of i) (externs_tree earlier exports)) (externs_tree earlier imports)
   entry_tree earlier (entry.Module imports exports) =
-      option_and_then (λ i. option_map (module_of i) (map_all (module_export_tree t) exports)) (map_all (module_import_tree t) imports)
+      option_and_then (λ i. option_map (module_of i) (map_all (module_export_tree t) exports))
+      (map_all (module_import_tree t) imports)
 
   -- the trees of the earlier entries and of those that stand after them
   abbrev pub trees_from : List (Option TypeTree) → List DeclType → List (Option TypeTree)

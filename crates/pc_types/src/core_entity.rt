@@ -1,7 +1,8 @@
 //! Kinds and numbers of core entities.
 
 ghost use Rattle.std.specs.Prelude.{◌≡◌};
-ghost use Rattle.pc_types.specs.Record.{same_kind, kind_of, index_kind, index_number, entity_at, signature_in, width_in};
+ghost use Rattle.pc_types.specs.Record.{same_kind, kind_of, index_kind, index_number, entity_at, signature_in};
+ghost use Rattle.pc_types.specs.Record.{width_in};
 
 use crate::{CoreEntity, CoreKind};
 use pc_entity::{EntityIndex, FuncIndex, GlobalIndex, MemoryIndex, TableIndex, TagIndex};

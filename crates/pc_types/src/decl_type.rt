@@ -16,30 +16,35 @@ impl TypeTable {
 }
 
 impl DeclType {
+    /// Whether it is a resource type.
     pub fn is_resource(&self) -> bool
         ensures { result ≡ is_resource self.now }
     {
         matches!(self, DeclType::Resource)
     }
 
+    /// Whether it is a function type.
     pub fn is_func(&self) -> bool
         ensures { result ≡ is_func self.now }
     {
         matches!(self, DeclType::Func { .. })
     }
 
+    /// Whether it is an instance type.
     pub fn is_instance(&self) -> bool
         ensures { result ≡ is_instance self.now }
     {
         matches!(self, DeclType::Instance { .. })
     }
 
+    /// Whether it is a component type.
     pub fn is_component(&self) -> bool
         ensures { result ≡ is_component self.now }
     {
         matches!(self, DeclType::Component { .. })
     }
 
+    /// Whether it is a module type.
     pub fn is_module(&self) -> bool
         ensures { result ≡ is_module self.now }
     {

@@ -24,16 +24,30 @@ pub enum Place {
 impl fmt::Display for Place {
     fn fmt<W: fmt::Write>(&self, f: &mut fmt::Formatter<W>) -> fmt::Result {
         match self {
-            Place::Table(n) => write!(f, "table entry {n}"),
-            Place::Payload { payload, item } => write!(f, "payload {payload}, item {item}"),
-            Place::Reading { instance, item } => write!(
-                f,
-                "component instance {instance}, item {item}"
-            ),
-            Place::Export(n) => write!(f, "export {n}"),
-            Place::Adapter(n) => write!(f, "adapter {n}"),
+            Place::Table(n) => put(f, "table entry", *n as u64),
+            Place::Payload { payload, item } => put_item(f, "payload", *payload, *item),
+            Place::Reading { instance, item } => {
+                put_item(f, "component instance", *instance as u64, *item)
+            }
+            Place::Export(n) => put(f, "export", *n),
+            Place::Adapter(n) => put(f, "adapter", *n as u64),
         }
     }
+}
+
+// A thing by its number.
+fn put<W: fmt::Write>(f: &mut fmt::Formatter<W>, what: &str, number: u64) -> fmt::Result {
+    write!(f, "{what} {number}")
+}
+
+// An item of a thing, both by number.
+fn put_item<W: fmt::Write>(
+    f: &mut fmt::Formatter<W>,
+    what: &str,
+    number: u64,
+    item: u64,
+) -> fmt::Result {
+    write!(f, "{what} {number}, item {item}")
 }
 
 /// What a translation doesn't support.

@@ -1,6 +1,10 @@
 //! The types that are interned: their `==` answers true of identical values alone.
 
-ghost use Rattle.pc_types.specs.Equal.{wasm_exact, core_exact, interface_exact, definition_exact, func_exact, tuple_exact, record_exact, variant_exact, list_exact, option_exact, result_exact, flags_exact, enum_exact, table_exact, future_exact, stream_exact, error_context_exact, instance_exact, component_exact, module_exact, signature_exact};
+ghost use Rattle.pc_types.specs.Equal.{wasm_exact, core_exact, interface_exact, definition_exact, func_exact};
+ghost use Rattle.pc_types.specs.Equal.{tuple_exact, record_exact, variant_exact, list_exact, option_exact};
+ghost use Rattle.pc_types.specs.Equal.{result_exact, flags_exact, enum_exact, table_exact, future_exact};
+ghost use Rattle.pc_types.specs.Equal.{stream_exact, error_context_exact, instance_exact, component_exact};
+ghost use Rattle.pc_types.specs.Equal.{module_exact, signature_exact};
 
 use crate::{
     CoreEntity, CoreFuncSig, InterfaceType, TypeComponent, TypeComponentInstance, TypeDef,

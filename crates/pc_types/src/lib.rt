@@ -1,8 +1,10 @@
-//! The types that every later crate speaks of: the parsed type table, the records of core modules,
-//! the converted types with the builder that interns them, and the one error type.
-//! It stands on `pc_entity` alone.
+//! The types that the crates above speak of: the type table of an input, the records of core modules, the converted
+//! types and their numbers, and the errors.
+//!
+//! It stands on `pc_entity` and `pc_numbers`, and on `thiserror` for the texts of errors.
 #![tactic(auto)]
 
+mod by_kind;
 mod copies;
 mod core_entity;
 mod decl_type;
@@ -15,12 +17,11 @@ pub mod name_set;
 pub mod parsed;
 mod sound_record;
 mod sound_table;
-#[cfg(test)]
-mod tests;
 pub mod trampoline;
 pub mod type_index;
 pub mod types;
 
+pub use by_kind::ByKind;
 pub use core_entity::entity_number;
 pub use distinct::{distinct_keys, distinct_pairs, distinct_texts};
 pub use encoding::StringEncoding;

@@ -2,7 +2,8 @@
 
 ghost use Rattle.std.specs.Prelude.{◌≡◌, ◌<◌, length, count_by, nat_lt, slice_get};
 ghost use Rattle.pc_types.specs.declared.parsed.CoreKind.TheVariants as kind;
-ghost use Rattle.pc_types.specs.Record.{imported, defined, index_number, index_kind, imports_kind, import_place, imported_entity, export_of, func_signatures, memory_widths};
+ghost use Rattle.pc_types.specs.Record.{imported, defined, index_number, index_kind, imports_kind, import_place};
+ghost use Rattle.pc_types.specs.Record.{imported_entity, export_of, func_signatures, memory_widths};
 
 use crate::core_entity::entity_number;
 use crate::parsed::{CoreEntity, CoreKind};

@@ -37,7 +37,8 @@ impl<'a> NameSet<'a> {
     /// Adds a name, and answers whether it is new.
     pub fn insert(&mut self, name: &'a Text) -> Result<bool, NoMemory>
         ensures added { IfOk result (λ is_new. is_new ≡ not (has_name self.old name.now)) }
-        ensures names { OnOk result ((q : List ℕ) → has_name self.new q ≡ (bytes_eq q name.now || has_name self.old q)) }
+        ensures names { OnOk result ((q : List ℕ)
+            → has_name self.new q ≡ (bytes_eq q name.now || has_name self.old q)) }
         ensures err { OnErr result (self.new ≡ self.old) }
     {
         Ok(self.names.insert(name.as_str())?)
@@ -71,7 +72,9 @@ impl<'a> PairSet<'a> {
     /// Adds a pair of names, and answers whether it is new.
     pub fn insert(&mut self, first: &'a Text, second: &'a Text) -> Result<bool, NoMemory>
         ensures added { IfOk result (λ is_new. is_new ≡ not (list_any (same_pair (first.now, second.now)) self.old)) }
-        ensures pairs { OnOk result ((q : List ℕ × List ℕ) → list_any (same_pair q) self.new ≡ (same_pair q (first.now, second.now) || list_any (same_pair q) self.old)) }
+        ensures pairs { OnOk result ((q : List ℕ × List ℕ)
+            → list_any (same_pair q) self.new
+            ≡ (same_pair q (first.now, second.now) || list_any (same_pair q) self.old)) }
         ensures err { OnErr result (self.new ≡ self.old) }
     {
         Ok(self.pairs.insert((first.as_str(), second.as_str()))?)

@@ -3,27 +3,18 @@
 ghost use Rattle.std.specs.Prelude.{◌≡◌, IfOk, ◌&&◌};
 ghost use Rattle.std.specs.List.{list_all};
 ghost use Rattle.pc_types.specs.Record.{imported, is_typed, has_signature, is_within, has_entity, is_sound};
-ghost use Rattle.pc_types.specs.Counts.{import_counts};
+ghost use Rattle.pc_types.specs.ByKind.{of_kind};
+ghost use Rattle.pc_types.specs.declared.parsed.CoreKind.{CoreKind};
 ghost use Rattle.pc_types.specs.declared.parsed.CoreKind.TheVariants as kind;
 
 use crate::core_entity::entity_number;
 use crate::distinct::distinct_keys;
-use crate::{CoreEntity, CoreKind, ModuleRecord, TypeTable};
+use crate::{ByKind, CoreEntity, CoreKind, ModuleRecord, TypeTable};
 use pc_entity::{EntityIndex, NoMemory};
 use std::alloc::Global;
 
 /// The most entities of one kind that a module may have.
 pub const MAX_ENTITIES: usize = 1000000;
-
-/// How many entities of each kind a module imports.
-#[derive(Drop)]
-pub(crate) struct ImportCounts {
-    funcs: usize,
-    tables: usize,
-    memories: usize,
-    globals: usize,
-    tags: usize,
-}
 
 impl TypeTable {
     /// Whether this is the number of a core signature.
@@ -73,7 +64,9 @@ impl ModuleRecord {
     }
 
     fn is_small(&self) -> bool
-        ensures { result ≡ (is_within self.now kind.Func && is_within self.now kind.Table && is_within self.now kind.Memory && is_within self.now kind.Global && is_within self.now kind.Tag) }
+        ensures { result
+            ≡ (is_within self.now kind.Func && is_within self.now kind.Table && is_within self.now kind.Memory
+            && is_within self.now kind.Global && is_within self.now kind.Tag) }
     {
         self.is_within(CoreKind::Func)
             && self.is_within(CoreKind::Table)
@@ -96,8 +89,8 @@ impl ModuleRecord {
         self.has_all_exports(&counts)
     }
 
-    fn has_all_exports(&self, counts: &ImportCounts) -> bool
-        requires { counts.now ≡ import_counts self.now }
+    fn has_all_exports(&self, counts: &ByKind<usize>) -> bool
+        requires counted { (k : CoreKind) → of_kind counts.now k ≡ imported self.now k }
         ensures { result ≡ list_all (λ e. has_entity self.now e.1) self.now.exports }
     {
         for export in self.exports.as_slice() {
@@ -108,10 +101,11 @@ impl ModuleRecord {
         true
     }
 
-    fn import_counts(&self) -> ImportCounts
-        ensures { result ≡ import_counts self.now }
+    // How many entities of each kind are imported, counted once.
+    fn import_counts(&self) -> ByKind<usize>
+        ensures { (k : CoreKind) → of_kind result k ≡ imported self.now k }
     {
-        ImportCounts {
+        ByKind {
             funcs: self.imported(CoreKind::Func),
             tables: self.imported(CoreKind::Table),
             memories: self.imported(CoreKind::Memory),
@@ -120,28 +114,13 @@ impl ModuleRecord {
         }
     }
 
-    fn has_entity(&self, counts: &ImportCounts, entity: EntityIndex) -> bool
-        requires { counts.now ≡ import_counts self.now }
+    fn has_entity(&self, counts: &ByKind<usize>, entity: EntityIndex) -> bool
+        requires counted { (k : CoreKind) → of_kind counts.now k ≡ imported self.now k }
         ensures { result ≡ has_entity self.now entity }
     {
         let kind = CoreKind::of(entity);
         let number = entity_number(entity) as usize;
-        let imported = counts.of(self, kind);
+        let imported = *counts.of(kind);
         number < imported || number - imported < self.defined(kind)
-    }
-}
-
-impl ImportCounts {
-    fn of(&self, record: &ModuleRecord, kind: CoreKind) -> usize
-        requires { self.now ≡ import_counts record.now }
-        ensures { result ≡ imported record.now kind }
-    {
-        match kind {
-            CoreKind::Func => self.funcs,
-            CoreKind::Table => self.tables,
-            CoreKind::Memory => self.memories,
-            CoreKind::Global => self.globals,
-            CoreKind::Tag => self.tags,
-        }
     }
 }

@@ -5,7 +5,10 @@ ghost use Rattle.std.specs.Option.{option_map};
 ghost use Rattle.std.specs.List.{list_all, list_any};
 ghost use Rattle.pc_entity.specs.Lists.{names_of};
 ghost use Rattle.pc_types.specs.Names.{are_distinct, distinct_names, same_pair};
-ghost use Rattle.pc_types.specs.Table.{is_sound_val, is_none_or, is_some_and, is_resource, is_func, is_instance, is_component, is_module, is_defined_type, is_value, are_sound_fields, are_sound_cases, are_sound_externs, is_sound_entity, is_sound_entry, holds_value, table_fault, table_error};
+ghost use Rattle.pc_types.specs.Table.{is_sound_val, is_none_or, is_some_and, is_resource, is_func, is_instance};
+ghost use Rattle.pc_types.specs.Table.{is_component, is_module, is_defined_type, is_value, are_sound_fields};
+ghost use Rattle.pc_types.specs.Table.{are_sound_cases, are_sound_externs, is_sound_entity, is_sound_entry};
+ghost use Rattle.pc_types.specs.Table.{holds_value, table_fault, table_error};
 ghost use Rattle.pc_types.specs.declared.parsed.DeclType.TheVariants as entry;
 ghost use Rattle.pc_types.specs.Record.{is_typed};
 
@@ -16,9 +19,9 @@ use std::alloc::Global;
 
 /// Looks at the entries in order, and refuses the first that is faulty.
 ///
-/// `BadTable` comes where an entry names itself, a later or a missing entry, an entry of another kind than the place wants, or
-/// a core signature that is missing, or where it has a name twice in one list. `Unsupported` comes where an entry imports or
-/// exports a component value and is otherwise sound.
+/// `BadTable` comes where a number in an entry isn't that of an earlier entry of the right kind, where a core signature
+/// is missing, or where a list of names has one twice. `Unsupported` comes where an entry imports or exports a component
+/// value and is otherwise sound.
 pub fn check_table(alloc: Global, table: &TypeTable) -> Result<(), Error>
     requires numbered { length table.now.types < 4294967295 }
     ensures ok { OnOk result (table_fault table.now ≡ None) }
@@ -83,7 +86,8 @@ fn is_sound_func(
     params: &[(Text, ValType)],
     returns: Option<ValType>,
 ) -> Result<bool, NoMemory>
-    ensures { IfOk result (λ sound. sound ≡ (are_sound_fields earlier.now params.now && is_none_or (is_sound_val earlier.now) returns)) }
+    ensures { IfOk result (λ sound. sound
+        ≡ (are_sound_fields earlier.now params.now && is_none_or (is_sound_val earlier.now) returns)) }
 {
     let are_sound = are_sound_fields(alloc, earlier, params)?;
     Ok(are_sound && is_sound_maybe(earlier, returns))
@@ -95,7 +99,8 @@ fn is_sound_component(
     imports: &[(Text, Entity)],
     exports: &[(Text, Entity)],
 ) -> Result<bool, NoMemory>
-    ensures { IfOk result (λ sound. sound ≡ (are_sound_externs earlier.now imports.now && are_sound_externs earlier.now exports.now)) }
+    ensures { IfOk result (λ sound. sound
+        ≡ (are_sound_externs earlier.now imports.now && are_sound_externs earlier.now exports.now)) }
 {
     let are_sound = are_sound_externs(alloc, earlier, imports)?;
     let exports_are_sound = are_sound_externs(alloc, earlier, exports)?;
@@ -180,7 +185,7 @@ fn are_sound_externs(
 fn externs_are_sound(earlier: &[DeclType], externs: &[(Text, Entity)]) -> bool
     ensures { result ≡ list_all (λ e. is_sound_entity earlier.now e.1) externs.now }
 {
-    externs.iter().all(|e| is_sound_entity(earlier, e.1))
+    externs.iter().all(|e| e.1.is_sound(earlier))
 }
 
 fn are_sound_vals(earlier: &[DeclType], vs: &[ValType]) -> bool
@@ -204,45 +209,40 @@ fn is_sound_val(earlier: &[DeclType], v: ValType) -> bool
 {
     match v {
         ValType::Prim(_) => true,
-        ValType::Type_(n) => match earlier.get(n as usize) {
-            Some(entry) => entry.is_defined_type(),
-            None => false,
-        },
+        ValType::Type_(n) => earlier
+            .get(n as usize)
+            .is_some_and(|entry| entry.is_defined_type()),
     }
 }
 
 fn names_resource(earlier: &[DeclType], n: u32) -> bool
     ensures { result ≡ is_some_and is_resource (slice_get earlier.now n) }
 {
-    match earlier.get(n as usize) {
-        Some(entry) => entry.is_resource(),
-        None => false,
-    }
+    earlier
+        .get(n as usize)
+        .is_some_and(|entry| entry.is_resource())
 }
 
-// An entity's number is that of an earlier entry of its kind.
-fn is_sound_entity(earlier: &[DeclType], e: Entity) -> bool
-    ensures { result ≡ is_sound_entity earlier.now e }
-{
-    match e {
-        Entity::Func(n) => match earlier.get(n as usize) {
-            Some(entry) => entry.is_func(),
-            None => false,
-        },
-        Entity::Instance(n) => match earlier.get(n as usize) {
-            Some(entry) => entry.is_instance(),
-            None => false,
-        },
-        Entity::Component(n) => match earlier.get(n as usize) {
-            Some(entry) => entry.is_component(),
-            None => false,
-        },
-        Entity::Module(n) => match earlier.get(n as usize) {
-            Some(entry) => entry.is_module(),
-            None => false,
-        },
-        Entity::Type_(n) => (n as usize) < earlier.len(),
-        Entity::Value => true,
+impl Entity {
+    /// Whether the entity's number is that of one of these entries, and of one of its kind. A type may be an entry of
+    /// any kind, and a component value has no number.
+    pub fn is_sound(self, earlier: &[DeclType]) -> bool
+        ensures { result ≡ is_sound_entity earlier.now self }
+    {
+        match self {
+            Entity::Func(n) => earlier.get(n as usize).is_some_and(|entry| entry.is_func()),
+            Entity::Instance(n) => earlier
+                .get(n as usize)
+                .is_some_and(|entry| entry.is_instance()),
+            Entity::Component(n) => earlier
+                .get(n as usize)
+                .is_some_and(|entry| entry.is_component()),
+            Entity::Module(n) => earlier
+                .get(n as usize)
+                .is_some_and(|entry| entry.is_module()),
+            Entity::Type_(n) => (n as usize) < earlier.len(),
+            Entity::Value => true,
+        }
     }
 }
 

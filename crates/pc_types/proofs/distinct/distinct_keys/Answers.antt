@@ -1,6 +1,5 @@
-use Rattle.std.proofs.Common.{sym, ◌∙◌, ap, List, ℕ, ◌<◌, length, map, take, ◌||◌, arith}
+use Rattle.std.proofs.Common.{sym, ◌∙◌, ap, ◌<◌, length, ◌||◌, arith}
 use Rattle.std.specs.Str.{bytes_eq}
-use Rattle.pc_entity.specs.Lists.{names_of}
 use Rattle.pc_types.specs.Names.{has_name}
 use Rattle.pc_types.proofs.NameLemmas.{are_distinct-next, are_distinct-again, list_any-next, bytes_eq-sym, not_false, not_true}
 use Rattle.pc_types.proofs.distinct.distinct_keys.Goals as goal
@@ -8,8 +7,10 @@ use Rattle.pc_types.proofs.distinct.distinct_keys.Goals as goal
 pub returns-then-not-branch : goal.returns-then-not-branch
 returns-then-not-branch g c =
     let e = c.entry-item.result in
-    let met = not_false c.in_ok-insert.field-0 (has_name c.loop-entry.met e.0) c.in_ok-insert.ensures.added c.if-not-branch.true in
-    sym (are_distinct-again (λ x. x.0) c.args.entries.now c.loop-entry.entry-index e (omega arith) c.entry-item.is bytes_eq bytes_eq-sym
+    let met = not_false c.in_ok-insert.field-0 (has_name c.loop-entry.met e.0) c.in_ok-insert.ensures.added
+    c.if-not-branch.true in
+    sym (are_distinct-again (λ x. x.0) c.args.entries.now c.loop-entry.entry-index e (omega arith) c.entry-item.is
+    bytes_eq bytes_eq-sym
     (sym (c.loop-entry.invariant.0 e.0) ∙ met))
 
 pub loop-entry-preserved : goal.loop-entry-preserved
@@ -17,7 +18,8 @@ loop-entry-preserved g c =
     let e = c.entry-item.result in
     let items = c.args.entries.now in
     let i = c.loop-entry.entry-index in
-    let new = not_true c.in_ok-insert.field-0 (has_name c.loop-entry.met e.0) c.in_ok-insert.ensures.added c.if-not-branch.false in
+    let new = not_true c.in_ok-insert.field-0 (has_name c.loop-entry.met e.0) c.in_ok-insert.ensures.added
+    c.if-not-branch.false in
     let within : i < length items = omega arith in (
       (λ q.
           c.in_ok-insert.ensures.names q

@@ -1,4 +1,4 @@
-use Rattle.std.proofs.Common.{◌≡◌, sym, ◌∙◌, ap, get_or, Some, slice_get}
+use Rattle.std.proofs.Common.{sym, ◌∙◌, ap, get_or, Some, slice_get}
 use Rattle.std.proofs.lemmas.Option.{slice_get-get_or}
 use Rattle.std.proofs.lemmas.List.Quantifiers.{position-Some}
 use Rattle.pc_entity.proofs.interner.Interner.find.Goals as goal

@@ -11,5 +11,6 @@ returns-in-Some-clause-found c =
 pub returns-in-None-clause-absent : goal.returns-in-None-clause-absent
 returns-in-None-clause-absent c =
     λ held. true≢false
-    (sym (found_text c.self.inside.texts.keys c.args.text.now (subst (λ texts. Contains texts c.args.text.now) (sym c.self.view_is) held))
+    (sym (found_text c.self.inside.texts.keys c.args.text.now
+    (subst (λ texts. Contains texts c.args.text.now) (sym c.self.view_is) held))
     ∙ sym c.in-None.ensures.found)

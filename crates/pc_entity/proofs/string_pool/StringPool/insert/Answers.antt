@@ -16,7 +16,8 @@ returns-in_err-place-clause-distinct c = texts_distinct c.insert_full.new.self.k
 pub returns-clause-held : goal.returns-clause-held
 returns-clause-held c =
     let stored = c.in_ok-place.ensures.stored in
-    string_at c.insert_full.new.self.keys c.in_ok-place.place stored.0 c.in_ok-from_str.field-0 stored.1 stored.2 ∙ ap Some c.in_ok-from_str.ensures.ok
+    string_at c.insert_full.new.self.keys c.in_ok-place.place stored.0 c.in_ok-from_str.field-0 stored.1 stored.2
+    ∙ ap Some c.in_ok-from_str.ensures.ok
 
 pub returns-clause-distinct : goal.returns-clause-distinct
 returns-clause-distinct c = texts_distinct c.insert_full.new.self.keys c.insert_full.ensures.unique

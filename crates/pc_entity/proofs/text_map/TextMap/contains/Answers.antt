@@ -6,4 +6,5 @@ use Rattle.pc_entity.proofs.text_map.TextMap.contains.Goals as goal
 pub returns : goal.returns
 returns g c =
     c.contains_key.ensures
-    ∙ ap is_some (sym (value_of-named c.args.name.now c.self.inside.entries.entries) ∙ ap (value_of c.args.name.now) c.self.view_is)
+    ∙ ap is_some (sym (value_of-named c.args.name.now c.self.inside.entries.entries)
+    ∙ ap (value_of c.args.name.now) c.self.view_is)

@@ -5,4 +5,5 @@ use Rattle.pc_entity.proofs.text_map.TextMap.get.Goals as goal
 
 pub returns : goal.returns
 returns g c =
-    c.get.ensures.value ∙ sym (value_of-named c.args.name.now c.self.inside.entries.entries) ∙ ap (value_of c.args.name.now) c.self.view_is
+    c.get.ensures.value ∙ sym (value_of-named c.args.name.now c.self.inside.entries.entries)
+    ∙ ap (value_of c.args.name.now) c.self.view_is

@@ -8,5 +8,7 @@ pub loop-case-preserved : goal.loop-case-preserved
 loop-case-preserved c =
     let l = c.loop-case in
     let x = c.case-item in
-    subst (λ a. AreJoined (λ (p : List ℕ × Option InterfaceType). MayHaveFacts c.args.self.now p.1) (take (l.case-index + 1) c.args.cases.now) a) (sym c.join-all.ensures)
-    (joined_next (λ (p : List ℕ × Option InterfaceType). MayHaveFacts c.args.self.now p.1) c.args.cases.now l.case-index x.result l.all c.maybe_facts.result (omega arith) x.is l.invariant c.maybe_facts.ensures)
+    subst (λ a. AreJoined (λ (p : List ℕ × Option InterfaceType). MayHaveFacts c.args.self.now p.1)
+    (take (l.case-index + 1) c.args.cases.now) a) (sym c.join-all.ensures)
+    (joined_next (λ (p : List ℕ × Option InterfaceType). MayHaveFacts c.args.self.now p.1) c.args.cases.now l.case-index
+    x.result l.all c.maybe_facts.result (omega arith) x.is l.invariant c.maybe_facts.ensures)

@@ -4,4 +4,5 @@ use Rattle.pc_facts.specs.Table.{MayHaveFacts, AreJoined}
 use Rattle.pc_facts.proofs.table.FactTable.of_cases.Given as goal
 
 abbrev pub invariant-loop-case : goal.invariant-loop-case
-invariant-loop-case l = AreJoined (λ (p : List ℕ × Option InterfaceType). MayHaveFacts l.self p.1) (take l.case-index l.cases) l.all
+invariant-loop-case l =
+    AreJoined (λ (p : List ℕ × Option InterfaceType). MayHaveFacts l.self p.1) (take l.case-index l.cases) l.all

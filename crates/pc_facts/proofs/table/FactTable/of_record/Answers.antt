@@ -5,4 +5,5 @@ use Rattle.pc_facts.proofs.table.FactTable.of_record.Goals as goal
 
 pub returns : goal.returns
 returns c =
-    subst (λ l. AreJoined (λ (f : List ℕ × InterfaceType). HasFacts c.args.self.now f.1) l c.of_fields.result) c.as_slice.ensures c.of_fields.ensures
+    subst (λ l. AreJoined (λ (f : List ℕ × InterfaceType). HasFacts c.args.self.now f.1) l c.of_fields.result)
+    c.as_slice.ensures c.of_fields.ensures

@@ -5,4 +5,5 @@ use Rattle.pc_facts.proofs.table.FactTable.of_variant.Goals as goal
 
 pub returns : goal.returns
 returns c =
-    subst (λ l. AreJoined (λ (p : List ℕ × Option InterfaceType). MayHaveFacts c.args.self.now p.1) l c.of_cases.result) c.as_slice.ensures c.of_cases.ensures
+    subst (λ l. AreJoined (λ (p : List ℕ × Option InterfaceType). MayHaveFacts c.args.self.now p.1) l c.of_cases.result)
+    c.as_slice.ensures c.of_cases.ensures

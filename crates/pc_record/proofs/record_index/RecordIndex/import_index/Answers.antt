@@ -8,6 +8,6 @@ pub returns : goal.returns
 returns c =
     let place = c.args.position in
     c.item.ensures
-    ∙ ap (λ es. slice_get es place) (c.as_slice.ensures ∙ c.self.invariant.entities)
+    ∙ ap (λ es. slice_get es place) (c.as_slice.ensures ∙ c.self.invariant.imports.entities)
     ∙ entity_here [] c.self.inside.record.now.imports place
     ∙ ap (λ r. imported_entity r place) c.self.view_is

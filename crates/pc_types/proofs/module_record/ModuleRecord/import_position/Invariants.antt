@@ -4,4 +4,5 @@ use Rattle.pc_types.specs.Record.{places_from, import_place}
 use Rattle.pc_types.proofs.module_record.ModuleRecord.import_position.Given as goal
 
 abbrev pub invariant-loop-place : goal.invariant-loop-place
-invariant-loop-place l = slice_get (places_from l.kind l.place (drop l.place l.fn.self.imports)) l.left ≡ import_place l.fn.self l.fn.entity
+invariant-loop-place l =
+    slice_get (places_from l.kind l.place (drop l.place l.fn.self.imports)) l.left ≡ import_place l.fn.self l.fn.entity
