@@ -57,7 +57,8 @@ module _ {Node : Type 0} where
   EndWith (c ∷ cs) [] = ⊥
   EndWith (c ∷ cs) (n ∷ ns) = EndsWith c n × EndWith cs ns
 
-  -- the members of each class were met from its last to its first, and the classes stand as the first met of each are left
+  -- the members of each class were met from its last to its first, and the classes stand as the first met of each are
+  -- left
   abbrev pub StandAsToured : Digraph Node → List (List Node) → Type 0
   StandAsToured d classes = (events : List (DfsEvent Node)) × (met firsts : List Node) × IsTour d d.nodes events met
       × ((c : List Node) → Contains classes c → IsPart c met) × EndWith classes firsts × IsPart firsts (left_in events)
@@ -69,7 +70,8 @@ pub record AreComponents {Node : Type 0} (d : Digraph Node) (classes : List (Lis
   -- and stands there once
   pub once : AreDistinct (flat classes)
   -- two nodes are together where each can be reached from the other
-  pub together : (c : List Node) → Contains classes c → (a b : Node) → Contains c a → Contains c b ↔ (Reaches d a b × Reaches d b a)
+  pub together : (c : List Node) → Contains classes c → (a b : Node) → Contains c a → Contains c b
+      ↔ (Reaches d a b × Reaches d b a)
   -- in the order of the tour
   pub order : StandAsToured d classes
   -- an edge leads into the same class or a lower one

@@ -19,7 +19,8 @@ row_at rows k = value_at (held rows) k
 
 -- the graph whose nodes are all numbers that are held
 abbrev pub listed : {Node : Type 0} → (Node → ℕ) → (ℕ → Node) → List (List Node) → Digraph Node
-listed number of_number rows = record { nodes = map of_number (range_with_len 0 (length rows)); successors = λ n. row_at rows (number n) }
+listed number of_number rows =
+    record { nodes = map of_number (range_with_len 0 (length rows)); successors = λ n. row_at rows (number n) }
 
 -- how many numbers there are up to the greatest of these
 abbrev pub count_to : List ℕ → ℕ
@@ -32,7 +33,9 @@ found_for [] rows k = []
 found_for (n ∷ ns) [] k = []
 found_for (n ∷ ns) (row ∷ rows) k = if n == k then row else found_for ns rows k
 
-module _ {F Node E : Type 0} (calls : Mut F (Node × (MutBor (Vec Node Global) × Unit {0})) (Result (Unit {0}) E × (MutBor (Vec Node Global) × Unit {0}))) where
+module _ {F Node E : Type 0}
+    (calls : Mut F (Node × (MutBor (Vec Node Global) × Unit {0}))
+    (Result (Unit {0}) E × (MutBor (Vec Node Global) × Unit {0}))) where
   -- a call at a node and an empty vector gives this answer, and leaves this list there and the closure in this state
   pub record Gives (f : F) (n : Node) (answer : Result (Unit {0}) E) (row : List Node) (f' : F) : Type 0 where
     pub shown : MutBor (Vec Node Global)
@@ -49,5 +52,6 @@ module _ {F Node E : Type 0} (calls : Mut F (Node × (MutBor (Vec Node Global) �
 
   -- the calls at some of these nodes in order answer Ok each, and that at the next one refuses with this error
   abbrev pub Refuses : F → List Node → E → Type 0
-  Refuses f nodes e = (before after : List Node) × (n : Node) × (rows : List (List Node)) × (row : List Node) × (mid last : F)
+  Refuses f nodes e = (before after : List Node) × (n : Node) × (rows : List (List Node)) × (row : List Node)
+      × (mid last : F)
       × (nodes ≡ before ++ n ∷ after) × Collects f before rows mid × Gives mid n (Err e) row last

@@ -1,17 +1,20 @@
--- The search for classes, event by event. The nodes that were met and stand in no class yet are held in groups: within a group each
--- node reaches each other, and each node of an older group reaches all of a newer one.
-use Rattle.std.specs.Prelude.{◌≡◌, ◌⊎◌, ℕ, ◌+◌, Some, List, [], ◌∷◌, ◌++◌, length, slice_get, reverse, ⊤}
+-- The search for classes, event by event. The nodes that were met and stand in no class yet are held in groups: within
+-- a group each node reaches each other, and each node of an older group reaches all of a newer one.
+use Rattle.std.specs.Prelude.{◌≡◌, ◌⊎◌, ℕ, Bool, true, false, Some, List, [], ◌∷◌, ◌++◌, length, slice_get, reverse, ⊤}
 use Rattle.std.specs.List.{Contains}
 use Rattle.pc_entity.specs.SecondaryMap.{Defaulted, value_at}
 use Rattle.pc_graph.specs.Classes.{EndsWith, ends_from, flat}
 use Rattle.pc_graph.specs.declared.dfs.DfsEvent.{DfsEvent}
 use Rattle.pc_graph.specs.declared.dfs.DfsEvent.TheVariants.{Pre, AfterEdge, Post}
+use Rattle.pc_graph.specs.declared.search.Noted.{Noted}
+use Rattle.pc_graph.specs.declared.search.Noted.TheVariants.{Unmet, OnStack, Closed}
 
 -- no item stands twice
 abbrev pub IsUnique : {X : Type 0} → List X → Type 0
 IsUnique [] = ⊤
 IsUnique (x ∷ xs) = ¬ (Contains xs x) × IsUnique xs
 
+-- what is known of the nodes that were met
 pub record Search (Node : Type 0) : Type 0 where
   -- the groups, and the nodes of each, the newest first
   pub path : List (List Node)
@@ -49,8 +52,8 @@ pub record Held (Node : Type 0) : Type 0 where
   pub stack : List Node
   -- where each group begins on the stack, the oldest first
   pub heads : List ℕ
-  -- for each node 0 where it wasn't met, 1 where it stands in a class, and else two more than its place on the stack
-  pub places : Defaulted ℕ
+  -- what is noted of each node
+  pub noted : Defaulted Noted
   -- the nodes of the classes, and where each class ends among them
   pub nodes : List Node
   pub ends : List ℕ
@@ -61,11 +64,17 @@ module _ {Node : Type 0} where
   heads_of [] = []
   heads_of (group ∷ rest) = heads_of rest ++ length (flat rest) ∷ []
 
-  -- what is noted of a node
-  abbrev pub IsNoted : Search Node → Node → ℕ → Type 0
-  IsNoted s n noted = ((noted ≡ 0) × ¬ (Contains (flat s.path) n) × ¬ (Contains (flat s.closed) n))
-      ⊎ ((k : ℕ) × (noted ≡ k + 2) × (slice_get (reverse (flat s.path)) k ≡ Some n))
-      ⊎ ((noted ≡ 1) × Contains (flat s.closed) n)
+  -- what a search says of a node that is noted so
+  abbrev pub IsNoted : Search Node → Node → Noted → Type 0
+  IsNoted s n Unmet = ¬ (Contains (flat s.path) n) × ¬ (Contains (flat s.closed) n)
+  IsNoted s n (OnStack k) = slice_get (reverse (flat s.path)) k ≡ Some n
+  IsNoted s n Closed = Contains (flat s.closed) n
+
+-- whether a node was met that is noted so
+abbrev pub was_met : Noted → Bool
+was_met Unmet = false
+was_met (OnStack k) = true
+was_met Closed = true
 
 module _ {Node : Type 0} (number : Node → ℕ) where
   -- the program's search stands for this one
@@ -74,11 +83,11 @@ module _ {Node : Type 0} (number : Node → ℕ) where
     pub heads : held.heads ≡ heads_of s.path
     pub nodes : held.nodes ≡ flat s.closed
     pub ends : held.ends ≡ ends_from 0 s.closed
-    pub noted : (n : Node) → IsNoted s n (value_at held.places (number n))
+    pub noted : (n : Node) → IsNoted s n (value_at held.noted (number n))
     pub unique : IsUnique (flat s.path ++ flat s.closed)
 
   -- what an event asks of the search: that a node that is met is new
   abbrev pub CanTurn : Held Node → DfsEvent Node → Type 0
-  CanTurn held (Pre n) = value_at held.places (number n) ≡ 0
+  CanTurn held (Pre n) = value_at held.noted (number n) ≡ Unmet
   CanTurn held (AfterEdge from to) = ⊤
   CanTurn held (Post n) = ⊤

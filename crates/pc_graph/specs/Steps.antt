@@ -27,7 +27,8 @@ module _ {Node : Type 0} (Says : Node → Bool → Type 0) where
   abbrev pub Pushes : Node → List Node → List (DfsEvent Node) → Type 0
   Pushes from [] pushed = pushed ≡ []
   Pushes from (n ∷ ns) pushed = (before : List (DfsEvent Node)) × Pushes from ns before
-      × ((Says n true × (pushed ≡ AfterEdge from n ∷ before)) ⊎ (Says n false × (pushed ≡ Pre n ∷ AfterEdge from n ∷ before)))
+      × ((Says n true × (pushed ≡ AfterEdge from n ∷ before))
+      ⊎ (Says n false × (pushed ≡ Pre n ∷ AfterEdge from n ∷ before)))
 
   -- what is left on the stack where this event is given from its top
   abbrev pub Leaves : Digraph Node → DfsEvent Node → List (DfsEvent Node) → List (DfsEvent Node) → Type 0
@@ -59,5 +60,7 @@ module _ {Node : Type 0} where
   Remains d met [] events later = (events ≡ []) × (later ≡ met)
   Remains d met (Pre n ∷ stack) events later = (first rest : List (DfsEvent Node)) × (inside : List Node)
       × (events ≡ first ++ rest) × Tour d None (n ∷ []) met first inside × Remains d inside stack rest later
-  Remains d met (AfterEdge from to ∷ stack) events later = (rest : List (DfsEvent Node)) × (events ≡ AfterEdge from to ∷ rest) × Remains d met stack rest later
-  Remains d met (Post n ∷ stack) events later = (rest : List (DfsEvent Node)) × (events ≡ Post n ∷ rest) × Remains d met stack rest later
+  Remains d met (AfterEdge from to ∷ stack) events later = (rest : List (DfsEvent Node))
+      × (events ≡ AfterEdge from to ∷ rest) × Remains d met stack rest later
+  Remains d met (Post n ∷ stack) events later = (rest : List (DfsEvent Node)) × (events ≡ Post n ∷ rest)
+      × Remains d met stack rest later

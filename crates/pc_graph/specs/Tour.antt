@@ -13,7 +13,8 @@ module _ {Node : Type 0} where
 
 -- The nodes are visited from the first to the last: what happens, and which nodes were met before it and after it.
 -- A node that was met is not visited again. Another is met, then its successors are visited from the last to the first.
-pub data Tour {Node : Type 0} (d : Digraph Node) : Option Node → List Node → List Node → List (DfsEvent Node) → List Node → Type 0 where
+pub data Tour {Node : Type 0} (d : Digraph Node) : Option Node → List Node → List Node → List (DfsEvent Node)
+    → List Node → Type 0 where
   none : (from : Option Node) (met : List Node) → Tour d from [] met [] met
   again : (from : Option Node) (n : Node) (ns met later : List Node) (events : List (DfsEvent Node))
       → Contains met n
@@ -25,6 +26,7 @@ pub data Tour {Node : Type 0} (d : Digraph Node) : Option Node → List Node →
       → Tour d from ns inside events later
       → Tour d from (n ∷ ns) met (Pre n ∷ within ++ Post n ∷ back_at from n ++ events) later
 
--- the events of the tour of a graph from its roots, the last root first, and the nodes that it meets, the last one first
+-- the events of the tour of a graph from its roots, the last root first, and the nodes that it meets, the last one
+-- first
 abbrev pub IsTour : {Node : Type 0} → Digraph Node → List Node → List (DfsEvent Node) → List Node → Type 0
 IsTour d roots events met = Tour d None (reverse roots) [] events met

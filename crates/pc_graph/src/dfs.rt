@@ -1,9 +1,9 @@
 //! The depth-first traversal, one event at a time.
 //!
-//! The events to come stand on a stack of its own, so a deep graph takes heap and no call stack. Which nodes were met is the
-//! caller's to say, with each call: a caller keeps such a set anyway, and may leave nodes out by it.
+//! The events to come stand on a stack of its own, so a deep graph takes heap and no call stack. Which nodes were met
+//! is the caller's to say, with each call: a caller keeps such a set anyway, and may leave nodes out by it.
 
-ghost use Rattle.std.specs.Prelude.{◌≡◌, ◌+◌, ◌-◌, ◌^◌, ◌<◌, ◌≤◌, ◌++◌, ◌∷◌, [], Bool, List, length, drop, take, reverse, slice_get, IfOk, OnOk, OnErr};
+ghost use Rattle.std.specs.Prelude.{◌≡◌, ◌⊎◌, ◌+◌, ◌-◌, ◌^◌, ◌<◌, ◌≤◌, ◌++◌, ◌∷◌, [], Bool, true, false, List, length, drop, take, reverse, slice_get, IfOk, OnOk, OnErr};
 ghost use Rattle.std.specs.List.{All};
 ghost use Rattle.std.specs.Option.{option_to_list};
 ghost use Rattle.pc_graph.specs.Digraph.{Digraph};
@@ -96,8 +96,10 @@ impl<Node: EntityRef> Dfs<Node> {
         requires shown { (d : Digraph Node) × G.Shows graph.now d }
         ensures step { (d : Digraph Node) → G.Shows graph.now d
             → IfOk result (λ event. Steps (λ n answer. S.post seen n answer) d self.old event self.new) }
-        ensures tour { (d : Digraph Node) (met : List Node) → G.Shows graph.now d → SaysExactly (λ n answer. S.post seen n answer) met
-            → IfOk result (λ event. (events : _) (later : List Node) → Remains d (met_after met event) self.new events later
+        ensures tour { (d : Digraph Node) (met : List Node) → G.Shows graph.now d
+            → SaysExactly (λ n answer. S.post seen n answer) met
+            → IfOk result (λ event. (events : _) (later : List Node)
+            → Remains d (met_after met event) self.new events later
             → Remains d met self.old (option_to_list event ++ events) later) }
         ensures err { OnErr result (self.new ≡ self.old) }
         ensures small { OnOk result (length self.new < 2 ^ 63) }
@@ -120,8 +122,8 @@ impl<Node: EntityRef> Dfs<Node> {
     }
 }
 
-/// Puts the visit of `node` in the place of all that stands on the stack from `below` on. All memory is found before anything
-/// is taken off.
+/// Puts the visit of `node` in the place of all that stands on the stack from `below` on. All memory is found before
+/// anything is taken off.
 fn open<Node: EntityRef, G: Graph<Node>, S: Fn(Node) -> bool>(
     stack: &mut Vec<DfsEvent<Node>>,
     below: usize,
@@ -150,21 +152,27 @@ fn given_up_to<Node: Copy, S: Fn(Node) -> bool>(stack: &[DfsEvent<Node>], seen: 
     requires { S.IsAlwaysCallable seen.now }
     ensures within { result ≤ length stack.now }
     ensures skipped { All (IsSkipped (λ n answer. S.post seen.now n answer)) (drop result stack.now) }
-    ensures given { (e : _) → 0 < result → slice_get stack.now (result - 1) ≡ Some e → IsGiven (λ n answer. S.post seen.now n answer) e }
+    ensures given { (e : _) → 0 < result → slice_get stack.now (result - 1) ≡ Some e
+        → IsGiven (λ n answer. S.post seen.now n answer) e }
 {
     let mut left = stack.len();
-    while left > 0 {
-        match stack[left - 1] {
-            DfsEvent::Pre(node) => {
-                if !seen(node) {
-                    return left;
-                }
-            }
-            _ => return left,
-        }
+    while left > 0 && is_skipped(stack[left - 1], seen) {
         left -= 1;
     }
     left
+}
+
+/// Whether an event is the visit of a seen node.
+fn is_skipped<Node: Copy, S: Fn(Node) -> bool>(event: DfsEvent<Node>, seen: &S) -> bool
+    requires { S.IsAlwaysCallable seen.now }
+    ensures skipped { result ≡ true → IsSkipped (λ n answer. S.post seen.now n answer) event }
+    ensures given { result ≡ false → IsGiven (λ n answer. S.post seen.now n answer) event }
+{
+    match event {
+        DfsEvent::Pre(node) => seen(node),
+        DfsEvent::AfterEdge(_, _) => false,
+        DfsEvent::Post(_) => false,
+    }
 }
 
 /// What the visit of `node` pushes for its successors.
@@ -177,16 +185,34 @@ fn pushed_at<Node: EntityRef, G: Graph<Node>, S: Fn(Node) -> bool>(
     requires callable { S.IsAlwaysCallable seen.now }
     requires shown { (d : Digraph Node) × G.Shows graph.now d }
     ensures { (d : Digraph Node) → G.Shows graph.now d
-        → IfOk result (λ pushed. Pushes (λ n answer. S.post seen.now n answer) node (reverse (d.successors node)) (reverse pushed.items)) }
+        → IfOk result (λ pushed. Pushes (λ n answer. S.post seen.now n answer) node
+        (reverse (d.successors node)) (reverse pushed.items)) }
 {
     let mut successors = Vec::new(alloc);
     graph.successors(node, &mut successors)?;
     let mut pushed = Vec::new(alloc);
     for successor in successors.as_slice() {
-        pushed.push(DfsEvent::AfterEdge(node, *successor))?;
-        if !seen(*successor) {
-            pushed.push(DfsEvent::Pre(*successor))?;
-        }
+        push_edge(&mut pushed, node, *successor, seen)?;
     }
     Ok(pushed)
+}
+
+/// Pushes an edge, and behind it the visit of the node that it leads to, unless that is seen.
+fn push_edge<Node: Copy, S: Fn(Node) -> bool>(
+    pushed: &mut Vec<DfsEvent<Node>>,
+    from: Node,
+    to: Node,
+    seen: &S,
+) -> Result<(), NoMemory>
+    requires { S.IsAlwaysCallable seen.now }
+    ensures { OnOk result (
+        (S.post seen.now to true × (pushed.new.items ≡ pushed.old.items ++ DfsEvent.AfterEdge from to ∷ []))
+        ⊎ (S.post seen.now to false
+        × (pushed.new.items ≡ (pushed.old.items ++ DfsEvent.AfterEdge from to ∷ []) ++ DfsEvent.Pre to ∷ []))) }
+{
+    pushed.push(DfsEvent::AfterEdge(from, to))?;
+    if seen(to) {
+        return Ok(());
+    }
+    Ok(pushed.push(DfsEvent::Pre(to))?)
 }

@@ -12,7 +12,8 @@ use pc_numbers::EntityRef;
 use std::alloc::Global;
 use std::marker::{Model, PhantomData};
 
-/// A graph whose nodes are all numbers up to the greatest that was given. A contract sees the list of successors of each.
+/// A graph whose nodes are all numbers up to the greatest that was given. A contract sees the list of successors of
+/// each.
 #[derive(Drop)]
 pub struct EntityGraph<Node> {
     rows: Vec<Seq<Node>>,
@@ -50,8 +51,8 @@ impl<E: Drop> From<NoMemory> for GraphError<E> {
 }
 
 impl<Node: EntityRef> EntityGraph<Node> {
-    /// The graph of these nodes. `successors` is called on each in order, with an empty vector, and what it leaves there are the
-    /// node's successors. A number that is not given has none.
+    /// The graph of these nodes. Each node in turn is given to `successors` with a vector that is empty, which the call
+    /// fills with the node's successors. A number that is not given has none.
     pub fn new<E: Drop, F: FnMut(Node, &mut Vec<Node>) -> Result<(), E>>(
         alloc: Global,
         nodes: &[Node],

@@ -7,7 +7,7 @@ ghost use Rattle.pc_graph.specs.Classes.{flat};
 ghost use Rattle.pc_graph.specs.Digraph.{Digraph};
 ghost use Rattle.pc_graph.specs.Evaporation.{IsClosed, IsEvaporation};
 ghost use Rattle.pc_graph.specs.Listed.{row_at};
-ghost use Rattle.pc_graph.specs.Noting.{AreNumbers, last_is, noted, noted_all, targets};
+ghost use Rattle.pc_graph.specs.Noting.{AreNumbers, last_is, noted, noted_all, number_in, targets};
 
 use crate::{Graph, Scc, StronglyConnectedComponents};
 use pc_entity::{NoMemory, SecondaryMap, Seq};
@@ -31,7 +31,8 @@ impl Model for Evaporation {
 }
 
 impl Evaporation {
-    /// The other components that have an edge into this one, ascending. There are none for a number past the components.
+    /// The other components that have an edge into this one, ascending. There are none for a number past the
+    /// components.
     pub fn reverse_edges(&self, component: Scc) -> &[Scc]
         ensures { result.now ≡ row_at self.now component.0 }
     {
@@ -43,8 +44,8 @@ impl Evaporation {
 }
 
 impl<Node: EntityRef> StronglyConnectedComponents<Node> {
-    /// For each component the others that have an edge into it. Upstream's name for the condensation of a graph with its edges
-    /// reversed.
+    /// For each component the others that have an edge into it. Upstream's name for the condensation of a graph with
+    /// its edges reversed.
     ///
     /// The edges are those of the graph that is given here. The graph that `new` was called with meets the condition.
     pub fn evaporation<G: Graph<Node>>(
@@ -67,10 +68,10 @@ fn rows_of<Node: EntityRef, G: Graph<Node>>(
     alloc: Global,
     graph: &G,
     components: &StronglyConnectedComponents<Node>,
-    numbers: &SecondaryMap<Node, u32>,
+    numbers: &SecondaryMap<Node, Scc>,
 ) -> Result<Vec<Seq<Scc>>, NoMemory>
     requires closed { (d : Digraph Node) × G.Shows graph.now d × IsClosed d (flat components.now) }
-    requires numbers { AreNumbers (λ n. value_at numbers.now (Node.number n)) components.now }
+    requires numbers { AreNumbers (number_in Node.number numbers.now) components.now }
     ensures { (d : Digraph Node) → G.Shows graph.now d → IsClosed d (flat components.now)
         → IfOk result (λ rows. IsEvaporation d components.now rows.items) }
 {
@@ -93,11 +94,12 @@ fn rows_of<Node: EntityRef, G: Graph<Node>>(
 fn numbers_of<Node: EntityRef>(
     alloc: Global,
     components: &StronglyConnectedComponents<Node>,
-) -> Result<SecondaryMap<Node, u32>, NoMemory>
-    ensures { IfOk result (λ numbers. AreNumbers (λ n. value_at numbers (Node.number n)) components.now) }
+) -> Result<SecondaryMap<Node, Scc>, NoMemory>
+    ensures { IfOk result (λ numbers. AreNumbers (number_in Node.number numbers) components.now) }
 {
+    // Brings into the proof that no node stands in two components.
     components.once();
-    let mut numbers = SecondaryMap::new(alloc, 0);
+    let mut numbers = SecondaryMap::new(alloc, Scc(0));
     for place in 0..components.len() {
         let number = Scc(place as u32);
         put_number(&mut numbers, components.nodes(number), number)?;
@@ -107,16 +109,16 @@ fn numbers_of<Node: EntityRef>(
 
 /// Makes `number` the number of these nodes.
 fn put_number<Node: EntityRef>(
-    numbers: &mut SecondaryMap<Node, u32>,
+    numbers: &mut SecondaryMap<Node, Scc>,
     nodes: &[Node],
     number: Scc,
 ) -> Result<(), NoMemory>
-    ensures put { OnOk result ((n : Node) → Contains nodes.now n → value_at numbers.new (Node.number n) ≡ number.0) }
+    ensures put { OnOk result ((n : Node) → Contains nodes.now n → value_at numbers.new (Node.number n) ≡ number) }
     ensures others { OnOk result ((n : Node) → ¬ (Contains nodes.now n)
         → value_at numbers.new (Node.number n) ≡ value_at numbers.old (Node.number n)) }
 {
     for node in nodes {
-        numbers.set(*node, number.0)?;
+        numbers.set(*node, number)?;
     }
     Ok(())
 }
@@ -136,15 +138,16 @@ fn empty_rows(alloc: Global, count: usize) -> Result<Vec<Seq<Scc>>, NoMemory>
 fn note_component<Node: EntityRef, G: Graph<Node>>(
     alloc: Global,
     graph: &G,
-    numbers: &SecondaryMap<Node, u32>,
+    numbers: &SecondaryMap<Node, Scc>,
     rows: &mut Vec<Seq<Scc>>,
     from: Scc,
     nodes: &[Node],
 ) -> Result<(), NoMemory>
     requires { (d : Digraph Node) × G.Shows graph.now d
-        × ((k : ℕ) → Contains (targets (λ n. value_at numbers.now (Node.number n)) d nodes.now) k → k < length rows.old.items) }
+        × ((k : ℕ) → Contains (targets (number_in Node.number numbers.now) d nodes.now) k → k < length rows.old.items) }
     ensures { (d : Digraph Node) → G.Shows graph.now d
-        → OnOk result (rows.new.items ≡ noted_all from.0 rows.old.items (targets (λ n. value_at numbers.now (Node.number n)) d nodes.now)) }
+        → OnOk result (rows.new.items ≡ noted_all from.0 rows.old.items
+        (targets (number_in Node.number numbers.now) d nodes.now)) }
 {
     for node in nodes {
         let mut successors = Vec::new(alloc);
@@ -156,14 +159,14 @@ fn note_component<Node: EntityRef, G: Graph<Node>>(
 
 /// Notes the edges from one component to these nodes.
 fn note_all<Node: EntityRef>(
-    numbers: &SecondaryMap<Node, u32>,
+    numbers: &SecondaryMap<Node, Scc>,
     rows: &mut Vec<Seq<Scc>>,
     from: Scc,
     nodes: &[Node],
 ) -> Result<(), NoMemory>
-    requires { (n : Node) → Contains nodes.now n → value_at numbers.now (Node.number n) < length rows.old.items }
+    requires { (n : Node) → Contains nodes.now n → number_in Node.number numbers.now n < length rows.old.items }
     ensures ok { OnOk result (rows.new.items
-        ≡ noted_all from.0 rows.old.items (map (λ n. value_at numbers.now (Node.number n)) nodes.now)) }
+        ≡ noted_all from.0 rows.old.items (map (number_in Node.number numbers.now) nodes.now)) }
     ensures size { length rows.new.items ≡ length rows.old.items }
 {
     for node in nodes {
@@ -173,15 +176,15 @@ fn note_all<Node: EntityRef>(
 }
 
 /// Notes an edge between two components.
-fn note(rows: &mut Vec<Seq<Scc>>, from: Scc, into: u32) -> Result<(), NoMemory>
-    requires { into < length rows.old.items }
-    ensures ok { OnOk result (rows.new.items ≡ noted from.0 rows.old.items into) }
+fn note(rows: &mut Vec<Seq<Scc>>, from: Scc, into: Scc) -> Result<(), NoMemory>
+    requires { into.0 < length rows.old.items }
+    ensures ok { OnOk result (rows.new.items ≡ noted from.0 rows.old.items into.0) }
     ensures size { length rows.new.items ≡ length rows.old.items }
 {
-    if from.0 == into || ends_with(rows[into as usize].as_slice(), from) {
+    if from.0 == into.0 || ends_with(rows[into.0 as usize].as_slice(), from) {
         return Ok(());
     }
-    Ok(rows[into as usize].push(from)?)
+    Ok(rows[into.0 as usize].push(from)?)
 }
 
 /// Whether this is the last of the numbers.

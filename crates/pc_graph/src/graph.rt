@@ -10,8 +10,8 @@ use std::marker::PhantomData;
 
 /// A graph that lists its nodes and the successors of each.
 ///
-/// It shows a directed graph, always the same. A graph that holds a predicate shows one only where the predicate may be called
-/// and has one answer for each node: this is the condition of its calls.
+/// It shows a directed graph, always the same. A graph that holds a predicate shows one only where the predicate may be
+/// called and has one answer for each node: this is the condition of its calls.
 pub trait Graph<Node: EntityRef> {
     // The directed graph that is seen in it.
     ghost Shows: { Self → Digraph Node → Type 0 };
@@ -25,7 +25,8 @@ pub trait Graph<Node: EntityRef> {
     /// Appends the successors of `node` in their order.
     fn successors(&self, node: Node, into: &mut Vec<Node>) -> Result<(), NoMemory>
         requires { (d : Digraph Node) × Shows self.now d }
-        ensures ok { (d : Digraph Node) → Shows self.now d → OnOk result (into.new.items ≡ into.old.items ++ d.successors node) }
+        ensures ok { (d : Digraph Node) → Shows self.now d
+            → OnOk result (into.new.items ≡ into.old.items ++ d.successors node) }
         ensures err { OnErr result (into.new.items ≡ into.old.items) };
 
     /// The graph itself, lent.

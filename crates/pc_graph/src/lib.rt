@@ -1,7 +1,7 @@
 //! Directed graphs over numbers: a depth-first traversal, filtered graphs, and strong components.
 //!
-//! A graph is anything that lists its nodes and the successors of each. What is promised here holds for each such graph, and no
-//! function recurses, so a path of a million nodes takes no more stack than one of two.
+//! A graph is anything that lists its nodes and the successors of each. What is promised here holds for each such
+//! graph, and no function recurses, so a path of a million nodes takes no more stack than one of two.
 #![tactic(auto)]
 
 mod dfs;
@@ -13,8 +13,6 @@ mod laws;
 mod scc;
 mod scc_iter;
 mod search;
-#[cfg(test)]
-mod tests;
 
 pub use dfs::{Dfs, DfsEvent};
 pub use entity_graph::{EntityGraph, GraphError};

@@ -1,12 +1,14 @@
 //! Strong components.
 
-ghost use Rattle.std.specs.Prelude.{◌≡◌, ◌<◌, ◌≤◌, ◌^◌, ◌++◌, ℕ, List, [], Some, length, not, nat_eq, slice_get, slice_range, IfOk};
+ghost use Rattle.std.specs.Prelude.{◌≡◌, ◌<◌, ◌≤◌, ◌^◌, ◌++◌, ℕ, List, [], Some, length, nat_eq, slice_get, slice_range, IfOk};
+ghost use Rattle.std.specs.Map.Iter.{ShowsInOrder, deref};
 ghost use Rattle.pc_entity.specs.SecondaryMap.{value_at};
 ghost use Rattle.std.proofs.Common.{refl, rules};
 ghost use Rattle.pc_entity.specs.Lists.{AreDistinct};
 ghost use Rattle.pc_graph.specs.Classes.{AreComponents, flat, start_of};
 ghost use Rattle.pc_graph.specs.Digraph.{Digraph};
-ghost use Rattle.pc_graph.specs.Searching.{Search, StandsFor};
+ghost use Rattle.pc_graph.specs.Evaporation.{IsClosed};
+ghost use Rattle.pc_graph.specs.Searching.{Search, StandsFor, was_met};
 
 use crate::scc_iter::SccValues;
 use crate::search::PathSearch;
@@ -64,14 +66,19 @@ impl<Node> Model for StronglyConnectedComponents<Node> {
 }
 
 impl<Node: EntityRef> StronglyConnectedComponents<Node> {
-    /// The components of all nodes that can be reached from the listed ones, those that an edge leads to before those that it
-    /// comes from.
+    /// The components of all nodes that can be reached from the listed ones, those that an edge leads to before those
+    /// that it comes from.
     pub fn new<G: Graph<Node>>(
         alloc: Global,
         graph: &G,
     ) -> Result<StronglyConnectedComponents<Node>, NoMemory>
         requires { (d : Digraph Node) × G.Shows graph.now d }
-        ensures { (d : Digraph Node) → G.Shows graph.now d → IfOk result (λ components. AreComponents d components) }
+        ensures components { (d : Digraph Node) → G.Shows graph.now d
+            → IfOk result (λ components. AreComponents d components) }
+
+        // An edge from a node of a component leads to another such node, as `evaporation` asks.
+        ensures closed { (d : Digraph Node) → G.Shows graph.now d
+            → IfOk result (λ components. IsClosed d (flat components)) }
     {
         let search = search_all(alloc, graph)?;
         let nodes = search.nodes;
@@ -91,6 +98,7 @@ impl<Node: EntityRef> StronglyConnectedComponents<Node> {
         self.ends.len()
     }
 
+    /// Whether there is no component.
     pub fn is_empty(&self) -> bool
         ensures { result ≡ nat_eq (length self.now) 0 }
     {
@@ -110,7 +118,8 @@ impl<Node: EntityRef> StronglyConnectedComponents<Node> {
 
     /// The nodes of each component, in the order of their numbers.
     pub fn values(&self) -> SccValues<'_, Node>
-        ensures { result ≡ self.now }
+        ensures rest { result ≡ self.now }
+        ensures runs { ShowsInOrder (deref {X = List Node}) }
     {
         SccValues::new(self.nodes.as_slice(), self.ends.as_slice())
     }
@@ -119,6 +128,7 @@ impl<Node: EntityRef> StronglyConnectedComponents<Node> {
     pub(crate) fn once(&self)
         ensures { AreDistinct (flat self.now) }
     {
+        // Brings the invariant into the proof.
         let _ends = self.ends.len();
     }
 }
@@ -156,7 +166,7 @@ fn search_all<Node: EntityRef, G: Graph<Node>>(
     'events: while let Some(event) = dfs.next(
         graph,
         |node| -> bool
-            ensures { result ≡ not (nat_eq (value_at search.places (Node.number node)) 0) }
+            ensures { result ≡ was_met (value_at search.noted (Node.number node)) }
         { search.is_met(node) },
     )? {
         search.turn(event)?;

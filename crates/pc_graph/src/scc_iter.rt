@@ -1,11 +1,12 @@
-//! The strong components in order. Each iterator is seen as the list of what it has left.
+//! The strong components in order. A contract sees an iterator as the list of what is still to come.
 
-ghost use Rattle.std.specs.Prelude.{◌≡◌, ◌+◌, ◌≤◌, length, Some, IfSome};
+ghost use Rattle.std.specs.Prelude.{◌≡◌, ◌+◌, ◌≤◌, List, length, Some, IfSome};
 ghost use Rattle.std.specs.Iterator.{UpTo, at_most};
 ghost use Rattle.std.specs.Iterator.SizeHint.{IsWithinCount};
-ghost use Rattle.std.specs.Map.Iter.{TakesFirst, deref};
+ghost use Rattle.std.specs.Map.Iter.{GivesInOrder, ShowsInOrder, TakesFirst, deref};
 ghost use Rattle.pc_graph.specs.Classes.{Ascend, cut};
 ghost use Rattle.pc_graph.specs.Numbered.{deref_numbered, numbered, numbers};
+ghost use Rattle.pc_graph.specs.declared.scc.Scc.{Scc};
 
 use crate::scc::{Scc, StronglyConnectedComponents, part};
 use pc_numbers::EntityRef;
@@ -193,8 +194,10 @@ impl FusedIterator for SccKeys {}
 impl<Node: EntityRef> StronglyConnectedComponents<Node> {
     /// The components in the order of their numbers: those that an edge leads to before those that it comes from.
     pub fn iter(&self) -> SccIter<'_, Node>
-        ensures { result ≡ numbered 0 self.now }
+        ensures rest { result ≡ numbered 0 self.now }
+        ensures runs { ShowsInOrder (deref_numbered {X = List Node}) }
     {
+        // Brings the bound of the numbers into the proof.
         let _len = self.len();
         SccIter {
             values: self.values(),
@@ -204,7 +207,8 @@ impl<Node: EntityRef> StronglyConnectedComponents<Node> {
 
     /// The numbers of the components, in the same order.
     pub fn keys(&self) -> SccKeys
-        ensures { result ≡ numbers 0 (length self.now) }
+        ensures rest { result ≡ numbers 0 (length self.now) }
+        ensures runs { GivesInOrder Scc }
     {
         SccKeys {
             number: 0,

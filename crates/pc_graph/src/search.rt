@@ -1,15 +1,18 @@
 //! The search for strong components, one event of the tour at a time.
 //!
-//! Nodes that were met and stand in no component yet lie on a stack, in groups: the nodes of a group are known to reach each other,
-//! and those of an older group reach all newer ones. An edge back to the stack joins the groups above its end, and a group whose
-//! oldest node is left is a component. Each node goes onto the stack once and off it once, and so does each group's head, so the
-//! search takes time in proportion to the events. Upstream keeps a low link for each node in place of the heads.
+//! Nodes that were met and stand in no component yet lie on a stack, in groups: the nodes of a group are known to reach
+//! each other, and those of an older group reach all newer ones. An edge back to the stack joins the groups above its
+//! end, and a group whose oldest node is left is a component. Each node goes onto the stack once and off it once, and
+//! so does each group's head, so the search takes time in proportion to the events. Upstream keeps a low link for each
+//! node in place of the heads.
 
-ghost use Rattle.std.specs.Prelude.{◌≡◌, ◌↔◌, IsTrue, ◌+◌, ◌-◌, ◌<◌, ◌≤◌, ◌++◌, ◌^◌, ℕ, List, Some, [], length, drop, take, not, nat_eq, reverse, slice_get, slice_index, MatchOption, OnOk, IfOk};
+ghost use Rattle.std.specs.Prelude.{◌≡◌, ◌↔◌, IsTrue, ◌+◌, ◌-◌, ◌<◌, ◌≤◌, ◌++◌, ◌^◌, ℕ, Some, [], length, drop, take, reverse, slice_get, slice_index, MatchOption, OnOk};
 ghost use Rattle.std.specs.List.{Contains};
 ghost use Rattle.pc_entity.specs.SecondaryMap.{value_at};
 ghost use Rattle.pc_graph.specs.Classes.{flat};
-ghost use Rattle.pc_graph.specs.Searching.{CanTurn, Held, Search, StandsFor, Turns};
+ghost use Rattle.pc_graph.specs.Searching.{CanTurn, Search, StandsFor, Turns, was_met};
+ghost use Rattle.pc_graph.specs.declared.dfs.DfsEvent.{DfsEvent};
+ghost use Rattle.pc_graph.specs.declared.search.Noted.{Noted};
 
 use crate::DfsEvent;
 use pc_entity::{NoMemory, SecondaryMap, Seq};
@@ -17,9 +20,20 @@ use pc_numbers::EntityRef;
 use std::alloc::Global;
 use std::marker::Model;
 
-/// What is noted of a node that stands in a component.
-const CLOSED: usize = 1;
+/// What is noted of a node.
+#[derive(Clone, Copy)]
+pub(crate) enum Noted {
+    /// It wasn't met.
+    Unmet,
 
+    /// It stands in no component, but at this place of the stack.
+    OnStack(usize),
+
+    /// It stands in a component.
+    Closed,
+}
+
+/// The search between two events.
 #[derive(Drop)]
 pub(crate) struct PathSearch<Node> {
     /// The nodes that were met and stand in no component, the oldest first.
@@ -28,8 +42,8 @@ pub(crate) struct PathSearch<Node> {
     /// Where each group begins on the stack.
     heads: Vec<usize>,
 
-    /// For each node 0 where it wasn't met, `CLOSED`, or two more than its place on the stack.
-    places: SecondaryMap<Node, usize>,
+    /// What is noted of each node.
+    noted: SecondaryMap<Node, Noted>,
 
     /// The nodes of the components, one component behind the other.
     pub(crate) nodes: Vec<Node>,
@@ -43,17 +57,24 @@ impl<Node> Model for PathSearch<Node> {
 
     ghost Value = { Held Node };
 
-    ghost view = { λ s. record { stack = s.stack.items; heads = s.heads.items; places = s.places; nodes = s.nodes.items; ends = s.ends.items } };
+    ghost view = { λ s. record {
+      stack = s.stack.items;
+      heads = s.heads.items;
+      noted = s.noted;
+      nodes = s.nodes.items;
+      ends = s.ends.items;
+    } };
 }
 
 impl<Node: EntityRef> PathSearch<Node> {
+    /// The search that has met no node.
     pub(crate) fn new(alloc: Global) -> PathSearch<Node>
         ensures { StandsFor Node.number result (record { path = []; closed = [] }) }
     {
         PathSearch {
             stack: Vec::new(alloc),
             heads: Vec::new(alloc),
-            places: SecondaryMap::new(alloc, 0),
+            noted: SecondaryMap::new(alloc, Noted::Unmet),
             nodes: Vec::new(alloc),
             ends: Vec::new(alloc),
         }
@@ -63,14 +84,20 @@ impl<Node: EntityRef> PathSearch<Node> {
     fn sizes(&self)
         ensures { length self.now.stack + length self.now.nodes < 2 ^ 64 }
     {
+        // Each brings the bound of a length into the proof.
         let _stack = self.stack.len();
         let _nodes = self.nodes.len();
     }
 
+    /// Whether a node was met.
     pub(crate) fn is_met(&self, node: Node) -> bool
-        ensures { result ≡ not (nat_eq (value_at self.now.places (Node.number node)) 0) }
+        ensures { result ≡ was_met (value_at self.now.noted (Node.number node)) }
     {
-        self.places.get(node) != 0
+        match self.noted.get(node) {
+            Noted::Unmet => false,
+            Noted::OnStack(_) => true,
+            Noted::Closed => true,
+        }
     }
 
     /// Takes in what happens next in the tour.
@@ -85,6 +112,7 @@ impl<Node: EntityRef> PathSearch<Node> {
         turned
     }
 
+    /// What `turn` does, but for the bound of the lengths.
     fn take_in(&mut self, event: DfsEvent<Node>) -> Result<(), NoMemory>
         requires { CanTurn Node.number self.old event }
         ensures { (s : Search Node) → StandsFor Node.number self.old s
@@ -102,14 +130,14 @@ impl<Node: EntityRef> PathSearch<Node> {
 
     /// Makes a node a group of its own.
     fn meet(&mut self, node: Node) -> Result<(), NoMemory>
-        requires { value_at self.old.places (Node.number node) ≡ 0 }
+        requires { value_at self.old.noted (Node.number node) ≡ Noted.Unmet }
         ensures { (s : Search Node) → StandsFor Node.number self.old s
             → OnOk result ((t : Search Node) × Turns s (DfsEvent.Pre node) t × StandsFor Node.number self.new t) }
     {
         let place = self.stack.len();
         self.heads.push(place)?;
         self.stack.push(node)?;
-        Ok(self.places.set(node, place + 2)?)
+        Ok(self.noted.set(node, Noted::OnStack(place))?)
     }
 
     /// Where a node stands on the stack.
@@ -117,11 +145,10 @@ impl<Node: EntityRef> PathSearch<Node> {
         ensures { (s : Search Node) → StandsFor Node.number self.now s
             → MatchOption result (¬ (Contains (flat s.path) node)) (λ k. slice_get self.now.stack k ≡ Some node) }
     {
-        let noted = self.places.get(node);
-        if noted == 0 || noted == CLOSED {
-            None
-        } else {
-            Some(noted - 2)
+        match self.noted.get(node) {
+            Noted::Unmet => None,
+            Noted::OnStack(place) => Some(place),
+            Noted::Closed => None,
         }
     }
 
@@ -158,7 +185,7 @@ impl<Node: EntityRef> PathSearch<Node> {
         if !self.stands_at(head, node) {
             return Ok(());
         }
-        close_group(&mut self.stack, &mut self.places, &mut self.nodes, head)?;
+        close_group(&mut self.stack, &mut self.noted, &mut self.nodes, head)?;
         self.heads.pop();
         Ok(self.ends.push(self.nodes.len())?)
     }
@@ -180,21 +207,22 @@ fn heads_up_to(heads: &[usize], place: usize) -> usize
 /// Moves the nodes from `head` on off the stack, the last one first, and notes that they stand in a component.
 fn close_group<Node: EntityRef>(
     stack: &mut Vec<Node>,
-    places: &mut SecondaryMap<Node, usize>,
+    noted: &mut SecondaryMap<Node, Noted>,
     nodes: &mut Vec<Node>,
     head: usize,
 ) -> Result<(), NoMemory>
     ensures stack { OnOk result (stack.new.items ≡ take head stack.old.items) }
     ensures nodes { OnOk result (nodes.new.items ≡ nodes.old.items ++ reverse (drop head stack.old.items)) }
-    ensures closed { OnOk result ((n : Node) → Contains (reverse (drop head stack.old.items)) n → value_at places.new (Node.number n) ≡ 1) }
+    ensures closed { OnOk result ((n : Node) → Contains (reverse (drop head stack.old.items)) n
+        → value_at noted.new (Node.number n) ≡ Noted.Closed) }
     ensures others { OnOk result ((n : Node) → ¬ (Contains (reverse (drop head stack.old.items)) n)
-        → value_at places.new (Node.number n) ≡ value_at places.old (Node.number n)) }
+        → value_at noted.new (Node.number n) ≡ value_at noted.old (Node.number n)) }
 {
     let mut left = stack.len();
     while left > head {
         left -= 1;
         let node = stack[left];
-        places.set(node, CLOSED)?;
+        noted.set(node, Noted::Closed)?;
         nodes.push(node)?;
     }
     stack.truncate(head);

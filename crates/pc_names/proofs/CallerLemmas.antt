@@ -1,5 +1,4 @@
--- What callers of a name map cite: texts as keys, names that are inserted once, and a value that is
--- written.
+-- What callers of a name map cite: texts as keys, names that are inserted once, and a value that is written.
 use Rattle.std.proofs.Common.{◌≡◌, ℕ, true, List, [], ◌∷◌, ◌++◌, Option, Some, None, refl, ap, ◌∙◌, inl, inr}
 use Rattle.std.proofs.lemmas.Bool.{cases_Bool}
 use Rattle.std.proofs.lemmas.Slice.Eq.{bytes_eq-Decides}
@@ -8,10 +7,10 @@ use Rattle.std.specs.Map.{keys_of, lookup, set_value}
 use Rattle.std.specs.Option.{IsSome, is_some}
 use Rattle.std.specs.Str.{bytes_eq}
 use Rattle.std.specs.declared.cmp.Ordering.{Ordering}
-use Rattle.pc_names.proofs.ByText.{AreKeyed-with_value, KeysAgree, place-keyed}
-use Rattle.pc_names.proofs.LastValues.{define-at, definitions_of-push, last_value-push, lookup-definitions_of}
-use Rattle.pc_names.proofs.Places.{is_some-lookup, with_value-place}
-use Rattle.pc_names.proofs.Standing.{kept_name}
+use Rattle.pc_names.proofs.TextKeyLemmas.{AreKeyed-with_value, KeysAgree, place-keyed}
+use Rattle.pc_names.proofs.LastValueLemmas.{define-at, definitions_of-push, last_value-push, lookup-definitions_of}
+use Rattle.pc_names.proofs.PlaceLemmas.{is_some-lookup, with_value-place}
+use Rattle.pc_names.proofs.StandingLemmas.{kept_name}
 use Rattle.pc_names.specs.Contents.{Contents, Newest}
 use Rattle.pc_names.specs.Definitions.{place_by, place_in}
 use Rattle.pc_names.specs.Inserted.{Inserted, IsOn, define, definitions_of, last_value}
@@ -77,7 +76,8 @@ module _ {K V : Type 0} {has_key : List ℕ → K → Type 0} {cmp : K → K →
   -- a value that is written under a name's key is one insertion more of the name
   pub StandsFor-written : (map : Contents K V) (inserted : Inserted V) (name : List ℕ) (key : K) (value : V)
       → StandsFor has_key map inserted → has_key name key → IsSome (last_value inserted name)
-      → StandsFor has_key (record map { definitions = set_value (is_at (cmp key)) map.definitions value }) (inserted ++ (name, value) ∷ [])
+      → StandsFor has_key (record map { definitions = set_value (is_at (cmp key)) map.definitions value })
+      (inserted ++ (name, value) ∷ [])
   StandsFor-written map inserted name key value s named present = record {
     definitions = go (place_by (bytes_eq name) (keys_of (definitions_of inserted))) refl
         (is_some-lookup (bytes_eq name) (definitions_of inserted) ∙ ap is_some (lookup-definitions_of inserted name)
@@ -88,7 +88,8 @@ module _ {K V : Type 0} {has_key : List ℕ → K → Type 0} {cmp : K → K →
         (s.newest track);
   } where
     go : (o : Option ℕ) → place_by (bytes_eq name) (keys_of (definitions_of inserted)) ≡ o → is_some o ≡ true
-        → AreKeyed has_key (set_value (is_at (cmp key)) map.definitions value) (definitions_of (inserted ++ (name, value) ∷ []))
+        → AreKeyed has_key (set_value (is_at (cmp key)) map.definitions value)
+        (definitions_of (inserted ++ (name, value) ∷ []))
     go None e h = cc
     go (Some p) e h =
         let at : place_in cmp map.definitions key ≡ Some p =

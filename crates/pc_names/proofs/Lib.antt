@@ -1,9 +1,10 @@
-pub mod Texts
-pub mod Places
-pub mod InOrder
-pub mod ByText
-pub mod LastValues
-pub mod Versions
-pub mod Standing
-pub mod Answered
+-- What the functions of this crate rest on. Callers cite `CallerLemmas`.
+pub mod TextLemmas
+pub mod PlaceLemmas
+pub mod OrderLemmas
+pub mod TextKeyLemmas
+pub mod LastValueLemmas
+pub mod VersionLemmas
+pub mod StandingLemmas
+pub mod AnswerLemmas
 pub mod CallerLemmas

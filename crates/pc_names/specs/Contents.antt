@@ -6,8 +6,7 @@ use Rattle.semver.specs.Parse.{Parts}
 abbrev pub Newest : Type 0
 Newest = ℕ × Parts
 
--- the definitions in order, each under its key, and for each track that has a name the newest one,
--- by the track's key
+-- the definitions in order, each under its key, and for each track that has a name the newest one, by the track's key
 pub record Contents (K V : Type 0) : Type 0 where
   pub definitions : List (K × V)
   pub tracks : List (K × Newest)

@@ -14,8 +14,7 @@ Inserted V = List (List ℕ × V)
 abbrev pub last_value : {V : Type 0} → Inserted V → List ℕ → Option V
 last_value inserted name = lookup (bytes_eq name) (reverse inserted)
 
--- definitions after one more: a name that is there keeps its place and takes the value, a new one
--- goes last
+-- definitions after one more: a name among them gets the value where it stands, and a new one is added at the end
 abbrev pub define : {V : Type 0} → List (List ℕ × V) → List ℕ → V → List (List ℕ × V)
 define [] name value = (name, value) ∷ []
 define (d ∷ ds) name value = if bytes_eq name d.0 then (d.0, value) ∷ ds else d ∷ define ds name value
@@ -42,8 +41,8 @@ TrackGives inserted (Some t) answer = MatchOption answer
     ((v : Parts) (name : List ℕ) → ¬ IsOn inserted t.0 v name)
     (λ value. (name : List ℕ) × IsGreatest inserted t.0 name × (last_value inserted name ≡ Some value))
 
--- what a look-up answers: a name that was inserted gives its value, whatever other versions were,
--- and one that was not what its track gives
+-- what a look-up answers: a name that was inserted gives its value, whatever other versions were, and one that was not
+-- what its track gives
 pub record Answers {V : Type 0} (inserted : Inserted V) (name : List ℕ) (answer : Option V) : Type 0 where
   pub defined : (value : V) → last_value inserted name ≡ Some value → answer ≡ Some value
   pub undefined : last_value inserted name ≡ None → TrackGives inserted (track_of name) answer

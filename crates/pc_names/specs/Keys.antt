@@ -1,5 +1,4 @@
--- Which texts have which keys, in the interners here, and that their keys are equal exactly for
--- equal texts.
+-- Which texts have which keys, in the interners here, and that their keys are equal exactly for equal texts.
 use Rattle.std.specs.Prelude.{◌≡◌, ℕ, List, Some, IsTrue, ◌↔◌, nat_eq, slice_get}
 use Rattle.std.specs.Str.{bytes_eq}
 use Rattle.std.proofs.Common.{sym, ap, ◌∙◌}

@@ -1,6 +1,6 @@
--- Which insertions a name map stands for, where `has_key text key` says which text has which key.
--- What the map's contracts say of it is all that a caller needs: an empty map stands for nothing,
--- and each call says what the map stands for after it.
+-- Which insertions a name map stands for, where `has_key text key` says which text has which key. What the map's
+-- contracts say of it is all that a caller needs: an empty map stands for nothing, and each call says what the map
+-- stands for after it.
 use Rattle.std.specs.Prelude.{◌≡◌, ℕ, List, Option, None, Some, false, slice_get}
 use Rattle.std.specs.List.{AllZip}
 use Rattle.std.specs.Map.{lookup}
@@ -15,8 +15,7 @@ use Rattle.semver.specs.Parse.{Parts}
 abbrev pub AreKeyed : {K X : Type 0} → (List ℕ → K → Type 0) → List (K × X) → List (List ℕ × X) → Type 0
 AreKeyed has_key entries named = AllZip (λ e n. has_key n.0 e.0 × (e.1 ≡ n.1)) entries named
 
--- the definition at a place stands on the track at a version that no name inserted there has a
--- greater one than
+-- the definition at a place stands on the track at a version that no name inserted there has a greater one than
 pub record IsNewest {V : Type 0} (inserted : Inserted V) (track : List ℕ) (newest : Newest) : Type 0 where
   pub name : List ℕ
   pub value : V
@@ -29,8 +28,7 @@ abbrev pub TrackHas : {V : Type 0} → Inserted V → List ℕ → Option Newest
 TrackHas inserted track None = (v : Parts) (name : List ℕ) → ¬ IsOn inserted track v name
 TrackHas inserted track (Some newest) = IsNewest inserted track newest
 
--- the definitions are those of the insertions, and each track has its newest version, all under the
--- keys of their texts
+-- the definitions are those of the insertions, and each track has its newest version, all under the keys of their texts
 pub record StandsFor {K V : Type 0} (has_key : List ℕ → K → Type 0) (map : Contents K V)
     (inserted : Inserted V) : Type 0 where
   pub definitions : AreKeyed has_key map.definitions (definitions_of inserted)

@@ -32,7 +32,7 @@ abbrev pub noted_at : {K : Type 0} → (K → K → Ordering) → List (K × New
 noted_at cmp tracks None place = tracks
 noted_at cmp tracks (Some t) place = noted cmp tracks t.0 (place, t.1)
 
--- a map with a definition more: a key that is there keeps its place
+-- a map with a definition more: a key among its definitions stays where it is
 abbrev pub with_definition : {K V : Type 0} → (K → K → Ordering) → Contents K V → K → Option (K × Parts) → V
     → Contents K V
 with_definition cmp map key track value = record {

@@ -1,5 +1,4 @@
--- A name may end in a version, `plain@version`. Names of compatible versions share a track, which
--- is a text too.
+-- A name may end in a version, `plain@version`. Names of compatible versions share a track, which is a text too.
 use Rattle.std.specs.Prelude.{ℕ, ◌==◌, nat_lt, List, ◌∷◌, ◌++◌, length, codes, Bool, Option, Some, None, if◌then◌else◌}
 use Rattle.std.specs.Prelude.{option_and_then}
 use Rattle.std.specs.Fmt.{decimal}
@@ -19,8 +18,7 @@ is_at_sign b = b == 64
 abbrev pub version_of : List ℕ → Option Parts
 version_of name = if list_any is_at_sign name then result_ok (version_parts (after_first is_at_sign name)) else None
 
--- the numbers that compatible versions share, `2` for 2.1.3 and `0.1` for 0.1.3; a pre-release and
--- 0.0.x share none
+-- the numbers that compatible versions share, `2` for 2.1.3 and `0.1` for 0.1.3; a pre-release and 0.0.x share none
 abbrev pub shared_numbers : Parts → Option (List ℕ)
 shared_numbers version =
     if nat_lt 0 (length version.3) then None

@@ -1,7 +1,7 @@
 //! The track of a name: what all names that are compatible with it have in common.
 //!
-//! The track is written anew from the version's numbers. `semver` reads no number with a leading
-//! zero, so this is the name cut before a dot of its version, as `laws::track_is_cut` says.
+//! The track is written anew from the version's numbers. `semver` reads no number with a leading zero, so this is the
+//! name cut before a dot of its version, as `laws::track_is_cut` says.
 
 ghost use Rattle.std.specs.Prelude.{◌≡◌, IfOk};
 ghost use Rattle.std.specs.Option.{option_map};
@@ -17,10 +17,9 @@ use std::alloc::{AllocError, Global};
 
 /// The track of a name, and the name's version on it.
 ///
-/// What follows the first `@` of a name may be a version. Versions that `semver` takes for
-/// compatible share a track: those with one major number, or with one minor number where the major
-/// number is 0. A name without a version, a pre-release and `0.0.x` have no track, since nothing is
-/// compatible with them.
+/// What follows the first `@` of a name may be a version. Versions that `semver` takes for compatible share a track:
+/// those with one major number, or with one minor number where the major number is 0. A name without a version, a
+/// pre-release and `0.0.x` have no track, since nothing is compatible with them.
 pub fn alternate_lookup_key(
     alloc: Global,
     name: &str,
@@ -42,8 +41,7 @@ pub fn alternate_lookup_key(
     }
 }
 
-/// The version that `semver` reads from `text`, or none where it reads none. Only want of memory is
-/// an error.
+/// The version that `semver` reads from `text`, or none where it reads none. Only being out of memory is an error.
 fn read_version(alloc: Global, text: &str) -> Result<Option<Version>, NoMemory>
     ensures { IfOk result (λ found. option_map parts_of found ≡ result_ok (version_parts text.now)) }
 {

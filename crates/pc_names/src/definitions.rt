@@ -1,5 +1,4 @@
-//! The definitions of a name map: a list in order, and an ordered map from each key to its place in
-//! the list.
+//! The definitions of a name map: a list in order, and an ordered map from each key to its place in the list.
 //!
 //! A key never leaves and never moves, so a place goes on naming its definition.
 

@@ -6,8 +6,7 @@ use pc_entity::{Atom, NoMemory, StringPool, Text, TryClone};
 use std::alloc::Global;
 use std::hash::Hash;
 
-/// Turns texts into keys. An interner may keep the texts and hand out numbers, or make each text
-/// its own key.
+/// Turns texts into keys. An interner may keep the texts and hand out numbers, or make each text its own key.
 ///
 /// One map is used with one interner, which may serve several maps.
 pub trait NameMapIntern {
@@ -50,6 +49,7 @@ pub struct NameMapNoIntern {
 }
 
 impl NameMapNoIntern {
+    /// The interner, whose keys are made by this allocator.
     pub fn new(alloc: Global) -> NameMapNoIntern {
         NameMapNoIntern { alloc }
     }
@@ -102,6 +102,7 @@ impl NameMapIntern for StringPool {
     }
 
     fn lookup(&self, s: &str) -> Result<Option<Atom>, NoMemory> {
+        // Brings the invariant into the proof: the pool's texts are distinct.
         let _distinct = self.len();
         Ok(self.get_atom(s))
     }

@@ -1,7 +1,7 @@
 //! Names of imports and exports, and which compatible version a name finds.
 //!
-//! Names and their items go in, through an interner that turns texts into keys; a look-up gives the
-//! item of the name itself, or of the greatest version that `semver` takes for compatible with it.
+//! Names and their items go in, through an interner that turns texts into keys; a look-up gives the item of the name
+//! itself, or of the greatest version that `semver` takes for compatible with it.
 #![tactic(auto)]
 
 mod alternate;
@@ -11,8 +11,6 @@ pub mod laws;
 mod name_error;
 mod name_map;
 mod raw_iter;
-#[cfg(test)]
-mod tests;
 mod tracks;
 
 pub use alternate::alternate_lookup_key;

@@ -1,17 +1,15 @@
 //! The map from names, which finds compatible versions.
 //!
-//! A component that imports `a:b/c@0.2.0` is to be content with `a:b/c@0.2.1`. So beside its
-//! definitions the map notes, for each track, the place of the greatest version that was inserted
-//! on it. A look-up asks for the name itself first. Only a name that isn't there takes the way over
-//! its track, so several versions can stand beside each other, each found by its own name.
+//! A component that imports `a:b/c@0.2.0` is to be content with `a:b/c@0.2.1`. So beside its definitions the map notes,
+//! for each track, the place of the greatest version that was inserted on it. A look-up asks for the name itself first.
+//! Only a name that isn't there takes the way over its track, so several versions can stand beside each other, each
+//! found by its own name.
 //!
-//! What the map holds is told by a list of insertions. `StandsFor` says that under an interner's
-//! keys it holds just what they define, and each contract speaks of every list that the map stands
-//! for. The interner changes between the calls, since it is lent; a text keeps its key in it, and
-//! so the map goes on standing for its list.
+//! What the map holds is told by a list of insertions. `StandsFor` says that under an interner's keys it holds just
+//! what they define, and each contract speaks of every list that the map stands for. The interner changes between the
+//! calls, since it is lent; a text keeps its key in it, and so the map goes on standing for its list.
 //!
-//! Names come from strangers, so they are found in ordered maps and not by a hash whose seed is
-//! known.
+//! Names are untrusted input, so they are found in ordered maps and not by a hash whose seed is known.
 
 ghost use Rattle.std.specs.Prelude.{◌≡◌, ◌+◌, ◌≤◌, ◌∷◌, ◌++◌, [], ℕ, List, Some, None, Ok, Err, length, IfOk, OnOk, OnErr};
 ghost use Rattle.std.specs.BTreeMap.{is_at};
@@ -24,6 +22,7 @@ ghost use Rattle.pc_names.specs.Inserted.{Answers, Inserted, IsTwice, TrackGives
 ghost use Rattle.pc_names.specs.Stands.{StandsFor};
 ghost use Rattle.pc_names.specs.Steps.{IsTrackKey, keyed_version, newest_value, noted_at, with_definition};
 ghost use Rattle.pc_names.specs.Track.{track_of};
+ghost use Rattle.semver.specs.Identifiers.{parts_of};
 ghost use Rattle.semver.specs.Parse.{Parts};
 
 use crate::alternate::alternate_lookup_key;
@@ -38,8 +37,7 @@ use std::alloc::Global;
 use std::hash::Hash;
 use std::marker::Model;
 
-/// A map from names to items, which finds the greatest compatible version of a name that isn't
-/// there.
+/// A map from names to items, which finds the greatest compatible version of a name that isn't there.
 #[derive(Drop)]
 pub struct NameMap<K: Ord, V> {
     alloc: Global,
@@ -69,8 +67,8 @@ impl<K: Eq + Ord + Hash + TryClone + Drop, V: Drop> NameMap<K, V> {
         }
     }
 
-    /// Inserts a name with its item, and answers the name's key. A name that is there already keeps
-    /// its place and takes the item, where shadowing is allowed.
+    /// Inserts a name with its item, and answers the name's key. Where shadowing is allowed, a name among the
+    /// definitions gets the item and stays where it is.
     pub fn insert<I: NameMapIntern<Key = K>>(
         &mut self,
         name: &str,
@@ -263,7 +261,23 @@ fn track_key<I: NameMapIntern>(
     ensures room { I.room cx.old ≤ I.room cx.new + 1 }
 {
     match alternate_lookup_key(alloc, name)? {
-        Some((track, version)) => Ok(Some((cx.intern(track.as_str())?, version))),
+        Some((track, version)) => intern_track(track.as_str(), version, cx),
         None => Ok(None),
     }
+}
+
+/// The key of a track, with a version on it.
+fn intern_track<I: NameMapIntern>(
+    track: &str,
+    version: Version,
+    cx: &mut I,
+) -> Result<Option<(I::Key, Version)>, NoMemory>
+    requires { 1 ≤ I.room cx.old }
+    ensures key { IfOk result (λ found.
+        IsTrackKey (I.has_key cx.new) (Some (track.now, parts_of version)) (keyed_version found)) }
+    ensures kept { (text : List ℕ) (k : I.Key) → I.has_key cx.old text k → I.has_key cx.new text k }
+    ensures room { I.room cx.old ≤ I.room cx.new + 1 }
+{
+    let key = cx.intern(track)?;
+    Ok(Some((key, version)))
 }

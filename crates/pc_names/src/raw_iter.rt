@@ -9,8 +9,7 @@ use std::iter::FusedIterator;
 use std::marker::Model;
 use std::slice;
 
-/// The definitions of a name map in the order in which their names were first inserted, each as its
-/// key and its value.
+/// The definitions of a name map in the order in which their names were first inserted, each as its key and its value.
 #[derive(Drop)]
 pub struct RawIter<'a, K, V> {
     entries: slice::Iter<'a, (K, V)>,

@@ -1,5 +1,4 @@
-//! The newest version of each track: an ordered map from a track's key to a version and the place
-//! of its definition.
+//! The newest version of each track: an ordered map from a track's key to a version and the place of its definition.
 
 ghost use Rattle.std.specs.Prelude.{◌≡◌, ℕ, [], List, IfOk, OnOk, OnErr};
 ghost use Rattle.std.specs.BTreeMap.{insert_entry, is_at};
@@ -84,8 +83,7 @@ impl<K: Ord> Tracks<K> {
         }
     }
 
-    /// Notes the version of a definition on its track, if it has one. Of two equal versions the
-    /// later one stays.
+    /// Notes the version of a definition on its track, if it has one. Of two equal versions the later one stays.
     pub(crate) fn note(&mut self, track: Option<(K, Version)>, place: usize) -> Result<(), NoMemory>
     where
         K: Drop,
@@ -98,6 +96,7 @@ impl<K: Ord> Tracks<K> {
         }
     }
 
+    /// Notes a version on a track.
     fn note_on(&mut self, track: K, newest: Newest) -> Result<(), NoMemory>
     where
         K: Drop,
@@ -112,6 +111,7 @@ impl<K: Ord> Tracks<K> {
         self.put(track, newest)
     }
 
+    /// Makes a version the newest of a track.
     fn put(&mut self, track: K, newest: Newest) -> Result<(), NoMemory>
     where
         K: Drop,

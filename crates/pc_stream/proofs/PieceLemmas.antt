@@ -37,6 +37,7 @@ piece-added old new before after given n long front added at_end within = record
 
 module _ (old mid new : Option (List ℕ)) (before after : List ℕ) (r : Result Bool ReadEnd)
     (gave : Gives old mid before) (piece : AddsPiece mid new before after r) where
+  -- what a source gave, behind what it gave before
   gives : Gives old new (before ++ piece.given)
   gives = Gives-then old mid new before piece.given gave piece.front
 

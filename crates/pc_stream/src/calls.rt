@@ -22,6 +22,7 @@ impl Model for CallCounter {
 }
 
 impl CallCounter {
+    /// Counts from 0, where the calls of these numbers fail.
     pub(crate) fn new(fails: Vec<u64>) -> Self
         ensures { result ≡ record { fails = fails.items; next = 0; faults = 0 } }
     {
@@ -32,6 +33,7 @@ impl CallCounter {
         }
     }
 
+    /// How many calls have failed.
     pub(crate) fn faults(&self) -> u64
         ensures { result ≡ self.now.faults }
     {

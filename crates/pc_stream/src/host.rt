@@ -1,7 +1,8 @@
 //! Sources and sinks over std's readers and writers: the edge to the world outside, which no contract describes.
 //!
-//! They tell no bytes. Each error of the reader or the writer is a fault, and so is a writer that takes nothing of a piece.
-//! Nothing is buffered and nothing is flushed, so the writer should be one that has no buffer, as standard output here.
+//! They tell no bytes. Each error of the reader or the writer is a fault, and so is a writer that takes nothing of a
+//! piece. Nothing is buffered and nothing is flushed, so the writer should be one that has no buffer, as standard
+//! output here.
 ghost use Rattle.std.specs.Prelude.{◌≡◌, ◌≤◌, ◌<◌, length, None, IfOk, OnOk, OnErr};
 ghost use Rattle.pc_stream.specs.Memory.{next_count};
 
@@ -25,6 +26,7 @@ impl<R> Model for StdSource<R> {
 }
 
 impl<R: Read> StdSource<R> {
+    /// The source over a reader, without a fault yet.
     pub fn new(inner: R) -> Self
         ensures { result ≡ 0 }
     {
@@ -76,6 +78,7 @@ impl<W> Model for StdSink<W> {
 }
 
 impl<W: Write> StdSink<W> {
+    /// The sink over a writer, without a fault yet.
     pub fn new(inner: W) -> Self
         ensures { result ≡ 0 }
     {

@@ -1,8 +1,8 @@
 //! Bytes in, bytes out: what a program here reads from and writes to.
 //!
-//! A `Source` gives bytes and a `Sink` takes them, a piece at a time, and either may fail at any call. Each has forms in
-//! memory, whose every call is known, and a form over std's readers and writers. `read_all` reads a source to its end, and
-//! `write_all` writes a whole text. The crate stands on std alone.
+//! A `Source` gives bytes and a `Sink` takes them, a piece at a time, and either may fail at any call. Each has forms
+//! in memory, whose every call is known, and a form over std's readers and writers. `read_all` reads a source to its
+//! end, and `write_all` writes a whole text. The crate stands on std alone.
 #![tactic(auto)]
 
 mod calls;
@@ -10,8 +10,6 @@ mod host;
 mod sinks;
 mod sources;
 mod stream;
-#[cfg(test)]
-mod tests;
 mod whole;
 
 pub use host::{StdSink, StdSource};

@@ -1,5 +1,5 @@
-//! Sinks that keep what they take in memory: one that never fails, and one for tests, which takes little a call and fails
-//! the calls that it is told to.
+//! Sinks that keep what they take in memory: one that never fails, and one for tests, which takes little a call and
+//! fails the calls that it is told to.
 ghost use Rattle.std.specs.Prelude.{◌<◌, ◌≤◌, ◌≡◌, ◌↔◌, length, take, min, true, IsErr, IfOk, OnErr, vec_capacity};
 ghost use Rattle.pc_stream.specs.Memory.{FailsNext, calls_after_success, calls_after_fault, store_with, told_bytes};
 
@@ -7,8 +7,8 @@ use crate::calls::CallCounter;
 use crate::{Failed, Sink};
 use std::marker::Model;
 
-/// Takes each piece whole, and never fails. It keeps what fits the room that it was given, so a call takes no memory, and
-/// drops the rest. It tells its bytes while nothing was dropped.
+/// Takes each piece whole, and never fails. It keeps what fits the room that it was given, so a call takes no memory,
+/// and drops the rest. It tells its bytes while nothing was dropped.
 #[derive(Drop)]
 pub struct SureSink {
     kept: Vec<u8>,
@@ -73,8 +73,8 @@ impl Sink for SureSink {
     }
 }
 
-/// Takes at most so many bytes a call, and fails the calls that it is told to fail. It keeps and tells its bytes as
-/// `SureSink` does.
+/// Takes at most so many bytes a call, and fails the calls that it is told to fail. What it keeps, and what
+/// it tells, is as with `SureSink`.
 #[derive(Drop)]
 pub struct MemSink {
     sink: SureSink,

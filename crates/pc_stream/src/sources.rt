@@ -1,5 +1,5 @@
-//! Sources over bytes in memory: one that never fails, and one for tests, which gives little a call and fails the calls that
-//! it is told to.
+//! Sources over bytes in memory: one that never fails, and one for tests, which gives little a call and fails the calls
+//! that it is told to.
 ghost use Rattle.std.specs.Prelude.{◌<◌, ◌≤◌, ◌≡◌, ◌↔◌, length, take, drop, min, Some, IsErr, IfOk, OnErr};
 ghost use Rattle.pc_stream.specs.Memory.{FailsNext, calls_after_success, calls_after_fault};
 
@@ -25,6 +25,7 @@ impl Model for SureSource {
 }
 
 impl SureSource {
+    /// The source of these bytes.
     pub fn new(bytes: Vec<u8>) -> Self
         ensures { result ≡ bytes.items }
     {

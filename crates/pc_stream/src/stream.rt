@@ -1,8 +1,9 @@
 //! What a source and a sink promise, whatever stands behind them.
 //!
-//! A stream says what it knows: the bytes that are left, or written, where it can tell them, and how often it has failed.
-//! A file or a pipe tells no bytes, and a stream in memory does, so one contract serves both. The count of faults is what
-//! gives a failure its cause: no caller can raise it, so whoever answers for a failed call has the count to show for it.
+//! A stream says what it knows: the bytes that are left, or written, where it can tell them, and how often it has
+//! failed. A file or a pipe tells no bytes, and a stream in memory does, so one contract serves both. The count of
+//! faults is what gives a failure its cause: no caller can raise it, so whoever answers for a failed call has the count
+//! to show for it.
 ghost use Rattle.std.specs.Prelude.{ℕ, ◌<◌, ◌≤◌, ◌≡◌, List, [], length, take, Option, IfOk, OnErr};
 ghost use Rattle.pc_stream.specs.Stream.{Gives, Takes, IsAtEnd, ShowsFault};
 
@@ -19,7 +20,7 @@ pub trait Source {
     ghost faults: { Self → ℕ };
 
     /// Puts bytes at the front of `buf`, and answers how many. What `buf` holds past them is open, also after `Failed`.
-    /// No byte into a buffer that isn't empty is the end.
+    /// An answer of no bytes is the end, unless the buffer had no room.
     fn read(&mut self, buf: &mut [u8]) -> Result<usize, Failed>
         ensures within { IfOk result (λ n. n ≤ length buf.old) }
         ensures front { IfOk result (λ n. Gives (left self.old) (left self.new) (take n buf.new)) }

@@ -1,7 +1,8 @@
 //! A whole source read, and a whole text written.
 //!
-//! A source may give little at a time and a sink may take little at a time; neither call gives up for that. Input is read in
-//! pieces and stops as soon as more than `MAX_INPUT` bytes have come, so that no source makes a program hold more.
+//! A source may give little at a time and a sink may take little at a time; neither call gives up for that. Input is
+//! read in pieces and stops as soon as more than `MAX_INPUT` bytes have come, so that no source makes a program hold
+//! more.
 ghost use Rattle.std.specs.Prelude.{ℕ, ◌<◌, ◌≤◌, ◌≡◌, ◌↔◌, List, [], length, take, drop, IfOk, OnOk, OnErr, vec_len};
 ghost use Rattle.pc_stream.specs.declared.whole.ReadEnd.TheVariants.{NoMemory};
 ghost use Rattle.pc_stream.specs.Stream.{Takes, ShowsFault};
@@ -42,7 +43,8 @@ pub fn read_all<S: Source>(alloc: Global, src: &mut S) -> Result<Vec<u8>, ReadEn
         → (bytes.items ≡ told) × (S.left src.new ≡ Some [])) }
     ensures fits { IfOk result (λ bytes. length bytes.items ≤ MAX_INPUT) }
 
-    // Where bytes are told, n of them were given, from the front, and it is too long exactly where n is above the limit.
+    // Where bytes are told, n of them were given, from the front, and it is too long exactly where n is above the
+    // limit.
     ensures too_long { (told : List ℕ) → S.left src.old ≡ Some told → (n : ℕ) × (n ≤ length told)
         × (S.left src.new ≡ Some (drop n told)) × ((result ≡ Err ReadEnd.TooLong) ↔ (MAX_INPUT < n)) }
 

@@ -4,4 +4,5 @@ use Rattle.pc_graph.proofs.dfs.pushed_at.Given as goal
 
 abbrev pub invariant-loop-successor : goal.invariant-loop-successor
 invariant-loop-successor g l =
-    Pushes (λ n answer. goal.S-post g l.seen n answer) l.node (reverse (take l.successor-index l.successor-items)) (reverse l.pushed.items)
+    Pushes (λ n answer. goal.S-post g l.seen n answer) l.node (reverse (take l.successor-index l.successor-items))
+    (reverse l.pushed.items)

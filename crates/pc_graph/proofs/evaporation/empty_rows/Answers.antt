@@ -1,5 +1,5 @@
 use Rattle.std.proofs.Common.{◌++◌, ◌∷◌, [], ◌∙◌, ap, replicate}
-use Rattle.pc_graph.proofs.Noting.{replicate_more}
+use Rattle.pc_graph.proofs.EvaporationLemmas.{replicate_more}
 use Rattle.pc_graph.proofs.evaporation.empty_rows.Goals as goal
 
 pub loop-place-preserved : goal.loop-place-preserved

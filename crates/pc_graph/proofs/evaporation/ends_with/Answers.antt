@@ -1,5 +1,5 @@
 use Rattle.std.proofs.Common.{sym}
-use Rattle.pc_graph.proofs.Noting.{last_is-read}
+use Rattle.pc_graph.proofs.NotedLemmas.{last_is-read}
 use Rattle.pc_graph.proofs.evaporation.ends_with.Goals as goal
 
 pub returns-in-Some : goal.returns-in-Some

@@ -1,7 +1,7 @@
-use Rattle.std.proofs.Common.{arith}
+use Rattle.std.proofs.Common.{ap, arith}
 use Rattle.std.proofs.lemmas.Option.{slice_get_within}
-use Rattle.pc_entity.specs.SecondaryMap.{value_at}
-use Rattle.pc_graph.proofs.Noting.{numbers_next}
+use Rattle.pc_graph.specs.Noting.{number_in}
+use Rattle.pc_graph.proofs.EvaporationLemmas.{numbers_next}
 use Rattle.pc_graph.proofs.evaporation.numbers_of.Goals as goal
 
 pub loop-place-init : goal.loop-place-init
@@ -9,9 +9,11 @@ loop-place-init g c = λ i class n below. absurd (omega arith)
 
 pub loop-place-preserved : goal.loop-place-preserved
 loop-place-preserved g c =
-    numbers_next (λ n. value_at c.loop-place.numbers (g.Node.EntityRef.number n)) (λ n. value_at c.put_number.new.numbers (g.Node.EntityRef.number n))
+    numbers_next (number_in g.Node.EntityRef.number c.loop-place.numbers)
+    (number_in g.Node.EntityRef.number c.put_number.new.numbers)
     c.args.components.now c.loop-place.place c.nodes.result.now c.once.ensures c.nodes.ensures
-    c.in_ok-put_number.ensures.put c.in_ok-put_number.ensures.others c.loop-place.invariant
+    (λ n there. ap (λ j. j.0) (c.in_ok-put_number.ensures.put n there))
+    (λ n apart. ap (λ j. j.0) (c.in_ok-put_number.ensures.others n apart)) c.loop-place.invariant
 
 pub returns : goal.returns
 returns g c = λ i class n found there.

@@ -1,8 +1,8 @@
 use Rattle.std.proofs.Common.{◌≡◌, ◌+◌, ◌++◌, ◌∷◌, [], ◌∙◌, ap, sym, subst, refl, take, arith}
 use Rattle.std.specs.List.{Contains}
 use Rattle.std.proofs.lemmas.List.{take_all, take_more}
-use Rattle.pc_graph.proofs.Represented.{others_more, set_more}
-use Rattle.pc_graph.proofs.Members.{contains_none}
+use Rattle.pc_graph.proofs.MapLemmas.{others_more, set_more}
+use Rattle.pc_graph.proofs.MemberLemmas.{contains_none}
 use Rattle.pc_graph.proofs.evaporation.put_number.Goals as goal
 
 pub loop-node-init : goal.loop-node-init
@@ -12,16 +12,19 @@ pub loop-node-preserved : goal.loop-node-preserved
 loop-node-preserved g c =
     let number = g.Node.EntityRef.number in
     let injective : (a b : g.row.Node.Denot) → number a ≡ number b → a ≡ b = λ a b e.
-    sym (g.met.Node.EntityRef.of_number_number a) ∙ ap g.Node.EntityRef.of_number e ∙ g.met.Node.EntityRef.of_number_number b in
+    sym (g.met.Node.EntityRef.of_number_number a) ∙ ap g.Node.EntityRef.of_number e
+    ∙ g.met.Node.EntityRef.of_number_number b in
     let node = c.node-item.result in
     let nodes = c.args.nodes.now in
     let k = c.loop-node.node-index in
     let pushed : take (k + 1) nodes ≡ take k nodes ++ node ∷ [] =
     take_more nodes k node c.loop-node-test.true ∙ ap (λ n. take k nodes ++ n ∷ []) (sym c.node-item.is) in
     record {
-      put = set_more number injective c.args.number.0 c.loop-node.numbers c.set.new.self c.args.numbers.now (take k nodes) (take (k + 1) nodes) node
+      put = set_more number injective c.args.number c.loop-node.numbers c.set.new.self (take k nodes)
+          (take (k + 1) nodes) node
           c.in_ok-set.ensures.ok pushed c.loop-node.invariant.put;
-      others = others_more number injective c.args.number.0 c.loop-node.numbers c.set.new.self c.args.numbers.now (take k nodes) (take (k + 1) nodes) node
+      others = others_more number injective c.args.number c.loop-node.numbers c.set.new.self c.args.numbers.now
+          (take k nodes) (take (k + 1) nodes) node
           c.in_ok-set.ensures.ok pushed c.loop-node.invariant.others;
     }
 

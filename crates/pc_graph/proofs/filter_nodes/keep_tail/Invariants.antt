@@ -8,5 +8,7 @@ invariant-loop-place g l = record {
   placed : l.kept ≤ l.place;
   same_length : length l.list.items ≡ length l.fn.list.items;
   so_far : (test : _ → Bool) → AnswersBy g.F.Fn l.predicate test
-      → take l.kept l.list.items ++ filter test (drop l.place l.list.items) ≡ take l.fn.start l.fn.list.items ++ filter test (drop l.fn.start l.fn.list.items);
+      → take l.kept l.list.items ++ filter test
+      (drop l.place l.list.items) ≡ take l.fn.start l.fn.list.items ++ filter test
+      (drop l.fn.start l.fn.list.items);
 }

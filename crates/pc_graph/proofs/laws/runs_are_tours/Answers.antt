@@ -1,4 +1,4 @@
-use Rattle.pc_graph.proofs.Tours.{run_tours, the_only_tour}
+use Rattle.pc_graph.proofs.TourLemmas.{run_tours, the_only_tour}
 use Rattle.pc_graph.proofs.laws.runs_are_tours.Goals as goal
 
 pub returns : goal.returns

@@ -1,4 +1,4 @@
-use Rattle.pc_graph.proofs.Tours.{meets_by_its_events, meets_once, tour_meets_reachable}
+use Rattle.pc_graph.proofs.TourLemmas.{meets_by_its_events, meets_once, tour_meets_reachable}
 use Rattle.pc_graph.proofs.laws.tours_meet_the_reachable.Goals as goal
 
 pub returns : goal.returns

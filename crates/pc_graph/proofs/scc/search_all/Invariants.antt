@@ -1,6 +1,6 @@
 use Rattle.std.proofs.Common.{◌+◌, ◌-◌, ◌*◌, ◌^◌, length}
 use Rattle.pc_graph.specs.Digraph.{Digraph}
-use Rattle.pc_graph.proofs.Searches.{Going}
+use Rattle.pc_graph.proofs.SearchLemmas.{Going}
 use Rattle.pc_graph.proofs.scc.search_all.Given as goal
 
 abbrev pub invariant-events : goal.invariant-events

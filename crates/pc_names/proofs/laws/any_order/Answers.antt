@@ -1,4 +1,4 @@
-use Rattle.pc_names.proofs.Answered.{same_answers}
+use Rattle.pc_names.proofs.AnswerLemmas.{same_answers}
 use Rattle.pc_names.proofs.laws.any_order.Goals as goal
 
 pub returns : goal.returns

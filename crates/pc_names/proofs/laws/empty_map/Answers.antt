@@ -1,4 +1,4 @@
-use Rattle.pc_names.proofs.Standing.{StandsFor-nothing}
+use Rattle.pc_names.proofs.StandingLemmas.{StandsFor-nothing}
 use Rattle.pc_names.proofs.laws.empty_map.Goals as goal
 
 pub returns : goal.returns

@@ -1,4 +1,4 @@
-use Rattle.pc_names.proofs.Answered.{one_answer}
+use Rattle.pc_names.proofs.AnswerLemmas.{one_answer}
 use Rattle.pc_names.proofs.laws.one_answer.Goals as goal
 
 pub returns : goal.returns

@@ -1,4 +1,4 @@
-use Rattle.pc_names.proofs.Standing.{StandsFor-kept}
+use Rattle.pc_names.proofs.StandingLemmas.{StandsFor-kept}
 use Rattle.pc_names.proofs.laws.other_texts.Goals as goal
 
 pub returns : goal.returns

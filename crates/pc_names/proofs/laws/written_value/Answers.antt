@@ -1,4 +1,4 @@
-use Rattle.pc_names.proofs.ByText.{keys_agree}
+use Rattle.pc_names.proofs.TextKeyLemmas.{keys_agree}
 use Rattle.pc_names.proofs.CallerLemmas.{StandsFor-written}
 use Rattle.pc_names.proofs.laws.written_value.Goals as goal
 

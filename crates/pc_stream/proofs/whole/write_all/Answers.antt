@@ -9,5 +9,6 @@ pub loop-taken-preserved : goal.loop-taken-preserved
 loop-taken-preserved g c = record {
   later = omega (arith, c.loop-taken.invariant.later, c.in_ok-taken.ensures.never_falls);
   within = omega (arith, c.in_ok-taken.ensures.within, c.loop-taken.invariant.within);
-  front = Takes-front _ _ _ c.args.text.now c.loop-taken.taken _ c.loop-taken.invariant.front c.in_ok-taken.ensures.front;
+  front = Takes-front _ _ _ c.args.text.now c.loop-taken.taken _ c.loop-taken.invariant.front
+      c.in_ok-taken.ensures.front;
 }

@@ -1,5 +1,5 @@
 use Rattle.std.proofs.Common.{◌∙◌, ap, sym, length, ◌≡◌, arith}
-use Rattle.pc_graph.proofs.Parts.{length-cut}
+use Rattle.pc_graph.proofs.PartLemmas.{length-cut}
 use Rattle.pc_graph.proofs.scc.StronglyConnectedComponents.len.Goals as goal
 
 pub returns-clause-value : goal.returns-clause-value

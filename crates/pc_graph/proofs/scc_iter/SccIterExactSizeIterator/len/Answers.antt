@@ -1,5 +1,5 @@
 use Rattle.std.proofs.Common.{◌∙◌, ap, sym, length}
-use Rattle.pc_graph.proofs.Numbers.{length-numbered}
+use Rattle.pc_graph.proofs.NumberLemmas.{length-numbered}
 use Rattle.pc_graph.proofs.scc_iter.SccIterExactSizeIterator.len.Goals as goal
 
 pub returns-clause-value : goal.returns-clause-value

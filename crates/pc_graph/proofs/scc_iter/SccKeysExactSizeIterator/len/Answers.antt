@@ -1,5 +1,5 @@
 use Rattle.std.proofs.Common.{◌∙◌, ap, sym, length}
-use Rattle.pc_graph.proofs.Numbers.{length-numbers}
+use Rattle.pc_graph.proofs.NumberLemmas.{length-numbers}
 use Rattle.pc_graph.proofs.scc_iter.SccKeysExactSizeIterator.len.Goals as goal
 
 pub returns-clause-value : goal.returns-clause-value

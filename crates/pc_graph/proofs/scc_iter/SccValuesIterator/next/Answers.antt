@@ -1,6 +1,6 @@
 use Rattle.std.proofs.Common.{◌∷◌, length, subst}
 use Rattle.pc_graph.specs.Classes.{Ascend}
-use Rattle.pc_graph.proofs.Parts.{ascend_last}
+use Rattle.pc_graph.proofs.PartLemmas.{ascend_last}
 use Rattle.pc_graph.proofs.scc_iter.SccValuesIterator.next.Goals as goal
 
 pub part-nodes-requires-clause-within : goal.part-nodes-requires-clause-within

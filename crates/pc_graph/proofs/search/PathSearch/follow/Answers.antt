@@ -1,6 +1,7 @@
 use Rattle.std.proofs.Common.{◌≡◌, ◌-◌, ◌<◌, ◌≤◌, ℕ, List, ◌∙◌, ap, sym, subst, refl, inl, length, get_or, take, slice_get}
 use Rattle.pc_graph.specs.Searching.{Held, StandsFor, heads_of}
-use Rattle.pc_graph.proofs.Represented.{joins_at, stands_joined}
+use Rattle.pc_graph.proofs.GroupLemmas.{joins_at}
+use Rattle.pc_graph.proofs.HeldLemmas.{stands_joined}
 use Rattle.pc_graph.proofs.search.PathSearch.follow.Goals as goal
 
 pub returns-in-Some : goal.returns-in-Some
@@ -9,7 +10,7 @@ returns-in-Some g c = λ from s stands.
     let held : Held g.row.Node.Denot = record {
       stack = c.self.inside.stack.items;
       heads = c.self.inside.heads.items;
-      places = c.self.inside.places;
+      noted = c.self.inside.noted;
       nodes = c.self.inside.nodes.items;
       ends = c.self.inside.ends.items;
     } in
@@ -22,13 +23,14 @@ returns-in-Some g c = λ from s stands.
     let B : List ℕ → Type 0 = λ ks. (k : ℕ) → kept ≤ k → k < length ks → c.in-Some.place < get_or ks k 0 in
     let D : List ℕ → Type 0 = λ ks. 0 < kept → get_or ks (kept - 1) 0 ≤ c.in-Some.place in
     let (joined, joins, same, rest) = joins_at s.path c.in-Some.place kept c.args.to at
-    (subst A heads c.heads_up_to-kept.ensures.within) (subst B heads c.heads_up_to-kept.ensures.above) (subst D heads c.heads_up_to-kept.ensures.last) in (
+    (subst A heads c.heads_up_to-kept.ensures.within) (subst B heads c.heads_up_to-kept.ensures.above)
+    (subst D heads c.heads_up_to-kept.ensures.last) in (
       record { path = joined; closed = s.closed },
       inl (joined, joins, refl),
       stands_joined number held _ s joined stands' same (λ i. record {
         stack = c.self.inside.stack.items;
         heads = (c.truncate.ensures.items ∙ ap (take kept) stands'.heads ∙ rest) i;
-        places = c.self.inside.places;
+        noted = c.self.inside.noted;
         nodes = c.self.inside.nodes.items;
         ends = c.self.inside.ends.items;
       }),

@@ -7,8 +7,10 @@ returns-in-Some g c =
     let eq = g.Node.PartialEq.eq in
     let there = c.in-Some.there.now in
     let found : slice_get c.args.self.now.stack c.args.place ≡ Some there =
-    ap (λ held. slice_get held.stack c.args.place) (sym c.self.view_is) ∙ ap (λ ns. slice_get ns c.args.place) (sym c.deref.ensures.value)
-    ∙ slice_get-get_or c.deref.result.now c.args.place there c.in-Some.ensures.lookup.3.0 ∙ ap Some (sym c.in-Some.ensures.lookup.1) in (
+    ap (λ held. slice_get held.stack c.args.place) (sym c.self.view_is)
+    ∙ ap (λ ns. slice_get ns c.args.place) (sym c.deref.ensures.value)
+    ∙ slice_get-get_or c.deref.result.now c.args.place there c.in-Some.ensures.lookup.3.0
+    ∙ ap Some (sym c.in-Some.ensures.lookup.1) in (
       λ yes. found ∙ ap Some (g.met.Node.EntityRef.exact there c.args.node (sym c.eq.ensures ∙ yes)),
       λ is.
           let both : Some there ≡ Some c.args.node = sym found ∙ is in
@@ -19,6 +21,7 @@ returns-in-Some g c =
 pub returns-in-None : goal.returns-in-None
 returns-in-None g c =
     let none : slice_get c.args.self.now.stack c.args.place ≡ None =
-    ap (λ held. slice_get held.stack c.args.place) (sym c.self.view_is) ∙ ap (λ ns. slice_get ns c.args.place) (sym c.deref.ensures.value)
+    ap (λ held. slice_get held.stack c.args.place) (sym c.self.view_is)
+    ∙ ap (λ ns. slice_get ns c.args.place) (sym c.deref.ensures.value)
     ∙ slice_get_past c.deref.result.now c.args.place c.in-None.ensures.lookup.3 in
     (λ no. absurd (true≢false (sym no)), λ is. let bad : None ≡ Some c.args.node = sym none ∙ is in cc)

@@ -2,7 +2,7 @@ use Rattle.std.proofs.Common.{◌≡◌, Some, refl, sym, ap, ◌∙◌, inr}
 use Rattle.std.proofs.lemmas.Option.{slice_get_read, slice_get_past}
 use Rattle.std.specs.List.{slice_get}
 use Rattle.std.specs.Option.{option_map}
-use Rattle.pc_names.proofs.Places.{set-with_value, keys_of-with_value, same_lend}
+use Rattle.pc_names.proofs.PlaceLemmas.{set-with_value, keys_of-with_value, same_lend}
 use Rattle.pc_names.specs.Definitions.{with_value}
 use Rattle.pc_names.proofs.definitions.Definitions.at_mut.Goals as goal
 

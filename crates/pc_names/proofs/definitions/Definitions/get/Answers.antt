@@ -1,6 +1,6 @@
 use Rattle.std.proofs.Common.{sym, ◌∙◌}
 use Rattle.std.specs.BTreeMap.{is_at}
-use Rattle.pc_names.proofs.Places.{lookup-no_place, value_at_place}
+use Rattle.pc_names.proofs.PlaceLemmas.{lookup-no_place, value_at_place}
 use Rattle.pc_names.proofs.definitions.Definitions.get.Goals as goal
 
 pub returns-in-Some : goal.returns-in-Some

@@ -2,7 +2,7 @@ use borrow.Follows.Closed.{read_of}
 use Rattle.std.proofs.Common.{refl, sym, ◌∙◌}
 use Rattle.std.specs.BTreeMap.{is_at}
 use Rattle.std.specs.Option.{ghost_name_of}
-use Rattle.pc_names.proofs.Places.{lookup-no_place, value_at_place, with_value-place}
+use Rattle.pc_names.proofs.PlaceLemmas.{lookup-no_place, value_at_place, with_value-place}
 use Rattle.pc_names.proofs.definitions.Definitions.get_mut.Goals as goal
 
 pub returns-in-Some : goal.returns-in-Some

@@ -1,4 +1,4 @@
-use Rattle.pc_names.proofs.Places.{IsIndexed-undefine}
+use Rattle.pc_names.proofs.PlaceLemmas.{IsIndexed-undefine}
 use Rattle.pc_names.proofs.definitions.Definitions.pop.Goals as goal
 
 pub invariant_of-self : goal.invariant_of-self

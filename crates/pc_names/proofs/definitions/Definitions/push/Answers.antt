@@ -1,5 +1,5 @@
 use Rattle.std.proofs.Common.{◌≡◌, ◌++◌, ◌∷◌, [], ap, ◌∙◌, length}
-use Rattle.pc_names.proofs.Places.{IsIndexed-define}
+use Rattle.pc_names.proofs.PlaceLemmas.{IsIndexed-define}
 use Rattle.pc_names.proofs.definitions.Definitions.push.Goals as goal
 
 pub invariant_of-self-2 : goal.invariant_of-self-2

@@ -1,5 +1,5 @@
 use Rattle.std.proofs.Common.{sym}
-use Rattle.pc_names.proofs.Places.{with_value-past, none_inside_map}
+use Rattle.pc_names.proofs.PlaceLemmas.{with_value-past, none_inside_map}
 use Rattle.pc_names.proofs.definitions.Definitions.set.Goals as goal
 
 pub returns-in_default : goal.returns-in_default

@@ -1,5 +1,5 @@
 use Rattle.std.proofs.Common.{◌≡◌, take}
-use Rattle.pc_names.proofs.Places.{new_definition}
+use Rattle.pc_names.proofs.PlaceLemmas.{new_definition}
 use Rattle.pc_names.proofs.definitions.DefinitionsTryClone.try_clone.Goals as goal
 
 pub push-requires : goal.push-requires

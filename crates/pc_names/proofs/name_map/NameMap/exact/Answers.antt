@@ -1,8 +1,8 @@
 use Rattle.std.proofs.Common.{sym, ap, ◌∙◌}
 use Rattle.std.specs.BTreeMap.{is_at}
 use Rattle.std.specs.Map.{lookup}
-use Rattle.pc_names.proofs.ByText.{keys_agree}
-use Rattle.pc_names.proofs.Standing.{exact-known, exact-unknown}
+use Rattle.pc_names.proofs.TextKeyLemmas.{keys_agree}
+use Rattle.pc_names.proofs.StandingLemmas.{exact-known, exact-unknown}
 use Rattle.pc_names.proofs.name_map.NameMap.exact.Goals as goal
 
 pub returns-in-Some : goal.returns-in-Some

@@ -1,8 +1,8 @@
 use Rattle.std.proofs.Common.{sym, ap, ◌∙◌}
 use Rattle.std.proofs.lemmas.Bool.{false≢true}
 use Rattle.std.specs.Option.{is_some}
-use Rattle.pc_names.proofs.ByText.{keys_agree}
-use Rattle.pc_names.proofs.Standing.{StandsFor-kept, StandsFor-with_definition, is_some-place}
+use Rattle.pc_names.proofs.TextKeyLemmas.{keys_agree}
+use Rattle.pc_names.proofs.StandingLemmas.{StandsFor-kept, StandsFor-with_definition, is_some-place}
 use Rattle.pc_names.specs.Definitions.{place_in}
 use Rattle.pc_names.specs.Steps.{keyed_version}
 use Rattle.pc_names.proofs.name_map.NameMap.insert.Goals as goal

@@ -1,5 +1,5 @@
-use Rattle.pc_names.proofs.ByText.{keys_agree}
-use Rattle.pc_names.proofs.Standing.{track-known, track-unknown}
+use Rattle.pc_names.proofs.TextKeyLemmas.{keys_agree}
+use Rattle.pc_names.proofs.StandingLemmas.{track-known, track-unknown}
 use Rattle.pc_names.proofs.name_map.NameMap.newest.Goals as goal
 
 pub returns-in-Some : goal.returns-in-Some

@@ -1,6 +1,6 @@
 use Rattle.std.proofs.lemmas.Map.Iter.{rest_more}
 use Rattle.std.specs.Map.Iter.{deref_pair}
-use Rattle.pc_names.proofs.InOrder.{copied_more}
+use Rattle.pc_names.proofs.OrderLemmas.{copied_more}
 use Rattle.pc_names.proofs.tracks.TracksTryClone.try_clone.Goals as goal
 
 pub loop-track-preserved : goal.loop-track-preserved

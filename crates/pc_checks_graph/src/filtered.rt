@@ -1,0 +1,68 @@
+//! A graph without one of its nodes.
+
+ghost use Rattle.std.specs.Prelude.{◌≡◌, nat_eq, not};
+ghost use Rattle.pc_graph.specs.Digraph.{Digraph};
+
+use crate::components::{are, components_of};
+use crate::graphs::{CHAIN, graph_of};
+use pc_entity::{FuncIndex, NoMemory};
+use pc_graph::Graph;
+use std::alloc::Global;
+use std::test::*;
+
+/// The nodes of a graph, and the successors of node 1 behind them.
+fn listed<G: Graph<FuncIndex>>(alloc: Global, graph: &G) -> Result<Vec<FuncIndex>, NoMemory>
+    requires { (d : Digraph FuncIndex) × G.Shows graph.now d }
+{
+    let mut listed = Vec::new(alloc);
+    graph.nodes(&mut listed)?;
+    graph.successors(FuncIndex(1), &mut listed)?;
+    Ok(listed)
+}
+
+/// Whether the graph lists these numbers, the successors of node 1 last, and has these components.
+fn shows<G: Graph<FuncIndex>>(
+    alloc: Global,
+    graph: &G,
+    nodes: &[FuncIndex],
+    components: &[&[u32]],
+) -> Result<bool, NoMemory>
+    requires { (d : Digraph FuncIndex) × G.Shows graph.now d }
+{
+    let found = listed(alloc, graph)?;
+    let lists = components_of(alloc, graph)?;
+    Ok(found.as_slice() == nodes && are(lists.as_slice(), components))
+}
+
+#[test]
+fn a_node_that_is_filtered_out_is_no_successor(rt: HostRuntime) -> Result<(), Fail> {
+    let graph = graph_of(rt.alloc(), 6, &CHAIN)?;
+    let filtered = graph.by_ref().filter_nodes(
+        |node: &FuncIndex| -> bool
+            ensures { result ≡ not (nat_eq node.now.0 3) }
+        { node.0 != 3 },
+    );
+    let nodes = [
+        FuncIndex(0),
+        FuncIndex(1),
+        FuncIndex(2),
+        FuncIndex(4),
+        FuncIndex(5),
+        FuncIndex(2),
+    ];
+    let components = [
+        [4].as_slice(),
+        [5].as_slice(),
+        [1, 2].as_slice(),
+        [0].as_slice(),
+    ];
+    assert!(rt;
+        shows(
+            rt.alloc(),
+            &filtered,
+            nodes.as_slice(),
+            components.as_slice()
+        )?
+    );
+    Ok(())
+}

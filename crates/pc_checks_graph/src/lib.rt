@@ -1,0 +1,22 @@
+//! Tests of the graphs of `pc_graph` and of the names of `pc_names`.
+//!
+//! What a clause says isn't tested again: here are worked graphs, graphs with many nodes, the names of wasmtime's own
+//! tests, and each public call once.
+#![tactic(auto)]
+
+#[cfg(test)]
+mod components;
+#[cfg(test)]
+mod evaporation;
+#[cfg(test)]
+mod filtered;
+#[cfg(test)]
+mod graphs;
+#[cfg(test)]
+mod names;
+#[cfg(test)]
+mod small;
+#[cfg(test)]
+mod traversal;
+#[cfg(test)]
+mod versions;

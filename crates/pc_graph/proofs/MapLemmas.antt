@@ -1,0 +1,73 @@
+-- Values that are set in a map, node after node, and lists that are taken from the end.
+use Rattle.std.proofs.Common.{◌≡◌, ◌⊎◌, ℕ, ◌≤◌, List, [], ◌∷◌, ◌++◌, reverse, sym, ◌∙◌, ap, subst, inl, inr, arith, ◌+◌, ◌-◌, ◌<◌, length, get_or, drop}
+use Rattle.std.specs.List.{Contains}
+use Rattle.std.proofs.lemmas.List.{reverse-append, drop_all, drop_more}
+use Rattle.std.proofs.lemmas.List.Elements.{Contains-append_left, Contains-push, Contains-push_cases}
+use Rattle.std.proofs.lemmas.Bool.Decides.{eqb_tells}
+use Rattle.pc_entity.specs.SecondaryMap.{Defaulted, value_at, with_value_at}
+use Rattle.pc_entity.proofs.Defaults.{value_at-set_same, value_at-set_other}
+
+-- what is left where all from a place on was taken
+pub drop_left : {X : Type 0} (xs : List X) (head left : ℕ) → left ≤ head → (head ≤ left) ⊎ (left ≡ length xs)
+    → drop left xs ≡ drop head xs
+drop_left xs head left below (inl above) = let same : left ≡ head = omega arith in ap (λ n. drop n xs) same
+drop_left xs head left below (inr end) = drop_all left xs (omega arith) ∙ sym (drop_all head xs (omega arith))
+
+-- one item more from the end
+pub taken_more : {X : Type 0} (xs group more : List X) (left : ℕ) (x : X) → 0 < left → left ≤ length xs
+    → x ≡ get_or xs (left - 1) x
+    → group ≡ reverse (drop left xs) → more ≡ group ++ x ∷ [] → more ≡ reverse (drop (left - 1) xs)
+taken_more xs group more left x some within is so_far pushed =
+    let one : left - 1 + 1 ≡ left = omega arith in
+    let next : drop (left - 1) xs ≡ x ∷ drop left xs =
+    drop_more xs (left - 1) x (omega arith) ∙ ap (λ y. y ∷ drop (left - 1 + 1) xs) (sym is)
+    ∙ ap (λ n. x ∷ drop n xs) one in
+    pushed ∙ ap (λ ys. ys ++ x ∷ []) so_far ∙ sym (reverse-append (x ∷ []) (drop left xs)) ∙ ap reverse (sym next)
+
+module _ {Node : Type 0} (number : Node → ℕ) (injective : (a b : Node) → number a ≡ number b → a ≡ b) where
+  -- what is noted at a node that was set
+  pub noted_set : {V : Type 0} (places : Defaulted V) (n m : Node) (v : V)
+      → ((m ≡ n) × (value_at (with_value_at places (number n) v) (number m) ≡ v))
+      ⊎ (¬ (m ≡ n) × (value_at (with_value_at places (number n) v) (number m) ≡ value_at places (number m)))
+  noted_set places n m v = elim (eqb_tells (number m) (number n)) [
+    | inl same ↦
+        inl (
+          injective m n same.1,
+          ap (λ k. value_at (with_value_at places (number n) v) k) same.1
+              ∙ value_at-set_same places (number n) v,
+        )
+    | inr apart ↦ inr ((λ e. apart.1 (ap number e)), value_at-set_other places (number n) (number m) v apart.1)
+  ]
+
+  -- the nodes so far have the value
+  pub set_more : {V : Type 0} (v : V) (places later : Defaulted V) (group more : List Node) (n : Node)
+      → later ≡ with_value_at places (number n) v
+      → more ≡ group ++ n ∷ []
+      → ((m : Node) → Contains group m → value_at places (number m) ≡ v)
+      → (m : Node) → Contains more m → value_at later (number m) ≡ v
+  set_more v places later group more n set pushed before m there =
+      ap (λ p. value_at p (number m)) set ∙ elim (noted_set places n m v) [
+        | inl same ↦ same.1
+        | inr apart ↦ apart.1 ∙ elim (Contains-push_cases group n m (subst (λ ns. Contains ns m) pushed there)) [
+          | inl old' ↦ before m old'
+          | inr one ↦ absurd (apart.0 (sym one))
+        ]
+      ]
+
+  -- a node that isn't set keeps its value
+  pub others_more : {V : Type 0} (v : V) (places later old : Defaulted V) (group more : List Node) (n : Node)
+      → later ≡ with_value_at places (number n) v
+      → more ≡ group ++ n ∷ []
+      → ((m : Node) → ¬ (Contains group m) → value_at places (number m) ≡ value_at old (number m))
+      → (m : Node) → ¬ (Contains more m) → value_at later (number m) ≡ value_at old (number m)
+  others_more v places later old group more n set pushed before m apart_from =
+      ap (λ p. value_at p (number m)) set ∙ elim (noted_set places n m v) [
+        | inl same ↦
+            absurd (apart_from
+            (subst (λ ns. Contains ns m) (sym pushed)
+            (subst (λ z. Contains (group ++ n ∷ []) z) (sym same.0) (Contains-push group n))))
+        | inr apart ↦ apart.1
+            ∙ before m
+            (λ old'. apart_from
+            (subst (λ ns. Contains ns m) (sym pushed) (Contains-append_left group (n ∷ []) m old')))
+      ]
