@@ -1,5 +1,6 @@
 -- What is held stays held, and the types of entries are held.
-use Rattle.std.proofs.Common.{◌≡◌, ℕ, ◌<◌, Bool, true, false, true≢false, zero, suc, List, [], ◌∷◌, length, Option, None, Some, refl, sym, ap, subst, arith}
+use Rattle.std.proofs.Common.{◌≡◌, ℕ, ◌<◌, Bool, true, false, true≢false, zero, suc, List, [], ◌∷◌, length, Option}
+use Rattle.std.proofs.Common.{None, Some, refl, sym, ap, subst, arith}
 use Rattle.std.specs.Prelude.{slice_get, MatchOption}
 use Rattle.std.specs.List.{All, AllZip}
 use Rattle.std.proofs.lemmas.List.Elements.{All-cons}
@@ -16,7 +17,9 @@ use Rattle.pc_types.specs.declared.types.InterfaceType.{InterfaceType}
 use Rattle.pc_types.specs.declared.types.InterfaceType.TheVariants as ty
 use Rattle.pc_types.specs.declared.types.TypeDef.{TypeDef}
 use Rattle.pc_types.specs.declared.types.TypeDef.TheVariants as def
-use Rattle.pc_types.specs.TypeTree.{Identity, TypeTree, declared, primitive, error_context, record_of, variant_of, list_of, tuple_of, flags_of, enum_of, option_of, result_of, own_of, borrow_of, stream_of, future_of, func_of, instance_of, component_of, module_of, resource_of}
+use Rattle.pc_types.specs.TypeTree.{Identity, TypeTree, declared, primitive, error_context, record_of, variant_of}
+use Rattle.pc_types.specs.TypeTree.{list_of, tuple_of, flags_of, enum_of, option_of, result_of, own_of, borrow_of}
+use Rattle.pc_types.specs.TypeTree.{stream_of, future_of, func_of, instance_of, component_of, module_of, resource_of}
 use Rattle.pc_builder.specs.Types.{Types, Grows}
 use Rattle.pc_builder.specs.Held.{IsHeld, MayBeHeld}
 use Rattle.pc_builder.specs.Primitive.{plain_type}
@@ -38,6 +41,7 @@ kept_within xs ys kept n h =
     slice_get_within ys n f.0 (kept n f.0 f.1)
 
 module _ (old new : Types) (g : Grows old new) where
+  -- a value type that is held stays held
   pub held_grows : (w : InterfaceType) → IsHeld old w → IsHeld new w
   held_grows ty.Bool h = h
   held_grows ty.S8 h = h
@@ -52,7 +56,8 @@ module _ (old new : Types) (g : Grows old new) where
   held_grows ty.F64 h = h
   held_grows ty.Char h = h
   held_grows ty.String h = h
-  held_grows (ty.ErrorContext i) h = kept_within old.error_context_tables new.error_context_tables g.error_context_tables i.0 h
+  held_grows (ty.ErrorContext i) h =
+      kept_within old.error_context_tables new.error_context_tables g.error_context_tables i.0 h
   held_grows (ty.Record i) h = kept_within old.records new.records g.records i.0 h
   held_grows (ty.Variant i) h = kept_within old.variants new.variants g.variants i.0 h
   held_grows (ty.List i) h = kept_within old.lists new.lists g.lists i.0 h
@@ -66,22 +71,22 @@ module _ (old new : Types) (g : Grows old new) where
   held_grows (ty.Future i) h = kept_within old.future_tables new.future_tables g.future_tables i.0 h
   held_grows (ty.Stream i) h = kept_within old.stream_tables new.stream_tables g.stream_tables i.0 h
 
+  -- the same of the done ones
   pub are_held_grow : (done : List (Option TypeDef)) → AreHeld old done → AreHeld new done
   are_held_grow done h n w found = held_grows w (h n w found)
-
-  pub tuple_grows : (n : ℕ) → n < length old.tuples → n < length new.tuples
-  tuple_grows n h = kept_within old.tuples new.tuples g.tuples n h
 
 -- the value type of a type that has one
 abbrev pub value_of : TypeDef → InterfaceType
 value_of (def.Interface w) = w
 value_of _ = ty.Bool
 
+-- whether a type is a value type
 abbrev pub is_value_type : TypeDef → Bool
 is_value_type (def.Interface w) = true
 is_value_type _ = false
 
 module _ (b : Types) where
+  -- the value type of a primitive without a table is held
   plain_held : (p : PrimType) (w : InterfaceType) → plain_type p ≡ Some w → IsHeld b w
   plain_held prim.Bool w h = subst (IsHeld b) (same_Some ty.Bool w h) tt
   plain_held prim.S8 w h = subst (IsHeld b) (same_Some ty.S8 w h) tt
@@ -98,41 +103,55 @@ module _ (b : Types) where
   plain_held prim.String w h = subst (IsHeld b) (same_Some ty.String w h) tt
   plain_held prim.ErrorContext w h = absurd (none-some w h)
 
+  -- the value type of a primitive is held
   prim_held : (p : PrimType) (w : InterfaceType) → PrimIs b p w → IsHeld b w
   prim_held p w h = by (plain_type p) refl h
     where
       by : (o : Option InterfaceType) → plain_type p ≡ o
-          → MatchOption o ((i : TypeComponentLocalErrorContextTableIndex) × (w ≡ ty.ErrorContext i) × IsErrorContext b i) (λ t. w ≡ t) → IsHeld b w
+          → MatchOption o
+          ((i : TypeComponentLocalErrorContextTableIndex) × (w ≡ ty.ErrorContext i) × IsErrorContext b i) (λ t. w ≡ t)
+          → IsHeld b w
       by None is k = subst (IsHeld b) (sym k.1) (slice_get_within b.error_context_tables k.0.0 _ k.2)
       by (Some t) is k = subst (IsHeld b) (sym k) (plain_held p t is)
 
   -- the types of a table's value types are held, where those of the done ones are
   module _ (done : List (Option TypeDef)) (held : AreHeld b done) where
+    -- a value type of the table
     pub val_held : (v : ValType) (w : InterfaceType) → ValIs b done v w → IsHeld b w
     val_held (val.Prim p) w h = prim_held p w h
     val_held (val.Type_ n) w h = held n w h
 
+    -- one that may be left out
     pub maybe_held : (v : Option ValType) (w : Option InterfaceType) → MaybeIs b done v w → MayBeHeld b w
     maybe_held v None h = tt
     maybe_held None (Some w) h = absurd h
     maybe_held (Some v) (Some w) h = val_held v w h
 
   -- a value type that has a tree is held
-  value_held : (who : ResourceIndex → Identity) (w : InterfaceType) (t : TypeTree) → HasTree b who (def.Interface w) t → IsHeld b w
+  value_held : (who : ResourceIndex → Identity) (w : InterfaceType) (t : TypeTree) → HasTree b who (def.Interface w) t
+      → IsHeld b w
   value_held who w (primitive p) h = subst (IsHeld b) (sym (ap value_of h.1)) (plain_held p h.0 h.2)
-  value_held who w (error_context c) h = subst (IsHeld b) (sym (ap value_of h.1)) (slice_get_within b.error_context_tables h.0.0 _ h.2)
-  value_held who w (record_of fs) h = subst (IsHeld b) (sym (ap value_of h.2)) (slice_get_within b.records h.0.0 h.1 h.3)
-  value_held who w (variant_of cs) h = subst (IsHeld b) (sym (ap value_of h.2)) (slice_get_within b.variants h.0.0 h.1 h.3)
+  value_held who w (error_context c) h =
+      subst (IsHeld b) (sym (ap value_of h.1)) (slice_get_within b.error_context_tables h.0.0 _ h.2)
+  value_held who w (record_of fs) h =
+      subst (IsHeld b) (sym (ap value_of h.2)) (slice_get_within b.records h.0.0 h.1 h.3)
+  value_held who w (variant_of cs) h =
+      subst (IsHeld b) (sym (ap value_of h.2)) (slice_get_within b.variants h.0.0 h.1 h.3)
   value_held who w (list_of t) h = subst (IsHeld b) (sym (ap value_of h.2)) (slice_get_within b.lists h.0.0 h.1 h.3)
   value_held who w (tuple_of ts) h = subst (IsHeld b) (sym (ap value_of h.2)) (slice_get_within b.tuples h.0.0 h.1 h.3)
   value_held who w (flags_of names) h = subst (IsHeld b) (sym (ap value_of h.1)) (slice_get_within b.flags h.0.0 _ h.2)
   value_held who w (enum_of names) h = subst (IsHeld b) (sym (ap value_of h.1)) (slice_get_within b.enums h.0.0 _ h.2)
   value_held who w (option_of t) h = subst (IsHeld b) (sym (ap value_of h.2)) (slice_get_within b.options h.0.0 h.1 h.3)
-  value_held who w (result_of ok err) h = subst (IsHeld b) (sym (ap value_of h.2)) (slice_get_within b.results h.0.0 h.1 h.3)
-  value_held who w (own_of r) h = subst (IsHeld b) (sym (ap value_of h.1)) (slice_get_within b.resource_tables h.0.0 h.2.0 h.2.1)
-  value_held who w (borrow_of r) h = subst (IsHeld b) (sym (ap value_of h.1)) (slice_get_within b.resource_tables h.0.0 h.2.0 h.2.1)
-  value_held who w (stream_of t c) h = subst (IsHeld b) (sym (ap value_of h.2)) (slice_get_within b.stream_tables h.0.0 h.1 h.3)
-  value_held who w (future_of t c) h = subst (IsHeld b) (sym (ap value_of h.2)) (slice_get_within b.future_tables h.0.0 h.1 h.3)
+  value_held who w (result_of ok err) h =
+      subst (IsHeld b) (sym (ap value_of h.2)) (slice_get_within b.results h.0.0 h.1 h.3)
+  value_held who w (own_of r) h =
+      subst (IsHeld b) (sym (ap value_of h.1)) (slice_get_within b.resource_tables h.0.0 h.2.0 h.2.1)
+  value_held who w (borrow_of r) h =
+      subst (IsHeld b) (sym (ap value_of h.1)) (slice_get_within b.resource_tables h.0.0 h.2.0 h.2.1)
+  value_held who w (stream_of t c) h =
+      subst (IsHeld b) (sym (ap value_of h.2)) (slice_get_within b.stream_tables h.0.0 h.1 h.3)
+  value_held who w (future_of t c) h =
+      subst (IsHeld b) (sym (ap value_of h.2)) (slice_get_within b.future_tables h.0.0 h.1 h.3)
   value_held who w (func_of params result is_async) h = absurd (true≢false (ap is_value_type h.4))
   value_held who w (instance_of exports) h = absurd (true≢false (ap is_value_type h.2))
   value_held who w (component_of imports exports) h = absurd (true≢false (ap is_value_type h.2))
@@ -153,11 +172,14 @@ all_by_zip R P one xs [] h = λ k d below. absurd (omega (arith, below))
 all_by_zip R P one [] (y ∷ ys) h = absurd h
 all_by_zip R P one (x ∷ xs) (y ∷ ys) h = All-cons P y ys (one x y h.0) (all_by_zip R P one xs ys h.1)
 
-pub returns_held : (b : Types) (done : List (Option TypeDef)) → AreHeld b done → (v : Option ValType) (ws : List InterfaceType)
+-- the type that is returned, if there is one, is held
+pub returns_held : (b : Types) (done : List (Option TypeDef)) → AreHeld b done
+    → (v : Option ValType) (ws : List InterfaceType)
     → ReturnsAre b done v ws → All (IsHeld b) ws
 returns_held b done held None ws h = subst (All (IsHeld b)) (sym h) (λ k d below. absurd (omega (arith, below)))
 returns_held b done held (Some v) ws h =
-    subst (All (IsHeld b)) (sym h.1) (All-cons (IsHeld b) h.0 [] (val_held b done held v h.0 h.2) (λ k d below. absurd (omega (arith, below))))
+    subst (All (IsHeld b)) (sym h.1)
+    (All-cons (IsHeld b) h.0 [] (val_held b done held v h.0 h.2) (λ k d below. absurd (omega (arith, below))))
 
 -- a place where an item was found is within the list, also after it grew
 pub kept_place : {A : Type 0} (xs ys : List A) → Kept xs ys → (n : ℕ) (x : A) → slice_get xs n ≡ Some x → n < length ys

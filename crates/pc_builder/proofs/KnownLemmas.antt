@@ -13,7 +13,8 @@ resource_of-get [] n = refl
 resource_of-get (e ∷ es) n = λ i. if sym (unsigned_tied n e.0) i then Some e.1 else resource_of-get es n i
 
 -- the known resources after one is put into the map
-pub resource_of-put : (m n : BTreeMap ℕ ResourceIndex) (k : ℕ) (r : ResourceIndex) → Updates nat_cmp m n k (Some r) → (q : ℕ)
+pub resource_of-put : (m n : BTreeMap ℕ ResourceIndex) (k : ℕ) (r : ResourceIndex) → Updates nat_cmp m n k (Some r)
+    → (q : ℕ)
     → resource_of n.entries q ≡ (if q == k then Some r else resource_of m.entries q)
 resource_of-put m n k r updates q =
     resource_of-get n.entries q ∙ updates.0 q

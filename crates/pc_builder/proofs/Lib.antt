@@ -2,15 +2,22 @@
 mod KnownLemmas
 pub mod Growth
 mod PartLemmas
-mod Doing
-mod Needing
+mod StepLemmas
+mod AmongLemmas
+mod NeededLemmas
 mod Simulation
 mod OneNumber
-mod Reading
-mod Refusing
-mod Passing
-mod Sound
+mod TreeInversion
+mod PartInversion
+mod EntryInversion
+mod RefusalLemmas
+mod ErrorLemmas
+mod SoundLemmas
+mod ReadyLemmas
 pub mod TreeLemmas
 mod FactLemmas
+mod FuncLemmas
+mod PutLemmas
+mod FewLemmas
 mod HeldLemmas
 mod TreeFacts

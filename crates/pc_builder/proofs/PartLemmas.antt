@@ -1,5 +1,6 @@
 -- The parts of an entry stay what they are as the builder grows.
-use Rattle.std.proofs.Common.{◌≡◌, ℕ, ◌<◌, ◌+◌, List, [], ◌∷◌, ◌++◌, length, take, get_or, zero, suc, arith, Option, None, Some, sym, ap, ◌∙◌, subst}
+use Rattle.std.proofs.Common.{◌≡◌, ℕ, ◌<◌, ◌+◌, List, [], ◌∷◌, ◌++◌, length, take, get_or, zero, suc, arith, Option}
+use Rattle.std.proofs.Common.{None, Some, sym, ap, ◌∙◌, subst}
 use Rattle.std.specs.Prelude.{slice_get, MatchOption, Result, Ok, Err, IfOk}
 use Rattle.std.specs.List.{AllZip}
 use Rattle.std.proofs.lemmas.Grind.{take_at_read}
@@ -30,61 +31,88 @@ module _ {A B : Type 0} where
   all_zip_push R (a ∷ xs) (b ∷ ys) x y h r = (h.0, all_zip_push R xs ys x y h.1 r)
 
   -- a step of a loop over the first list that makes the second
-  pub all_zip_next : (R : A → B → Type 0) (xs : List A) (ys : List B) (i : ℕ) (x : A) (y : B) → i < length xs → x ≡ get_or xs i x
+  pub all_zip_next : (R : A → B → Type 0) (xs : List A) (ys : List B) (i : ℕ) (x : A) (y : B) → i < length xs
+      → x ≡ get_or xs i x
       → AllZip R (take i xs) ys → R x y → AllZip R (take (i + 1) xs) (ys ++ y ∷ [])
   all_zip_next R xs ys i x y within is h r =
-      subst (λ l. AllZip R l (ys ++ y ∷ [])) (sym ((take_at_read xs i x within).1 ∙ ap (λ z. take i xs ++ z ∷ []) (sym is)))
+      subst (λ l. AllZip R l (ys ++ y ∷ []))
+      (sym ((take_at_read xs i x within).1 ∙ ap (λ z. take i xs ++ z ∷ []) (sym is)))
       (all_zip_push R (take i xs) ys x y h r)
 
   -- a weaker relation
-  pub all_zip_more : (R S : A → B → Type 0) → ((x : A) (y : B) → R x y → S x y) → (xs : List A) (ys : List B) → AllZip R xs ys → AllZip S xs ys
+  pub all_zip_more : (R S : A → B → Type 0) → ((x : A) (y : B) → R x y → S x y) → (xs : List A) (ys : List B)
+      → AllZip R xs ys → AllZip S xs ys
   all_zip_more R S more [] [] h = tt
   all_zip_more R S more [] (y ∷ ys) h = absurd h
   all_zip_more R S more (x ∷ xs) [] h = absurd h
   all_zip_more R S more (x ∷ xs) (y ∷ ys) h = (more x y h.0, all_zip_more R S more xs ys h.1)
 
   -- an item of the first list has one at its place
-  pub zip_here : (R : A → B → Type 0) (xs : List A) (ys : List B) (i : ℕ) (x : A) → i < length xs → x ≡ get_or xs i x → AllZip R xs ys → (y : B) × R x y
+  pub zip_here : (R : A → B → Type 0) (xs : List A) (ys : List B) (i : ℕ) (x : A) → i < length xs → x ≡ get_or xs i x
+      → AllZip R xs ys → (y : B) × R x y
   zip_here R [] ys i x within is h = absurd (omega (arith, within))
   zip_here R (a ∷ xs) [] i x within is h = absurd h
   zip_here R (a ∷ xs) (b ∷ ys) zero x within is h = (b, subst (λ z. R z b) (sym is) h.0)
   zip_here R (a ∷ xs) (b ∷ ys) (suc i) x within is h = zip_here R xs ys i x (omega (arith, within)) is h.1
 
 module _ (old new : Types) (g : Grows old new) where
+  -- the error contexts of the instance keep their number
   pub error_context_grows : (i : TypeComponentLocalErrorContextTableIndex) → IsErrorContext old i → IsErrorContext new i
   error_context_grows i h =
       subst (λ r. slice_get new.error_context_tables i.0 ≡ Some (record { instance = r.current })) (sym g.resources)
       (g.error_context_tables i.0 (record { instance = old.resources.current }) h)
 
+  -- a primitive keeps its value type
   pub prim_grows : (p : PrimType) (w : InterfaceType) → PrimIs old p w → PrimIs new p w
   prim_grows p w h = by (plain_type p) h
     where
       by : (o : Option InterfaceType)
-          → MatchOption o ((i : TypeComponentLocalErrorContextTableIndex) × (w ≡ ty.ErrorContext i) × IsErrorContext old i) (λ t. w ≡ t)
-          → MatchOption o ((i : TypeComponentLocalErrorContextTableIndex) × (w ≡ ty.ErrorContext i) × IsErrorContext new i) (λ t. w ≡ t)
+          → MatchOption o
+          ((i : TypeComponentLocalErrorContextTableIndex) × (w ≡ ty.ErrorContext i) × IsErrorContext old i) (λ t. w ≡ t)
+          → MatchOption o
+          ((i : TypeComponentLocalErrorContextTableIndex) × (w ≡ ty.ErrorContext i) × IsErrorContext new i) (λ t. w ≡ t)
       by None k = (k.0, k.1, error_context_grows k.0 k.2)
       by (Some t) k = k
 
-  pub val_grows : (done : List (Option TypeDef)) (v : ValType) (w : InterfaceType) → ValIs old done v w → ValIs new done v w
+  -- a value type of the table stays what it is
+  pub val_grows : (done : List (Option TypeDef)) (v : ValType) (w : InterfaceType) → ValIs old done v w
+      → ValIs new done v w
   val_grows done (val.Prim p) w h = prim_grows p w h
   val_grows done (val.Type_ n) w h = h
 
-  pub maybe_grows : (done : List (Option TypeDef)) (v : Option ValType) (w : Option InterfaceType) → MaybeIs old done v w → MaybeIs new done v w
+  -- one that may be left out
+  pub maybe_grows : (done : List (Option TypeDef)) (v : Option ValType) (w : Option InterfaceType)
+      → MaybeIs old done v w → MaybeIs new done v w
   maybe_grows done None None h = h
   maybe_grows done None (Some w) h = absurd h
   maybe_grows done (Some v) None h = absurd h
   maybe_grows done (Some v) (Some w) h = val_grows done v w h
 
-  pub field_grows : (done : List (Option TypeDef)) (f : List ℕ × ValType) (g : List ℕ × InterfaceType) → FieldIs old done f g → FieldIs new done f g
+  -- a field
+  pub field_grows : (done : List (Option TypeDef)) (f : List ℕ × ValType) (g : List ℕ × InterfaceType)
+      → FieldIs old done f g → FieldIs new done f g
   field_grows done f g h = (h.0, val_grows done f.1 g.1 h.1)
 
-  pub case_grows : (done : List (Option TypeDef)) (f : List ℕ × Option ValType) (g : List ℕ × Option InterfaceType) → CaseIs old done f g → CaseIs new done f g
+  -- a case
+  pub case_grows : (done : List (Option TypeDef)) (f : List ℕ × Option ValType) (g : List ℕ × Option InterfaceType)
+      → CaseIs old done f g → CaseIs new done f g
   case_grows done f g h = (h.0, maybe_grows done f.1 g.1 h.1)
 
-  pub returns_grow : (done : List (Option TypeDef)) (v : Option ValType) (ws : List InterfaceType) → ReturnsAre old done v ws → ReturnsAre new done v ws
+  -- the type that is returned
+  pub returns_grow : (done : List (Option TypeDef)) (v : Option ValType) (ws : List InterfaceType)
+      → ReturnsAre old done v ws → ReturnsAre new done v ws
   returns_grow done None ws h = h
   returns_grow done (Some v) ws h = (h.0, h.1, val_grows done v h.0 h.2)
 
+  -- the types of the parameters
+  pub params_are_grow : (done : List (Option TypeDef)) (ps : List (List ℕ × ValType)) (ws : List InterfaceType)
+      → AllZip (λ (p : List ℕ × ValType) (w : InterfaceType). ValIs old done p.1 w) ps ws
+      → AllZip (λ (p : List ℕ × ValType) (w : InterfaceType). ValIs new done p.1 w) ps ws
+  params_are_grow done ps ws are =
+      all_zip_more (λ (p : List ℕ × ValType) (w : InterfaceType). ValIs old done p.1 w)
+      (λ (p : List ℕ × ValType) (w : InterfaceType). ValIs new done p.1 w) (λ p w. val_grows done p.1 w) ps ws are
+
+  -- a core entity
   core_is_grows : (t : TypeTable) (e f : CoreEntity) → CoreIs old t e f → CoreIs new t e f
   core_is_grows t (core.Func s) f h = (h.0, h.1, h.2, h.3, g.signatures h.0 h.1 h.4)
   core_is_grows t core.Table f h = h
@@ -92,9 +120,11 @@ module _ (old new : Types) (g : Grows old new) where
   core_is_grows t core.Global f h = h
   core_is_grows t core.Tag f h = h
 
+  -- a module's import
   pub import_is_grows : (t : TypeTable) (i j : List ℕ × List ℕ × CoreEntity) → ImportIs old t i j → ImportIs new t i j
   import_is_grows t i j h = (h.0, h.1, core_is_grows t i.2 j.2 h.2)
 
+  -- a module's export
   pub export_is_grows : (t : TypeTable) (e f : List ℕ × CoreEntity) → ExportIs old t e f → ExportIs new t e f
   export_is_grows t e f h = (h.0, core_is_grows t e.1 f.1 h.1)
 
@@ -109,7 +139,8 @@ pub table_of : (b : Types) (p : PrimType) (w : InterfaceType) → plain_type p �
 table_of b p w none h = by (plain_type p) none h
   where
     by : (o : Option InterfaceType) → o ≡ None
-        → MatchOption o ((i : TypeComponentLocalErrorContextTableIndex) × (w ≡ ty.ErrorContext i) × IsErrorContext b i) (λ t. w ≡ t)
+        → MatchOption o ((i : TypeComponentLocalErrorContextTableIndex) × (w ≡ ty.ErrorContext i) × IsErrorContext b i)
+        (λ t. w ≡ t)
         → (i : TypeComponentLocalErrorContextTableIndex) × IsErrorContext b i
     by None same k = (k.0, k.2)
     by (Some t) same k = absurd (none-some t (sym same))

@@ -1,5 +1,6 @@
 -- What an entry is in the builder has the entry's tree, where its parts have theirs.
-use Rattle.std.proofs.Common.{◌≡◌, ℕ, ◌+◌, Bool, List, [], ◌∷◌, ◌++◌, length, zero, suc, Option, Some, None, refl, sym, ap, ◌∙◌, subst, arith, ◌==◌, if◌then◌else◌, true, false, true≢false}
+use Rattle.std.proofs.Common.{◌≡◌, ℕ, ◌+◌, Bool, List, [], ◌∷◌, ◌++◌, length, zero, suc, Option, Some, None, refl, sym}
+use Rattle.std.proofs.Common.{ap, ◌∙◌, subst, arith, ◌==◌, if◌then◌else◌, true, false, true≢false}
 use Rattle.std.specs.Prelude.{slice_get, option_and_then}
 use Rattle.std.specs.Option.{option_map}
 use Rattle.std.specs.List.{AllZip}
@@ -24,11 +25,20 @@ use Rattle.pc_types.specs.declared.types.InterfaceType.{InterfaceType}
 use Rattle.pc_types.specs.declared.types.InterfaceType.TheVariants as ty
 use Rattle.pc_types.specs.declared.types.TypeDef.{TypeDef}
 use Rattle.pc_types.specs.declared.types.TypeDef.TheVariants as def
-use Rattle.pc_types.specs.TypeTree.{Identity, Resource, CoreTree, TypeTree, Fields, Cases, Trees, MaybeTree, core_func, core_table, core_memory, core_global, core_tag, primitive, error_context, record_of, variant_of, list_of, tuple_of, flags_of, enum_of, option_of, result_of, own_of, borrow_of, stream_of, future_of, func_of, instance_of, component_of, module_of, resource_of, no_fields, and_field, no_cases, and_case, no_trees, and_tree, no_tree, a_tree, trees_from, val_tree, entity_tree}
-use Rattle.pc_types.specs.TypeTree.{earlier_tree, maybe_tree, fields_tree, cases_tree, vals_tree, externs_tree, entry_tree, core_tree, module_import_tree, module_export_tree, own_tree, borrow_tree, resource_from, identity_of}
+use Rattle.pc_types.specs.TypeTree.{Identity, Resource, CoreTree, TypeTree, Fields, Cases, Trees, MaybeTree, core_func}
+use Rattle.pc_types.specs.TypeTree.{core_table, core_memory, core_global, core_tag, primitive, error_context, record_of}
+use Rattle.pc_types.specs.TypeTree.{variant_of, list_of, tuple_of, flags_of, enum_of, option_of, result_of, own_of}
+use Rattle.pc_types.specs.TypeTree.{borrow_of, stream_of, future_of, func_of, instance_of, component_of, module_of}
+use Rattle.pc_types.specs.TypeTree.{resource_of, no_fields, and_field, no_cases, and_case, no_trees, and_tree, no_tree}
+use Rattle.pc_types.specs.TypeTree.{a_tree, trees_from, val_tree, entity_tree}
+use Rattle.pc_types.specs.TypeTree.{earlier_tree, maybe_tree, fields_tree, cases_tree, vals_tree, externs_tree}
+use Rattle.pc_types.specs.TypeTree.{entry_tree, core_tree, module_import_tree, module_export_tree, own_tree}
+use Rattle.pc_types.specs.TypeTree.{borrow_tree, resource_from, identity_of}
 use Rattle.pc_builder.specs.Types.{Types}
 use Rattle.pc_builder.specs.Known.{resource_of as known_resource}
-use Rattle.pc_builder.specs.Trees.{AreHandlesOf, NumbersHandlesOf, CoreHasTree, ImportHasTree, ExportHasTree, HasTree, FieldsHaveTrees, CasesHaveTrees, ValsHaveTrees, MaybeHasTree, ParamsHaveTrees, ResultsHaveTree, ExternsHaveTrees, identities}
+use Rattle.pc_builder.specs.Trees.{AreHandlesOf, NumbersHandlesOf, CoreHasTree, ImportHasTree, ExportHasTree, HasTree}
+use Rattle.pc_builder.specs.Trees.{FieldsHaveTrees, CasesHaveTrees, ValsHaveTrees, MaybeHasTree, ParamsHaveTrees}
+use Rattle.pc_builder.specs.Trees.{ResultsHaveTree, ExternsHaveTrees, identities}
 use Rattle.pc_builder.specs.Parts.{ValIs, MaybeIs, FieldIs, CaseIs, EntityIs, ExternIs}
 use Rattle.pc_builder.specs.Entries.{ReturnsAre, CoreIs, ImportIs, ExportIs, EntryIs, handles_of, handles_from}
 
@@ -44,17 +54,24 @@ known_identity who (k ∷ known) n = first (k.0 == n) (n == k.0) (nat_eq_equiv.s
     chosen true later = refl
     chosen false later = later
 
+    -- the first known resource is the one, or it is among the others
     first : (x y : Bool) → x ≡ y → identity_of (identities who known) n ≡ option_map who (known_resource known n)
         → (if x then Some (who k.1) else identity_of (identities who known) n)
         ≡ option_map who (if y then Some k.1 else known_resource known n)
     first x y same later =
-        subst (λ z. (if z then Some (who k.1) else identity_of (identities who known) n) ≡ option_map who (if y then Some k.1 else known_resource known n))
+        subst (λ z. (if z then Some (who k.1) else identity_of (identities who known) n) ≡ option_map who
+        (if y then Some k.1 else known_resource known n))
         (sym same) (chosen y later)
 
-module _ (b : Types) (who : ResourceIndex → Identity) (t : TypeTable) (done : List (Option TypeDef)) (trees : List (Option TypeTree))
-    (parts : (n : ℕ) (d : TypeDef) → slice_get done n ≡ Some (Some d) → (tree : TypeTree) × (earlier_tree (identities who b.resources.known) b.resources.current.0 t trees n ≡ Some tree) × HasTree b who d tree) where
+module _ (b : Types) (who : ResourceIndex → Identity) (t : TypeTable) (done : List (Option TypeDef))
+    (trees : List (Option TypeTree))
+    (parts : (n : ℕ) (d : TypeDef) → slice_get done n ≡ Some (Some d) → (tree : TypeTree)
+    × (earlier_tree (identities who b.resources.known) b.resources.current.0 t trees n ≡ Some tree)
+    × HasTree b who d tree) where
+  -- a value type
   pub val_has : (v : ValType) (w : InterfaceType) → ValIs b done v w
-      → (tree : TypeTree) × (val_tree (identities who b.resources.known) b.resources.current.0 t trees v ≡ Some tree) × HasTree b who (def.Interface w) tree
+      → (tree : TypeTree) × (val_tree (identities who b.resources.known) b.resources.current.0 t trees v ≡ Some tree)
+      × HasTree b who (def.Interface w) tree
   val_has (val.Prim prim.Bool) w h = (primitive prim.Bool, refl, (ty.Bool, ap def.Interface h, refl))
   val_has (val.Prim prim.S8) w h = (primitive prim.S8, refl, (ty.S8, ap def.Interface h, refl))
   val_has (val.Prim prim.U8) w h = (primitive prim.U8, refl, (ty.U8, ap def.Interface h, refl))
@@ -68,11 +85,14 @@ module _ (b : Types) (who : ResourceIndex → Identity) (t : TypeTable) (done : 
   val_has (val.Prim prim.F64) w h = (primitive prim.F64, refl, (ty.F64, ap def.Interface h, refl))
   val_has (val.Prim prim.Char) w h = (primitive prim.Char, refl, (ty.Char, ap def.Interface h, refl))
   val_has (val.Prim prim.String) w h = (primitive prim.String, refl, (ty.String, ap def.Interface h, refl))
-  val_has (val.Prim prim.ErrorContext) w h = (error_context b.resources.current.0, refl, (h.0, ap def.Interface h.1, h.2))
+  val_has (val.Prim prim.ErrorContext) w h =
+      (error_context b.resources.current.0, refl, (h.0, ap def.Interface h.1, h.2))
   val_has (val.Type_ n) w h = parts n (def.Interface w) h
 
+  -- one that may be left out
   maybe_has : (v : Option ValType) (w : Option InterfaceType) → MaybeIs b done v w
-      → (tree : MaybeTree) × (maybe_tree (identities who b.resources.known) b.resources.current.0 t trees v ≡ Some tree) × MaybeHasTree b who w tree
+      → (tree : MaybeTree) × (maybe_tree (identities who b.resources.known) b.resources.current.0 t trees v ≡ Some tree)
+      × MaybeHasTree b who w tree
   maybe_has None None h = (no_tree, refl, refl)
   maybe_has None (Some w) h = absurd h
   maybe_has (Some v) None h = absurd h
@@ -80,8 +100,10 @@ module _ (b : Types) (who : ResourceIndex → Identity) (t : TypeTable) (done : 
       let x = val_has v w h in
       (a_tree x.0, rw x.1 refl, (w, refl, x.2))
 
+  -- fields
   fields_have : (fs : List (List ℕ × ValType)) (gs : List (List ℕ × InterfaceType)) → AllZip (FieldIs b done) fs gs
-      → (ts : Fields) × (fields_tree (identities who b.resources.known) b.resources.current.0 t trees fs ≡ Some ts) × FieldsHaveTrees b who gs ts
+      → (ts : Fields) × (fields_tree (identities who b.resources.known) b.resources.current.0 t trees fs ≡ Some ts)
+      × FieldsHaveTrees b who gs ts
   fields_have [] [] h = (no_fields, refl, refl)
   fields_have [] (g ∷ gs) h = absurd h
   fields_have (f ∷ fs) [] h = absurd h
@@ -90,8 +112,11 @@ module _ (b : Types) (who : ResourceIndex → Identity) (t : TypeTable) (done : 
       let rest = fields_have fs gs h.1 in
       (and_field f.0 x.0 rest.0, rw (x.1, rest.1) refl, (g.1, gs, ap (λ n. (n, g.1) ∷ gs) (sym h.0.0), x.2, rest.2))
 
-  cases_have : (fs : List (List ℕ × Option ValType)) (gs : List (List ℕ × Option InterfaceType)) → AllZip (CaseIs b done) fs gs
-      → (ts : Cases) × (cases_tree (identities who b.resources.known) b.resources.current.0 t trees fs ≡ Some ts) × CasesHaveTrees b who gs ts
+  -- cases
+  cases_have : (fs : List (List ℕ × Option ValType)) (gs : List (List ℕ × Option InterfaceType))
+      → AllZip (CaseIs b done) fs gs
+      → (ts : Cases) × (cases_tree (identities who b.resources.known) b.resources.current.0 t trees fs ≡ Some ts)
+      × CasesHaveTrees b who gs ts
   cases_have [] [] h = (no_cases, refl, refl)
   cases_have [] (g ∷ gs) h = absurd h
   cases_have (f ∷ fs) [] h = absurd h
@@ -100,8 +125,10 @@ module _ (b : Types) (who : ResourceIndex → Identity) (t : TypeTable) (done : 
       let rest = cases_have fs gs h.1 in
       (and_case f.0 x.0 rest.0, rw (x.1, rest.1) refl, (g.1, gs, ap (λ n. (n, g.1) ∷ gs) (sym h.0.0), x.2, rest.2))
 
+  -- the types of a tuple
   vals_have : (vs : List ValType) (ws : List InterfaceType) → AllZip (ValIs b done) vs ws
-      → (ts : Trees) × (vals_tree (identities who b.resources.known) b.resources.current.0 t trees vs ≡ Some ts) × ValsHaveTrees b who ws ts
+      → (ts : Trees) × (vals_tree (identities who b.resources.known) b.resources.current.0 t trees vs ≡ Some ts)
+      × ValsHaveTrees b who ws ts
   vals_have [] [] h = (no_trees, refl, refl)
   vals_have [] (w ∷ ws) h = absurd h
   vals_have (v ∷ vs) [] h = absurd h
@@ -110,8 +137,11 @@ module _ (b : Types) (who : ResourceIndex → Identity) (t : TypeTable) (done : 
       let rest = vals_have vs ws h.1 in
       (and_tree x.0 rest.0, rw (x.1, rest.1) refl, (w, ws, refl, x.2, rest.2))
 
-  params_have : (ps : List (List ℕ × ValType)) (ws : List InterfaceType) → AllZip (λ (p : List ℕ × ValType) (w : InterfaceType). ValIs b done p.1 w) ps ws
-      → (ts : Fields) × (fields_tree (identities who b.resources.known) b.resources.current.0 t trees ps ≡ Some ts) × ParamsHaveTrees b who (names_of ps) ws ts
+  -- parameters
+  params_have : (ps : List (List ℕ × ValType)) (ws : List InterfaceType)
+      → AllZip (λ (p : List ℕ × ValType) (w : InterfaceType). ValIs b done p.1 w) ps ws
+      → (ts : Fields) × (fields_tree (identities who b.resources.known) b.resources.current.0 t trees ps ≡ Some ts)
+      × ParamsHaveTrees b who (names_of ps) ws ts
   params_have [] [] h = (no_fields, refl, (refl, refl))
   params_have [] (w ∷ ws) h = absurd h
   params_have (p ∷ ps) [] h = absurd h
@@ -120,15 +150,19 @@ module _ (b : Types) (who : ResourceIndex → Identity) (t : TypeTable) (done : 
       let rest = params_have ps ws h.1 in
       (and_field p.0 x.0 rest.0, rw (x.1, rest.1) refl, (w, names_of ps, ws, refl, refl, x.2, rest.2))
 
+  -- the type that is returned
   results_have : (v : Option ValType) (ws : List InterfaceType) → ReturnsAre b done v ws
-      → (tree : MaybeTree) × (maybe_tree (identities who b.resources.known) b.resources.current.0 t trees v ≡ Some tree) × ResultsHaveTree b who ws tree
+      → (tree : MaybeTree) × (maybe_tree (identities who b.resources.known) b.resources.current.0 t trees v ≡ Some tree)
+      × ResultsHaveTree b who ws tree
   results_have None ws h = (no_tree, refl, h)
   results_have (Some v) ws h =
       let x = val_has v h.0 h.2 in
       (a_tree x.0, rw x.1 refl, (h.0, h.1, x.2))
 
+  -- an entity
   pub entity_has : (e : Entity) (d : TypeDef) → EntityIs done e d
-      → (tree : TypeTree) × (entity_tree (identities who b.resources.known) b.resources.current.0 t trees e ≡ Some tree) × HasTree b who d tree
+      → (tree : TypeTree) × (entity_tree (identities who b.resources.known) b.resources.current.0 t trees e ≡ Some tree)
+      × HasTree b who d tree
   entity_has (entity.Func n) d h = parts n d h
   entity_has (entity.Instance n) d h = parts n d h
   entity_has (entity.Component n) d h = parts n d h
@@ -136,8 +170,10 @@ module _ (b : Types) (who : ResourceIndex → Identity) (t : TypeTable) (done : 
   entity_has (entity.Type_ n) d h = parts n d h
   entity_has entity.Value d h = absurd h
 
+  -- named entities
   externs_have : (es : List (List ℕ × Entity)) (ds : List (List ℕ × TypeDef)) → AllZip (ExternIs done) es ds
-      → (ts : Fields) × (externs_tree (identities who b.resources.known) b.resources.current.0 t trees es ≡ Some ts) × ExternsHaveTrees b who ds ts
+      → (ts : Fields) × (externs_tree (identities who b.resources.known) b.resources.current.0 t trees es ≡ Some ts)
+      × ExternsHaveTrees b who ds ts
   externs_have [] [] h = (no_fields, refl, refl)
   externs_have [] (d ∷ ds) h = absurd h
   externs_have (e ∷ es) [] h = absurd h
@@ -146,15 +182,19 @@ module _ (b : Types) (who : ResourceIndex → Identity) (t : TypeTable) (done : 
       let rest = externs_have es ds h.1 in
       (and_field e.0 x.0 rest.0, rw (x.1, rest.1) refl, (d.1, ds, ap (λ n. (n, d.1) ∷ ds) (sym h.0.0), x.2, rest.2))
 
-  core_has : (e f : CoreEntity) → CoreIs b t e f → (tree : CoreTree) × (core_tree t e ≡ Some tree) × CoreHasTree b who f tree
+  -- a core entity
+  core_has : (e f : CoreEntity) → CoreIs b t e f → (tree : CoreTree) × (core_tree t e ≡ Some tree)
+      × CoreHasTree b who f tree
   core_has (core.Func s) f h = (core_func h.1, rw h.3 refl, (h.0, h.2, h.4))
   core_has core.Table f h = (core_table, refl, h)
   core_has (core.Memory is_wide) f h = (core_memory is_wide, refl, h)
   core_has core.Global f h = (core_global, refl, h)
   core_has core.Tag f h = (core_tag, refl, h)
 
+  -- the imports of a module
   imports_have : (is js : List (List ℕ × List ℕ × CoreEntity)) → AllZip (ImportIs b t) is js
-      → (ts : List (List ℕ × List ℕ × CoreTree)) × (map_all (module_import_tree t) is ≡ Some ts) × AllZip (ImportHasTree b who) js ts
+      → (ts : List (List ℕ × List ℕ × CoreTree)) × (map_all (module_import_tree t) is ≡ Some ts)
+      × AllZip (ImportHasTree b who) js ts
   imports_have [] [] h = ([], refl, tt)
   imports_have [] (j ∷ js) h = absurd h
   imports_have (i ∷ is) [] h = absurd h
@@ -163,8 +203,10 @@ module _ (b : Types) (who : ResourceIndex → Identity) (t : TypeTable) (done : 
       let rest = imports_have is js h.1 in
       ((i.0, i.1, x.0) ∷ rest.0, rw (x.1, rest.1) refl, ((sym h.0.0, sym h.0.1, x.2), rest.2))
 
+  -- the exports of a module
   exports_have : (es fs : List (List ℕ × CoreEntity)) → AllZip (ExportIs b t) es fs
-      → (ts : List (List ℕ × CoreTree)) × (map_all (module_export_tree t) es ≡ Some ts) × AllZip (ExportHasTree b who) fs ts
+      → (ts : List (List ℕ × CoreTree)) × (map_all (module_export_tree t) es ≡ Some ts)
+      × AllZip (ExportHasTree b who) fs ts
   exports_have [] [] h = ([], refl, tt)
   exports_have [] (f ∷ fs) h = absurd h
   exports_have (e ∷ es) [] h = absurd h
@@ -174,20 +216,26 @@ module _ (b : Types) (who : ResourceIndex → Identity) (t : TypeTable) (done : 
       ((e.0, x.0) ∷ rest.0, rw (x.1, rest.1) refl, ((sym h.0.0, x.2), rest.2))
 
   -- the handles of the resource of a number are those of the resource in its tree
-  handles_have : (n : ℕ) → AreHandlesOf b who (handles_of b.resources n) (resource_from b.resources.current.0 n (identity_of (identities who b.resources.known) n))
+  handles_have : (n : ℕ) → AreHandlesOf b who (handles_of b.resources n)
+      (resource_from b.resources.current.0 n (identity_of (identities who b.resources.known) n))
   handles_have n =
-      subst (λ o. AreHandlesOf b who (handles_of b.resources n) (resource_from b.resources.current.0 n o)) (sym (known_identity who b.resources.known n))
+      subst (λ o. AreHandlesOf b who (handles_of b.resources n) (resource_from b.resources.current.0 n o))
+      (sym (known_identity who b.resources.known n))
       (by (known_resource b.resources.known n))
     where
-      by : (o : Option ResourceIndex) → AreHandlesOf b who (handles_from b.resources n o) (resource_from b.resources.current.0 n (option_map who o))
+      by : (o : Option ResourceIndex)
+          → AreHandlesOf b who (handles_from b.resources n o) (resource_from b.resources.current.0 n (option_map who o))
       by None = refl
       by (Some r) = (refl, refl)
 
+  -- whether a type is that of handles
   abbrev is_a_resource : TypeDef → Bool
   is_a_resource (def.Resource i) = true
   is_a_resource _ = false
 
-  resource_tree : (d : TypeDef) (i : TypeResourceTableIndex) (tree : TypeTree) → d ≡ def.Resource i → HasTree b who d tree
+  -- a done resource has the tree of a resource
+  resource_tree : (d : TypeDef) (i : TypeResourceTableIndex) (tree : TypeTree) → d ≡ def.Resource i
+      → HasTree b who d tree
       → (r : Resource) × (tree ≡ resource_of r) × NumbersHandlesOf b who i r
   resource_tree d i (resource_of r) is h =
       (r, refl, subst (λ j. NumbersHandlesOf b who j r) (same_resource h.0 i (sym h.1 ∙ is)) h.2)
@@ -219,9 +267,12 @@ module _ (b : Types) (who : ResourceIndex → Identity) (t : TypeTable) (done : 
 
   -- the type has the entry's tree
   pub entry_has : (n : ℕ) (e : DeclType) (d : TypeDef) → length trees ≡ n → EntryIs b done t n e d
-      → (tree : TypeTree) × (entry_tree (identities who b.resources.known) b.resources.current.0 t trees e ≡ Some tree) × HasTree b who d tree
+      → (tree : TypeTree) × (entry_tree (identities who b.resources.known) b.resources.current.0 t trees e ≡ Some tree)
+      × HasTree b who d tree
   entry_has n entry.Resource d len h = (
-    resource_of (resource_from b.resources.current.0 (length trees) (identity_of (identities who b.resources.known) (length trees))),
+    resource_of
+        (resource_from b.resources.current.0 (length trees)
+        (identity_of (identities who b.resources.known) (length trees))),
     refl,
     (
       h.0,
@@ -229,7 +280,9 @@ module _ (b : Types) (who : ResourceIndex → Identity) (t : TypeTable) (done : 
       (
         handles_of b.resources n,
         h.2,
-        subst (λ m. AreHandlesOf b who (handles_of b.resources n) (resource_from b.resources.current.0 m (identity_of (identities who b.resources.known) m))) (sym len) (handles_have n),
+        subst (λ m. AreHandlesOf b who (handles_of b.resources n)
+            (resource_from b.resources.current.0 m (identity_of (identities who b.resources.known) m))) (sym len)
+            (handles_have n),
       ),
     ),
   )
@@ -305,16 +358,20 @@ module _ (b : Types) (who : ResourceIndex → Identity) (t : TypeTable) (done : 
 
 -- the trees of the entries in front of a place, the tree there, and those of all
 module _ (known : List (ℕ × Identity)) (c : ℕ) (t : TypeTable) where
+  -- the trees of earlier entries stay as later ones are made
   trees_kept : (earlier : List (Option TypeTree)) (es : List DeclType) → Kept earlier (trees_from known c t earlier es)
   trees_kept earlier [] = kept_refl earlier
   trees_kept earlier (e ∷ es) =
-      kept_trans earlier (earlier ++ entry_tree known c t earlier e ∷ []) (trees_from known c t (earlier ++ entry_tree known c t earlier e ∷ []) es)
+      kept_trans earlier (earlier ++ entry_tree known c t earlier e ∷ [])
+      (trees_from known c t (earlier ++ entry_tree known c t earlier e ∷ []) es)
       (append_kept earlier (entry_tree known c t earlier e ∷ []))
       (trees_kept (earlier ++ entry_tree known c t earlier e ∷ []) es)
 
-  -- there are trees of as many entries as stand in front, which are kept, and the tree of the entry there is made from them
+  -- there are trees of as many entries as stand in front, which are kept, and the tree of the entry there is made from
+  -- them
   pub tree_at : (earlier : List (Option TypeTree)) (es : List DeclType) (k : ℕ) (e : DeclType) → slice_get es k ≡ Some e
-      → (before : List (Option TypeTree)) × (length before ≡ length earlier + k) × Kept before (trees_from known c t earlier es)
+      → (before : List (Option TypeTree)) × (length before ≡ length earlier + k)
+      × Kept before (trees_from known c t earlier es)
       × (slice_get (trees_from known c t earlier es) (length earlier + k) ≡ Some (entry_tree known c t before e))
   tree_at earlier [] k e at = absurd (none-some e at)
   tree_at earlier (f ∷ es) zero e at = (
@@ -322,12 +379,19 @@ module _ (known : List (ℕ × Identity)) (c : ℕ) (t : TypeTable) where
     omega arith,
     trees_kept earlier (f ∷ es),
     trees_kept (earlier ++ entry_tree known c t earlier f ∷ []) es (length earlier + 0) (entry_tree known c t earlier e)
-        (subst (λ m. slice_get (earlier ++ entry_tree known c t earlier f ∷ []) m ≡ Some (entry_tree known c t earlier e)) (omega arith)
-        (slice_get-append_seam earlier (entry_tree known c t earlier f) [] ∙ ap (λ g. Some (entry_tree known c t earlier g)) (same_Some f e at))),
+        (subst (λ m. slice_get (earlier ++ entry_tree known c t earlier f ∷ []) m ≡ Some
+        (entry_tree known c t earlier e)) (omega arith)
+        (slice_get-append_seam earlier (entry_tree known c t earlier f) []
+        ∙ ap (λ g. Some (entry_tree known c t earlier g)) (same_Some f e at))),
   )
   tree_at earlier (f ∷ es) (suc k) e at =
-      let next = tree_at (earlier ++ entry_tree known c t earlier f ∷ []) es k e at in
-      (next.0, next.1 ∙ grow, next.2, subst (λ m. slice_get (trees_from known c t earlier (f ∷ es)) m ≡ Some (entry_tree known c t next.0 e)) grow next.3)
+      let next = tree_at (earlier ++ entry_tree known c t earlier f ∷ []) es k e at in (
+        next.0,
+        next.1 ∙ grow,
+        next.2,
+        subst (λ m. slice_get (trees_from known c t earlier (f ∷ es)) m ≡ Some (entry_tree known c t next.0 e)) grow
+            next.3,
+      )
     where
       grow : length (earlier ++ entry_tree known c t earlier f ∷ []) + k ≡ length earlier + suc k
       grow = omega (arith, length-append earlier (entry_tree known c t earlier f ∷ []))

@@ -1,5 +1,6 @@
 -- Trees stay as the builder grows.
-use Rattle.std.proofs.Common.{◌≡◌, ℕ, List, [], ◌∷◌, Option, Some, refl, sym, ap, ◌∙◌, subst, Bool, true, false, true≢false, ◌<◌, length, arith}
+use Rattle.std.proofs.Common.{◌≡◌, ℕ, List, [], ◌∷◌, Option, Some, refl, sym, ap, ◌∙◌, subst, Bool, true, false}
+use Rattle.std.proofs.Common.{true≢false, ◌<◌, length, arith}
 use Rattle.pc_numbers.specs.declared.runtime.ResourceIndex.{ResourceIndex}
 use Rattle.pc_types.specs.declared.parsed.CoreEntity.{CoreEntity}
 use Rattle.pc_types.specs.declared.parsed.Entity.{Entity}
@@ -9,10 +10,17 @@ use Rattle.pc_types.specs.declared.type_index.TypeResourceTableIndex.{TypeResour
 use Rattle.pc_types.specs.declared.types.InterfaceType.{InterfaceType}
 use Rattle.pc_types.specs.declared.types.TypeDef.{TypeDef}
 use Rattle.pc_types.specs.declared.types.TypeDef.TheVariants as def
-use Rattle.pc_types.specs.TypeTree.{Identity, Resource, CoreTree, TypeTree, Fields, Cases, Trees, MaybeTree, core_func, core_table, core_memory, core_global, core_tag, primitive, error_context, record_of, variant_of, list_of, tuple_of, flags_of, enum_of, option_of, result_of, own_of, borrow_of, stream_of, future_of, func_of, instance_of, component_of, module_of, resource_of, no_fields, and_field, no_cases, and_case, no_trees, and_tree, no_tree, a_tree, tree_of}
+use Rattle.pc_types.specs.TypeTree.{Identity, Resource, CoreTree, TypeTree, Fields, Cases, Trees, MaybeTree, core_func}
+use Rattle.pc_types.specs.TypeTree.{core_table, core_memory, core_global, core_tag, primitive, error_context, record_of}
+use Rattle.pc_types.specs.TypeTree.{variant_of, list_of, tuple_of, flags_of, enum_of, option_of, result_of, own_of}
+use Rattle.pc_types.specs.TypeTree.{borrow_of, stream_of, future_of, func_of, instance_of, component_of, module_of}
+use Rattle.pc_types.specs.TypeTree.{resource_of, no_fields, and_field, no_cases, and_case, no_trees, and_tree, no_tree}
+use Rattle.pc_types.specs.TypeTree.{a_tree, tree_of}
 use Rattle.pc_builder.specs.Types.{Types, Grows}
 use Rattle.pc_builder.specs.Converted.{AreConverted}
-use Rattle.pc_builder.specs.Trees.{NumbersHandlesOf, CoreHasTree, ImportHasTree, ExportHasTree, HasTree, FieldsHaveTrees, CasesHaveTrees, ValsHaveTrees, MaybeHasTree, ParamsHaveTrees, ResultsHaveTree, ExternsHaveTrees, IsEntry, IsEntity, identities}
+use Rattle.pc_builder.specs.Trees.{NumbersHandlesOf, CoreHasTree, ImportHasTree, ExportHasTree, HasTree}
+use Rattle.pc_builder.specs.Trees.{FieldsHaveTrees, CasesHaveTrees, ValsHaveTrees, MaybeHasTree, ParamsHaveTrees}
+use Rattle.pc_builder.specs.Trees.{ResultsHaveTree, ExternsHaveTrees, IsEntry, IsEntity, identities}
 use Rattle.pc_types.specs.declared.parsed.Entity.TheVariants as entity
 use Rattle.pc_types.specs.TypeTree.{declared}
 use Rattle.std.proofs.lemmas.Option.{slice_get_within}
@@ -20,9 +28,12 @@ use Rattle.pc_builder.specs.Needed.{entity_parts}
 use Rattle.pc_builder.proofs.PartLemmas.{all_zip_more}
 
 module _ (old new : Types) (g : Grows old new) (who : ResourceIndex → Identity) where
-  handles_grow : (i : TypeResourceTableIndex) (r : Resource) → NumbersHandlesOf old who i r → NumbersHandlesOf new who i r
+  -- the number of handles keeps its resource
+  handles_grow : (i : TypeResourceTableIndex) (r : Resource) → NumbersHandlesOf old who i r
+      → NumbersHandlesOf new who i r
   handles_grow i r h = (h.0, g.resource_tables i.0 h.0 h.1, h.2)
 
+  -- a core entity keeps its tree
   core_grows : (e : CoreEntity) (t : CoreTree) → CoreHasTree old who e t → CoreHasTree new who e t
   core_grows e (core_func s) h = (h.0, h.1, g.signatures h.0 s h.2)
   core_grows e core_table h = h
@@ -30,17 +41,22 @@ module _ (old new : Types) (g : Grows old new) (who : ResourceIndex → Identity
   core_grows e core_global h = h
   core_grows e core_tag h = h
 
-  import_grows : (i : List ℕ × List ℕ × CoreEntity) (j : List ℕ × List ℕ × CoreTree) → ImportHasTree old who i j → ImportHasTree new who i j
+  -- a module's import
+  import_grows : (i : List ℕ × List ℕ × CoreEntity) (j : List ℕ × List ℕ × CoreTree) → ImportHasTree old who i j
+      → ImportHasTree new who i j
   import_grows i j h = (h.0, h.1, core_grows i.2 j.2 h.2)
 
-  export_grows : (i : List ℕ × CoreEntity) (j : List ℕ × CoreTree) → ExportHasTree old who i j → ExportHasTree new who i j
+  -- a module's export
+  export_grows : (i : List ℕ × CoreEntity) (j : List ℕ × CoreTree) → ExportHasTree old who i j
+      → ExportHasTree new who i j
   export_grows i j h = (h.0, core_grows i.1 j.1 h.1)
 
   mutual
     -- a type keeps its tree
     pub tree_grows : (d : TypeDef) (t : TypeTree) → HasTree old who d t → HasTree new who d t
     tree_grows d (primitive p) h = h
-    tree_grows d (error_context c) h = (h.0, h.1, g.error_context_tables h.0.0 (record { instance = record { 0 = c } }) h.2)
+    tree_grows d (error_context c) h =
+        (h.0, h.1, g.error_context_tables h.0.0 (record { instance = record { 0 = c } }) h.2)
     tree_grows d (record_of fs) h = (h.0, h.1, h.2, g.records h.0.0 h.1 h.3, fields_grow h.1.fields fs h.4)
     tree_grows d (variant_of cs) h = (h.0, h.1, h.2, g.variants h.0.0 h.1 h.3, cases_grow h.1.cases cs h.4)
     tree_grows d (list_of t) h = (h.0, h.1, h.2, g.lists h.0.0 h.1 h.3, tree_grows (def.Interface h.1.element) t h.4)
@@ -52,8 +68,10 @@ module _ (old new : Types) (g : Grows old new) (who : ResourceIndex → Identity
         (h.0, h.1, h.2, g.results h.0.0 h.1 h.3, maybe_tree_grows h.1.ok ok h.4, maybe_tree_grows h.1.err err h.5)
     tree_grows d (own_of r) h = (h.0, h.1, handles_grow h.0 r h.2)
     tree_grows d (borrow_of r) h = (h.0, h.1, handles_grow h.0 r h.2)
-    tree_grows d (stream_of t c) h = (h.0, h.1, h.2, g.stream_tables h.0.0 h.1 h.3, h.4, maybe_tree_grows h.1.payload t h.5)
-    tree_grows d (future_of t c) h = (h.0, h.1, h.2, g.future_tables h.0.0 h.1 h.3, h.4, maybe_tree_grows h.1.payload t h.5)
+    tree_grows d (stream_of t c) h =
+        (h.0, h.1, h.2, g.stream_tables h.0.0 h.1 h.3, h.4, maybe_tree_grows h.1.payload t h.5)
+    tree_grows d (future_of t c) h =
+        (h.0, h.1, h.2, g.future_tables h.0.0 h.1 h.3, h.4, maybe_tree_grows h.1.payload t h.5)
     tree_grows d (func_of params result is_async) h = (
       h.0,
       h.1,
@@ -67,9 +85,17 @@ module _ (old new : Types) (g : Grows old new) (who : ResourceIndex → Identity
       params_grow h.1.param_names h.2.types params h.9,
       results_grow h.3.types result h.10,
     )
-    tree_grows d (instance_of exports) h = (h.0, h.1, h.2, g.instances h.0.0 h.1 h.3, externs_grow h.1.exports exports h.4)
-    tree_grows d (component_of imports exports) h =
-        (h.0, h.1, h.2, g.components h.0.0 h.1 h.3, externs_grow h.1.imports imports h.4, externs_grow h.1.exports exports h.5)
+    tree_grows d (instance_of exports) h =
+        (h.0, h.1, h.2, g.instances h.0.0 h.1 h.3, externs_grow h.1.exports exports h.4)
+    tree_grows d (component_of imports exports) h = (
+      h.0,
+      h.1,
+      h.2,
+      g.components h.0.0 h.1 h.3,
+      externs_grow h.1.imports imports h.4,
+      externs_grow h.1.exports
+          exports h.5,
+    )
     tree_grows d (module_of imports exports) h = (
       h.0,
       h.1,
@@ -80,37 +106,51 @@ module _ (old new : Types) (g : Grows old new) (who : ResourceIndex → Identity
     )
     tree_grows d (resource_of r) h = (h.0, h.1, handles_grow h.0 r h.2)
 
-    fields_grow : (fs : List (List ℕ × InterfaceType)) (ts : Fields) → FieldsHaveTrees old who fs ts → FieldsHaveTrees new who fs ts
+    -- fields keep their trees
+    fields_grow : (fs : List (List ℕ × InterfaceType)) (ts : Fields) → FieldsHaveTrees old who fs ts
+        → FieldsHaveTrees new who fs ts
     fields_grow fs no_fields h = h
-    fields_grow fs (and_field name t ts) h = (h.0, h.1, h.2, tree_grows (def.Interface h.0) t h.3, fields_grow h.1 ts h.4)
+    fields_grow fs (and_field name t ts) h =
+        (h.0, h.1, h.2, tree_grows (def.Interface h.0) t h.3, fields_grow h.1 ts h.4)
 
-    cases_grow : (cs : List (List ℕ × Option InterfaceType)) (ts : Cases) → CasesHaveTrees old who cs ts → CasesHaveTrees new who cs ts
+    -- cases
+    cases_grow : (cs : List (List ℕ × Option InterfaceType)) (ts : Cases) → CasesHaveTrees old who cs ts
+        → CasesHaveTrees new who cs ts
     cases_grow cs no_cases h = h
     cases_grow cs (and_case name t ts) h = (h.0, h.1, h.2, maybe_tree_grows h.0 t h.3, cases_grow h.1 ts h.4)
 
+    -- the types of a tuple
     vals_grow : (ws : List InterfaceType) (ts : Trees) → ValsHaveTrees old who ws ts → ValsHaveTrees new who ws ts
     vals_grow ws no_trees h = h
     vals_grow ws (and_tree t ts) h = (h.0, h.1, h.2, tree_grows (def.Interface h.0) t h.3, vals_grow h.1 ts h.4)
 
+    -- a value type that may be left out
     maybe_tree_grows : (w : Option InterfaceType) (t : MaybeTree) → MaybeHasTree old who w t → MaybeHasTree new who w t
     maybe_tree_grows w no_tree h = h
     maybe_tree_grows w (a_tree t) h = (h.0, h.1, tree_grows (def.Interface h.0) t h.2)
 
-    params_grow : (names : List (List ℕ)) (ws : List InterfaceType) (ts : Fields) → ParamsHaveTrees old who names ws ts → ParamsHaveTrees new who names ws ts
+    -- parameters
+    params_grow : (names : List (List ℕ)) (ws : List InterfaceType) (ts : Fields) → ParamsHaveTrees old who names ws ts
+        → ParamsHaveTrees new who names ws ts
     params_grow names ws no_fields h = h
     params_grow names ws (and_field name t ts) h =
         (h.0, h.1, h.2, h.3, h.4, tree_grows (def.Interface h.0) t h.5, params_grow h.1 h.2 ts h.6)
 
-    results_grow : (ws : List InterfaceType) (t : MaybeTree) → ResultsHaveTree old who ws t → ResultsHaveTree new who ws t
+    -- the type that is returned
+    results_grow : (ws : List InterfaceType) (t : MaybeTree) → ResultsHaveTree old who ws t
+        → ResultsHaveTree new who ws t
     results_grow ws no_tree h = h
     results_grow ws (a_tree t) h = (h.0, h.1, tree_grows (def.Interface h.0) t h.2)
 
-    externs_grow : (es : List (List ℕ × TypeDef)) (ts : Fields) → ExternsHaveTrees old who es ts → ExternsHaveTrees new who es ts
+    -- named types
+    externs_grow : (es : List (List ℕ × TypeDef)) (ts : Fields) → ExternsHaveTrees old who es ts
+        → ExternsHaveTrees new who es ts
     externs_grow es no_fields h = h
     externs_grow es (and_field name t ts) h = (h.0, h.1, h.2, tree_grows h.0 t h.3, externs_grow h.1 ts h.4)
 
 -- a type stays that of its entry as the builder grows
-pub entry_grows : (old new : Types) → Grows old new → (t : TypeTable) (n : ℕ) (d : TypeDef) → IsEntry old t n d → IsEntry new t n d
+pub entry_grows : (old new : Types) → Grows old new → (t : TypeTable) (n : ℕ) (d : TypeDef) → IsEntry old t n d
+    → IsEntry new t n d
 entry_grows old new g t n d h who =
     let was = h who in (
       was.0,
@@ -119,7 +159,8 @@ entry_grows old new g t n d h who =
     )
 
 -- the types so far stay those of their entries as the builder grows
-pub converted_grows : (old new : Types) → Grows old new → (t : TypeTable) (done : List (Option TypeDef)) → AreConverted old t done → AreConverted new t done
+pub converted_grows : (old new : Types) → Grows old new → (t : TypeTable) (done : List (Option TypeDef))
+    → AreConverted old t done → AreConverted new t done
 converted_grows old new g t done are = record {
   room = are.room;
   kinds = are.kinds;
@@ -131,12 +172,14 @@ abbrev pub is_a_func : TypeDef → Bool
 is_a_func (def.ComponentFunc i) = true
 is_a_func _ = false
 
+-- the number of a function type
 abbrev pub func_number : TypeDef → ℕ
 func_number (def.ComponentFunc i) = i.0
 func_number _ = 0
 
 -- the number of a function type that has a tree is held
-func_held_as : (b : Types) (who : ResourceIndex → Identity) (d : TypeDef) (i : TypeFuncIndex) (tree : TypeTree) → d ≡ def.ComponentFunc i → HasTree b who d tree
+func_held_as : (b : Types) (who : ResourceIndex → Identity) (d : TypeDef) (i : TypeFuncIndex) (tree : TypeTree)
+    → d ≡ def.ComponentFunc i → HasTree b who d tree
     → i.0 < length b.funcs
 func_held_as b who d i (func_of params result is_async) is h =
     subst (λ n. n < length b.funcs) (ap func_number (sym h.4 ∙ is)) (slice_get_within b.funcs h.0.0 h.1 h.5)
@@ -159,7 +202,9 @@ func_held_as b who d i (component_of imports exports) is h = absurd (true≢fals
 func_held_as b who d i (module_of imports exports) is h = absurd (true≢false (ap is_a_func (sym is ∙ h.2)))
 func_held_as b who d i (resource_of r) is h = absurd (true≢false (ap is_a_func (sym is ∙ h.1)))
 
-pub func_held : (b : Types) (t : TypeTable) (n : ℕ) (i : TypeFuncIndex) → IsEntry b t n (def.ComponentFunc i) → i.0 < length b.funcs
+-- the number of a type with the tree of a function is held
+pub func_held : (b : Types) (t : TypeTable) (n : ℕ) (i : TypeFuncIndex) → IsEntry b t n (def.ComponentFunc i)
+    → i.0 < length b.funcs
 func_held b t n i h =
     let who = (λ (r : ResourceIndex). declared 0) in
     let x = h who in
@@ -171,7 +216,8 @@ first_of [] = 0
 first_of (n ∷ ns) = n
 
 -- the entity has the tree of the entry that it names
-pub entity_is : (b : Types) (t : TypeTable) (e : Entity) (n : ℕ) (d : TypeDef) → entity_parts e ≡ n ∷ [] → IsEntry b t n d → IsEntity b t e d
+pub entity_is : (b : Types) (t : TypeTable) (e : Entity) (n : ℕ) (d : TypeDef) → entity_parts e ≡ n ∷ []
+    → IsEntry b t n d → IsEntity b t e d
 entity_is b t (entity.Func m) n d is h = subst (λ k. IsEntry b t k d) (sym (ap first_of is)) h
 entity_is b t (entity.Instance m) n d is h = subst (λ k. IsEntry b t k d) (sym (ap first_of is)) h
 entity_is b t (entity.Component m) n d is h = subst (λ k. IsEntry b t k d) (sym (ap first_of is)) h
@@ -180,7 +226,8 @@ entity_is b t (entity.Type_ m) n d is h = subst (λ k. IsEntry b t k d) (sym (ap
 entity_is b t entity.Value n d is h = absurd (omega (arith, ap length is))
 
 -- the entry that an entity names has the entity's tree
-pub entity_was : (b : Types) (t : TypeTable) (e : Entity) (n : ℕ) (d : TypeDef) → entity_parts e ≡ n ∷ [] → IsEntity b t e d → IsEntry b t n d
+pub entity_was : (b : Types) (t : TypeTable) (e : Entity) (n : ℕ) (d : TypeDef) → entity_parts e ≡ n ∷ []
+    → IsEntity b t e d → IsEntry b t n d
 entity_was b t (entity.Func m) n d is h = subst (λ k. IsEntry b t k d) (ap first_of is) h
 entity_was b t (entity.Instance m) n d is h = subst (λ k. IsEntry b t k d) (ap first_of is) h
 entity_was b t (entity.Component m) n d is h = subst (λ k. IsEntry b t k d) (ap first_of is) h

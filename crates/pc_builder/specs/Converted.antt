@@ -26,5 +26,6 @@ IsOfKind _ d = (w : InterfaceType) × (d ≡ def.Interface w)
 -- a place for each entry of the table, where each type that stands there has the entry's tree and is of its kind
 pub record AreConverted (b : Types) (t : TypeTable) (done : List (Option TypeDef)) : Type 0 where
   pub room : length done ≡ length t.types
-  pub kinds : (n : ℕ) (d : TypeDef) (e : DeclType) → slice_get done n ≡ Some (Some d) → slice_get t.types n ≡ Some e → IsOfKind e d
+  pub kinds : (n : ℕ) (d : TypeDef) (e : DeclType) → slice_get done n ≡ Some (Some d) → slice_get t.types n ≡ Some e
+      → IsOfKind e d
   pub entries : (n : ℕ) (d : TypeDef) → slice_get done n ≡ Some (Some d) → IsEntry b t n d

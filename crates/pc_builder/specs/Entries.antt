@@ -75,54 +75,66 @@ module _ (b : Types) (done : List (Option TypeDef)) where
       × AllZip (λ (p : List ℕ × ValType) (w : InterfaceType). ValIs b done p.1 w) params ps.types
       × ReturnsAre returns rs.types
 
+  -- the type is the value type that the table has there
   abbrev pub DefinedIs : ValType → TypeDef → Type 0
   DefinedIs v d = (w : InterfaceType) × (d ≡ def.Interface w) × ValIs b done v w
 
+  -- the type is a record with these fields
   abbrev pub RecordIs : List (List ℕ × ValType) → TypeDef → Type 0
   RecordIs fields d =
       (i : TypeRecordIndex) × (r : TypeRecord) × (d ≡ def.Interface (ty.Record i)) × (slice_get b.records i.0 ≡ Some r)
       × AllZip (FieldIs b done) fields r.fields
 
+  -- the type is a variant with these cases
   abbrev pub VariantIs : List (List ℕ × Option ValType) → TypeDef → Type 0
   VariantIs cases d =
-      (i : TypeVariantIndex) × (v : TypeVariant) × (d ≡ def.Interface (ty.Variant i)) × (slice_get b.variants i.0 ≡ Some v)
+      (i : TypeVariantIndex) × (v : TypeVariant) × (d ≡ def.Interface (ty.Variant i))
+      × (slice_get b.variants i.0 ≡ Some v)
       × AllZip (CaseIs b done) cases v.cases
 
+  -- the type is a list of this element
   abbrev pub ListIs : ValType → TypeDef → Type 0
   ListIs v d =
       (i : TypeListIndex) × (l : TypeList) × (d ≡ def.Interface (ty.List i)) × (slice_get b.lists i.0 ≡ Some l)
       × ValIs b done v l.element
 
+  -- the type is a tuple of these
   abbrev pub TupleIs : List ValType → TypeDef → Type 0
   TupleIs vs d =
       (i : TypeTupleIndex) × (t : TypeTuple) × (d ≡ def.Interface (ty.Tuple i)) × (slice_get b.tuples i.0 ≡ Some t)
       × AllZip (ValIs b done) vs t.types
 
+  -- the type is an option of this
   abbrev pub OptionIs : ValType → TypeDef → Type 0
   OptionIs v d =
       (i : TypeOptionIndex) × (o : TypeOption) × (d ≡ def.Interface (ty.Option i)) × (slice_get b.options i.0 ≡ Some o)
       × ValIs b done v o.ty
 
+  -- the type is a result with these two, each of which may be left out
   abbrev pub ResultIs : (ok err : Option ValType) → TypeDef → Type 0
   ResultIs ok err d =
       (i : TypeResultIndex) × (r : TypeResult) × (d ≡ def.Interface (ty.Result i)) × (slice_get b.results i.0 ≡ Some r)
       × MaybeIs b done ok r.ok × MaybeIs b done err r.err
 
+  -- the type is a stream of this, if of anything, in the current component instance
   abbrev pub StreamIs : Option ValType → TypeDef → Type 0
   StreamIs v d =
       (i : TypeStreamTableIndex) × (s : TypeStreamTable) × (d ≡ def.Interface (ty.Stream i))
       × (slice_get b.stream_tables i.0 ≡ Some s) × (s.instance ≡ b.resources.current) × MaybeIs b done v s.payload
 
+  -- the type is a future of this, if of anything, in the current component instance
   abbrev pub FutureIs : Option ValType → TypeDef → Type 0
   FutureIs v d =
       (i : TypeFutureTableIndex) × (f : TypeFutureTable) × (d ≡ def.Interface (ty.Future i))
       × (slice_get b.future_tables i.0 ≡ Some f) × (f.instance ≡ b.resources.current) × MaybeIs b done v f.payload
 
+  -- the type is an instance type with these exports
   abbrev pub InstanceIs : List (List ℕ × Entity) → TypeDef → Type 0
   InstanceIs exports d =
       (i : TypeComponentInstanceIndex) × (n : TypeComponentInstance) × (d ≡ def.ComponentInstance i)
       × (slice_get b.instances i.0 ≡ Some n) × AllZip (ExternIs done) exports n.exports
 
+  -- the type is a component type with these imports and exports
   abbrev pub ComponentIs : (imports exports : List (List ℕ × Entity)) → TypeDef → Type 0
   ComponentIs imports exports d =
       (i : TypeComponentIndex) × (n : TypeComponent) × (d ≡ def.Component i) × (slice_get b.components i.0 ≡ Some n)
@@ -173,7 +185,8 @@ abbrev pub ExportIs : Types → TypeTable → List ℕ × CoreEntity → List �
 ExportIs b t e f = (e.0 ≡ f.0) × CoreIs b t e.1 f.1
 
 -- the type is a module type with these imports and exports
-abbrev pub ModuleIs : Types → TypeTable → List (List ℕ × List ℕ × CoreEntity) → List (List ℕ × CoreEntity) → TypeDef → Type 0
+abbrev pub ModuleIs : Types → TypeTable → List (List ℕ × List ℕ × CoreEntity) → List (List ℕ × CoreEntity) → TypeDef
+    → Type 0
 ModuleIs b t imports exports d =
     (i : TypeModuleIndex) × (m : TypeModule) × (d ≡ def.Module i) × (slice_get b.modules i.0 ≡ Some m)
     × AllZip (ImportIs b t) imports m.imports × AllZip (ExportIs b t) exports m.exports

@@ -13,7 +13,8 @@ use Rattle.pc_builder.specs.Types.{Types}
 use Rattle.pc_facts.specs.Table.{FuncHas, TupleHas, RecordHas, VariantHas, ListHas, OptionHas, ResultHas}
 
 -- each type of these lists has its facts in the table, at the same place
-pub record HaveFacts (f : FactTable) (gs : List TypeFunc) (ts : List TypeTuple) (rs : List TypeRecord) (vs : List TypeVariant) (ls : List TypeList) (os : List TypeOption) (es : List TypeResult) : Type 0 where
+pub record HaveFacts (f : FactTable) (gs : List TypeFunc) (ts : List TypeTuple) (rs : List TypeRecord)
+    (vs : List TypeVariant) (ls : List TypeList) (os : List TypeOption) (es : List TypeResult) : Type 0 where
   pub funcs : AllZip (FuncHas f) gs f.funcs
   pub tuples : AllZip (TupleHas f) ts f.tuples
   pub records : AllZip (RecordHas f) rs f.records

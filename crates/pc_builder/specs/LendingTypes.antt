@@ -9,4 +9,5 @@ use Rattle.pc_builder.specs.contracts.pre_inlining.PreInliningComponentTypes.{th
 
 -- the builder ends with the last types behind the reference
 abbrev pub LendsTypes : MutBor PreInliningComponentTypes → MutBor Types → Fml
-LendsTypes p b = Lends (lent_row (record { mir = named 1; lft = [] })) builder_row p b (λ (t : Types). record p.now { types = record p.now.types { now = t } })
+LendsTypes p b = Lends (lent_row (record { mir = named 1; lft = [] })) builder_row p b
+    (λ (t : Types). record p.now { types = record p.now.types { now = t } })

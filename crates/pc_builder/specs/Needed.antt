@@ -15,13 +15,16 @@ abbrev pub val_parts : ValType → List ℕ
 val_parts (val.Prim p) = []
 val_parts (val.Type_ n) = n ∷ []
 
+-- the entries that a value type names, if there is one
 abbrev pub maybe_parts : Option ValType → List ℕ
 maybe_parts None = []
 maybe_parts (Some v) = val_parts v
 
+-- the entries that a field or a parameter names
 abbrev pub field_parts : List ℕ × ValType → List ℕ
 field_parts f = val_parts f.1
 
+-- the entries that a case names
 abbrev pub case_parts : List ℕ × Option ValType → List ℕ
 case_parts c = maybe_parts c.1
 
@@ -34,6 +37,7 @@ entity_parts (entity.Module n) = n ∷ []
 entity_parts (entity.Type_ n) = n ∷ []
 entity_parts entity.Value = []
 
+-- the entries that a named entity names
 abbrev pub extern_parts : List ℕ × Entity → List ℕ
 extern_parts e = entity_parts e.1
 
@@ -77,11 +81,13 @@ Ascend (n ∷ ns) = Each (λ m. n < m) ns × Ascend ns
 abbrev pub IsDone : List (Option TypeDef) → ℕ → Type 0
 IsDone done n = (d : TypeDef) × (slice_get done n ≡ Some (Some d))
 
--- the entries that are to be converted for entry `n`, in ascending order, where some are done: it itself, and what those name
+-- the entries that are to be converted for entry `n`, in ascending order, where some are done: it itself, and what
+-- those name
 pub record AreNeeded (t : TypeTable) (done : List (Option TypeDef)) (n : ℕ) (order : List ℕ) : Type 0 where
   pub asked : IsDone done n ⊎ IsAmong n order
   pub ascend : Ascend order
   pub within : Each (λ k. k < length t.types) order
-  pub closed : (k : ℕ) (e : DeclType) → IsAmong k order → slice_get t.types k ≡ Some e → Each (λ p. IsDone done p ⊎ IsAmong p order) (parts_of e)
+  pub closed : (k : ℕ) (e : DeclType) → IsAmong k order → slice_get t.types k ≡ Some e
+      → Each (λ p. IsDone done p ⊎ IsAmong p order) (parts_of e)
   pub reason : (k : ℕ) → IsAmong k order
       → (k ≡ n) ⊎ ((p : ℕ) × (e : DeclType) × IsAmong p order × (slice_get t.types p ≡ Some e) × IsAmong k (parts_of e))

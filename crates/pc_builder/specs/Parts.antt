@@ -22,7 +22,8 @@ IsErrorContext b i = slice_get b.error_context_tables i.0 ≡ Some (record { ins
 -- the value type is that of the primitive
 abbrev pub PrimIs : Types → PrimType → InterfaceType → Type 0
 PrimIs b p w =
-    MatchOption (plain_type p) ((i : TypeComponentLocalErrorContextTableIndex) × (w ≡ ty.ErrorContext i) × IsErrorContext b i) (λ t. w ≡ t)
+    MatchOption (plain_type p)
+    ((i : TypeComponentLocalErrorContextTableIndex) × (w ≡ ty.ErrorContext i) × IsErrorContext b i) (λ t. w ≡ t)
 
 module _ (b : Types) (done : List (Option TypeDef)) where
   -- the value type is what the table has there

@@ -1,5 +1,5 @@
--- What a number of the builder stands for: the type tree that comes of replacing each number by what its list holds, where
--- `who` says which resource a resource number is.
+-- What a number of the builder stands for: the type tree that comes of replacing each number by what its list holds,
+-- where `who` says which resource a resource number is.
 use Rattle.std.specs.Prelude.{◌≡◌, ℕ, List, [], ◌∷◌, map, Option, None, Some, slice_get}
 use Rattle.std.specs.List.{AllZip}
 use Rattle.pc_numbers.specs.declared.runtime.ResourceIndex.{ResourceIndex}
@@ -42,7 +42,12 @@ use Rattle.pc_types.specs.declared.types.TypeResult.{TypeResult}
 use Rattle.pc_types.specs.declared.types.TypeStreamTable.{TypeStreamTable}
 use Rattle.pc_types.specs.declared.types.TypeTuple.{TypeTuple}
 use Rattle.pc_types.specs.declared.types.TypeVariant.{TypeVariant}
-use Rattle.pc_types.specs.TypeTree.{Identity, Resource, CoreTree, TypeTree, Fields, Cases, Trees, MaybeTree, concrete, abstract, core_func, core_table, core_memory, core_global, core_tag, primitive, error_context, record_of, variant_of, list_of, tuple_of, flags_of, enum_of, option_of, result_of, own_of, borrow_of, stream_of, future_of, func_of, instance_of, component_of, module_of, resource_of, no_fields, and_field, no_cases, and_case, no_trees, and_tree, no_tree, a_tree, trees_from, tree_of, val_tree, entity_tree}
+use Rattle.pc_types.specs.TypeTree.{Identity, Resource, CoreTree, TypeTree, Fields, Cases, Trees, MaybeTree, concrete}
+use Rattle.pc_types.specs.TypeTree.{abstract, core_func, core_table, core_memory, core_global, core_tag, primitive}
+use Rattle.pc_types.specs.TypeTree.{error_context, record_of, variant_of, list_of, tuple_of, flags_of, enum_of}
+use Rattle.pc_types.specs.TypeTree.{option_of, result_of, own_of, borrow_of, stream_of, future_of, func_of, instance_of}
+use Rattle.pc_types.specs.TypeTree.{component_of, module_of, resource_of, no_fields, and_field, no_cases, and_case}
+use Rattle.pc_types.specs.TypeTree.{no_trees, and_tree, no_tree, a_tree, trees_from, tree_of, val_tree, entity_tree}
 use Rattle.pc_builder.specs.Types.{Types}
 use Rattle.pc_builder.specs.Primitive.{plain_type}
 
@@ -94,9 +99,11 @@ module _ (b : Types) (who : ResourceIndex → Identity) where
         (i : TypeTupleIndex) × (t : TypeTuple) × (d ≡ def.Interface (ty.Tuple i))
         × (slice_get b.tuples i.0 ≡ Some t) × ValsHaveTrees t.types ts
     HasTree d (flags_of names) =
-        (i : TypeFlagsIndex) × (d ≡ def.Interface (ty.Flags i)) × (slice_get b.flags i.0 ≡ Some (record { names = names }))
+        (i : TypeFlagsIndex) × (d ≡ def.Interface (ty.Flags i))
+        × (slice_get b.flags i.0 ≡ Some (record { names = names }))
     HasTree d (enum_of names) =
-        (i : TypeEnumIndex) × (d ≡ def.Interface (ty.Enum i)) × (slice_get b.enums i.0 ≡ Some (record { names = names }))
+        (i : TypeEnumIndex) × (d ≡ def.Interface (ty.Enum i))
+        × (slice_get b.enums i.0 ≡ Some (record { names = names }))
     HasTree d (option_of t) =
         (i : TypeOptionIndex) × (o : TypeOption) × (d ≡ def.Interface (ty.Option i))
         × (slice_get b.options i.0 ≡ Some o) × HasTree (def.Interface o.ty) t
@@ -121,10 +128,12 @@ module _ (b : Types) (who : ResourceIndex → Identity) where
         × (slice_get b.instances i.0 ≡ Some n) × ExternsHaveTrees n.exports exports
     HasTree d (component_of imports exports) =
         (i : TypeComponentIndex) × (n : TypeComponent) × (d ≡ def.Component i)
-        × (slice_get b.components i.0 ≡ Some n) × ExternsHaveTrees n.imports imports × ExternsHaveTrees n.exports exports
+        × (slice_get b.components i.0 ≡ Some n) × ExternsHaveTrees n.imports imports
+        × ExternsHaveTrees n.exports exports
     HasTree d (module_of imports exports) =
         (i : TypeModuleIndex) × (m : TypeModule) × (d ≡ def.Module i)
-        × (slice_get b.modules i.0 ≡ Some m) × AllZip ImportHasTree m.imports imports × AllZip ExportHasTree m.exports exports
+        × (slice_get b.modules i.0 ≡ Some m) × AllZip ImportHasTree m.imports imports
+        × AllZip ExportHasTree m.exports exports
     HasTree d (resource_of r) = (i : TypeResourceTableIndex) × (d ≡ def.Resource i) × NumbersHandlesOf i r
 
     -- the named value types have these names and trees, in order
@@ -145,7 +154,8 @@ module _ (b : Types) (who : ResourceIndex → Identity) where
     pub ValsHaveTrees : List InterfaceType → Trees → Type 0
     ValsHaveTrees ws no_trees = ws ≡ []
     ValsHaveTrees ws (and_tree t ts) =
-        (w : InterfaceType) × (rest : List InterfaceType) × (ws ≡ w ∷ rest) × HasTree (def.Interface w) t × ValsHaveTrees rest ts
+        (w : InterfaceType) × (rest : List InterfaceType) × (ws ≡ w ∷ rest) × HasTree (def.Interface w) t
+        × ValsHaveTrees rest ts
 
     -- the same of what may be left out
     pub MaybeHasTree : Option InterfaceType → MaybeTree → Type 0
@@ -168,7 +178,8 @@ module _ (b : Types) (who : ResourceIndex → Identity) where
     pub ExternsHaveTrees : List (List ℕ × TypeDef) → Fields → Type 0
     ExternsHaveTrees es no_fields = es ≡ []
     ExternsHaveTrees es (and_field name t ts) =
-        (d : TypeDef) × (rest : List (List ℕ × TypeDef)) × (es ≡ (name, d) ∷ rest) × HasTree d t × ExternsHaveTrees rest ts
+        (d : TypeDef) × (rest : List (List ℕ × TypeDef)) × (es ≡ (name, d) ∷ rest) × HasTree d t
+        × ExternsHaveTrees rest ts
 
 -- the known resources, as type trees name them
 abbrev pub identities : (ResourceIndex → Identity) → List (ℕ × ResourceIndex) → List (ℕ × Identity)
@@ -182,18 +193,23 @@ trees_in b who t = trees_from (identities who b.resources.known) b.resources.cur
 abbrev pub IsEntry : Types → TypeTable → ℕ → TypeDef → Type 0
 IsEntry b t n d =
     (who : ResourceIndex → Identity)
-    → (tree : TypeTree) × (tree_of (identities who b.resources.known) b.resources.current.0 t n ≡ Some tree) × HasTree b who d tree
+    → (tree : TypeTree) × (tree_of (identities who b.resources.known) b.resources.current.0 t n ≡ Some tree)
+    × HasTree b who d tree
 
 -- the value type has the tree of a value type of the table
 abbrev pub IsValue : Types → TypeTable → ValType → InterfaceType → Type 0
 IsValue b t v w =
     (who : ResourceIndex → Identity)
-    → (tree : TypeTree) × (val_tree (identities who b.resources.known) b.resources.current.0 t (trees_in b who t) v ≡ Some tree)
+    →
+    (tree : TypeTree)
+    × (val_tree (identities who b.resources.known) b.resources.current.0 t (trees_in b who t) v ≡ Some tree)
     × HasTree b who (def.Interface w) tree
 
 -- the type has the tree of an entity of the table
 abbrev pub IsEntity : Types → TypeTable → Entity → TypeDef → Type 0
 IsEntity b t e d =
     (who : ResourceIndex → Identity)
-    → (tree : TypeTree) × (entity_tree (identities who b.resources.known) b.resources.current.0 t (trees_in b who t) e ≡ Some tree)
+    →
+    (tree : TypeTree)
+    × (entity_tree (identities who b.resources.known) b.resources.current.0 t (trees_in b who t) e ≡ Some tree)
     × HasTree b who d tree

@@ -137,6 +137,10 @@ pub record Grows (old new : Types) : Type 0 where
   pub signatures : Kept old.signatures new.signatures
   pub resources : new.resources ≡ old.resources
 
+-- each type keeps its number, whichever resources are known
+abbrev pub KeepsTypes : (old new : Types) → Type 0
+KeepsTypes old new = Grows old (record new { resources = old.resources })
+
 -- the type has a number in the list
 abbrev pub HasNumber : {V : Type 0} → List V → V → Type 0
 HasNumber types type = (n : ℕ) × (slice_get types n ≡ Some type)

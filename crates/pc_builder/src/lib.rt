@@ -9,13 +9,13 @@ mod defined;
 mod entry;
 mod extern_type;
 mod intern;
+mod no_place;
 mod parts;
 pub mod pre_inlining;
 mod put;
 mod readers;
 pub mod resources;
-#[cfg(test)]
-mod tests;
+mod steps;
 mod value;
 
 pub use builder::ComponentTypesBuilder;

@@ -1,13 +1,14 @@
 //! Which entries a conversion needs: those that the entry leads to, and it itself.
 //!
-//! An entry names earlier entries alone. So taking the last open entry and opening the ones that it names meets each of them
-//! once, from the last to the first, whatever the table's shape. Entries that are done are not opened, and what they lead to
-//! is done too.
+//! An entry names earlier entries alone. So taking the last open entry and opening the ones that it names meets each of
+//! them once, from the last to the first, whatever the table's shape. Entries that are done are not opened, and what
+//! they lead to is done too.
 
 ghost use Rattle.std.specs.Prelude.{◌≡◌, ℕ, ◌⊎◌, ◌<◌, ◌++◌, ◌∷◌, [], None, length, IfOk, OnOk};
 ghost use Rattle.std.specs.List.{flat_map};
 ghost use Rattle.pc_types.specs.Table.{table_fault};
-ghost use Rattle.pc_builder.specs.Needed.{AreNeeded, Each, IsAmong, IsDone, case_parts, entity_parts, extern_parts, field_parts, maybe_parts, parts_of, val_parts};
+ghost use Rattle.pc_builder.specs.Needed.{AreNeeded, Each, IsAmong, IsDone, case_parts, entity_parts, extern_parts};
+ghost use Rattle.pc_builder.specs.Needed.{field_parts, maybe_parts, parts_of, val_parts};
 
 use pc_entity::{NoMemory, Text};
 use pc_types::{DeclType, Entity, TypeDef, TypeTable, ValType};
@@ -55,7 +56,7 @@ fn open_entry(opened: &mut BTreeSet<u32>, done: &[Option<TypeDef>], n: u32) -> R
     }
 }
 
-// The same of each of some entries.
+// Each of some entries is opened, unless it is done.
 fn open_entries(
     opened: &mut BTreeSet<u32>,
     done: &[Option<TypeDef>],
@@ -134,7 +135,8 @@ fn push_component(
     imports: &[(Text, Entity)],
     exports: &[(Text, Entity)],
 ) -> Result<(), NoMemory>
-    ensures { OnOk result (ns.new.items ≡ ns.old.items ++ (flat_map extern_parts imports.now ++ flat_map extern_parts exports.now)) }
+    ensures { OnOk result
+        (ns.new.items ≡ ns.old.items ++ (flat_map extern_parts imports.now ++ flat_map extern_parts exports.now)) }
 {
     push_externs(ns, imports)?;
     push_externs(ns, exports)

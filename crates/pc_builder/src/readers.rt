@@ -167,16 +167,18 @@ impl ComponentTypesBuilder {
     /// Which types stand anywhere in a tuple.
     pub fn tuple_facts(&self, i: TypeTupleIndex) -> TypeFacts
         requires held { i.0 < length self.now.tuples }
-        ensures { (who : ResourceIndex → Identity) (tree : TypeTree) → HasTree self.now who (def.Interface (ty.Tuple i)) tree → result ≡ facts_of tree }
+        ensures { (who : ResourceIndex → Identity) (tree : TypeTree)
+            → HasTree self.now who (def.Interface (ty.Tuple i)) tree → result ≡ facts_of tree }
     {
         self.facts.tuples.get(i.0)
     }
 
-    /// Whether a handle to a resource, a future, a stream or an error context stands anywhere in a function's parameters
-    /// or results. What a stream or a future carries isn't entered.
+    /// Whether a handle to a resource, a future, a stream or an error context stands anywhere in a function's
+    /// parameters or results. What a stream or a future carries isn't entered.
     pub fn func_contains_any_handle(&self, i: TypeFuncIndex) -> bool
         requires held { i.0 < length self.now.funcs }
-        ensures { (who : ResourceIndex → Identity) (tree : TypeTree) → HasTree self.now who (def.ComponentFunc i) tree → result ≡ has_handle (facts_of tree) }
+        ensures { (who : ResourceIndex → Identity) (tree : TypeTree) → HasTree self.now who (def.ComponentFunc i) tree
+            → result ≡ has_handle (facts_of tree) }
     {
         self.facts.funcs.get(i.0).has_handle()
     }

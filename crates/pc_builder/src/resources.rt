@@ -50,7 +50,8 @@ impl ResourcesBuilder {
 
     /// Table number `n` is resource `r` from now on.
     pub fn register_resource(&mut self, n: u32, r: ResourceIndex) -> Result<(), NoMemory>
-        ensures ok { OnOk result ((q : ℕ) → resource_of self.new.known q ≡ (if q == n then Some r else resource_of self.old.known q)) }
+        ensures ok { OnOk result
+            ((q : ℕ) → resource_of self.new.known q ≡ (if q == n then Some r else resource_of self.old.known q)) }
         ensures current { self.new.current ≡ self.old.current }
         ensures err { OnErr result (self.new ≡ self.old) }
     {

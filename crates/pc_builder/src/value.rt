@@ -1,7 +1,8 @@
 //! Value types of a table, converted.
 
-ghost use Rattle.std.specs.Prelude.{◌≡◌, Some, Err, All, IfOk, slice_get};
+ghost use Rattle.std.specs.Prelude.{◌≡◌, true, Some, Err, All, IfOk, slice_get, is_some};
 ghost use Rattle.pc_builder.specs.Types.{Grows, HasNumber, IsTooFullFor};
+ghost use Rattle.pc_builder.specs.Few.{is_plain_val};
 ghost use Rattle.pc_builder.specs.Held.{IsHeld};
 ghost use Rattle.pc_builder.specs.Primitive.{plain_type};
 ghost use Rattle.pc_builder.specs.Parts.{IsErrorContext, PrimIs, ValIs, IsReady};
@@ -11,6 +12,7 @@ ghost use Rattle.pc_types.specs.declared.type_index.TypeComponentLocalErrorConte
 ghost use Rattle.pc_types.specs.declared.types.InterfaceType.{InterfaceType};
 
 use crate::ComponentTypesBuilder;
+use crate::no_place::NoPlace;
 use pc_entity::Seq;
 use pc_types::{
     InterfaceType, PrimType, TypeComponentLocalErrorContextTableIndex, TypeDef, TypeError,
@@ -25,10 +27,10 @@ impl ComponentTypesBuilder {
         ensures is { IfOk result (λ i. IsErrorContext self.new i) }
         ensures grows { Grows self.old self.new }
         ensures never_bad { result ≡ Err TypeError.BadNumber → ⊥ }
-        ensures full { result ≡ Err TypeError.TooMany → IsTooFullFor self.new (λ b. (i : TypeComponentLocalErrorContextTableIndex) × IsErrorContext b i) }
+        ensures full { result ≡ Err TypeError.TooMany
+            → IsTooFullFor self.new (λ b. (i : TypeComponentLocalErrorContextTableIndex) × IsErrorContext b i) }
     {
-        let instance = self.resources.current_instance();
-        self.put_error_context_table(TypeErrorContextTable { instance })
+        Ok(self.error_contexts()?)
     }
 
     /// The number of a tuple of these types, which are held.
@@ -37,22 +39,36 @@ impl ComponentTypesBuilder {
         ensures is { IfOk result (λ i. slice_get self.new.tuples i.0 ≡ Some (record { types = types.items })) }
         ensures grows { Grows self.old self.new }
         ensures never_bad { result ≡ Err TypeError.BadNumber → ⊥ }
-        ensures full { result ≡ Err TypeError.TooMany → IsTooFullFor self.new (λ b. HasNumber b.tuples (record { types = types.items })) }
+        ensures full { result ≡ Err TypeError.TooMany
+            → IsTooFullFor self.new (λ b. HasNumber b.tuples (record { types = types.items })) }
     {
         let types = Seq::from_vec(types);
-        self.put_tuple(TypeTuple { types })
+        Ok(self.put_tuple(TypeTuple { types })?)
+    }
+
+    // The number of the error contexts of the current component instance.
+    pub(crate) fn error_contexts(
+        &mut self,
+    ) -> Result<TypeComponentLocalErrorContextTableIndex, NoPlace>
+        ensures is { IfOk result (λ i. IsErrorContext self.new i) }
+        ensures grows { Grows self.old self.new }
+        ensures full { result ≡ Err NoPlace.TooMany → IsTooFullFor self.new
+            (λ b. (i : TypeComponentLocalErrorContextTableIndex) × IsErrorContext b i) }
+    {
+        let instance = self.resources.current_instance();
+        self.put_error_context_table(TypeErrorContextTable { instance })
     }
 
     // A primitive.
-    pub(crate) fn primitive(&mut self, p: PrimType) -> Result<InterfaceType, TypeError>
+    pub(crate) fn primitive(&mut self, p: PrimType) -> Result<InterfaceType, NoPlace>
         ensures is { IfOk result (λ w. PrimIs self.new p w) }
         ensures grows { Grows self.old self.new }
-        ensures never_bad { result ≡ Err TypeError.BadNumber → ⊥ }
-        ensures full { result ≡ Err TypeError.TooMany → IsTooFullFor self.new (λ b. (w : InterfaceType) × PrimIs b p w) }
+        ensures full { result ≡ Err NoPlace.TooMany → IsTooFullFor self.new (λ b. (w : InterfaceType) × PrimIs b p w) }
+        ensures plain { is_some (plain_type p) ≡ true → self.new ≡ self.old }
     {
         match plain_type(p) {
             Some(w) => Ok(w),
-            None => Ok(InterfaceType::ErrorContext(self.error_context_table_type()?)),
+            None => Ok(InterfaceType::ErrorContext(self.error_contexts()?)),
         }
     }
 
@@ -61,12 +77,13 @@ impl ComponentTypesBuilder {
         &mut self,
         done: &[Option<TypeDef>],
         v: ValType,
-    ) -> Result<InterfaceType, TypeError>
+    ) -> Result<InterfaceType, NoPlace>
         requires ready { IsReady done.now v }
         ensures is { IfOk result (λ w. ValIs self.new done.now v w) }
         ensures grows { Grows self.old self.new }
-        ensures never_bad { result ≡ Err TypeError.BadNumber → ⊥ }
-        ensures full { result ≡ Err TypeError.TooMany → IsTooFullFor self.new (λ b. (w : InterfaceType) × ValIs b done.now v w) }
+        ensures full { result ≡ Err NoPlace.TooMany → IsTooFullFor self.new
+            (λ b. (w : InterfaceType) × ValIs b done.now v w) }
+        ensures plain { is_plain_val v ≡ true → self.new ≡ self.old }
     {
         match v {
             ValType::Prim(p) => self.primitive(p),

@@ -14,6 +14,8 @@ pub loop-item-preserved : goal.loop-item-preserved
 loop-item-preserved c =
     let l = c.loop-item in
     let done = c.args.done.now in
-    subst (λ types. AllZip (ExternIs done) (take (l.item-index + 1) c.args.items.now) types) (sym c.in_ok-push.ensures.ok)
-    (all_zip_next (ExternIs done) c.args.items.now l.types l.item-index c.item-item.result (c.in_ok-name.name, c.entity_at.result)
+    subst (λ types. AllZip (ExternIs done) (take (l.item-index + 1) c.args.items.now) types)
+    (sym c.in_ok-push.ensures.ok)
+    (all_zip_next (ExternIs done) c.args.items.now l.types l.item-index c.item-item.result
+    (c.in_ok-name.name, c.entity_at.result)
     (omega arith) c.item-item.is l.invariant (sym c.in_ok-name.ensures, c.entity_at.ensures))

@@ -1,5 +1,5 @@
 use Rattle.std.proofs.Common.{reverse}
-use Rattle.pc_builder.proofs.Needing.{Going, top}
+use Rattle.pc_builder.proofs.NeededLemmas.{Going, top}
 use Rattle.pc_builder.proofs.parts.needed.Given as goal
 
 abbrev pub invariant-loop-k : goal.invariant-loop-k

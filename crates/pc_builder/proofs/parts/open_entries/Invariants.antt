@@ -1,5 +1,5 @@
 use Rattle.std.proofs.Common.{take}
-use Rattle.pc_builder.proofs.Needing.{Opens}
+use Rattle.pc_builder.proofs.NeededLemmas.{Opens}
 use Rattle.pc_builder.proofs.parts.open_entries.Given as goal
 
 abbrev pub invariant-loop-n : goal.invariant-loop-n

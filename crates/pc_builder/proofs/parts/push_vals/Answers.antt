@@ -3,7 +3,7 @@ use Rattle.std.proofs.lemmas.List.{get_or_default}
 use Rattle.pc_types.specs.declared.parsed.PrimType.TheVariants.{Bool}
 use Rattle.pc_types.specs.declared.parsed.ValType.TheVariants.{Prim}
 use Rattle.pc_builder.specs.Needed.{val_parts}
-use Rattle.pc_builder.proofs.Needing.{pushed_next}
+use Rattle.pc_builder.proofs.AmongLemmas.{pushed_next}
 use Rattle.pc_builder.proofs.parts.push_vals.Goals as goal
 
 pub loop-v-preserved : goal.loop-v-preserved

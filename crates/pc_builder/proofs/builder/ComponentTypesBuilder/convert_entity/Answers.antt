@@ -1,18 +1,17 @@
+use Rattle.pc_builder.proofs.ErrorLemmas.{told}
 use Rattle.pc_builder.proofs.Growth.{too_full}
-use Rattle.pc_builder.specs.Trees.{IsEntity, IsEntry}
-use Rattle.pc_builder.proofs.PartLemmas.{if_ok_more}
 use Rattle.pc_builder.proofs.TreeLemmas.{entity_is, entity_was}
 use Rattle.pc_builder.proofs.builder.ComponentTypesBuilder.convert_entity.Goals as goal
 
-pub returns-then-is_kind_at-clause-tree : goal.returns-then-is_kind_at-clause-tree
-returns-then-is_kind_at-clause-tree c =
-    let b = c.entry.new.self in
-    let t = c.args.table.now in
-    if_ok_more (IsEntry b t c.number_of.result) (IsEntity b t c.args.e.now)
-    (λ d h. entity_is b t c.args.e.now c.number_of.result d c.number_of.ensures h) c.entry.result c.entry.ensures.tree
+pub returns-in_ok-entry-clause-tree : goal.returns-in_ok-entry-clause-tree
+returns-in_ok-entry-clause-tree c =
+    entity_is c.entry.new.self c.args.table.now c.args.e.now c.number_of.result c.in_ok-entry.field-0
+    c.number_of.ensures
+    c.in_ok-entry.ensures.tree
 
-pub returns-then-is_kind_at-clause-full : goal.returns-then-is_kind_at-clause-full
-returns-then-is_kind_at-clause-full c h =
+pub returns-in_err-entry-clause-full : goal.returns-in_err-entry-clause-full
+returns-in_err-entry-clause-full c h =
     too_full _ _ _
-    (λ next g is q. (q.0, entity_was next c.args.table.now c.args.e.now c.number_of.result q.0 c.number_of.ensures q.1))
-    (c.entry.ensures.full h)
+    (λ next g is q.
+    (q.0, entity_was next c.args.table.now c.args.e.now c.number_of.result q.0 c.number_of.ensures q.1))
+    (told c.from_residual.result c.in_err-entry.field-0.0 c.from_residual.ensures.1 c.in_err-entry.ensures.full h)

@@ -1,4 +1,7 @@
-use Rattle.std.proofs.Common.{ℕ, take}
+use Rattle.std.proofs.Common.{◌≡◌, ◌≤◌, ◌+◌, ℕ, length, take, true}
+use Rattle.std.specs.Prelude.{slice_get}
+use Rattle.pc_types.specs.Table.{is_some_and}
+use Rattle.pc_builder.specs.Few.{AddsFuncs, is_plain_func}
 use Rattle.pc_builder.specs.Converted.{AreConverted}
 use Rattle.pc_builder.specs.Needed.{Each, IsDone}
 use Rattle.pc_builder.specs.Types.{Grows}
@@ -10,4 +13,7 @@ invariant-loop-k l = record {
   so_far : Each (IsDone l.converted) (take l.k-index l.k-items);
   kept : (m : ℕ) → IsDone l.fn.converted m → IsDone l.converted m;
   grows : Grows l.fn.self l.self;
+  within : l.k-index ≤ length l.k-items;
+  few : is_some_and is_plain_func (slice_get l.fn.table.types l.fn.n) ≡ true
+      → AddsFuncs l.k-index (l.k-index + l.k-index) l.fn.self l.self;
 }

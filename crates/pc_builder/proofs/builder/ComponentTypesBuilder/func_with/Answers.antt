@@ -1,10 +1,10 @@
 use Rattle.pc_types.specs.declared.types.TypeDef.TheVariants.{ComponentFunc}
-use Rattle.pc_builder.proofs.Passing.{passed_on}
+use Rattle.pc_builder.proofs.ErrorLemmas.{passed_on}
 use Rattle.std.proofs.Common.{subst}
 use Rattle.std.specs.Prelude.{slice_get}
 use Rattle.pc_types.specs.Table.{is_func}
 use Rattle.pc_builder.specs.Trees.{IsEntry}
-use Rattle.pc_builder.proofs.Sound.{found_by, func_kind}
+use Rattle.pc_builder.proofs.SoundLemmas.{found_by, func_kind}
 use Rattle.pc_builder.proofs.TreeLemmas.{func_held}
 use Rattle.pc_builder.proofs.builder.ComponentTypesBuilder.func_with.Goals as goal
 
@@ -15,12 +15,14 @@ unreachable-requires c =
     c.in_default.not-ComponentFunc k.0 k.1
 
 pub returns-clause-tree : goal.returns-clause-tree
-returns-clause-tree c = subst (λ d. IsEntry c.entry_with.new.self c.args.table.now c.args.n d) c.in-ComponentFunc.is c.in_ok-i.ensures.tree
+returns-clause-tree c = subst (λ d. IsEntry c.entry_with.new.self c.args.table.now c.args.n d) c.in-ComponentFunc.is
+    c.in_ok-i.ensures.tree
 
 pub returns-clause-held : goal.returns-clause-held
 returns-clause-held c =
     func_held c.entry_with.new.self c.args.table.now c.args.n c.in-ComponentFunc.i
-    (subst (λ d. IsEntry c.entry_with.new.self c.args.table.now c.args.n d) c.in-ComponentFunc.is c.in_ok-i.ensures.tree)
+    (subst (λ d. IsEntry c.entry_with.new.self c.args.table.now c.args.n d) c.in-ComponentFunc.is
+    c.in_ok-i.ensures.tree)
 
 pub returns-in_err-i-clause-full : goal.returns-in_err-i-clause-full
 returns-in_err-i-clause-full c =

@@ -1,10 +1,10 @@
 use Rattle.pc_types.specs.declared.types.TypeDef.TheVariants.{Module}
-use Rattle.pc_builder.proofs.Passing.{passed_on}
+use Rattle.pc_builder.proofs.ErrorLemmas.{passed_on}
 use Rattle.std.proofs.Common.{subst}
 use Rattle.std.specs.Prelude.{slice_get}
 use Rattle.pc_types.specs.Table.{is_module}
 use Rattle.pc_builder.specs.Trees.{IsEntry}
-use Rattle.pc_builder.proofs.Sound.{found_by, module_kind}
+use Rattle.pc_builder.proofs.SoundLemmas.{found_by, module_kind}
 use Rattle.pc_builder.proofs.builder.ComponentTypesBuilder.module_at.Goals as goal
 
 pub unreachable-requires : goal.unreachable-requires
@@ -14,7 +14,8 @@ unreachable-requires c =
     c.in_default.not-Module k.0 k.1
 
 pub returns-clause-tree : goal.returns-clause-tree
-returns-clause-tree c = subst (λ d. IsEntry c.entry.new.self c.args.table.now c.args.n d) c.in-Module.is c.in_ok-i.ensures.tree
+returns-clause-tree c = subst (λ d. IsEntry c.entry.new.self c.args.table.now c.args.n d) c.in-Module.is
+    c.in_ok-i.ensures.tree
 
 pub returns-in_err-i-clause-full : goal.returns-in_err-i-clause-full
 returns-in_err-i-clause-full c =

@@ -1,5 +1,6 @@
-use Rattle.std.proofs.Common.{take}
-use Rattle.std.specs.List.{AllZip}
+use Rattle.std.proofs.Common.{◌≡◌, take, true}
+use Rattle.std.specs.List.{AllZip, list_all}
+use Rattle.pc_builder.specs.Few.{is_plain_param}
 use Rattle.pc_builder.specs.Types.{Grows}
 use Rattle.pc_builder.specs.Parts.{ValIs}
 use Rattle.pc_builder.proofs.builder.ComponentTypesBuilder.param_types.Given as goal
@@ -8,4 +9,5 @@ abbrev pub invariant-loop-param : goal.invariant-loop-param
 invariant-loop-param l = record {
   are : AllZip (λ p w. ValIs l.self l.done p.1 w) (take l.param-index l.params) l.types;
   grows : Grows l.fn.self l.self;
+  plain : list_all is_plain_param l.params ≡ true → l.self ≡ l.fn.self;
 }

@@ -2,15 +2,23 @@ use Rattle.std.proofs.Common.{refl}
 use Rattle.std.proofs.lemmas.Slice.Zip.{AllZip-long}
 use Rattle.pc_facts.specs.Table.{FuncHas}
 use Rattle.pc_builder.specs.View.{types_of}
-use Rattle.pc_builder.proofs.FactLemmas.{known_tuple, put_funcs}
+use Rattle.pc_builder.proofs.FactLemmas.{known_tuple}
 use Rattle.pc_builder.proofs.Growth.{full_funcs, grows_funcs}
-use Rattle.pc_builder.proofs.Passing.{passed}
+use Rattle.pc_builder.proofs.PutLemmas.{funcs_within}
+use Rattle.pc_builder.proofs.ErrorLemmas.{passed}
 use Rattle.pc_builder.proofs.builder.ComponentTypesBuilder.put_func.Goals as goal
 
 pub of_func-facts-requires : goal.of_func-facts-requires
 of_func-facts-requires c =
     let s = c.self.inside in
-    record { known = (known_tuple c.args.self.now (types_of s) s.facts c.self.view_is c.self.invariant.facts _ c.requires.params, known_tuple c.args.self.now (types_of s) s.facts c.self.view_is c.self.invariant.facts _ c.requires.results) }
+    record {
+      known = (
+        known_tuple c.args.self.now
+            (types_of s) s.facts c.self.view_is c.self.invariant.facts _ c.requires.params,
+        known_tuple c.args.self.now
+            (types_of s) s.facts c.self.view_is c.self.invariant.facts _ c.requires.results,
+      );
+    }
 
 pub intern_with-requires-clause-paired : goal.intern_with-requires-clause-paired
 intern_with-requires-clause-paired c =
@@ -19,27 +27,23 @@ intern_with-requires-clause-paired c =
 
 pub invariant_of-self : goal.invariant_of-self
 invariant_of-self c =
-    let s = c.self.inside in
-    let i = c.self.invariant in
     let put = c.intern_with.ensures in
-    let facts = put_funcs s.facts (types_of s) i.facts c.intern_with.new.list c.intern_with.new.facts c.args.value c.of_func-facts.result c.of_func-facts.ensures put.facts in
-    search (i, put.within, facts)
+    funcs_within c.self.inside c.self.invariant _ _ c.args.value _ c.of_func-facts.ensures put.facts put.within
 
 pub returns-in_err-number-clause-grows : goal.returns-in_err-number-clause-grows
-returns-in_err-number-clause-grows c = rw (← c.self.view_is) (grows_funcs _ _ c.args.value refl c.intern_with.ensures.put)
+returns-in_err-number-clause-grows c =
+    rw (← c.self.view_is) (grows_funcs _ _ c.args.value refl c.intern_with.ensures.put)
 
 pub invariant_of-self-2 : goal.invariant_of-self-2
 invariant_of-self-2 c =
-    let s = c.self.inside in
-    let i = c.self.invariant in
     let put = c.intern_with.ensures in
-    let facts = put_funcs s.facts (types_of s) i.facts c.intern_with.new.list c.intern_with.new.facts c.args.value c.of_func-facts.result c.of_func-facts.ensures put.facts in
-    search (i, put.within, facts)
+    funcs_within c.self.inside c.self.invariant _ _ c.args.value _ c.of_func-facts.ensures put.facts put.within
 
 pub returns-clause-grows : goal.returns-clause-grows
 returns-clause-grows c = rw (← c.self.view_is) (grows_funcs _ _ c.args.value refl c.intern_with.ensures.put)
 
 pub returns-in_err-number-clause-full : goal.returns-in_err-number-clause-full
 returns-in_err-number-clause-full c h =
-    let refused = passed c.from_residual.result c.in_err-number.field-0.0 c.from_residual.ensures.1 c.in_err-number.ensures.full h in
+    let refused = passed c.from_residual.result c.in_err-number.field-0.0 c.from_residual.ensures.1
+    c.in_err-number.ensures.full h in
     full_funcs _ c.args.value refused.0 refused.1

@@ -1,5 +1,5 @@
 use Rattle.pc_builder.proofs.OneNumber.{one_fields}
-use Rattle.pc_builder.proofs.Passing.{passed_on}
+use Rattle.pc_builder.proofs.ErrorLemmas.{passed_on}
 use Rattle.std.proofs.Common.{ℕ, List, refl, Some, ap, ◌∙◌}
 use Rattle.pc_types.specs.declared.types.InterfaceType.{InterfaceType}
 use Rattle.pc_builder.specs.Parts.{FieldIs}
@@ -16,30 +16,45 @@ put_record_type-requires c =
     let held = are_held_grow c.args.self.now b c.fields.ensures.grows done c.requires.held in
     record {
       parts =
-          all_by_zip (FieldIs b done) (λ (g : List ℕ × InterfaceType). IsHeld b g.1) (λ f g h. val_held b done held f.1 g.1 h.1)
+          all_by_zip (FieldIs b done) (λ (g : List ℕ × InterfaceType). IsHeld b g.1)
+          (λ f g h. val_held b done held f.1 g.1 h.1)
           c.args.fields.now c.in_ok-fields.fields c.in_ok-fields.ensures.are;
     }
 
 pub returns-in_err-put_record_type-clause-grows : goal.returns-in_err-put_record_type-clause-grows
-returns-in_err-put_record_type-clause-grows c = grows_trans c.args.self.now c.fields.new.self c.put_record_type.new.self c.fields.ensures.grows c.put_record_type.ensures.grows
+returns-in_err-put_record_type-clause-grows c =
+    grows_trans c.args.self.now c.fields.new.self c.put_record_type.new.self c.fields.ensures.grows
+    c.put_record_type.ensures.grows
 
 pub returns-clause-is : goal.returns-clause-is
 returns-clause-is c =
     let done = c.args.done.now in
     let part = c.in_ok-fields in
-    let last = c.put_record_type.new.self in
-    (c.in_ok-put_record_type.field-0, _, refl, c.in_ok-put_record_type.ensures.held, all_zip_more (FieldIs c.fields.new.self done) (FieldIs last done) (field_grows c.fields.new.self last c.put_record_type.ensures.grows done) c.args.fields.now part.fields part.ensures.are)
+    let last = c.put_record_type.new.self in (
+      c.in_ok-put_record_type.field-0,
+      _,
+      refl,
+      c.in_ok-put_record_type.ensures.held,
+      all_zip_more
+          (FieldIs c.fields.new.self done) (FieldIs last done)
+          (field_grows c.fields.new.self last c.put_record_type.ensures.grows done) c.args.fields.now part.fields
+          part.ensures.are,
+    )
 
 pub returns-clause-grows : goal.returns-clause-grows
-returns-clause-grows c = grows_trans c.args.self.now c.fields.new.self c.put_record_type.new.self c.fields.ensures.grows c.put_record_type.ensures.grows
+returns-clause-grows c = grows_trans c.args.self.now c.fields.new.self c.put_record_type.new.self c.fields.ensures.grows
+    c.put_record_type.ensures.grows
 
 pub returns-in_err-put_record_type-clause-full : goal.returns-in_err-put_record_type-clause-full
 returns-in_err-put_record_type-clause-full c =
     let done = c.args.done.now in
     let first = c.fields.new.self in
     let part = c.in_ok-fields in
-    passed_on c.from_residual-in_err-put_record_type.result c.in_err-put_record_type.field-0.0 _ _ _ c.from_residual-in_err-put_record_type.ensures.1 c.in_err-put_record_type.ensures.full
+    passed_on c.from_residual-in_err-put_record_type.result c.in_err-put_record_type.field-0.0 _ _ _
+    c.from_residual-in_err-put_record_type.ensures.1 c.in_err-put_record_type.ensures.full
     (λ next g is q.
     let grow = grows_trans first c.put_record_type.new.self next c.put_record_type.ensures.grows g in
-    let same = one_fields next is.distinct done c.args.fields.now q.1.1.fields part.fields q.1.4 (all_zip_more (FieldIs first done) (FieldIs next done) (field_grows first next grow done) c.args.fields.now part.fields part.ensures.are) in
+    let same = one_fields next is.distinct done c.args.fields.now q.1.1.fields part.fields q.1.4
+    (all_zip_more (FieldIs first done) (FieldIs next done)
+    (field_grows first next grow done) c.args.fields.now part.fields part.ensures.are) in
     (q.1.0.0, q.1.3 ∙ ap (λ x. Some (record { fields = x })) same))

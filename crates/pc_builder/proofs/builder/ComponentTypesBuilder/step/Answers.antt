@@ -1,13 +1,15 @@
-use Rattle.std.proofs.Common.{◌≡◌, ◌∙◌, Some, ap, arith, length, refl, subst, sym, take}
+use Rattle.std.proofs.Common.{◌≡◌, ◌∙◌, Some, ap, arith, length, refl, subst, sym, take, true}
 use Rattle.std.specs.Prelude.{slice_get}
 use Rattle.std.proofs.lemmas.Option.{same_Some, slice_get_read}
+use Rattle.pc_types.specs.Table.{is_some_and}
 use Rattle.pc_builder.specs.Converted.{AreConverted}
+use Rattle.pc_builder.specs.Few.{is_plain_func}
 use Rattle.pc_builder.specs.Entries.{EntryIs}
 use Rattle.pc_builder.specs.Needed.{IsDone}
 use Rattle.pc_builder.specs.Parts.{AreHeld}
 use Rattle.pc_builder.specs.Steps.{IsReadyEntry}
-use Rattle.pc_builder.proofs.Doing.{done_here, done_kept, front_held, one_more, ready_step}
-use Rattle.pc_builder.proofs.Passing.{passed_on}
+use Rattle.pc_builder.proofs.StepLemmas.{done_here, done_kept, front_held, one_more, ready_step}
+use Rattle.pc_builder.proofs.ErrorLemmas.{passed_on}
 use Rattle.pc_builder.proofs.TreeLemmas.{converted_grows}
 use Rattle.pc_builder.proofs.builder.ComponentTypesBuilder.step.Goals as goal
 
@@ -19,17 +21,21 @@ convert-requires-clause-ready c =
     let types = c.as_slice.result.now in
     let at =
     subst (λ ts. slice_get ts k ≡ Some e) c.as_slice.ensures
-    (slice_get_read types (length types) k e refl (omega (arith, c.requires.there, ap length c.as_slice.ensures)) c.index-as_slice-k.is) in
+    (slice_get_read types (length types) k e refl
+    (omega (arith, c.requires.there, ap length c.as_slice.ensures)) c.index-as_slice-k.is) in
     subst (λ done. IsReadyEntry t done e) (sym c.in_front.ensures)
-    (ready_step t c.requires.sound c.args.self.now c.args.converted.now k e c.requires.converted at (c.requires.parts e at))
+    (ready_step t c.requires.sound c.args.self.now c.args.converted.now k e c.requires.converted at
+    (c.requires.parts e at))
 
 pub convert-requires-clause-held : goal.convert-requires-clause-held
 convert-requires-clause-held c =
-    subst (AreHeld c.args.self.now) (sym c.in_front.ensures) (front_held c.args.self.now c.args.table.now c.args.converted.now c.args.k c.requires.converted)
+    subst (AreHeld c.args.self.now) (sym c.in_front.ensures)
+    (front_held c.args.self.now c.args.table.now c.args.converted.now c.args.k c.requires.converted)
 
 pub returns-in_err-type_-clause-converted : goal.returns-in_err-type_-clause-converted
 returns-in_err-type_-clause-converted c =
-    converted_grows c.args.self.now c.convert.new.self c.convert.ensures.grows c.args.table.now c.args.converted.now c.requires.converted
+    converted_grows c.args.self.now c.convert.new.self c.convert.ensures.grows c.args.table.now c.args.converted.now
+    c.requires.converted
 
 pub returns-in_err-type_-clause-full : goal.returns-in_err-type_-clause-full
 returns-in_err-type_-clause-full c =
@@ -39,8 +45,10 @@ returns-in_err-type_-clause-full c =
     let types = c.as_slice.result.now in
     let at =
     subst (λ ts. slice_get ts k ≡ Some e) c.as_slice.ensures
-    (slice_get_read types (length types) k e refl (omega (arith, c.requires.there, ap length c.as_slice.ensures)) c.index-as_slice-k.is) in
-    passed_on c.from_residual.result c.in_err-type_.field-0.0 _ _ _ c.from_residual.ensures.1 c.in_err-type_.ensures.full
+    (slice_get_read types (length types) k e refl
+    (omega (arith, c.requires.there, ap length c.as_slice.ensures)) c.index-as_slice-k.is) in
+    passed_on c.from_residual.result c.in_err-type_.field-0.0 _ _ _ c.from_residual.ensures.1
+    c.in_err-type_.ensures.full
     (λ next g is q. (
       q.2,
       subst (λ done. EntryIs next done t k e q.2) (sym c.in_front.ensures)
@@ -57,16 +65,41 @@ returns-clause-converted c =
     let last = c.convert.new.self in
     let at =
     subst (λ ts. slice_get ts k ≡ Some e) c.as_slice.ensures
-    (slice_get_read types (length types) k e refl (omega (arith, c.requires.there, ap length c.as_slice.ensures)) c.index-as_slice-k.is) in
+    (slice_get_read types (length types) k e refl
+    (omega (arith, c.requires.there, ap length c.as_slice.ensures)) c.index-as_slice-k.is) in
     subst (AreConverted last t) (sym c.put.ensures)
-    (one_more t c.requires.sound last done k e c.in_ok-type_.type_ at (converted_grows c.args.self.now last c.convert.ensures.grows t done c.requires.converted)
+    (one_more t c.requires.sound last done k e c.in_ok-type_.type_ at
+    (converted_grows c.args.self.now last c.convert.ensures.grows t done c.requires.converted)
     (subst (λ before. EntryIs last before t k e c.in_ok-type_.type_) c.in_front.ensures c.in_ok-type_.ensures.is))
 
 pub returns-clause-done : goal.returns-clause-done
 returns-clause-done c =
     subst (λ done. IsDone done c.args.k) (sym c.put.ensures)
-    (done_here c.args.converted.now c.args.k c.in_ok-type_.type_ (omega (arith, c.requires.there, c.requires.converted.room)))
+    (done_here c.args.converted.now c.args.k c.in_ok-type_.type_
+    (omega (arith, c.requires.there, c.requires.converted.room)))
 
 pub returns-clause-kept : goal.returns-clause-kept
 returns-clause-kept c m h =
     subst (λ done. IsDone done m) (sym c.put.ensures) (done_kept c.args.converted.now c.args.k m c.in_ok-type_.type_ h)
+
+pub returns-in_err-type_-clause-few : goal.returns-in_err-type_-clause-few
+returns-in_err-type_-clause-few c h =
+    let k = c.args.k in
+    let e = c.index-as_slice-k.result in
+    let types = c.as_slice.result.now in
+    let at =
+    subst (λ ts. slice_get ts k ≡ Some e) c.as_slice.ensures
+    (slice_get_read types (length types) k e refl
+    (omega (arith, c.requires.there, ap length c.as_slice.ensures)) c.index-as_slice-k.is) in
+    c.convert.ensures.few (subst (λ o. is_some_and is_plain_func o ≡ true) at h)
+
+pub returns-clause-few : goal.returns-clause-few
+returns-clause-few c h =
+    let k = c.args.k in
+    let e = c.index-as_slice-k.result in
+    let types = c.as_slice.result.now in
+    let at =
+    subst (λ ts. slice_get ts k ≡ Some e) c.as_slice.ensures
+    (slice_get_read types (length types) k e refl
+    (omega (arith, c.requires.there, ap length c.as_slice.ensures)) c.index-as_slice-k.is) in
+    c.convert.ensures.few (subst (λ o. is_some_and is_plain_func o ≡ true) at h)

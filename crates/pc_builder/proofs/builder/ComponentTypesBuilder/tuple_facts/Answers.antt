@@ -10,7 +10,10 @@ use Rattle.pc_builder.proofs.builder.ComponentTypesBuilder.tuple_facts.Goals as 
 pub get-requires : goal.get-requires
 get-requires c =
     let s = c.self.inside in
-    record { held = known_tuple c.args.self.now (types_of s) s.facts c.self.view_is c.self.invariant.facts _ c.requires.held }
+    record {
+      held = known_tuple c.args.self.now
+          (types_of s) s.facts c.self.view_is c.self.invariant.facts _ c.requires.held;
+    }
 
 pub returns : goal.returns
 returns c =

@@ -1,4 +1,4 @@
-use Rattle.pc_builder.proofs.Passing.{passed_on}
+use Rattle.pc_builder.proofs.ErrorLemmas.{passed_on}
 use Rattle.std.proofs.Common.{arith, get_or, take}
 use Rattle.std.proofs.lemmas.List.{get_or_default}
 use Rattle.pc_types.specs.declared.parsed.PrimType.TheVariants.{Bool}
@@ -30,7 +30,8 @@ loop-v-preserved c =
           rw c.in_ok-push.ensures.ok
           (all_zip_next (ValIs after s) c.args.vs.now l.types l.v-index v c.in_ok-value.field-0 (omega arith)
           (get_or_default vs l.v-index (Prim Bool) v c.loop-v-test.true)
-          (all_zip_more (ValIs before s) (ValIs after s) (val_grows before after c.value.ensures.grows s) (take l.v-index c.args.vs.now) l.types l.invariant.are)
+          (all_zip_more (ValIs before s) (ValIs after s) (val_grows before after c.value.ensures.grows s)
+          (take l.v-index c.args.vs.now) l.types l.invariant.are)
           c.in_ok-value.ensures.is);
       grows = grows_trans c.args.self.now before after l.invariant.grows c.value.ensures.grows;
     }
@@ -40,5 +41,7 @@ returns-in_err-value-clause-full c =
     let vs = c.args.vs.now in
     let l = c.loop-v in
     let v = get_or vs l.v-index (Prim Bool) in
-    passed_on c.from_residual.result c.in_err-value.field-0.0 _ _ _ c.from_residual.ensures.1 c.in_err-value.ensures.full
-    (λ next g is q. zip_here (ValIs next c.args.done.now) vs q.0 l.v-index v (omega arith) (get_or_default vs l.v-index (Prim Bool) v c.loop-v-test.true) q.1)
+    passed_on c.from_residual.result c.in_err-value.field-0.0 _ _ _ c.from_residual.ensures.1
+    c.in_err-value.ensures.full
+    (λ next g is q. zip_here (ValIs next c.args.done.now) vs q.0 l.v-index v (omega arith)
+    (get_or_default vs l.v-index (Prim Bool) v c.loop-v-test.true) q.1)

@@ -1,14 +1,13 @@
 -- What a sound table says of the parts of its entries.
-use Rattle.std.proofs.Common.{◌≡◌, ℕ, ◌<◌, Bool, true, false, List, [], ◌∷◌, ◌++◌, length, take, zero, suc, Option, Some, None, refl, sym, ap, ◌∙◌, subst, arith, true≢false, ◌&&◌, ◌||◌, if◌then◌else◌}
-use Rattle.std.specs.Prelude.{slice_get, map}
-use Rattle.std.specs.List.{All, list_all, list_any, flat_map}
+use Rattle.std.proofs.Common.{◌≡◌, ℕ, ◌<◌, Bool, true, false, List, [], ◌∷◌, ◌++◌, length, take, zero, suc, Option}
+use Rattle.std.proofs.Common.{Some, None, refl, sym, subst, true≢false, ◌&&◌, if◌then◌else◌}
+use Rattle.std.specs.Prelude.{slice_get}
+use Rattle.std.specs.List.{list_all, flat_map}
 use Rattle.std.proofs.lemmas.Bool.{ltb-true}
 use Rattle.std.proofs.lemmas.List.{append_assoc, append-nil}
-use Rattle.std.proofs.lemmas.List.Elements.{All-cons}
 use Rattle.std.proofs.lemmas.Option.{none-some, same_Some, slice_get_within}
 use Rattle.pc_entity.proofs.Elements.{and_true}
 use Rattle.pc_entity.specs.Lists.{names_of}
-use Rattle.pc_types.specs.declared.parsed.CoreEntity.{CoreEntity}
 use Rattle.pc_types.specs.declared.parsed.DeclType.{DeclType}
 use Rattle.pc_types.specs.declared.parsed.DeclType.TheVariants as entry
 use Rattle.pc_types.specs.declared.parsed.Entity.{Entity}
@@ -23,40 +22,45 @@ use Rattle.pc_types.specs.declared.type_index.TypeResourceTableIndex.{TypeResour
 use Rattle.pc_types.specs.declared.types.InterfaceType.{InterfaceType}
 use Rattle.pc_types.specs.declared.types.TypeDef.{TypeDef}
 use Rattle.pc_types.specs.declared.types.TypeDef.TheVariants as def
-use Rattle.pc_types.specs.Names.{are_distinct, distinct_names, same_pair}
-use Rattle.pc_types.specs.Record.{is_typed}
-use Rattle.pc_types.specs.Table.{EntryFault, entry_fault, fault_or, fault_from, table_fault, is_none_or, is_some_and, is_sound_entry, is_sound_val, is_sound_entity, holds_value, is_value, is_resource, is_func, is_instance, is_module, is_defined_type}
-use Rattle.pc_builder.specs.Needed.{Each, parts_of, val_parts, maybe_parts, field_parts, case_parts, entity_parts, extern_parts}
-use Rattle.pc_builder.specs.Parts.{IsReady, MayBeReady, IsThere, HasHandles}
+use Rattle.pc_types.specs.Names.{distinct_names}
+use Rattle.pc_types.specs.Table.{EntryFault, entry_fault, fault_or, fault_from, table_fault, is_none_or, is_some_and}
+use Rattle.pc_types.specs.Table.{is_sound_entry, is_sound_val, is_sound_entity, holds_value, is_resource}
+use Rattle.pc_types.specs.Table.{is_func, is_instance, is_module, is_defined_type}
+use Rattle.pc_builder.specs.Needed.{Each, parts_of, val_parts, maybe_parts, field_parts, case_parts, entity_parts}
+use Rattle.pc_builder.specs.Needed.{extern_parts}
 use Rattle.pc_builder.specs.Converted.{IsOfKind}
-use Rattle.pc_builder.specs.Steps.{IsReadyEntry}
-use Rattle.pc_builder.proofs.Needing.{each_append, each_front, each_back}
+use Rattle.pc_builder.proofs.AmongLemmas.{each_append}
 
 -- an entry without a fault is sound and holds no component value
 unfaulted : (t : TypeTable) (earlier : List DeclType) (e : DeclType) → entry_fault t earlier e ≡ None
     → (is_sound_entry t earlier e ≡ true) × (holds_value e ≡ false)
 unfaulted t earlier e h = by (is_sound_entry t earlier e) (holds_value e) h
   where
-    by : (sound value : Bool) → (if sound then (if value then Some EntryFault.value_entry else None) else Some EntryFault.bad_entry) ≡ None
+    by : (sound value : Bool)
+        → (if sound then (if value then Some EntryFault.value_entry else None) else Some EntryFault.bad_entry) ≡ None
         → (sound ≡ true) × (value ≡ false)
     by true true k = absurd (none-some EntryFault.value_entry (sym k))
     by true false k = (refl, refl)
     by false value k = absurd (none-some EntryFault.bad_entry (sym k))
 
 -- where no entry has a fault, this one has none, and those after it have none
-no_fault_here : (n : ℕ) (f : Option EntryFault) (later : Option (ℕ × EntryFault)) → fault_or n f later ≡ None → (f ≡ None) × (later ≡ None)
+no_fault_here : (n : ℕ) (f : Option EntryFault) (later : Option (ℕ × EntryFault)) → fault_or n f later ≡ None
+    → (f ≡ None) × (later ≡ None)
 no_fault_here n None later h = (refl, h)
 no_fault_here n (Some f) later h = absurd (none-some (n, f) (sym h))
 
+-- the same of the entries after some
 sound_from : (t : TypeTable) (earlier es : List DeclType) (k : ℕ) (e : DeclType) → fault_from t earlier es ≡ None
     → slice_get es k ≡ Some e → (is_sound_entry t (earlier ++ take k es) e ≡ true) × (holds_value e ≡ false)
 sound_from t earlier [] k e none at = absurd (none-some e at)
 sound_from t earlier (f ∷ es) zero e none at =
-    let here = unfaulted t earlier f (no_fault_here (length earlier) (entry_fault t earlier f) (fault_from t (earlier ++ f ∷ []) es) none).0 in
+    let here = unfaulted t earlier f
+    (no_fault_here (length earlier) (entry_fault t earlier f) (fault_from t (earlier ++ f ∷ []) es) none).0 in
     subst (λ g. (is_sound_entry t (earlier ++ []) g ≡ true) × (holds_value g ≡ false)) (same_Some f e at)
     (subst (λ l. is_sound_entry t l f ≡ true) (sym (append-nil earlier)) here.0, here.1)
 sound_from t earlier (f ∷ es) (suc k) e none at =
-    let later = (no_fault_here (length earlier) (entry_fault t earlier f) (fault_from t (earlier ++ f ∷ []) es) none).1 in
+    let later =
+    (no_fault_here (length earlier) (entry_fault t earlier f) (fault_from t (earlier ++ f ∷ []) es) none).1 in
     let there = sound_from t (earlier ++ f ∷ []) es k e later at in
     (subst (λ l. is_sound_entry t l e ≡ true) (append_assoc earlier (f ∷ []) (take k es)) there.0, there.1)
 
@@ -66,10 +70,12 @@ pub sound_at : (t : TypeTable) (k : ℕ) (e : DeclType) → table_fault t ≡ No
 sound_at t k e none at = sound_from t [] t.types k e none at
 
 -- what passes a test is there
-pub found_by : {A : Type 0} (p : A → Bool) (o : Option A) → is_some_and p o ≡ true → (x : A) × (o ≡ Some x) × (p x ≡ true)
+pub found_by : {A : Type 0} (p : A → Bool) (o : Option A) → is_some_and p o ≡ true → (x : A) × (o ≡ Some x)
+    × (p x ≡ true)
 found_by p None h = absurd (true≢false (sym h))
 found_by p (Some x) h = (x, refl, h)
 
+-- what passes a test at a place stands within the list
 found_within : {A : Type 0} (p : A → Bool) (xs : List A) (n : ℕ) → is_some_and p (slice_get xs n) ≡ true → n < length xs
 found_within p xs n h =
     let f = found_by p (slice_get xs n) h in
@@ -77,21 +83,26 @@ found_within p xs n h =
 
 -- the parts of items that pass a test have P, where those of each such item have
 each_of_all : {A : Type 0} (P : ℕ → Type 0) (test : A → Bool) (parts : A → List ℕ)
-    → ((x : A) → test x ≡ true → Each P (parts x)) → (xs : List A) → list_all test xs ≡ true → Each P (flat_map parts xs)
+    → ((x : A) → test x ≡ true → Each P (parts x)) → (xs : List A) → list_all test xs ≡ true
+    → Each P (flat_map parts xs)
 each_of_all P test parts one [] h = tt
 each_of_all P test parts one (x ∷ xs) h =
     let both = and_true (test x) (list_all test xs) h in
     each_append P (parts x) (flat_map parts xs) (one x both.0) (each_of_all P test parts one xs both.1)
 
 module _ (t : TypeTable) (earlier : List DeclType) where
+  -- what a value type names
   val_below : (v : ValType) → is_sound_val earlier v ≡ true → Each (λ p. p < length earlier) (val_parts v)
   val_below (val.Prim p) h = tt
   val_below (val.Type_ n) h = (found_within is_defined_type earlier n h, tt)
 
-  maybe_below : (v : Option ValType) → is_none_or (is_sound_val earlier) v ≡ true → Each (λ p. p < length earlier) (maybe_parts v)
+  -- what one that may be left out names
+  maybe_below : (v : Option ValType) → is_none_or (is_sound_val earlier) v ≡ true
+      → Each (λ p. p < length earlier) (maybe_parts v)
   maybe_below None h = tt
   maybe_below (Some v) h = val_below v h
 
+  -- what an entity names
   entity_below : (e : Entity) → is_sound_entity earlier e ≡ true → Each (λ p. p < length earlier) (entity_parts e)
   entity_below (entity.Func n) h = (found_within _ earlier n h, tt)
   entity_below (entity.Instance n) h = (found_within _ earlier n h, tt)
@@ -100,32 +111,46 @@ module _ (t : TypeTable) (earlier : List DeclType) where
   entity_below (entity.Type_ n) h = (ltb-true n (length earlier) h, tt)
   entity_below entity.Value h = tt
 
-  fields_below : (fs : List (List ℕ × ValType)) → (list_all (λ (f : List ℕ × ValType). is_sound_val earlier f.1) fs && distinct_names (names_of fs)) ≡ true
+  -- what fields name
+  fields_below : (fs : List (List ℕ × ValType))
+      → (list_all (λ (f : List ℕ × ValType). is_sound_val earlier f.1) fs && distinct_names (names_of fs)) ≡ true
       → Each (λ p. p < length earlier) (flat_map field_parts fs)
   fields_below fs h =
-      each_of_all (λ p. p < length earlier) (λ (f : List ℕ × ValType). is_sound_val earlier f.1) field_parts (λ f k. val_below f.1 k) fs
+      each_of_all (λ p. p < length earlier) (λ (f : List ℕ × ValType). is_sound_val earlier f.1) field_parts
+      (λ f k. val_below f.1 k) fs
       (and_true (list_all (λ (f : List ℕ × ValType). is_sound_val earlier f.1) fs) (distinct_names (names_of fs)) h).0
 
+  -- what cases name
   cases_below : (cs : List (List ℕ × Option ValType))
-      → (list_all (λ (c : List ℕ × Option ValType). is_none_or (is_sound_val earlier) c.1) cs && distinct_names (names_of cs)) ≡ true
+      →
+      (list_all (λ (c : List ℕ × Option ValType). is_none_or (is_sound_val earlier) c.1) cs
+      && distinct_names (names_of cs)) ≡ true
       → Each (λ p. p < length earlier) (flat_map case_parts cs)
   cases_below cs h =
-      each_of_all (λ p. p < length earlier) (λ (c : List ℕ × Option ValType). is_none_or (is_sound_val earlier) c.1) case_parts
+      each_of_all (λ p. p < length earlier)
+      (λ (c : List ℕ × Option ValType). is_none_or (is_sound_val earlier) c.1) case_parts
       (λ c k. maybe_below c.1 k) cs
-      (and_true (list_all (λ (c : List ℕ × Option ValType). is_none_or (is_sound_val earlier) c.1) cs) (distinct_names (names_of cs)) h).0
+      (and_true (list_all (λ (c : List ℕ × Option ValType). is_none_or (is_sound_val earlier) c.1) cs)
+      (distinct_names (names_of cs)) h).0
 
-  externs_below : (es : List (List ℕ × Entity)) → (list_all (λ (e : List ℕ × Entity). is_sound_entity earlier e.1) es && distinct_names (names_of es)) ≡ true
+  -- what named entities name
+  externs_below : (es : List (List ℕ × Entity))
+      → (list_all (λ (e : List ℕ × Entity). is_sound_entity earlier e.1) es && distinct_names (names_of es)) ≡ true
       → Each (λ p. p < length earlier) (flat_map extern_parts es)
   externs_below es h =
-      each_of_all (λ p. p < length earlier) (λ (e : List ℕ × Entity). is_sound_entity earlier e.1) extern_parts (λ e k. entity_below e.1 k) es
+      each_of_all (λ p. p < length earlier) (λ (e : List ℕ × Entity). is_sound_entity earlier e.1) extern_parts
+      (λ e k. entity_below e.1 k) es
       (and_true (list_all (λ (e : List ℕ × Entity). is_sound_entity earlier e.1) es) (distinct_names (names_of es)) h).0
 
   -- a sound entry names earlier entries
   pub parts_below : (e : DeclType) → is_sound_entry t earlier e ≡ true → Each (λ p. p < length earlier) (parts_of e)
   parts_below entry.Resource h = tt
   parts_below (entry.Func params result is_async) h =
-      let both = and_true (list_all (λ (f : List ℕ × ValType). is_sound_val earlier f.1) params && distinct_names (names_of params)) (is_none_or (is_sound_val earlier) result) h in
-      each_append (λ p. p < length earlier) (flat_map field_parts params) (maybe_parts result) (fields_below params both.0) (maybe_below result both.1)
+      let both = and_true
+      (list_all (λ (f : List ℕ × ValType). is_sound_val earlier f.1) params && distinct_names (names_of params))
+      (is_none_or (is_sound_val earlier) result) h in
+      each_append (λ p. p < length earlier) (flat_map field_parts params) (maybe_parts result)
+      (fields_below params both.0) (maybe_below result both.1)
   parts_below (entry.Val v) h = val_below v h
   parts_below (entry.Record fields) h = fields_below fields h
   parts_below (entry.Variant cases) h = cases_below cases h
@@ -136,21 +161,25 @@ module _ (t : TypeTable) (earlier : List DeclType) where
   parts_below (entry.Option v) h = val_below v h
   parts_below (entry.Result ok err) h =
       let both = and_true (is_none_or (is_sound_val earlier) ok) (is_none_or (is_sound_val earlier) err) h in
-      each_append (λ p. p < length earlier) (maybe_parts ok) (maybe_parts err) (maybe_below ok both.0) (maybe_below err both.1)
+      each_append (λ p. p < length earlier) (maybe_parts ok) (maybe_parts err) (maybe_below ok both.0)
+      (maybe_below err both.1)
   parts_below (entry.Own n) h = (found_within is_resource earlier n h, tt)
   parts_below (entry.Borrow n) h = (found_within is_resource earlier n h, tt)
   parts_below (entry.Stream v) h = maybe_below v h
   parts_below (entry.Future v) h = maybe_below v h
   parts_below (entry.Instance exports) h = externs_below exports h
   parts_below (entry.Component imports exports) h =
-      let both = and_true (list_all (λ (e : List ℕ × Entity). is_sound_entity earlier e.1) imports && distinct_names (names_of imports))
-      (list_all (λ (e : List ℕ × Entity). is_sound_entity earlier e.1) exports && distinct_names (names_of exports)) h in
+      let both = and_true
+      (list_all (λ (e : List ℕ × Entity). is_sound_entity earlier e.1) imports && distinct_names (names_of imports))
+      (list_all (λ (e : List ℕ × Entity). is_sound_entity earlier e.1) exports && distinct_names (names_of exports))
+      h in
       each_append (λ p. p < length earlier) (flat_map extern_parts imports) (flat_map extern_parts exports)
       (externs_below imports both.0) (externs_below exports both.1)
   parts_below (entry.Module imports exports) h = tt
 
 -- a defined type is converted to a value type
-pub defined_kind : (e : DeclType) (d : TypeDef) → is_defined_type e ≡ true → IsOfKind e d → (w : InterfaceType) × (d ≡ def.Interface w)
+pub defined_kind : (e : DeclType) (d : TypeDef) → is_defined_type e ≡ true → IsOfKind e d → (w : InterfaceType)
+    × (d ≡ def.Interface w)
 defined_kind entry.Resource d h k = absurd (true≢false (sym h))
 defined_kind (entry.Func params result is_async) d h k = absurd (true≢false (sym h))
 defined_kind (entry.Val v) d h k = k
@@ -171,7 +200,8 @@ defined_kind (entry.Component imports exports) d h k = absurd (true≢false (sym
 defined_kind (entry.Module imports exports) d h k = absurd (true≢false (sym h))
 
 -- a resource is converted to the number of its handles
-pub resource_kind : (e : DeclType) (d : TypeDef) → is_resource e ≡ true → IsOfKind e d → (i : TypeResourceTableIndex) × (d ≡ def.Resource i)
+pub resource_kind : (e : DeclType) (d : TypeDef) → is_resource e ≡ true → IsOfKind e d → (i : TypeResourceTableIndex)
+    × (d ≡ def.Resource i)
 resource_kind entry.Resource d h k = k
 resource_kind (entry.Func params result is_async) d h k = absurd (true≢false (sym h))
 resource_kind (entry.Val v) d h k = absurd (true≢false (sym h))
@@ -192,7 +222,8 @@ resource_kind (entry.Component imports exports) d h k = absurd (true≢false (sy
 resource_kind (entry.Module imports exports) d h k = absurd (true≢false (sym h))
 
 -- a function is converted to the number of a function type
-pub func_kind : (e : DeclType) (d : TypeDef) → is_func e ≡ true → IsOfKind e d → (i : TypeFuncIndex) × (d ≡ def.ComponentFunc i)
+pub func_kind : (e : DeclType) (d : TypeDef) → is_func e ≡ true → IsOfKind e d → (i : TypeFuncIndex)
+    × (d ≡ def.ComponentFunc i)
 func_kind entry.Resource d h k = absurd (true≢false (sym h))
 func_kind (entry.Func params result is_async) d h k = k
 func_kind (entry.Val v) d h k = absurd (true≢false (sym h))
@@ -213,7 +244,8 @@ func_kind (entry.Component imports exports) d h k = absurd (true≢false (sym h)
 func_kind (entry.Module imports exports) d h k = absurd (true≢false (sym h))
 
 -- an instance is converted to the number of an instance type
-pub instance_kind : (e : DeclType) (d : TypeDef) → is_instance e ≡ true → IsOfKind e d → (i : TypeComponentInstanceIndex) × (d ≡ def.ComponentInstance i)
+pub instance_kind : (e : DeclType) (d : TypeDef) → is_instance e ≡ true → IsOfKind e d
+    → (i : TypeComponentInstanceIndex) × (d ≡ def.ComponentInstance i)
 instance_kind entry.Resource d h k = absurd (true≢false (sym h))
 instance_kind (entry.Func params result is_async) d h k = absurd (true≢false (sym h))
 instance_kind (entry.Val v) d h k = absurd (true≢false (sym h))
@@ -234,7 +266,8 @@ instance_kind (entry.Component imports exports) d h k = absurd (true≢false (sy
 instance_kind (entry.Module imports exports) d h k = absurd (true≢false (sym h))
 
 -- a core module is converted to the number of a module type
-pub module_kind : (e : DeclType) (d : TypeDef) → is_module e ≡ true → IsOfKind e d → (i : TypeModuleIndex) × (d ≡ def.Module i)
+pub module_kind : (e : DeclType) (d : TypeDef) → is_module e ≡ true → IsOfKind e d → (i : TypeModuleIndex)
+    × (d ≡ def.Module i)
 module_kind entry.Resource d h k = absurd (true≢false (sym h))
 module_kind (entry.Func params result is_async) d h k = absurd (true≢false (sym h))
 module_kind (entry.Val v) d h k = absurd (true≢false (sym h))
@@ -253,121 +286,3 @@ module_kind (entry.Future v) d h k = absurd (true≢false (sym h))
 module_kind (entry.Instance exports) d h k = absurd (true≢false (sym h))
 module_kind (entry.Component imports exports) d h k = absurd (true≢false (sym h))
 module_kind (entry.Module imports exports) d h k = k
-
--- an item of each that passes a test
-all_of_all : {A : Type 0} (P : A → Type 0) (Q : ℕ → Type 0) (test : A → Bool) (parts : A → List ℕ)
-    → ((x : A) → test x ≡ true → Each Q (parts x) → P x) → (xs : List A) → list_all test xs ≡ true → Each Q (flat_map parts xs) → All P xs
-all_of_all P Q test parts one [] h q = λ k d below. absurd (omega (arith, below))
-all_of_all P Q test parts one (x ∷ xs) h q =
-    let both = and_true (test x) (list_all test xs) h in
-    All-cons P x xs (one x both.0 (each_front Q (parts x) (flat_map parts xs) q))
-    (all_of_all P Q test parts one xs both.1 (each_back Q (parts x) (flat_map parts xs) q))
-
-all_passed : {A : Type 0} (test : A → Bool) (xs : List A) → list_all test xs ≡ true → All (λ x. test x ≡ true) xs
-all_passed test [] h = λ k d below. absurd (omega (arith, below))
-all_passed test (x ∷ xs) h =
-    let both = and_true (test x) (list_all test xs) h in
-    All-cons (λ y. test y ≡ true) x xs both.0 (all_passed test xs both.1)
-
--- neither of two tests passes
-or_false : (a b : Bool) → (a || b) ≡ false → (a ≡ false) × (b ≡ false)
-or_false true b h = absurd (true≢false h)
-or_false false b h = (refl, h)
-
--- What is ready for the conversion of an entry: a part is done, with a type of its kind.
-module _ (t : TypeTable) (earlier : List DeclType) (done : List (Option TypeDef)) where
-  abbrev pub IsDonePart : ℕ → Type 0
-  IsDonePart p =
-      (d : TypeDef) × (slice_get done p ≡ Some (Some d)) × ((f : DeclType) → slice_get earlier p ≡ Some f → IsOfKind f d)
-
-  val_ready : (v : ValType) → is_sound_val earlier v ≡ true → Each IsDonePart (val_parts v) → IsReady done v
-  val_ready (val.Prim p) h q = tt
-  val_ready (val.Type_ n) h q =
-      let found = found_by is_defined_type (slice_get earlier n) h in
-      let w = defined_kind found.0 q.0.0 found.2 (q.0.2 found.0 found.1) in
-      (w.0, q.0.1 ∙ ap (λ d. Some (Some d)) w.1)
-
-  maybe_ready : (v : Option ValType) → is_none_or (is_sound_val earlier) v ≡ true → Each IsDonePart (maybe_parts v) → MayBeReady done v
-  maybe_ready None h q = tt
-  maybe_ready (Some v) h q = val_ready v h q
-
-  handles_ready : (n : ℕ) → is_some_and is_resource (slice_get earlier n) ≡ true → IsDonePart n → HasHandles done n
-  handles_ready n h q =
-      let found = found_by is_resource (slice_get earlier n) h in
-      let i = resource_kind found.0 q.0 found.2 (q.2 found.0 found.1) in
-      (i.0, q.1 ∙ ap (λ d. Some (Some d)) i.1)
-
-  entity_ready : (e : Entity) → is_value e ≡ false → Each IsDonePart (entity_parts e) → IsThere done e
-  entity_ready (entity.Func n) h q = (q.0.0, q.0.1)
-  entity_ready (entity.Instance n) h q = (q.0.0, q.0.1)
-  entity_ready (entity.Component n) h q = (q.0.0, q.0.1)
-  entity_ready (entity.Module n) h q = (q.0.0, q.0.1)
-  entity_ready (entity.Type_ n) h q = (q.0.0, q.0.1)
-  entity_ready entity.Value h q = absurd (true≢false h)
-
-  fields_ready : (fs : List (List ℕ × ValType)) → (list_all (λ (f : List ℕ × ValType). is_sound_val earlier f.1) fs && distinct_names (names_of fs)) ≡ true
-      → Each IsDonePart (flat_map field_parts fs) → All (λ (f : List ℕ × ValType). IsReady done f.1) fs
-  fields_ready fs h q =
-      all_of_all (λ (f : List ℕ × ValType). IsReady done f.1) IsDonePart (λ (f : List ℕ × ValType). is_sound_val earlier f.1) field_parts
-      (λ f k r. val_ready f.1 k r) fs
-      (and_true (list_all (λ (f : List ℕ × ValType). is_sound_val earlier f.1) fs) (distinct_names (names_of fs)) h).0 q
-
-  cases_ready : (cs : List (List ℕ × Option ValType))
-      → (list_all (λ (c : List ℕ × Option ValType). is_none_or (is_sound_val earlier) c.1) cs && distinct_names (names_of cs)) ≡ true
-      → Each IsDonePart (flat_map case_parts cs) → All (λ (c : List ℕ × Option ValType). MayBeReady done c.1) cs
-  cases_ready cs h q =
-      all_of_all (λ (c : List ℕ × Option ValType). MayBeReady done c.1) IsDonePart (λ (c : List ℕ × Option ValType). is_none_or (is_sound_val earlier) c.1) case_parts
-      (λ c k r. maybe_ready c.1 k r) cs
-      (and_true (list_all (λ (c : List ℕ × Option ValType). is_none_or (is_sound_val earlier) c.1) cs) (distinct_names (names_of cs)) h).0 q
-
-  externs_ready : (es : List (List ℕ × Entity)) → list_any (λ (e : List ℕ × Entity). is_value e.1) es ≡ false
-      → Each IsDonePart (flat_map extern_parts es) → All (λ (e : List ℕ × Entity). IsThere done e.1) es
-  externs_ready [] h q = λ k d below. absurd (omega (arith, below))
-  externs_ready (e ∷ es) h q =
-      let both = or_false (is_value e.1) (list_any (λ (f : List ℕ × Entity). is_value f.1) es) h in
-      All-cons (λ (f : List ℕ × Entity). IsThere done f.1) e es
-      (entity_ready e.1 both.0 (each_front IsDonePart (extern_parts e) (flat_map extern_parts es) q))
-      (externs_ready es both.1 (each_back IsDonePart (extern_parts e) (flat_map extern_parts es) q))
-
-  -- a sound entry is ready where its parts are done
-  pub ready_entry : (e : DeclType) → is_sound_entry t earlier e ≡ true → holds_value e ≡ false → Each IsDonePart (parts_of e) → IsReadyEntry t done e
-  ready_entry entry.Resource h v q = tt
-  ready_entry (entry.Func params result is_async) h v q =
-      let both = and_true (list_all (λ (f : List ℕ × ValType). is_sound_val earlier f.1) params && distinct_names (names_of params)) (is_none_or (is_sound_val earlier) result) h in (
-        fields_ready params both.0 (each_front IsDonePart (flat_map field_parts params) (maybe_parts result) q),
-        maybe_ready result both.1 (each_back IsDonePart (flat_map field_parts params) (maybe_parts result) q),
-      )
-  ready_entry (entry.Val x) h v q = val_ready x h q
-  ready_entry (entry.Record fields) h v q = fields_ready fields h q
-  ready_entry (entry.Variant cases) h v q = cases_ready cases h q
-  ready_entry (entry.List x) h v q = val_ready x h q
-  ready_entry (entry.Tuple vs) h v q = all_of_all (IsReady done) IsDonePart (is_sound_val earlier) val_parts val_ready vs h q
-  ready_entry (entry.Flags names) h v q = tt
-  ready_entry (entry.Enum names) h v q = tt
-  ready_entry (entry.Option x) h v q = val_ready x h q
-  ready_entry (entry.Result ok err) h v q =
-      let both = and_true (is_none_or (is_sound_val earlier) ok) (is_none_or (is_sound_val earlier) err) h in (
-        maybe_ready ok both.0 (each_front IsDonePart (maybe_parts ok) (maybe_parts err) q),
-        maybe_ready err both.1 (each_back IsDonePart (maybe_parts ok) (maybe_parts err) q),
-      )
-  ready_entry (entry.Own n) h v q = handles_ready n h q.0
-  ready_entry (entry.Borrow n) h v q = handles_ready n h q.0
-  ready_entry (entry.Stream x) h v q = maybe_ready x h q
-  ready_entry (entry.Future x) h v q = maybe_ready x h q
-  ready_entry (entry.Instance exports) h v q = externs_ready exports v q
-  ready_entry (entry.Component imports exports) h v q =
-      let both = or_false (list_any (λ (e : List ℕ × Entity). is_value e.1) imports) (list_any (λ (e : List ℕ × Entity). is_value e.1) exports) v in (
-        externs_ready imports both.0 (each_front IsDonePart (flat_map extern_parts imports) (flat_map extern_parts exports) q),
-        externs_ready exports both.1 (each_back IsDonePart (flat_map extern_parts imports) (flat_map extern_parts exports) q),
-      )
-  ready_entry (entry.Module imports exports) h v q =
-      let typed_imports = list_all (λ (i : List ℕ × List ℕ × CoreEntity). is_typed t i.2) imports in
-      let typed_exports = list_all (λ (e : List ℕ × CoreEntity). is_typed t e.1) exports in
-      let distinct_imports = are_distinct same_pair (map (λ (i : List ℕ × List ℕ × CoreEntity). (i.0, i.1)) imports) in
-      let distinct_exports = distinct_names (names_of exports) in
-      let both = and_true typed_imports typed_exports
-      (and_true (typed_imports && typed_exports) distinct_imports
-      (and_true (typed_imports && typed_exports && distinct_imports) distinct_exports h).0).0 in (
-        all_passed (λ (i : List ℕ × List ℕ × CoreEntity). is_typed t i.2) imports both.0,
-        all_passed (λ (e : List ℕ × CoreEntity). is_typed t e.1) exports both.1,
-      )

@@ -1,5 +1,6 @@
 -- A step of a conversion: an entry gets its type, once what it names has.
-use Rattle.std.proofs.Common.{◌≡◌, ℕ, ◌<◌, ◌≤◌, ◌+◌, List, [], ◌∷◌, length, take, zero, suc, Option, Some, None, refl, sym, ap, ◌∙◌, subst, arith, inl, inr, ◌⊎◌}
+use Rattle.std.proofs.Common.{◌≡◌, ℕ, ◌<◌, ◌≤◌, ◌+◌, List, [], ◌∷◌, length, take, zero, suc, Option, Some, None, refl}
+use Rattle.std.proofs.Common.{sym, ap, ◌∙◌, subst, arith, inl, inr, ◌⊎◌}
 use Rattle.std.specs.Prelude.{slice_get, slice_set, option_and_then}
 use Rattle.std.proofs.lemmas.List.{length-set, length-take}
 use Rattle.std.proofs.lemmas.Option.{none-some, same_Some, slice_get_within}
@@ -20,24 +21,28 @@ use Rattle.pc_builder.specs.Needed.{AreNeeded, Ascend, Each, IsAmong, IsDone, pa
 use Rattle.pc_builder.specs.Parts.{AreHeld}
 use Rattle.pc_builder.specs.Steps.{IsReadyEntry}
 use Rattle.pc_builder.proofs.HeldLemmas.{converted_held, found_at}
-use Rattle.pc_builder.proofs.Needing.{each_among, each_append, each_more}
+use Rattle.pc_builder.proofs.AmongLemmas.{each_among, each_append, each_more}
 use Rattle.pc_builder.proofs.Simulation.{entry_has, tree_at}
-use Rattle.pc_builder.proofs.Sound.{IsDonePart, parts_below, ready_entry, sound_at}
+use Rattle.pc_builder.proofs.SoundLemmas.{parts_below, sound_at}
+use Rattle.pc_builder.proofs.ReadyLemmas.{IsDonePart, ready_entry}
 
 -- an item in front of a place is an item
-pub take_found : {A : Type 0} (xs : List A) (k p : ℕ) (x : A) → slice_get (take k xs) p ≡ Some x → slice_get xs p ≡ Some x
+pub take_found : {A : Type 0} (xs : List A) (k p : ℕ) (x : A) → slice_get (take k xs) p ≡ Some x
+    → slice_get xs p ≡ Some x
 take_found [] zero p x h = h
 take_found [] (suc k) p x h = h
 take_found (y ∷ xs) zero p x h = absurd (none-some x h)
 take_found (y ∷ xs) (suc k) zero x h = h
 take_found (y ∷ xs) (suc k) (suc p) x h = take_found xs k p x h
 
+-- what follows of each number from two facts of it
 each_both : (P Q R : ℕ → Type 0) → ((n : ℕ) → P n → Q n → R n) → (ns : List ℕ) → Each P ns → Each Q ns → Each R ns
 each_both P Q R both [] h k = tt
 each_both P Q R both (n ∷ ns) h k = (both n h.0 k.0, each_both P Q R both ns h.1 k.1)
 
 -- what an entry is in the builder is of its kind
-kind_of_entry : (b : Types) (done : List (Option TypeDef)) (t : TypeTable) (n : ℕ) (e : DeclType) (d : TypeDef) → EntryIs b done t n e d → IsOfKind e d
+kind_of_entry : (b : Types) (done : List (Option TypeDef)) (t : TypeTable) (n : ℕ) (e : DeclType) (d : TypeDef)
+    → EntryIs b done t n e d → IsOfKind e d
 kind_of_entry b done t n entry.Resource d h = (h.0, h.1)
 kind_of_entry b done t n (entry.Func params result is_async) d h = (h.0, h.1)
 kind_of_entry b done t n (entry.Val v) d h = (h.0, h.1)
@@ -58,36 +63,43 @@ kind_of_entry b done t n (entry.Component imports exports) d h = (h.0, h.2)
 kind_of_entry b done t n (entry.Module imports exports) d h = (h.0, h.2)
 
 -- a tree among those in front is the one among all
-pub earlier_back : (known : List (ℕ × Identity)) (c : ℕ) (t : TypeTable) (before all : List (Option TypeTree)) → Kept before all → (n : ℕ) → n < length before
+pub earlier_back : (known : List (ℕ × Identity)) (c : ℕ) (t : TypeTable) (before all : List (Option TypeTree))
+    → Kept before all → (n : ℕ) → n < length before
     → (tree : TypeTree) → earlier_tree known c t all n ≡ Some tree → earlier_tree known c t before n ≡ Some tree
 earlier_back known c t before all kept n within tree h =
     let f = found_at before n within in
     ap (option_and_then (λ x. x)) f.1 ∙ sym (ap (option_and_then (λ x. x)) (kept n f.0 f.1)) ∙ h
 
 -- an item stays where one is written at its place or another
-set_found : {A : Type 0} (xs : List A) (k n : ℕ) (y z : A) → slice_get (slice_set xs k y) n ≡ Some z → ((n ≡ k) × (y ≡ z)) ⊎ (slice_get xs n ≡ Some z)
+set_found : {A : Type 0} (xs : List A) (k n : ℕ) (y z : A) → slice_get (slice_set xs k y) n ≡ Some z
+    → ((n ≡ k) × (y ≡ z)) ⊎ (slice_get xs n ≡ Some z)
 set_found [] k n y z h = inr h
 set_found (x ∷ xs) zero zero y z h = inl (refl, same_Some y z h)
 set_found (x ∷ xs) zero (suc n) y z h = inr h
 set_found (x ∷ xs) (suc k) zero y z h = inr h
-set_found (x ∷ xs) (suc k) (suc n) y z h = elim (set_found xs k n y z h) as (λ _. ((suc n ≡ suc k) × (y ≡ z)) ⊎ (slice_get (x ∷ xs) (suc n) ≡ Some z)) [
-  | inl here ↦ inl (ap suc here.0, here.1)
-  | inr old ↦ inr old
-]
+set_found (x ∷ xs) (suc k) (suc n) y z h =
+    elim (set_found xs k n y z h) as (λ _. ((suc n ≡ suc k) × (y ≡ z)) ⊎ (slice_get (x ∷ xs) (suc n) ≡ Some z)) [
+      | inl here ↦ inl (ap suc here.0, here.1)
+      | inr old ↦ inr old
+    ]
 
 -- what is done stays done where an entry gets its type
-pub done_kept : (done : List (Option TypeDef)) (k n : ℕ) (d : TypeDef) → IsDone done n → IsDone (slice_set done k (Some d)) n
+pub done_kept : (done : List (Option TypeDef)) (k n : ℕ) (d : TypeDef) → IsDone done n
+    → IsDone (slice_set done k (Some d)) n
 done_kept [] k n d h = h
 done_kept (x ∷ xs) zero zero d h = (d, refl)
 done_kept (x ∷ xs) zero (suc n) d h = h
 done_kept (x ∷ xs) (suc k) zero d h = h
 done_kept (x ∷ xs) (suc k) (suc n) d h = done_kept xs k n d h
 
-pub done_here : (done : List (Option TypeDef)) (k : ℕ) (d : TypeDef) → k < length done → IsDone (slice_set done k (Some d)) k
+-- an entry that gets its type is done
+pub done_here : (done : List (Option TypeDef)) (k : ℕ) (d : TypeDef) → k < length done
+    → IsDone (slice_set done k (Some d)) k
 done_here done k d within = (d, slice_get-set_same done k (Some d) within)
 
 -- an item is in front of a later place
-take_here : {A : Type 0} (xs : List A) (k p : ℕ) (x : A) → p < k → slice_get xs p ≡ Some x → slice_get (take k xs) p ≡ Some x
+take_here : {A : Type 0} (xs : List A) (k p : ℕ) (x : A) → p < k → slice_get xs p ≡ Some x
+    → slice_get (take k xs) p ≡ Some x
 take_here [] zero p x below h = h
 take_here [] (suc k) p x below h = h
 take_here (y ∷ xs) zero p x below h = absurd (omega (arith, below))
@@ -95,7 +107,8 @@ take_here (y ∷ xs) (suc k) zero x below h = h
 take_here (y ∷ xs) (suc k) (suc p) x below h = take_here xs k p x (omega (arith, below)) h
 
 -- of numbers that ascend, those below one of them stand in front of it
-pub among_earlier : (ns : List ℕ) (i k p : ℕ) → Ascend ns → slice_get ns i ≡ Some k → IsAmong p ns → p < k → IsAmong p (take i ns)
+pub among_earlier : (ns : List ℕ) (i k p : ℕ) → Ascend ns → slice_get ns i ≡ Some k → IsAmong p ns → p < k
+    → IsAmong p (take i ns)
 among_earlier [] i k p rise at among below = absurd among
 among_earlier (n ∷ ns) zero k p rise at among below = elim among as (λ _. IsAmong p []) [
   | inl same ↦ omega (arith, below, same, same_Some n k at)
@@ -113,12 +126,15 @@ among_at (n ∷ ns) zero k at = inl (sym (same_Some n k at))
 among_at (n ∷ ns) (suc i) k at = inr (among_at ns i k at)
 
 -- the value types in front of a place are held
-pub front_held : (b : Types) (t : TypeTable) (done : List (Option TypeDef)) (k : ℕ) → AreConverted b t done → AreHeld b (take k done)
-front_held b t done k are n w found = converted_held b t done are n w (take_found done k n (Some (def.Interface w)) found)
+pub front_held : (b : Types) (t : TypeTable) (done : List (Option TypeDef)) (k : ℕ) → AreConverted b t done
+    → AreHeld b (take k done)
+front_held b t done k are n w found =
+    converted_held b t done are n w (take_found done k n (Some (def.Interface w)) found)
 
 module _ (t : TypeTable) (sound : table_fault t ≡ None) where
   -- what a needed entry names is ready
-  pub ready_step : (b : Types) (done : List (Option TypeDef)) (k : ℕ) (e : DeclType) → AreConverted b t done → slice_get t.types k ≡ Some e
+  pub ready_step : (b : Types) (done : List (Option TypeDef)) (k : ℕ) (e : DeclType) → AreConverted b t done
+      → slice_get t.types k ≡ Some e
       → Each (IsDone done) (parts_of e) → IsReadyEntry t (take k done) e
   ready_step b done k e are at parts =
       let here = sound_at t k e sound at in
@@ -133,7 +149,8 @@ module _ (t : TypeTable) (sound : table_fault t ≡ None) where
       (parts_of e) parts (parts_below t earlier e here.0))
 
   -- the type of a converted entry has its tree
-  converted_entry : (b : Types) (done : List (Option TypeDef)) (k : ℕ) (e : DeclType) (d : TypeDef) → slice_get t.types k ≡ Some e → AreConverted b t done
+  converted_entry : (b : Types) (done : List (Option TypeDef)) (k : ℕ) (e : DeclType) (d : TypeDef)
+      → slice_get t.types k ≡ Some e → AreConverted b t done
       → EntryIs b (take k done) t k e d → IsEntry b t k d
   converted_entry b done k e d at are is who =
       let known = identities who b.resources.known in
@@ -142,14 +159,20 @@ module _ (t : TypeTable) (sound : table_fault t ≡ None) where
       let has = entry_has b who t (take k done) x.0
       (λ n f found.
       let old = are.entries n f (take_found done k n (Some f) found) who in
-      let within = slice_get_within (take k done) n (Some f) found in
-      (old.0, earlier_back known c t x.0 (trees_from known c t [] t.types) x.2 n (omega (arith, x.1, within, length-take k done)) old.0 old.1, old.2))
+      let within = slice_get_within (take k done) n (Some f) found in (
+        old.0,
+        earlier_back known c t x.0 (trees_from known c t [] t.types) x.2 n
+            (omega (arith, x.1, within, length-take k done)) old.0 old.1,
+        old.2,
+      ))
       k e d (omega (arith, x.1)) is in
-      let here = subst (λ m. slice_get (trees_from known c t [] t.types) m ≡ Some (entry_tree known c t x.0 e)) (omega arith) x.3 in
+      let here = subst (λ m. slice_get (trees_from known c t [] t.types) m ≡ Some (entry_tree known c t x.0 e))
+      (omega arith) x.3 in
       (has.0, ap (option_and_then (λ o. o)) here ∙ has.1, has.2)
 
   -- one entry more
-  pub one_more : (b : Types) (done : List (Option TypeDef)) (k : ℕ) (e : DeclType) (d : TypeDef) → slice_get t.types k ≡ Some e → AreConverted b t done
+  pub one_more : (b : Types) (done : List (Option TypeDef)) (k : ℕ) (e : DeclType) (d : TypeDef)
+      → slice_get t.types k ≡ Some e → AreConverted b t done
       → EntryIs b (take k done) t k e d → AreConverted b t (slice_set done k (Some d))
   one_more b done k e d at are is = record {
     room = length-set done k (Some d) ∙ are.room;
@@ -157,7 +180,8 @@ module _ (t : TypeTable) (sound : table_fault t ≡ None) where
         elim (set_found done k n (Some d) (Some f) found) as (λ _. IsOfKind g f) [
           | inl here ↦ (
               let same = same_Some e g (sym at ∙ subst (λ m. slice_get t.types m ≡ Some g) here.0 at_n) in
-              subst (λ h. IsOfKind h f) same (subst (λ x. IsOfKind e x) (same_Some d f here.1) (kind_of_entry b (take k done) t k e d is)))
+              subst (λ h. IsOfKind h f) same
+              (subst (λ x. IsOfKind e x) (same_Some d f here.1) (kind_of_entry b (take k done) t k e d is)))
           | inr old ↦ are.kinds n f g old at_n
         ];
     entries = λ n f found.
@@ -169,7 +193,8 @@ module _ (t : TypeTable) (sound : table_fault t ≡ None) where
   }
 
   -- what the next of the needed entries names is done
-  pub parts_done : (before done : List (Option TypeDef)) (n : ℕ) (order : List ℕ) → AreNeeded t before n order → (i k : ℕ) → slice_get order i ≡ Some k
+  pub parts_done : (before done : List (Option TypeDef)) (n : ℕ) (order : List ℕ) → AreNeeded t before n order
+      → (i k : ℕ) → slice_get order i ≡ Some k
       → Each (IsDone done) (take i order) → ((m : ℕ) → IsDone before m → IsDone done m)
       → (e : DeclType) → slice_get t.types k ≡ Some e → Each (IsDone done) (parts_of e)
   parts_done before done n order needed i k here so_far kept e at =
@@ -180,23 +205,28 @@ module _ (t : TypeTable) (sound : table_fault t ≡ None) where
         | inr among ↦ each_among (IsDone done) (take i order) p so_far
             (among_earlier order i k p needed.ascend here among (omega (arith, below, length-take k t.types)))
       ])
-      (parts_of e) (needed.closed k e (among_at order i k here) at) (parts_below t earlier e (sound_at t k e sound at).0)
+      (parts_of e) (needed.closed k e (among_at order i k here) at)
+      (parts_below t earlier e (sound_at t k e sound at).0)
 
 -- one entry more is done
-pub done_next : (old new : List (Option TypeDef)) (order : List ℕ) (i k : ℕ) → slice_get order i ≡ Some k → ((m : ℕ) → IsDone old m → IsDone new m)
+pub done_next : (old new : List (Option TypeDef)) (order : List ℕ) (i k : ℕ) → slice_get order i ≡ Some k
+    → ((m : ℕ) → IsDone old m → IsDone new m)
     → Each (IsDone old) (take i order) → IsDone new k → Each (IsDone new) (take (i + 1) order)
 done_next old new order i k here kept so_far last =
     subst (Each (IsDone new)) (sym (take-next order i k here))
-    (each_append (IsDone new) (take i order) (k ∷ []) (each_more (IsDone old) (IsDone new) kept (take i order) so_far) (last, tt))
+    (each_append (IsDone new) (take i order) (k ∷ []) (each_more (IsDone old) (IsDone new) kept (take i order) so_far)
+    (last, tt))
 
 -- all are done where the list is gone through
-done_all : (done : List (Option TypeDef)) (order : List ℕ) (i : ℕ) → length order ≤ i → Each (IsDone done) (take i order) → Each (IsDone done) order
+done_all : (done : List (Option TypeDef)) (order : List ℕ) (i : ℕ) → length order ≤ i
+    → Each (IsDone done) (take i order) → Each (IsDone done) order
 done_all done [] i all h = tt
 done_all done (n ∷ ns) zero all h = absurd (omega (arith, all))
 done_all done (n ∷ ns) (suc i) all h = (h.0, done_all done ns i (omega (arith, all)) h.1)
 
 -- and so is the asked entry
-pub asked_done : (t : TypeTable) (before done : List (Option TypeDef)) (n : ℕ) (order : List ℕ) → AreNeeded t before n order → (i : ℕ) → length order ≤ i
+pub asked_done : (t : TypeTable) (before done : List (Option TypeDef)) (n : ℕ) (order : List ℕ)
+    → AreNeeded t before n order → (i : ℕ) → length order ≤ i
     → Each (IsDone done) (take i order) → ((m : ℕ) → IsDone before m → IsDone done m) → IsDone done n
 asked_done t before done n order needed i all so_far kept = elim needed.asked as (λ _. IsDone done n) [
   | inl old ↦ kept n old

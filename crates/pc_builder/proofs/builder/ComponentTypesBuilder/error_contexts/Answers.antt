@@ -1,7 +1,7 @@
 use Rattle.std.proofs.Common.{Some, ap, sym, ◌∙◌}
 use Rattle.pc_builder.specs.Types.{Resources, Types}
 use Rattle.pc_builder.proofs.Growth.{too_full}
-use Rattle.pc_builder.proofs.builder.ComponentTypesBuilder.error_context_table_type.Goals as goal
+use Rattle.pc_builder.proofs.builder.ComponentTypesBuilder.error_contexts.Goals as goal
 
 pub returns-clause-full : goal.returns-clause-full
 returns-clause-full c h =

@@ -1,0 +1,187 @@
+-- How few types a step adds, and how few the conversion of a plain function does.
+use Rattle.std.proofs.Common.{◌≡◌, ℕ, ◌<◌, ◌≤◌, ◌+◌, true, true≢false, List, [], ◌∷◌, ◌++◌, length, take, get_or, zero}
+use Rattle.std.proofs.Common.{suc, Option, None, Some, refl, sym, ap, ◌∙◌, subst, arith, inl, inr}
+use Rattle.std.specs.Prelude.{slice_get}
+use Rattle.std.specs.List.{list_all, flat_map}
+use Rattle.std.proofs.lemmas.List.{length-append, length-take}
+use Rattle.std.proofs.lemmas.Option.{same_Some}
+use Rattle.pc_entity.proofs.Elements.{and_true}
+use Rattle.pc_types.specs.declared.parsed.CoreFuncSig.{CoreFuncSig}
+use Rattle.pc_types.specs.declared.parsed.DeclType.{DeclType}
+use Rattle.pc_types.specs.declared.parsed.DeclType.TheVariants as entry
+use Rattle.pc_types.specs.declared.parsed.TypeTable.{TypeTable}
+use Rattle.pc_types.specs.declared.parsed.ValType.{ValType}
+use Rattle.pc_types.specs.declared.parsed.ValType.TheVariants as val
+use Rattle.pc_types.specs.declared.types.TypeDef.{TypeDef}
+use Rattle.pc_types.specs.declared.types.TypeFunc.{TypeFunc}
+use Rattle.pc_types.specs.declared.types.TypeTuple.{TypeTuple}
+use Rattle.pc_types.specs.Table.{is_none_or, is_some_and, table_fault}
+use Rattle.pc_builder.specs.Types.{Types}
+use Rattle.pc_builder.specs.Few.{AddsFuncs, AddsSignature, are_plain, is_plain_func, is_plain_param, is_plain_val}
+use Rattle.pc_builder.specs.Interned.{IsPut}
+use Rattle.pc_builder.specs.Needed.{AreNeeded, Ascend, IsAmong, field_parts, maybe_parts, parts_of, val_parts}
+use Rattle.pc_builder.proofs.Growth.{put_kept}
+use Rattle.pc_builder.proofs.AmongLemmas.{each_among}
+use Rattle.pc_builder.proofs.SoundLemmas.{found_by, parts_below, sound_at}
+
+-- a list into which a type was put has at most one more
+put_length : {V : Type 0} (old new : List V) (value : V) → IsPut old new value → length new ≤ length old + 1
+put_length old new value put = elim put as (λ _. length new ≤ length old + 1) [
+  | inl same ↦ omega (arith, ap length same)
+  | inr more ↦ omega (arith, ap length more.0 ∙ length-append old (value ∷ []))
+]
+
+-- a signature that was put into its list
+pub adds_signature : (a b : Types) (value : CoreFuncSig) → b ≡ record a { signatures = b.signatures }
+    → IsPut a.signatures b.signatures value
+    → AddsSignature a b
+adds_signature a b value rest put = record {
+  rest = rest;
+  kept = put_kept a.signatures b.signatures value put;
+  signatures = put_length a.signatures b.signatures value put;
+}
+
+-- what changes nothing adds no type
+pub adds_none : (f t : ℕ) (a b : Types) → b ≡ a → AddsFuncs f t a b
+adds_none f t a b same = subst (AddsFuncs f t a) (sym same)
+    (record { rest = refl; funcs = omega arith; tuples = omega arith })
+
+-- a looser bound
+pub adds_more : (f t g u : ℕ) → f ≤ g → t ≤ u → (a b : Types) → AddsFuncs f t a b → AddsFuncs g u a b
+adds_more f t g u fg tu a b adds = record {
+  rest = adds.rest;
+  funcs = omega (arith, fg, adds.funcs);
+  tuples = omega (arith, tu, adds.tuples);
+}
+
+-- two steps together
+pub adds_trans : (f t g u : ℕ) (a b c : Types) → AddsFuncs f t a b → AddsFuncs g u b c → AddsFuncs (f + g) (t + u) a c
+adds_trans f t g u a b c first second = record {
+  rest = second.rest ∙ ap (λ (x : Types). record x { funcs = c.funcs; tuples = c.tuples }) first.rest;
+  funcs = omega (arith, first.funcs, second.funcs);
+  tuples = omega (arith, first.tuples, second.tuples);
+}
+
+-- a tuple that was put into its list, after steps that changed nothing
+pub one_tuple : (a b c : Types) (value : TypeTuple) → b ≡ a → c ≡ record b { tuples = c.tuples }
+    → IsPut b.tuples c.tuples value → AddsFuncs 0 1 a c
+one_tuple a b c value same rest put =
+    let funcs : c.funcs ≡ b.funcs = ap (λ (x : Types). x.funcs) rest in
+    subst (λ x. AddsFuncs 0 1 x c) same
+    (record {
+      rest = subst (λ fs. c ≡ record b { funcs = fs; tuples = c.tuples }) (sym funcs) rest;
+      funcs = omega (arith, ap length funcs);
+      tuples = put_length b.tuples c.tuples value put;
+    })
+
+-- a function type that was put into its list
+pub one_func : (a b : Types) (value : TypeFunc) → b ≡ record a { funcs = b.funcs } → IsPut a.funcs b.funcs value
+    → AddsFuncs 1 0 a b
+one_func a b value rest put =
+    let tuples : b.tuples ≡ a.tuples = ap (λ (x : Types). x.tuples) rest in
+    record {
+      rest = subst (λ ts. b ≡ record a { funcs = b.funcs; tuples = ts }) (sym tuples) rest;
+      funcs = put_length a.funcs b.funcs value put;
+      tuples = omega (arith, ap length tuples);
+    }
+
+-- the two halves of what is asked of a plain function
+pub plain_params : (params : List (List ℕ × ValType)) (returns : Option ValType) → are_plain params returns ≡ true
+    → list_all is_plain_param params ≡ true
+plain_params params returns h = (and_true (list_all is_plain_param params) (is_none_or is_plain_val returns) h).0
+
+-- the other half: the result
+pub plain_returns : (params : List (List ℕ × ValType)) (returns : Option ValType) → are_plain params returns ≡ true
+    → is_none_or is_plain_val returns ≡ true
+plain_returns params returns h = (and_true (list_all is_plain_param params) (is_none_or is_plain_val returns) h).1
+
+-- each parameter of a plain function is plain
+pub plain_at : (ps : List (List ℕ × ValType)) (i : ℕ) (p : List ℕ × ValType) → i < length ps → p ≡ get_or ps i p
+    → list_all is_plain_param ps ≡ true
+    → is_plain_param p ≡ true
+plain_at [] i p within is h = absurd (omega (arith, within))
+plain_at (q ∷ ps) zero p within is h =
+    subst (λ x. is_plain_param x ≡ true) (sym is) (and_true (is_plain_param q) (list_all is_plain_param ps) h).0
+plain_at (q ∷ ps) (suc i) p within is h =
+    plain_at ps i p (omega (arith, within)) is (and_true (is_plain_param q) (list_all is_plain_param ps) h).1
+
+-- a plain value type names no entry
+val_alone : (v : ValType) → is_plain_val v ≡ true → val_parts v ≡ []
+val_alone (val.Prim p) h = refl
+val_alone (val.Type_ n) h = absurd (true≢false (sym h))
+
+-- nor does one that may be left out
+maybe_alone : (v : Option ValType) → is_none_or is_plain_val v ≡ true → maybe_parts v ≡ []
+maybe_alone None h = refl
+maybe_alone (Some v) h = val_alone v h
+
+-- nor do parameters
+params_alone : (ps : List (List ℕ × ValType)) → list_all is_plain_param ps ≡ true → flat_map field_parts ps ≡ []
+params_alone [] h = refl
+params_alone (p ∷ ps) h =
+    let both = and_true (is_plain_param p) (list_all is_plain_param ps) h in
+    ap (λ ns. ns ++ flat_map field_parts ps) (val_alone p.1 both.0) ∙ params_alone ps both.1
+
+-- nor does a plain function
+func_alone : (e : DeclType) → is_plain_func e ≡ true → parts_of e ≡ []
+func_alone (entry.Func params returns is_async) h =
+    ap (λ ns. ns ++ maybe_parts returns) (params_alone params (plain_params params returns h))
+    ∙ maybe_alone returns (plain_returns params returns h)
+func_alone entry.Resource h = refl
+func_alone (entry.Flags names) h = refl
+func_alone (entry.Enum names) h = refl
+func_alone (entry.Module imports exports) h = refl
+func_alone (entry.Val v) h = absurd (true≢false (sym h))
+func_alone (entry.Record fields) h = absurd (true≢false (sym h))
+func_alone (entry.Variant cases) h = absurd (true≢false (sym h))
+func_alone (entry.List v) h = absurd (true≢false (sym h))
+func_alone (entry.Tuple vs) h = absurd (true≢false (sym h))
+func_alone (entry.Option v) h = absurd (true≢false (sym h))
+func_alone (entry.Result ok err) h = absurd (true≢false (sym h))
+func_alone (entry.Own n) h = absurd (true≢false (sym h))
+func_alone (entry.Borrow n) h = absurd (true≢false (sym h))
+func_alone (entry.Stream v) h = absurd (true≢false (sym h))
+func_alone (entry.Future v) h = absurd (true≢false (sym h))
+func_alone (entry.Instance exports) h = absurd (true≢false (sym h))
+func_alone (entry.Component imports exports) h = absurd (true≢false (sym h))
+
+module _ (t : TypeTable) (sound : table_fault t ≡ None) (done : List (Option TypeDef)) (n : ℕ) (order : List ℕ)
+    (are : AreNeeded t done n order) where
+  -- where the asked entry names none, it alone is needed
+  alone : (e : DeclType) → slice_get t.types n ≡ Some e → parts_of e ≡ [] → (fuel m : ℕ) → length t.types ≤ m + fuel
+      → IsAmong m order → m ≡ n
+  alone e at none zero m enough among =
+      absurd (omega (arith, enough, each_among (λ k. k < length t.types) order m are.within among))
+  alone e at none (suc fuel) m enough among = elim (are.reason m among) as (λ _. m ≡ n) [
+    | inl same ↦ same
+    | inr by ↦ (
+        let earlier = take by.0 t.types in
+        let short = each_among (λ q. q < length earlier) (parts_of by.1) m
+        (parts_below t earlier by.1 (sound_at t by.0 by.1 sound by.3).0) by.4 in
+        let below : m < by.0 = omega (arith, short, length-take by.0 t.types) in
+        let up : by.0 ≡ n = alone e at none fuel by.0 (omega (arith, enough, below)) by.2 in
+        let same : by.1 ≡ e = same_Some by.1 e (sym by.3 ∙ ap (slice_get t.types) up ∙ at) in
+        absurd (subst (IsAmong m) (ap parts_of same ∙ none) by.4))
+  ]
+
+  -- so a plain function is needed alone
+  pub plain_alone : is_some_and is_plain_func (slice_get t.types n) ≡ true → (m : ℕ) → IsAmong m order → m ≡ n
+  plain_alone plain m among =
+      let found = found_by is_plain_func (slice_get t.types n) plain in
+      alone found.0 found.1 (func_alone found.0 found.2) (length t.types) m (omega arith) among
+
+  -- and no other entry is needed with it
+  pub plain_once : is_some_and is_plain_func (slice_get t.types n) ≡ true → length order ≤ 1
+  plain_once plain = by order are.ascend (plain_alone plain)
+    where
+      by : (ns : List ℕ) → Ascend ns → ((m : ℕ) → IsAmong m ns → m ≡ n) → length ns ≤ 1
+      by [] rise all = omega arith
+      by (k ∷ []) rise all = omega arith
+      by (k ∷ m ∷ ms) rise all = absurd (omega (arith, rise.0.0, all k (inl refl), all m (inr (inl refl))))
+
+-- one more round of a loop in which each round adds a plain function
+pub adds_next : (i : ℕ) (a b c : Types) → AddsFuncs i (i + i) a b → AddsFuncs 1 2 b c
+    → AddsFuncs (i + 1) ((i + 1) + (i + 1)) a c
+adds_next i a b c so_far here =
+    adds_more (i + 1) (i + i + 2) (i + 1) ((i + 1) + (i + 1)) (omega arith) (omega arith) a c
+    (adds_trans i (i + i) 1 2 a b c so_far here)
