@@ -12,6 +12,7 @@ pub data ExportedItem : Type 0 where
   by_name : List ℕ → ExportedItem
 
 mutual
+  -- what a core definition stands for
   pub data CoreValue (τ : Type 0) : Type 0 where
     -- an item of the nth core instance that was made for a component instance
     exported : (instance : ℕ) → ExportedItem → CoreValue τ
@@ -22,7 +23,8 @@ mutual
     -- an unsafe intrinsic, by its place in the list of them
     intrinsic : (place : ℕ) → CoreValue τ
     -- a lifted function, lowered again: the fused adapter of both sides over what was lifted
-    adapter : (lift_type : τ) → (lift : Options τ) → (lower_type : τ) → (lower : Options τ) → (callee : CoreValue τ) → CoreValue τ
+    adapter : (lift_type : τ) → (lift : Options τ) → (lower_type : τ) → (lower : Options τ) → (callee : CoreValue τ)
+        → CoreValue τ
     -- the flags of a component instance, in adapter modules only
     flags : (component_instance : ℕ) → CoreValue τ
     -- a trampoline that adapter modules alone use
@@ -38,6 +40,7 @@ mutual
     gc : DataModel τ
     linear : (memory realloc : MaybeValue τ) → DataModel τ
 
+  -- a core value, where there is one
   pub data MaybeValue (τ : Type 0) : Type 0 where
     no_value : MaybeValue τ
     a_value : CoreValue τ → MaybeValue τ
@@ -47,6 +50,7 @@ mutual
     no_parts : Parts τ
     and_part : Part τ → Parts τ → Parts τ
 
+  -- one of these: a type, a number, a flag, what a slot holds, or options
   pub data Part (τ : Type 0) : Type 0 where
     mark_part : τ → Part τ
     number_part : ℕ → Part τ
@@ -94,8 +98,10 @@ module _ {τ υ : Type 0} (f : τ → υ) where
 abbrev pub erased : {τ : Type 0} → τ → Unit {0}
 erased m = tt
 
+-- a value with its types erased
 abbrev pub erase_value : {τ : Type 0} → CoreValue τ → CoreValue (Unit {0})
 erase_value v = map_value erased v
 
+-- options with their types erased
 abbrev pub erase_options : {τ : Type 0} → Options τ → Options (Unit {0})
 erase_options o = map_options erased o

@@ -5,6 +5,8 @@ use Rattle.pc_types.specs.TypeTree.{Path}
 use Rattle.pc_semantics.specs.CoreValue.{CoreValue, Options, map_value, map_options, erased}
 
 mutual
+  -- an export: a lifted function with its options, a core module of the input or of the host, an instance with what it
+  -- exports, or a type
   pub data ExportNode (τ : Type 0) : Type 0 where
     lifted : (function_type : τ) → CoreValue τ → Options τ → ExportNode τ
     static_module : (number : ℕ) → (module_type : τ) → ExportNode τ
@@ -37,6 +39,7 @@ module _ {τ υ : Type 0} (f : τ → υ) where
     map_nodes no_nodes = no_nodes
     map_nodes (and_node name meta node rest) = and_node name meta (map_node node) (map_nodes rest)
 
+  -- an export of the root with its marks mapped
   abbrev pub map_named : NamedNode τ → NamedNode υ
   map_named n = record { name = n.name; extern_data = n.extern_data; node = map_node n.node }
 

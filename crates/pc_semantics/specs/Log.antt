@@ -17,6 +17,7 @@ pub data Instantiation (τ : Type 0) : Type 0 where
   of_static : (number : ℕ) → List (CoreValue τ) → Instantiation τ
   of_host : Path → List (NamedArgument τ) → Instantiation τ
 
+-- what a reading does that a plan has to do too
 pub data Entry (τ : Type 0) : Type 0 where
   -- a core instance is made for a component instance
   instantiated : Instantiation τ → (component_instance : ℕ) → Entry τ
@@ -34,6 +35,7 @@ pub record Owned (τ : Type 0) : Type 0 where
   pub instantiation : Instantiation τ
   pub component_instance : ℕ
 
+-- the core instance that an entry makes, if it makes one
 abbrev pub owned_of : {τ : Type 0} → Entry τ → Option (Owned τ)
 owned_of (instantiated i c) = Some (record { instantiation = i; component_instance = c })
 owned_of (declared_resource representation destructor c) = None
@@ -57,6 +59,7 @@ instances_of log = filter_map owned_of log
 
 -- instances with their marks mapped
 module _ {τ υ : Type 0} (f : τ → υ) where
+  -- the parts of an instance likewise
   abbrev pub map_argument : NamedArgument τ → NamedArgument υ
   map_argument a = record { module_name = a.module_name; name = a.name; value = map_value f a.value }
 

@@ -1,5 +1,5 @@
--- The plan machine: it runs the initializers of a plan from front to back. Slots and arguments are kept
--- resolved, so nothing is followed twice.
+-- The plan machine: it runs the initializers of a plan from front to back. A state holds core values in place of
+-- definitions, so a step looks at what earlier steps made and no further.
 use Rattle.std.specs.Prelude.{◌≡◌, ℕ, ◌+◌, ◌-◌, Bool, true, false, List, [], ◌∷◌, ◌++◌, length, filter, take, Option, Some, None, ◌&&◌, ◌==◌, nat_lt, nat_le, if◌then◌else◌, slice_get, option_and_then, option_map, is_some, count_by}
 use Rattle.std.specs.List.{list_all, filter_map}
 use Rattle.pc_types.specs.declared.parsed.CoreKind.TheVariants as kind
@@ -21,11 +21,13 @@ pub record RuntimeInstance (τ : Type 0) : Type 0 where
   pub instantiation : Instantiation τ
   pub component_instance : Option ℕ
 
+-- a resource that the run declared
 pub record DeclaredResource (τ : Type 0) : Type 0 where
   pub representation : WasmValType
   pub destructor : MaybeValue τ
   pub component_instance : ℕ
 
+-- what a run has made so far: core instances, lowerings by their imports, slots of five kinds, resources
 pub record State (τ : Type 0) : Type 0 where
   pub instances : List (RuntimeInstance τ)
   pub lowerings : List ℕ
@@ -38,13 +40,23 @@ pub record State (τ : Type 0) : Type 0 where
 
 -- where every run begins
 abbrev pub start : {τ : Type 0} → State τ
-start = record { instances = []; lowerings = []; memories = []; tables = []; reallocs = []; callbacks = []; post_returns = []; resources = [] }
+start = record {
+  instances = [];
+  lowerings = [];
+  memories = [];
+  tables = [];
+  reallocs = [];
+  callbacks = [];
+  post_returns = [];
+  resources = [];
+}
 
 -- an instance that has a component instance, with that one
 abbrev pub owned_by : {τ : Type 0} → Instantiation τ → Option ℕ → Option (Owned τ)
 owned_by i (Some c) = Some (record { instantiation = i; component_instance = c })
 owned_by i None = None
 
+-- an instance of a state, where it has a component instance
 abbrev pub owned_of : {τ : Type 0} → RuntimeInstance τ → Option (Owned τ)
 owned_of m = owned_by m.instantiation m.component_instance
 
@@ -56,6 +68,7 @@ owned_instances s = filter_map owned_of s.instances
 abbrev pub owned_before : {τ : Type 0} → State τ → ℕ → ℕ
 owned_before {τ} s n = count_by (λ (m : RuntimeInstance τ). is_some m.component_instance) (take n s.instances)
 
+-- the slots of a kind that are filled
 abbrev pub slots_of : {τ : Type 0} → State τ → PlanView.SlotKind → List (CoreValue τ)
 slots_of s PlanView.memory = s.memories
 slots_of s PlanView.table = s.tables
@@ -117,19 +130,24 @@ fits k d = true
 abbrev pub is_place : ℕ → Option ℕ → Bool
 is_place n place = is_none_or (λ i. nat_lt i n) place
 
+-- whether the places that options name are among so many arguments
 abbrev pub has_model_places : ℕ → PlanView.ModelEntry → Bool
 has_model_places n PlanView.gc = true
 has_model_places n (PlanView.linear m r) = is_place n m && is_place n r
 
+-- the same of all options of a side
 abbrev pub has_option_places : {τ : Type 0} → ℕ → PlanView.PlanOptions τ → Bool
 has_option_places n o = is_place n o.callback && is_place n o.post_return && has_model_places n o.model
 
+-- the same of an adapter's record: its callee, and the options of both sides
 abbrev pub has_places : {τ : Type 0} → ℕ → PlanView.AdapterRecord τ → Bool
 has_places n r = nat_lt r.callee n && has_option_places n r.lift && has_option_places n r.lower
 
+-- a state with one more core instance
 abbrev pub add_instance : {τ : Type 0} → State τ → Instantiation τ → Option ℕ → State τ
 add_instance s i c = record s { instances = s.instances ++ record { instantiation = i; component_instance = c } ∷ [] }
 
+-- a state with one more slot of a kind
 abbrev pub fill : {τ : Type 0} → State τ → PlanView.SlotKind → CoreValue τ → State τ
 fill s PlanView.memory v = record s { memories = s.memories ++ v ∷ [] }
 fill s PlanView.table v = record s { tables = s.tables ++ v ∷ [] }
@@ -145,7 +163,9 @@ module _ {τ : Type 0} (p : PlanView.PlanView τ) where
   -- the path of a runtime import whose import type is there
   abbrev pub path_of : ℕ → Option Path
   path_of r =
-      option_and_then (λ (i : PlanView.RuntimeImport). option_map (λ (t : PlanView.ImportType τ). record { import = i.import_type; names = i.names }) (slice_get p.import_types i.import_type))
+      option_and_then (λ (i : PlanView.RuntimeImport).
+      option_map (λ (t : PlanView.ImportType τ). record { import = i.import_type; names = i.names })
+      (slice_get p.import_types i.import_type))
       (slice_get p.imports r)
 
   -- memory and realloc, from the values that their numbers stand for
@@ -155,11 +175,13 @@ module _ {τ : Type 0} (p : PlanView.PlanView τ) where
       option_and_then (λ v. option_map (value.linear v) (chosen reallocs r)) (chosen memories m)
 
   -- options, from the values that their numbers stand for
-  abbrev pub options_from : (callbacks post_returns memories reallocs : List (CoreValue τ)) → PlanView.PlanOptions τ → Option (Options τ)
+  abbrev pub options_from : (callbacks post_returns memories reallocs : List (CoreValue τ)) → PlanView.PlanOptions τ
+      → Option (Options τ)
   options_from callbacks post_returns memories reallocs o =
       if is_counted o.component_instance
       then option_and_then (λ cb. option_and_then (λ pr.
-      option_map (value.options o.component_instance o.encoding o.is_async o.signature cb pr) (model_from memories reallocs o.model))
+      option_map (value.options o.component_instance o.encoding o.is_async o.signature cb pr)
+      (model_from memories reallocs o.model))
       (chosen post_returns o.post_return)) (chosen callbacks o.callback)
       else None
 
@@ -179,6 +201,7 @@ module _ {τ : Type 0} (p : PlanView.PlanView τ) where
   static_item n args item (adapter_module rs) =
       option_and_then (adapter_from args) (option_and_then (record_of rs) (function_of item))
 
+  -- an item of an instance, whatever its module
   abbrev pub instance_item : (n : ℕ) → ExportedItem → Instantiation τ → Option (CoreValue τ)
   instance_item n item (of_static m args) = option_and_then (static_item n args item) (module_at p m)
   instance_item n item (of_host path args) = Some (value.exported n item)
@@ -186,7 +209,8 @@ module _ {τ : Type 0} (p : PlanView.PlanView τ) where
   -- an item of a runtime instance
   abbrev pub exported_item : State τ → (runtime_instance : ℕ) → ExportedItem → Option (CoreValue τ)
   exported_item s r item =
-      option_and_then (λ (m : RuntimeInstance τ). instance_item (owned_before s r) item m.instantiation) (slice_get s.instances r)
+      option_and_then (λ (m : RuntimeInstance τ). instance_item (owned_before s r) item m.instantiation)
+      (slice_get s.instances r)
 
   -- an entry of the list of options, with the slots that it names
   abbrev pub options_at : State τ → ℕ → Option (Options τ)
@@ -201,16 +225,20 @@ module _ {τ : Type 0} (p : PlanView.PlanView τ) where
   part_value s (PlanView.slot k n) = option_map value.value_part (chosen (slots_of s k) n)
   part_value s (PlanView.options n) = option_map value.options_part (options_at s n)
 
+  -- the parts of a trampoline, if each has what it names
   abbrev pub part_values : State τ → List (PlanView.TrampolinePart τ) → Option (Parts τ)
   part_values s [] = Some no_parts
   part_values s (x ∷ xs) = option_and_then (λ v. option_map (and_part v) (part_values s xs)) (part_value s x)
 
+  -- the core value of a trampoline
   abbrev pub trampoline_value : State τ → PlanView.TrampolineEntry τ → Option (CoreValue τ)
   trampoline_value s (PlanView.lowers index signature ty o) =
-      option_and_then (λ path. option_map (value.lowered path ty) (options_at s o)) (option_and_then path_of (slice_get s.lowerings index))
+      option_and_then (λ path. option_map (value.lowered path ty) (options_at s o))
+      (option_and_then path_of (slice_get s.lowerings index))
   trampoline_value s (PlanView.builtin k symbol c parts) =
       if is_counted c then option_map (value.builtin k c) (part_values s parts) else None
-  trampoline_value s (PlanView.helper k symbol parts) = option_map (λ ps. value.helper k (with_numbers symbol ps)) (part_values s parts)
+  trampoline_value s (PlanView.helper k symbol parts) =
+      option_map (λ ps. value.helper k (with_numbers symbol ps)) (part_values s parts)
 
   -- the core value of a definition, or nothing where something that it needs isn't there
   abbrev pub resolve : State τ → PlanView.Definition → Option (CoreValue τ)
@@ -220,10 +248,12 @@ module _ {τ : Type 0} (p : PlanView.PlanView τ) where
   resolve s (PlanView.intrinsic i) =
       option_and_then (option_map (λ (signature : τ). value.intrinsic i)) (slice_get p.intrinsics i)
 
+  -- the value of a definition that may be left out
   abbrev pub resolve_maybe : State τ → Option PlanView.Definition → Option (MaybeValue τ)
   resolve_maybe s None = Some no_value
   resolve_maybe s (Some d) = option_map a_value (resolve s d)
 
+  -- the argument of a host module
   abbrev pub resolve_named : State τ → PlanView.NamedDefinition → Option (NamedArgument τ)
   resolve_named s a =
       option_map (λ v. record { module_name = a.module_name; name = a.name; value = v }) (resolve s a.definition)
@@ -251,11 +281,15 @@ module _ {τ : Type 0} (p : PlanView.PlanView τ) where
       if linked r && index == length s.lowerings then Some (record s { lowerings = s.lowerings ++ r ∷ [] }) else None)
       (path_of r)
   step linked s (PlanView.extract k index d) =
-      option_and_then (λ (v : CoreValue τ). if fits k d && index == length (slots_of s k) then Some (fill s k v) else None) (resolve s d)
+      option_and_then (λ (v : CoreValue τ).
+      if fits k d && index == length (slots_of s k) then Some (fill s k v) else None) (resolve s d)
   step linked s (PlanView.declare_resource index representation d c) =
       option_and_then (λ (v : MaybeValue τ).
       if index == length s.resources && is_counted c
-      then Some (record s { resources = s.resources ++ record { representation = representation; destructor = v; component_instance = c } ∷ [] })
+      then Some (record s {
+        resources = s.resources
+            ++ record { representation = representation; destructor = v; component_instance = c } ∷ [];
+      })
       else None) (resolve_maybe s d)
 
   -- whether each list of a state is within the plan's count of its kind; the count of resources is that of the
@@ -297,6 +331,7 @@ module _ {τ : Type 0} (p : PlanView.PlanView τ) where
     nested_nodes s (PlanView.and_export name meta item rest) =
         option_and_then (λ n. option_map (and_node name meta n) (nested_nodes s rest)) (export_node s item)
 
+  -- an export of the root with its node
   abbrev pub named_node : State τ → PlanView.NamedExport τ → Option (NamedNode τ)
   named_node s e =
       option_map (λ n. record { name = e.name; extern_data = e.extern_data; node = n }) (export_node s e.item)

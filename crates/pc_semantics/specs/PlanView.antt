@@ -28,13 +28,17 @@ pub record NamedDefinition : Type 0 where
   pub name : List ℕ
   pub definition : Definition
 
+-- a step of a plan: a core instance of one of its modules or of an imported one, the lowering of an import, a slot that is
+-- filled, a resource that is declared
 pub data Initializer : Type 0 where
   instantiate_static : (number : ℕ) → List Definition → (component_instance : Option ℕ) → Initializer
   instantiate_import : (runtime_import : ℕ) → List NamedDefinition → (component_instance : Option ℕ) → Initializer
   lower_import : (index runtime_import : ℕ) → Initializer
   extract : SlotKind → (index : ℕ) → Definition → Initializer
-  declare_resource : (index : ℕ) → WasmValType → (destructor : Option Definition) → (component_instance : ℕ) → Initializer
+  declare_resource : (index : ℕ) → WasmValType → (destructor : Option Definition) → (component_instance : ℕ)
+      → Initializer
 
+-- where values lie: in the managed heap, or in a linear memory with its realloc
 pub data ModelEntry : Type 0 where
   gc : ModelEntry
   linear : (memory realloc : Option ℕ) → ModelEntry
@@ -83,6 +87,7 @@ pub data ImportKind : Type 0 where
   module_kind : ImportKind
   type_kind : ImportKind
 
+-- an import of the root
 pub record ImportType (τ : Type 0) : Type 0 where
   pub name : List ℕ
   pub kind : ImportKind
@@ -95,6 +100,8 @@ pub record RuntimeImport : Type 0 where
   pub names : List (List ℕ)
 
 mutual
+  -- an export: a lifted function with the number of its options, a core module of the plan or of the host, an instance with
+  -- what it exports, or a type
   pub data PlanExport (τ : Type 0) : Type 0 where
     lifted : (function_type : τ) → Definition → (options : ℕ) → PlanExport τ
     static_module : (number : ℕ) → (module_type : τ) → PlanExport τ
