@@ -1,1 +1,8 @@
+-- What the functions of this crate rest on.
 mod NestLemmas
+mod NameLemmas
+mod StructureLemmas
+mod StandLemmas
+mod PassLemmas
+pub mod SoundLemmas
+pub mod KindLemmas

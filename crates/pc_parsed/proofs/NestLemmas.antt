@@ -16,7 +16,8 @@ filter_map_few : {A B : Type 0} (f : A → Option B) (xs : List A) → length (f
 filter_map_few f [] = omega arith
 filter_map_few {A} {B} f (x ∷ xs) = by (f x) (filter_map_few f xs)
   where
-    by : (o : Option B) → length (filter_map f xs) ≤ length xs → length (cons_option o (filter_map f xs)) ≤ suc (length xs)
+    by : (o : Option B) → length (filter_map f xs) ≤ length xs
+        → length (cons_option o (filter_map f xs)) ≤ suc (length xs)
     by None h = omega arith
     by (Some y) h = omega arith
 
@@ -63,22 +64,27 @@ modules_cons p ps = by (module_of p)
     by (Some r) = refl
 
 -- how far a list has been collected
-pub record Collected (ps : List Payload) (i : ℕ) (items : List LocalInitializer) (modules : List ModuleRecord) : Type 0 where
+pub record Collected (ps : List Payload) (i : ℕ) (items : List LocalInitializer)
+    (modules : List ModuleRecord) : Type 0 where
   pub items_so_far : items ++ items_from (length modules) (drop i ps) ≡ items_from 0 ps
   pub modules_so_far : modules ++ modules_of (drop i ps) ≡ modules_of ps
   pub few_items : length items + sum_by item_count (drop i ps) ≤ sum_by item_count ps
   pub few_modules : length modules + sum_by item_count (drop i ps) ≤ sum_by item_count ps
 
 -- one payload further
-pub collected_next : (ps : List Payload) (i : ℕ) (p : Payload) (items new_items : List LocalInitializer) (modules new_modules : List ModuleRecord)
+pub collected_next : (ps : List Payload) (i : ℕ) (p : Payload) (items new_items : List LocalInitializer)
+    (modules new_modules : List ModuleRecord)
     → drop i ps ≡ p ∷ drop (i + 1) ps
     → new_items ≡ items ++ items_of (length modules) p → new_modules ≡ modules ++ modules_of (p ∷ [])
     → Collected ps i items modules → Collected ps (i + 1) new_items new_modules
 collected_next ps i p items new_items modules new_modules at is_items is_modules c =
     let rest = drop (i + 1) ps in
-    let sum : sum_by item_count (drop i ps) ≡ item_count p + sum_by item_count rest = ap (sum_by item_count) at ∙ sum_by-cons item_count p rest in
-    let longer : length new_modules ≡ length modules + modules_in p = ap length is_modules ∙ length-append modules (modules_of (p ∷ [])) in
-    let item_length : length new_items ≡ length items + length (items_of (length modules) p) = ap length is_items ∙ length-append items (items_of (length modules) p) in
+    let sum : sum_by item_count (drop i ps) ≡ item_count p + sum_by item_count rest =
+    ap (sum_by item_count) at ∙ sum_by-cons item_count p rest in
+    let longer : length new_modules ≡ length modules + modules_in p =
+    ap length is_modules ∙ length-append modules (modules_of (p ∷ [])) in
+    let item_length : length new_items ≡ length items + length (items_of (length modules) p) =
+    ap length is_items ∙ length-append items (items_of (length modules) p) in
     let item_bound = items_few (length modules) p in
     let module_bound = modules_few p in
     let few_items = c.few_items in

@@ -1,5 +1,5 @@
 -- Which inputs are of the kinds that can be translated today. This test only ever grows to all inputs.
-use Rattle.std.specs.Prelude.{ℕ, Bool, true, false, List, [], Option, ◌&&◌, nat_lt, is_none}
+use Rattle.std.specs.Prelude.{ℕ, Bool, true, false, List, [], Option, ◌&&◌, is_none}
 use Rattle.std.specs.List.{list_all}
 use Rattle.pc_types.specs.declared.parsed.CoreKind.TheVariants as core
 use Rattle.pc_types.specs.declared.parsed.PrimType.{PrimType}
@@ -29,10 +29,12 @@ abbrev pub is_plain_prim : PrimType → Bool
 is_plain_prim ErrorContext = false
 is_plain_prim _ = true
 
+-- a value type of such a primitive
 abbrev pub is_built_val : ValType → Bool
 is_built_val (val.Prim p) = is_plain_prim p
 is_built_val (val.Type_ n) = false
 
+-- a parameter of such a value type
 abbrev pub is_built_param : List ℕ × ValType → Bool
 is_built_param p = is_built_val p.1
 
@@ -58,6 +60,7 @@ abbrev pub is_built_canon : CanonItem → Bool
 is_built_canon (canon.Lift func ty signature []) = true
 is_built_canon _ = false
 
+-- the kind of functions
 abbrev pub is_func_kind : ItemKind → Bool
 is_func_kind item.Func = true
 is_func_kind _ = false
@@ -70,6 +73,7 @@ is_plain_name n = is_none n.implements && is_none n.external_id
 abbrev pub is_built_export : ExportEntry → Bool
 is_built_export e = is_func_kind e.kind && is_plain_name e.name
 
+-- a payload without a nested component, whose items are of built kinds
 abbrev pub is_built_payload : Payload → Bool
 is_built_payload (payload.Version encoding.Component) = true
 is_built_payload payload.CoreTypeSection = true
@@ -85,7 +89,3 @@ is_built_payload _ = false
 -- a table and payloads of built kinds, with no exposed name
 abbrev pub are_built : TypeTable → (exposed : Option (List ℕ)) → List Payload → Bool
 are_built t exposed ps = is_none exposed && list_all is_built_entry t.types && list_all is_built_payload ps
-
--- an input of built kinds, under a limit of at least one component instance
-abbrev pub is_built : TypeTable → (exposed : Option (List ℕ)) → (limit : ℕ) → List Payload → Bool
-is_built t exposed limit ps = nat_lt 0 limit && are_built t exposed ps

@@ -44,11 +44,13 @@ of_kind k e = if same_kind (index_kind e) k then Some e else None
 -- a core value as what a core instance exports under a name, of a kind
 abbrev pub export_value : List ModuleRecord → CoreKind → List ℕ → Scope.CoreInstance → Option (CoreValue Scope.Mark)
 export_value ms k name (Scope.of_module order m) =
-    option_and_then (λ (r : ModuleRecord). option_map (λ e. exported order (by_index e)) (option_and_then (of_kind k) (export_of r name)))
+    option_and_then (λ (r : ModuleRecord). option_map (λ e. exported order (by_index e))
+    (option_and_then (of_kind k) (export_of r name)))
     (slice_get ms m)
 
 -- a core value as an argument: the item that an import names, of its kind, in the argument of its module name
-abbrev pub argument : List ModuleRecord → Scope.Scope → List (List ℕ × ℕ) → List ℕ × List ℕ × CoreEntity → Option (CoreValue Scope.Mark)
+abbrev pub argument : List ModuleRecord → Scope.Scope → List (List ℕ × ℕ) → List ℕ × List ℕ × CoreEntity
+    → Option (CoreValue Scope.Mark)
 argument ms s args i =
     option_and_then (λ n. option_and_then (export_value ms (kind_of i.2) i.1) (slice_get s.core_instances n))
     (value_of i.0 args)
@@ -58,15 +60,24 @@ abbrev pub has_instances : Scope.Scope → List (List ℕ × ℕ) → Bool
 has_instances s args = list_all (λ (a : List ℕ × ℕ). nat_lt a.1 (length s.core_instances)) args
 
 -- the arguments of a module: one for each of its imports, in their order
-abbrev pub arguments : List ModuleRecord → Scope.Scope → List (List ℕ × ℕ) → ModuleRecord → Option (List (CoreValue Scope.Mark))
+abbrev pub arguments : List ModuleRecord → Scope.Scope → List (List ℕ × ℕ) → ModuleRecord
+    → Option (List (CoreValue Scope.Mark))
 arguments ms s args r = if has_instances s args then map_all (argument ms s args) r.imports else None
 
+-- one more core module in the scope
 abbrev pub add_module : Scope.Moment → ℕ → TypeTree → Scope.Moment
-add_module now m tree = record now { scope = record now.scope { modules = now.scope.modules ++ Scope.static m tree ∷ [] } }
+add_module now m tree = record now {
+  scope = record now.scope {
+    modules = now.scope.modules ++ Scope.static m tree
+        ∷ [];
+  };
+}
 
+-- one more core function
 abbrev pub add_core_func : Scope.Moment → CoreValue Scope.Mark → Scope.Moment
 add_core_func now v = record now { scope = record now.scope { core_funcs = now.scope.core_funcs ++ v ∷ [] } }
 
+-- one more component function
 abbrev pub add_func : Scope.Moment → Scope.Function → Scope.Moment
 add_func now f = record now { scope = record now.scope { funcs = now.scope.funcs ++ f ∷ [] } }
 
@@ -83,13 +94,17 @@ add_export now name f =
 -- the next core instance, of a handed-in module
 abbrev pub add_core_instance : Scope.Moment → ℕ → List (CoreValue Scope.Mark) → Scope.Moment
 add_core_instance now m vs = record {
-  scope = record now.scope { core_instances = now.scope.core_instances ++ Scope.of_module (length (instances_of now.world.log)) m ∷ [] };
+  scope = record now.scope {
+    core_instances = now.scope.core_instances
+        ++ Scope.of_module (length (instances_of now.world.log)) m ∷ [];
+  };
   world = record now.world { log = now.world.log ++ instantiated (of_static m vs) now.scope.component_instance ∷ [] };
 }
 
 -- the options of a lift that says nothing of them
 abbrev pub plain_options : (component_instance : ℕ) → CoreFuncSig → Options Scope.Mark
-plain_options c signature = options c Utf8 false (Scope.of_signature signature) no_value no_value (linear no_value no_value)
+plain_options c signature = options c Utf8 false (Scope.of_signature signature) no_value no_value
+    (linear no_value no_value)
 
 module _ (t : TypeTable) (ms : List ModuleRecord) where
   -- a core module that was handed in

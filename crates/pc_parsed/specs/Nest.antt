@@ -33,18 +33,22 @@ is_body _ = false
 
 -- The items of a section, in order. Kinds that aren't built give none; no list that holds one is translated.
 
+-- the item of a core instance
 abbrev pub instance_item : InstanceItem → Option LocalInitializer
 instance_item (instance.Instantiate m args) = Some (local.ModuleInstantiate m args)
 instance_item (instance.FromExports items) = None
 
+-- the item of an alias
 abbrev pub alias_item : AliasItem → Option LocalInitializer
 alias_item (alias.CoreInstanceExport core.Func n name) = Some (local.AliasCoreExport n name)
 alias_item _ = None
 
+-- the item of a canonical function
 abbrev pub canon_item : CanonItem → Option LocalInitializer
 canon_item (canon.Lift func ty signature opts) = Some (local.Lift func ty signature)
 canon_item _ = None
 
+-- the item of an export
 abbrev pub export_item : ExportEntry → Option LocalInitializer
 export_item e = if is_func_kind e.kind then Some (local.Export e.name e.index) else None
 
@@ -57,6 +61,7 @@ items_of n (payload.ComponentCanonicalSection items) = filter_map canon_item ite
 items_of n (payload.ComponentExportSection items) = filter_map export_item items
 items_of n _ = []
 
+-- the core module of a payload, if it is one
 abbrev pub module_of : Payload → Option ModuleRecord
 module_of (payload.ModuleSection r ty) = Some r
 module_of _ = None

@@ -1,16 +1,18 @@
 -- What a local program is of a payload list, and when there is none.
-use Rattle.std.specs.Prelude.{◌≡◌, ℕ, Bool, List, [], Option, ◌&&◌, nat_lt, sum_by, length}
+use Rattle.std.specs.Prelude.{◌≡◌, ℕ, ◌+◌, Bool, List, [], Option, Some, None, ◌&&◌, nat_lt, is_none, sum_by, length, if◌then◌else◌}
+use Rattle.std.specs.Option.{option_or}
 use Rattle.pc_types.specs.declared.error.Error.{Error}
 use Rattle.pc_types.specs.declared.error.Error.TheVariants as error
 use Rattle.pc_types.specs.declared.error.Place.TheVariants as place
 use Rattle.pc_types.specs.declared.error.Unsupported.TheVariants as unsupported
+use Rattle.pc_types.specs.declared.module_record.ModuleRecord.{ModuleRecord}
 use Rattle.pc_types.specs.declared.parsed.TypeTable.{TypeTable}
 use Rattle.pc_parsed.specs.declared.item.LocalProgram.{LocalProgram}
 use Rattle.pc_parsed.specs.declared.payload.Payload.{Payload}
 use Rattle.pc_parsed.specs.declared.payload.Payload.TheVariants as payload
 use Rattle.pc_parsed.specs.Built.{are_built}
 use Rattle.pc_parsed.specs.Nest.{body_items, modules_of}
-use Rattle.pc_parsed.specs.StaticFault.{is_sound_list}
+use Rattle.pc_parsed.specs.StaticFault.{static_fault}
 
 -- how many items a payload counts as; one without a list counts as one
 abbrev pub item_count : Payload → ℕ
@@ -23,21 +25,35 @@ item_count (payload.ComponentExportSection items) = length items
 item_count (payload.ComponentAliasSection items) = length items
 item_count _ = 1
 
--- whether the entries of a table and the items of a list can be numbered
+-- how many entities of all kinds a core module imports and defines
+abbrev pub record_entities : ModuleRecord → ℕ
+record_entities r = length r.imports + length r.funcs + r.tables + length r.memories + r.globals + r.tags
+
+-- how many entities the core module of a payload has, if it is one
+abbrev pub entity_total : Payload → ℕ
+entity_total (payload.ModuleSection r ty) = record_entities r
+entity_total _ = 0
+
+-- whether the entries of a table, the entities of the core modules of a list and its items can be numbered
 abbrev pub is_numbered : TypeTable → List Payload → Bool
 is_numbered t ps =
-    nat_lt (length t.core_funcs) 4294967295 && nat_lt (length t.types) 4294967295 && nat_lt (sum_by item_count ps) 4294967295
+    nat_lt (length t.core_funcs) 4294967295 && nat_lt (length t.types) 4294967295
+    && nat_lt (sum_by entity_total ps) 4294967295 && nat_lt (sum_by item_count ps) 4294967295
 
--- whether a list can be translated: its kinds are built, and it has no static fault
+-- the answer where something stands in an input of a kind that isn't built
+abbrev pub not_built : Error
+not_built = error.Unsupported unsupported.NotBuilt (place.Payload 0 0)
+
+-- why an input is refused: by its first static fault, or else where something in it is of a kind that isn't built
+abbrev pub refusal : TypeTable → (exposed : Option (List ℕ)) → List Payload → Option Error
+refusal t exposed ps = option_or (static_fault t exposed ps) (if are_built t exposed ps then None else Some not_built)
+
+-- whether a list can be translated: it has no static fault, and its kinds are built
 abbrev pub is_translatable : TypeTable → (exposed : Option (List ℕ)) → List Payload → Bool
-is_translatable t exposed ps = are_built t exposed ps && is_sound_list t ps
+is_translatable t exposed ps = is_none (refusal t exposed ps)
 
 -- a program has the items and the core modules of a list
 pub record IsProgramOf (ps : List Payload) (p : LocalProgram) : Type 0 where
   pub items : p.root.initializers ≡ body_items ps
   pub modules : p.modules ≡ modules_of ps
   pub components : p.components ≡ []
-
--- the answer that stands for every static fault and every kind that isn't built
-abbrev pub not_built : Error
-not_built = error.Unsupported unsupported.NotBuilt (place.Payload 0 0)

@@ -25,6 +25,7 @@ pub data Outcome (A : Type 0) : Type 0 where
   over : Outcome A
   past : Outcome A
 
+-- goes on with what is done, or ends as it ended
 abbrev pub and_then : {A B : Type 0} → Outcome A → (A → Outcome B) → Outcome B
 and_then (done x) go = go x
 and_then (fault f p) go = fault f p
@@ -42,9 +43,11 @@ pub record Reading : Type 0 where
   pub nodes : List (NamedNode Scope.Mark)
   pub begun : ℕ
 
+-- what the root exports, where it is a function
 abbrev pub function_node : Scope.Function → ExportNode Scope.Mark
 function_node (Scope.lifted tree v o) = node.lifted (Scope.of_type tree) v o
 
+-- what a name says of itself to the outside
 abbrev pub extern_data : ExternName → ComponentExternData
 extern_data name = record { implements = name.implements; external_id = name.external_id }
 
@@ -52,6 +55,7 @@ extern_data name = record { implements = name.implements; external_id = name.ext
 abbrev pub export_node : Scope.NamedFunction → NamedNode Scope.Mark
 export_node e = record { name = e.name.name; extern_data = extern_data e.name; node = function_node e.function }
 
+-- the result of a reading whose items have been read
 abbrev pub result_at : Scope.Moment → Reading
 result_at now = record { log = now.world.log; nodes = map export_node now.scope.exports; begun = now.world.begun }
 
@@ -66,7 +70,8 @@ module _ (t : TypeTable) (ms : List ModuleRecord) where
   abbrev pub read_root : (limit : ℕ) → List LocalInitializer → Outcome Reading
   read_root limit items =
       if nat_lt 0 limit
-      then and_then (read_items 0 items (record { scope = Scope.fresh 0; world = record { log = []; begun = 1 } })) (λ now. done (result_at now))
+      then and_then (read_items 0 items (record { scope = Scope.fresh 0; world = record { log = []; begun = 1 } }))
+      (λ now. done (result_at now))
       else over
 
 -- what a payload list means, with no name exposed yet

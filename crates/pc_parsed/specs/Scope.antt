@@ -40,7 +40,15 @@ pub record Scope : Type 0 where
 
 -- the scope in which a component instance begins
 abbrev pub fresh : (component_instance : ℕ) → Scope
-fresh c = record { core_funcs = []; modules = []; core_instances = []; funcs = []; exports = []; known = []; component_instance = c }
+fresh c = record {
+  core_funcs = [];
+  modules = [];
+  core_instances = [];
+  funcs = [];
+  exports = [];
+  known = [];
+  component_instance = c;
+}
 
 -- what all component instances share: what was done so far, and how many of them have begun
 pub record World : Type 0 where

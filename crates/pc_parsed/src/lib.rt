@@ -3,25 +3,27 @@
 //! It stands on `pc_types`, and on `pc_semantics` for the words of the reading.
 #![tactic(auto)]
 
-mod body;
+mod bodies;
 mod built;
 pub mod canon;
+mod checks;
 mod collect;
 pub mod fault;
+mod interface;
+mod intrinsic;
 pub mod item;
+mod named;
 pub mod payload;
-mod program;
 mod room;
-mod sound;
-#[cfg(test)]
-mod tests;
+mod structure;
+mod translate;
 
 pub use canon::{CanonItem, CanonOption};
-pub use fault::ItemFault;
+pub use fault::{ItemFault, StaticFault};
 pub use item::{LocalInitializer, LocalProgram, Translation};
 pub use payload::{
     AliasItem, ComponentInstanceItem, Encoding, ExportEntry, ExternName, ImportItem, InstanceItem,
     ItemKind, OuterKind, Payload, Tunables, TypeItem,
 };
-pub use program::translate_payloads;
 pub use room::is_numbered;
+pub use translate::translate_payloads;

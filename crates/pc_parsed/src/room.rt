@@ -1,10 +1,10 @@
 //! Whether a list has room for its numbers.
 
-ghost use Rattle.std.specs.Prelude.{◌≡◌, ◌≤◌, ◌<◌, true, false, nat_lt, sum_by, length};
-ghost use Rattle.pc_parsed.specs.Program.{is_numbered, item_count};
+ghost use Rattle.std.specs.Prelude.{◌≡◌, ◌≤◌, ◌<◌, ◌-◌, true, false, nat_lt, sum_by, length};
+ghost use Rattle.pc_parsed.specs.Program.{entity_total, is_numbered, item_count, record_entities};
 
 use crate::payload::Payload;
-use pc_types::TypeTable;
+use pc_types::{ModuleRecord, TypeTable};
 
 /// The first number that no list reaches.
 const LIMIT: usize = 4294967295;
@@ -38,10 +38,47 @@ fn are_few(payloads: &[Payload]) -> bool
     true
 }
 
-/// Whether the entries of a table and the items of a list can be numbered: each of the table's two lists has fewer than
-/// 4294967295 entries, and the payloads have fewer than 4294967295 items together. A payload without a list counts as one.
+/// What is left of some room after the entities of a core module, or nothing where they don't fit.
+fn left_after(left: usize, record_: &ModuleRecord) -> usize
+    ensures { result ≡ left - record_entities record_.now }
+{
+    left.saturating_sub(record_.imports.len())
+        .saturating_sub(record_.funcs.len())
+        .saturating_sub(record_.tables as usize)
+        .saturating_sub(record_.memories.len())
+        .saturating_sub(record_.globals as usize)
+        .saturating_sub(record_.tags as usize)
+}
+
+fn left_after_payload(left: usize, payload: &Payload) -> usize
+    ensures { result ≡ left - entity_total payload.now }
+{
+    match payload {
+        Payload::ModuleSection { record_, .. } => left_after(left, record_),
+        _ => left,
+    }
+}
+
+fn have_few_entities(payloads: &[Payload]) -> bool
+    ensures { result ≡ nat_lt (sum_by entity_total payloads.now) 4294967295 }
+{
+    let mut left = LIMIT;
+    for payload in payloads {
+        left = left_after_payload(left, payload);
+    }
+    left > 0
+}
+
+/// Whether the entries of a table and the items and entities of a list can be numbered.
+///
+/// Each of the table's two lists has fewer than 4294967295 entries, the core modules have fewer than 4294967295
+/// entities together, imported and defined, and the payloads fewer than 4294967295 items. A payload without a list
+/// counts as one.
 pub fn is_numbered(table: &TypeTable, payloads: &[Payload]) -> bool
     ensures { result ≡ is_numbered table.now payloads.now }
 {
-    table.core_funcs.len() < LIMIT && table.types.len() < LIMIT && are_few(payloads)
+    table.core_funcs.len() < LIMIT
+        && table.types.len() < LIMIT
+        && have_few_entities(payloads)
+        && are_few(payloads)
 }

@@ -5,4 +5,5 @@ use Rattle.pc_parsed.proofs.room.are_few.Given as goal
 
 abbrev pub invariant-loop-payload : goal.invariant-loop-payload
 invariant-loop-payload l =
-    (l.left + sum_by item_count l.payloads ≡ 4294967295 + sum_by item_count (drop l.payload-index l.payloads)) × (0 < l.left)
+    (l.left + sum_by item_count l.payloads ≡ 4294967295 + sum_by item_count (drop l.payload-index l.payloads))
+    × (0 < l.left)

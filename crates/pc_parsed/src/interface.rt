@@ -1,0 +1,292 @@
+//! What the root declares the unsafe intrinsics to be.
+
+ghost use Rattle.std.specs.Prelude.{◌≡◌, ◌&&◌, [], IfOk, length, nat_le};
+ghost use Rattle.std.specs.List.{list_all, list_any};
+ghost use Rattle.std.specs.Option.{option_copied, option_map};
+ghost use Rattle.std.specs.Str.{bytes_eq};
+ghost use Rattle.pc_types.specs.Table.{is_some_and};
+ghost use Rattle.pc_parsed.specs.Interface.{are_params, are_value, entry_prim, function_fault, has_resource, import_interface_fault, instance_type_fault, interface_fault, intrinsic_exports_fault, intrinsic_fault, intrinsics_fault, is_answer, is_integer, leads_to_resource, prim_of, prims_from, resources_from, same_integer, signature_fault, unless_resource};
+
+use crate::fault::StaticFault;
+use crate::intrinsic::{Signature, signature_of};
+use pc_entity::{NoMemory, Seq, Text};
+use pc_types::{DeclType, Entity, PrimType, TypeTable, ValType};
+use std::alloc::Global;
+
+fn prim_of(earlier: &[Option<PrimType>], v: ValType) -> Option<PrimType>
+    ensures { result ≡ prim_of earlier.now v }
+{
+    match v {
+        ValType::Prim(prim) => Some(prim),
+        ValType::Type_(n) => match earlier.get(n as usize) {
+            Some(prim) => *prim,
+            None => None,
+        },
+    }
+}
+
+fn entry_prim(earlier: &[Option<PrimType>], entry: &DeclType) -> Option<PrimType>
+    ensures { result ≡ entry_prim earlier.now entry.now }
+{
+    match entry {
+        DeclType::Val(v) => prim_of(earlier, *v),
+        _ => None,
+    }
+}
+
+/// The primitive that each entry holds, if it holds one.
+fn prims(alloc: Global, types: &[DeclType]) -> Result<Seq<Option<PrimType>>, NoMemory>
+    ensures { IfOk result (λ ps. ps ≡ prims_from [] types.now) }
+{
+    let mut prims = Seq::with_capacity(alloc, types.len())?;
+    for entry in types {
+        prims.push(entry_prim(prims.as_slice(), entry))?;
+    }
+    Ok(prims)
+}
+
+fn leads_to_resource(table: &TypeTable, earlier: &[bool], entity: Entity) -> bool
+    ensures { result ≡ leads_to_resource table.now earlier.now entity }
+{
+    match entity {
+        Entity::Type_(n) => match table.entry(n) {
+            Some(entry) => entry.is_resource(),
+            None => false,
+        },
+        Entity::Instance(n) => match earlier.get(n as usize) {
+            Some(leads) => *leads,
+            None => false,
+        },
+        _ => false,
+    }
+}
+
+fn lead_to_resource(table: &TypeTable, earlier: &[bool], exports: &[(Text, Entity)]) -> bool
+    ensures { result ≡ list_any (λ e. leads_to_resource table.now earlier.now e.1) exports.now }
+{
+    exports
+        .iter()
+        .any(|e| leads_to_resource(table, earlier, e.1))
+}
+
+fn has_resource(table: &TypeTable, earlier: &[bool], entry: &DeclType) -> bool
+    ensures { result ≡ has_resource table.now earlier.now entry.now }
+{
+    match entry {
+        DeclType::Instance { exports } => lead_to_resource(table, earlier, exports.as_slice()),
+        _ => false,
+    }
+}
+
+/// Of each entry, whether a path of its exports ends at a resource.
+fn resources(alloc: Global, table: &TypeTable) -> Result<Seq<bool>, NoMemory>
+    ensures { IfOk result (λ rs. rs ≡ resources_from table.now [] table.now.types) }
+{
+    let types = table.types.as_slice();
+    let mut leads = Seq::with_capacity(alloc, types.len())?;
+    for entry in types {
+        leads.push(has_resource(table, leads.as_slice(), entry))?;
+    }
+    Ok(leads)
+}
+
+fn same_integer(wanted: PrimType, found: PrimType) -> bool
+    ensures { result ≡ same_integer wanted found }
+{
+    match wanted {
+        PrimType::U8 => matches!(found, PrimType::U8),
+        PrimType::U16 => matches!(found, PrimType::U16),
+        PrimType::U32 => matches!(found, PrimType::U32),
+        PrimType::U64 => matches!(found, PrimType::U64),
+        _ => false,
+    }
+}
+
+fn is_integer(prims: &[Option<PrimType>], wanted: PrimType, v: ValType) -> bool
+    ensures { result ≡ is_integer prims.now wanted v }
+{
+    match prim_of(prims, v) {
+        Some(found) => same_integer(wanted, found),
+        None => false,
+    }
+}
+
+fn are_addresses(prims: &[Option<PrimType>], params: &[(Text, ValType)]) -> bool
+    ensures { result ≡ list_all (λ x. is_integer prims.now PrimType.U64 x.1) params.now }
+{
+    params.iter().all(|x| is_integer(prims, PrimType::U64, x.1))
+}
+
+fn are_value(
+    prims: &[Option<PrimType>],
+    value: Option<PrimType>,
+    params: &[(Text, ValType)],
+) -> bool
+    ensures { result ≡ are_value prims.now value params.now }
+{
+    match (value, params) {
+        (None, []) => true,
+        (Some(wanted), [param]) => is_integer(prims, wanted, param.1),
+        _ => false,
+    }
+}
+
+fn are_params(prims: &[Option<PrimType>], signature: Signature, params: &[(Text, ValType)]) -> bool
+    ensures { result ≡ are_params prims.now signature params.now }
+{
+    if signature.addresses > params.len() {
+        return false;
+    }
+    are_addresses(prims, &params[..signature.addresses])
+        && are_value(prims, signature.value, &params[signature.addresses..])
+}
+
+fn is_answer(prims: &[Option<PrimType>], answer: Option<PrimType>, found: Option<ValType>) -> bool
+    ensures { result ≡ is_answer prims.now answer found }
+{
+    match (answer, found) {
+        (None, None) => true,
+        (Some(wanted), Some(v)) => is_integer(prims, wanted, v),
+        _ => false,
+    }
+}
+
+fn signature_fault(
+    prims: &[Option<PrimType>],
+    signature: Option<Signature>,
+    params: &[(Text, ValType)],
+    answer: Option<ValType>,
+) -> Option<StaticFault>
+    ensures { result ≡ signature_fault prims.now signature params.now answer }
+{
+    let Some(signature) = signature else {
+        return Some(StaticFault::UnknownIntrinsic);
+    };
+    if are_params(prims, signature, params) && is_answer(prims, signature.answer, answer) {
+        None
+    } else {
+        Some(StaticFault::BadIntrinsics)
+    }
+}
+
+fn function_fault(
+    prims: &[Option<PrimType>],
+    name: &Text,
+    entry: Option<&DeclType>,
+) -> Option<StaticFault>
+    ensures { result ≡ function_fault prims.now name.now (option_copied entry.entry) }
+{
+    match entry {
+        Some(DeclType::Func { params, result, .. }) => signature_fault(
+            prims,
+            signature_of(name.as_str()),
+            params.as_slice(),
+            *result,
+        ),
+        _ => Some(StaticFault::BadIntrinsics),
+    }
+}
+
+fn intrinsic_fault(
+    table: &TypeTable,
+    prims: &[Option<PrimType>],
+    export: &(Text, Entity),
+) -> Option<StaticFault>
+    ensures { result ≡ intrinsic_fault table.now prims.now export.now }
+{
+    match export.1 {
+        Entity::Func(n) => function_fault(prims, &export.0, table.entry(n)),
+        _ => Some(StaticFault::BadIntrinsics),
+    }
+}
+
+fn intrinsics_fault(
+    table: &TypeTable,
+    prims: &[Option<PrimType>],
+    exports: &[(Text, Entity)],
+) -> Option<StaticFault>
+    ensures { result ≡ intrinsics_fault table.now prims.now exports.now }
+{
+    for export in exports {
+        if let Some(fault) = intrinsic_fault(table, prims, export) {
+            return Some(fault);
+        }
+    }
+    None
+}
+
+fn unless_resource(leads: bool, later: Option<StaticFault>) -> Option<StaticFault>
+    ensures { result ≡ unless_resource leads later }
+{
+    if leads {
+        Some(StaticFault::BadIntrinsics)
+    } else {
+        later
+    }
+}
+
+fn exports_fault(
+    alloc: Global,
+    table: &TypeTable,
+    exports: &[(Text, Entity)],
+) -> Result<Option<StaticFault>, NoMemory>
+    ensures { IfOk result (λ f. f ≡ intrinsic_exports_fault table.now exports.now) }
+{
+    let earlier = resources(alloc, table)?;
+    let prims = prims(alloc, table.types.as_slice())?;
+    let leads = lead_to_resource(table, earlier.as_slice(), exports);
+    Ok(unless_resource(leads, intrinsics_fault(table, prims.as_slice(), exports)))
+}
+
+fn instance_type_fault(
+    alloc: Global,
+    table: &TypeTable,
+    entry: Option<&DeclType>,
+) -> Result<Option<StaticFault>, NoMemory>
+    ensures { IfOk result (λ f. f ≡ instance_type_fault table.now (option_copied entry.entry)) }
+{
+    match entry {
+        Some(DeclType::Instance { exports }) => exports_fault(alloc, table, exports.as_slice()),
+        _ => Ok(Some(StaticFault::BadIntrinsics)),
+    }
+}
+
+fn interface_fault(
+    alloc: Global,
+    table: &TypeTable,
+    entity: Entity,
+) -> Result<Option<StaticFault>, NoMemory>
+    ensures { IfOk result (λ f. f ≡ interface_fault table.now entity) }
+{
+    match entity {
+        Entity::Instance(n) => instance_type_fault(alloc, table, table.entry(n)),
+        _ => Ok(Some(StaticFault::BadIntrinsics)),
+    }
+}
+
+fn is_exposed(exposed: Option<&str>, name: &Text) -> bool
+    ensures { result ≡ is_some_and (bytes_eq name.now) (option_map (λ x. x.now) exposed.entry) }
+{
+    match exposed {
+        Some(exposed) => name.as_str() == exposed,
+        None => false,
+    }
+}
+
+/// What is wrong with what an import declares, if it is that of the unsafe intrinsics.
+pub(crate) fn import_interface_fault(
+    alloc: Global,
+    table: &TypeTable,
+    exposed: Option<&str>,
+    name: &Text,
+    entity: Entity,
+) -> Result<Option<StaticFault>, NoMemory>
+    ensures { IfOk result (λ f. f ≡ import_interface_fault table.now (option_map (λ x. x.now) exposed.entry)
+        name.now entity) }
+{
+    if is_exposed(exposed, name) {
+        interface_fault(alloc, table, entity)
+    } else {
+        Ok(None)
+    }
+}
