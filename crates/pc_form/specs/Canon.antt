@@ -1,18 +1,21 @@
 -- Canonical functions: an array that begins with a name. `s` is the core signature that follows it.
-use Rattle.std.specs.Prelude.{ℕ, List, [], ◌∷◌, Option, Some, None, option_map, codes, is_some, if◌then◌else◌}
+use Rattle.std.specs.Prelude.{ℕ, Bool, List, [], ◌∷◌, Option, Some, None, option_map, codes, is_some}
+use Rattle.std.specs.Prelude.{if◌then◌else◌}
+use Rattle.std.specs.Str.{bytes_eq}
 use Rattle.serde_json.specs.Data.{Data}
-use Rattle.serde_json.specs.Find.{as_str, as_bool}
+use Rattle.serde_json.specs.Find.{as_str, as_bool, as_number}
 use Rattle.pc_entity.specs.Lists.{value_of}
+use Rattle.pc_types.specs.declared.parsed.WasmValType.{WasmValType}
 use Rattle.pc_parsed.specs.declared.canon.CanonItem.{CanonItem}
 use Rattle.pc_parsed.specs.declared.canon.CanonItem.TheVariants as canon
 use Rattle.pc_parsed.specs.declared.canon.CanonOption.{CanonOption}
 use Rattle.pc_parsed.specs.declared.canon.CanonOption.TheVariants as option
-use Rattle.pc_form.specs.Tree.{◌>>=◌, whole, word, or_null, making, each, headed, numbered, by_row}
+use Rattle.pc_form.specs.Tree.{◌>>=◌, whole, word, or_null, making, each, headed, numbered}
 use Rattle.pc_form.specs.Words.{core_types}
 use Rattle.pc_form.specs.Types.{val_type}
 
--- options that are words, and options of a number
-abbrev pub option_words : List (List ℕ × CanonOption)
+-- options that are words
+unfoldable pub option_words : List (List ℕ × CanonOption)
 option_words =
     (codes "utf8", option.Utf8)
     ∷ (codes "utf16", option.Utf16)
@@ -21,7 +24,8 @@ option_words =
     ∷ (codes "gc", option.Gc)
     ∷ []
 
-abbrev pub option_kinds : List (List ℕ × (ℕ → CanonOption))
+-- options of a number
+unfoldable pub option_kinds : List (List ℕ × (ℕ → CanonOption))
 option_kinds =
     (codes "memory", option.Memory)
     ∷ (codes "realloc", option.Realloc)
@@ -30,29 +34,36 @@ option_kinds =
     ∷ (codes "core-type", option.CoreType)
     ∷ []
 
+-- an option of what follows its name
 abbrev pub option_from : List ℕ → List Data → Option CanonOption
 option_from w (n ∷ []) = numbered option_kinds w n
 option_from w _ = None
 
-abbrev pub canon_option : Data → Option CanonOption
+-- an option: a word, or an array of a name and a number
+unfoldable pub canon_option : Data → Option CanonOption
 canon_option d = if is_some (as_str d) then word option_words d else (headed d >>= λ t. option_from t.0 t.1)
 
+-- an array of options
 abbrev pub options : Data → Option (List CanonOption)
 options = each canon_option
 
 -- two parts of a canonical function
-abbrev pub making_two : {A B C : Type 0} → (A → B → C) → (Data → Option A) → (Data → Option B) → Data → Data → Option C
+abbrev pub making_two : {A B C : Type 0} → (A → B → C) → (Data → Option A) → (Data → Option B)
+    → Data → Data → Option C
 making_two make f g a b = do
   x ← f a
   y ← g b
   Some (make x y)
 
--- what the row of a name reads of two parts
-abbrev pub by_row_of_two : {A : Type 0} → List (List ℕ × (Data → Data → Option A)) → List ℕ → Data → Data → Option A
-by_row_of_two rows w a b = value_of w rows >>= λ f. f a b
+-- what the row of a name makes of a part that f reads
+abbrev pub by_part : {A : Type 0} → List (List ℕ × (A → CanonItem)) → List ℕ → (Data → Option A)
+    → Data → Option CanonItem
+by_part rows w f d = do
+  x ← f d
+  option_map (λ make. make x) (value_of w rows)
 
 -- nothing follows
-abbrev pub of_nothing : List (List ℕ × CanonItem)
+unfoldable pub of_nothing : List (List ℕ × CanonItem)
 of_nothing =
     (codes "thread.spawn-ref", canon.ThreadSpawnRef)
     ∷ (codes "thread.spawn-indirect", canon.ThreadSpawnIndirect)
@@ -62,7 +73,7 @@ of_nothing =
     ∷ []
 
 -- the signature alone
-abbrev pub of_signature : List (List ℕ × (ℕ → CanonItem))
+unfoldable pub of_signature : List (List ℕ × (ℕ → CanonItem))
 of_signature =
     (codes "backpressure.inc", canon.BackpressureInc)
     ∷ (codes "backpressure.dec", canon.BackpressureDec)
@@ -82,74 +93,106 @@ of_signature =
     ∷ (codes "thread.yield-then-promote", canon.ThreadYieldThenPromote)
     ∷ []
 
--- the signature and one part
-abbrev pub of_one : ℕ → List (List ℕ × (Data → Option CanonItem))
-of_one s =
-    -- resource
-    (codes "resource.new", making (canon.ResourceNew s) whole)
-    ∷ (codes "resource.rep", making (canon.ResourceRep s) whole)
-    ∷ (codes "resource.drop", making (canon.ResourceDrop s) whole)
-    -- memory
-    ∷ (codes "waitable-set.wait", making (canon.WaitableSetWait s) whole)
-    ∷ (codes "waitable-set.poll", making (canon.WaitableSetPoll s) whole)
-    -- async
-    ∷ (codes "subtask.cancel", making (canon.SubtaskCancel s) as_bool)
-    -- stream or future type
-    ∷ (codes "stream.new", making (canon.StreamNew s) whole)
-    ∷ (codes "stream.drop-readable", making (canon.StreamDropReadable s) whole)
-    ∷ (codes "stream.drop-writable", making (canon.StreamDropWritable s) whole)
-    ∷ (codes "future.new", making (canon.FutureNew s) whole)
-    ∷ (codes "future.drop-readable", making (canon.FutureDropReadable s) whole)
-    ∷ (codes "future.drop-writable", making (canon.FutureDropWritable s) whole)
-    -- options
-    ∷ (codes "error-context.new", making (canon.ErrorContextNew s) options)
-    ∷ (codes "error-context.debug-message", making (canon.ErrorContextDebugMessage s) options)
+-- the signature, and a number: a resource, a memory, a stream or future type
+unfoldable pub of_index : ℕ → List (List ℕ × (ℕ → CanonItem))
+of_index s =
+    (codes "resource.new", canon.ResourceNew s)
+    ∷ (codes "resource.rep", canon.ResourceRep s)
+    ∷ (codes "resource.drop", canon.ResourceDrop s)
+    ∷ (codes "waitable-set.wait", canon.WaitableSetWait s)
+    ∷ (codes "waitable-set.poll", canon.WaitableSetPoll s)
+    ∷ (codes "stream.new", canon.StreamNew s)
+    ∷ (codes "stream.drop-readable", canon.StreamDropReadable s)
+    ∷ (codes "stream.drop-writable", canon.StreamDropWritable s)
+    ∷ (codes "future.new", canon.FutureNew s)
+    ∷ (codes "future.drop-readable", canon.FutureDropReadable s)
+    ∷ (codes "future.drop-writable", canon.FutureDropWritable s)
     ∷ []
 
--- the signature and two parts, of which the first is a stream or future type
-abbrev pub of_transfer : ℕ → List (List ℕ × (Data → Data → Option CanonItem))
-of_transfer s =
-    -- options
-    (codes "stream.read", making_two (canon.StreamRead s) whole options)
-    ∷ (codes "stream.write", making_two (canon.StreamWrite s) whole options)
-    ∷ (codes "future.read", making_two (canon.FutureRead s) whole options)
-    ∷ (codes "future.write", making_two (canon.FutureWrite s) whole options)
-    -- async
-    ∷ (codes "stream.cancel-read", making_two (canon.StreamCancelRead s) whole as_bool)
-    ∷ (codes "stream.cancel-write", making_two (canon.StreamCancelWrite s) whole as_bool)
-    ∷ (codes "future.cancel-read", making_two (canon.FutureCancelRead s) whole as_bool)
-    ∷ (codes "future.cancel-write", making_two (canon.FutureCancelWrite s) whole as_bool)
+-- the signature, and whether the call is asynchronous
+unfoldable pub of_flag : ℕ → List (List ℕ × (Bool → CanonItem))
+of_flag s = (codes "subtask.cancel", canon.SubtaskCancel s) ∷ []
+
+-- the signature, and options
+unfoldable pub of_options : ℕ → List (List ℕ × (List CanonOption → CanonItem))
+of_options s =
+    (codes "error-context.new", canon.ErrorContextNew s)
+    ∷ (codes "error-context.debug-message", canon.ErrorContextDebugMessage s)
     ∷ []
 
--- the signature and any two parts
-abbrev pub of_two : ℕ → List (List ℕ × (Data → Data → Option CanonItem))
-of_two s =
-    -- result, options
-    (codes "task.return", making_two (canon.TaskReturn s) (or_null val_type) options)
-    -- type of the slot, slot
-    ∷ (codes "context.get", making_two (canon.ContextGet s) (word core_types) whole)
-    ∷ (codes "context.set", making_two (canon.ContextSet s) (word core_types) whole)
-    -- start type, table
-    ∷ (codes "thread.new-indirect", making_two (canon.ThreadNewIndirect s) whole whole)
-    ∷ of_transfer s
+-- the signature and one part, whose shape tells the tables apart
+unfoldable pub of_one : ℕ → List ℕ → Data → Option CanonItem
+of_one s w a =
+    if is_some (as_bool a) then by_part (of_flag s) w as_bool a
+    else (if is_some (as_number a) then by_part (of_index s) w whole a
+    else by_part (of_options s) w options a)
+
+-- the signature, a stream or future type, and whether the call is asynchronous
+unfoldable pub of_cancel : ℕ → ℕ → List (List ℕ × (Bool → CanonItem))
+of_cancel s ty =
+    (codes "stream.cancel-read", canon.StreamCancelRead s ty)
+    ∷ (codes "stream.cancel-write", canon.StreamCancelWrite s ty)
+    ∷ (codes "future.cancel-read", canon.FutureCancelRead s ty)
+    ∷ (codes "future.cancel-write", canon.FutureCancelWrite s ty)
+    ∷ []
+
+-- the signature, a stream or future type, and options
+unfoldable pub of_copy : ℕ → ℕ → List (List ℕ × (List CanonOption → CanonItem))
+of_copy s ty =
+    (codes "stream.read", canon.StreamRead s ty)
+    ∷ (codes "stream.write", canon.StreamWrite s ty)
+    ∷ (codes "future.read", canon.FutureRead s ty)
+    ∷ (codes "future.write", canon.FutureWrite s ty)
+    ∷ []
+
+-- the signature, the type of a slot, and the slot
+unfoldable pub of_slot : ℕ → WasmValType → List (List ℕ × (ℕ → CanonItem))
+of_slot s ty = (codes "context.get", canon.ContextGet s ty) ∷ (codes "context.set", canon.ContextSet s ty) ∷ []
+
+-- the signature, a start type, and a table
+unfoldable pub of_start : ℕ → ℕ → List (List ℕ × (ℕ → CanonItem))
+of_start s ty = (codes "thread.new-indirect", canon.ThreadNewIndirect s ty) ∷ []
+
+-- the signature and two parts, of which the second is a number
+unfoldable pub of_two_numbered : ℕ → List ℕ → Data → Data → Option CanonItem
+of_two_numbered s w a b =
+    if is_some (as_number a) then (whole a >>= λ ty. by_part (of_start s ty) w whole b)
+    else (word core_types a >>= λ ty. by_part (of_slot s ty) w whole b)
+
+-- the signature and two parts, of which the second has options; a task's result may be left out
+unfoldable pub of_two_with_options : ℕ → List ℕ → Data → Data → Option CanonItem
+of_two_with_options s w a b =
+    if bytes_eq w (codes "task.return") then making_two (canon.TaskReturn s) (or_null val_type) options a b
+    else (whole a >>= λ ty. by_part (of_copy s ty) w options b)
+
+-- the signature and two parts, of which the shape of the second tells the tables apart
+unfoldable pub of_two : ℕ → List ℕ → Data → Data → Option CanonItem
+of_two s w a b =
+    if is_some (as_bool b) then (whole a >>= λ ty. by_part (of_cancel s ty) w as_bool b)
+    else (if is_some (as_number b) then of_two_numbered s w a b else of_two_with_options s w a b)
 
 -- function, function type, signature, options
-abbrev pub of_function : List (List ℕ × (ℕ → ℕ → ℕ → List CanonOption → CanonItem))
+unfoldable pub of_function : List (List ℕ × (ℕ → ℕ → ℕ → List CanonOption → CanonItem))
 of_function = (codes "lift", canon.Lift) ∷ (codes "lower", canon.Lower) ∷ []
 
--- a canonical function, by its name and what follows it
-abbrev pub canon_from : List ℕ → List Data → Option CanonItem
-canon_from w [] = value_of w of_nothing
-canon_from w (core ∷ []) = numbered of_signature w core
-canon_from w (core ∷ a ∷ []) = whole core >>= λ s. by_row (of_one s) w a
-canon_from w (core ∷ a ∷ b ∷ []) = whole core >>= λ s. by_row_of_two (of_two s) w a b
-canon_from w (func ∷ ty ∷ core ∷ opts ∷ []) = do
+-- `lift` or `lower`, by its four parts
+unfoldable pub of_four : List ℕ → Data → Data → Data → Data → Option CanonItem
+of_four w func ty core opts = do
   f ← whole func
   t ← whole ty
   s ← whole core
   os ← options opts
   option_map (λ make. make f t s os) (value_of w of_function)
+
+-- a canonical function, by its name and what follows it
+unfoldable pub canon_from : List ℕ → List Data → Option CanonItem
+canon_from w [] = value_of w of_nothing
+canon_from w (core ∷ []) = numbered of_signature w core
+canon_from w (core ∷ a ∷ []) = whole core >>= λ s. of_one s w a
+canon_from w (core ∷ a ∷ b ∷ []) = whole core >>= λ s. of_two s w a b
+canon_from w (func ∷ ty ∷ core ∷ opts ∷ []) = of_four w func ty core opts
 canon_from w _ = None
 
-abbrev pub canon_item : Data → Option CanonItem
+-- a canonical function: an array that begins with its name
+unfoldable pub canon_item : Data → Option CanonItem
 canon_item d = headed d >>= λ t. canon_from t.0 t.1

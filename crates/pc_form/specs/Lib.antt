@@ -10,5 +10,3 @@ pub mod Payload
 pub mod Input
 -- What the functions inside promise each other.
 pub mod Reads
--- Worked examples.
-pub mod Examples

@@ -13,8 +13,8 @@ use Rattle.pc_form.specs.Names.{core_item}
 use Rattle.pc_form.specs.Types.{core_import}
 
 -- what a core module imports, defines and exports
-abbrev pub module_record : List (List ℕ × List ℕ × CoreEntity) → List ℕ → ℕ → List Bool → ℕ → ℕ → List (List ℕ × EntityIndex)
-    → ModuleRecord
+abbrev pub module_record : List (List ℕ × List ℕ × CoreEntity) → List ℕ → ℕ → List Bool → ℕ → ℕ
+    → List (List ℕ × EntityIndex) → ModuleRecord
 module_record imports funcs tables memories globals tags exports = record {
   imports = imports;
   funcs = funcs;
@@ -27,7 +27,7 @@ module_record imports funcs tables memories globals tags exports = record {
 
 -- {"ty":n,"imports":[["module","name",C],...],"funcs":[s,...],"tables":n,"memories":[bool,...],"globals":n,
 -- "tags":n,"exports":[["name",core kind,i],...]}
-abbrev pub core_module : Rules → Data → Option Payload
+unfoldable pub core_module : Rules → Data → Option Payload
 core_module r d = do
   _ ← exactly 8 d
   ty ← field (codes "ty") whole d

@@ -16,7 +16,8 @@ use Rattle.pc_parsed.specs.declared.payload.AliasItem.{AliasItem}
 use Rattle.pc_parsed.specs.declared.payload.AliasItem.TheVariants as alias
 use Rattle.pc_parsed.specs.declared.payload.Payload.{Payload}
 use Rattle.pc_parsed.specs.declared.payload.Payload.TheVariants as payload
-use Rattle.pc_form.specs.Tree.{whole, word, or_null, making, each, pair, triple, of_pair, of_triple, by_key, word_or_key}
+use Rattle.pc_form.specs.Tree.{whole, word, or_null, making, each, pair, triple, of_pair, of_triple, by_key}
+use Rattle.pc_form.specs.Tree.{word_or_key}
 use Rattle.pc_form.specs.Rules.{Rules, section}
 use Rattle.pc_form.specs.Words.{core_types, core_kinds, item_kinds, outer_kinds}
 use Rattle.pc_form.specs.Names.{extern_name, core_item}
@@ -24,26 +25,29 @@ use Rattle.pc_form.specs.Types.{entity}
 use Rattle.pc_form.specs.Canon.{canon_item}
 use Rattle.pc_form.specs.Module.{core_module}
 
--- "other", or {"resource":[id,rep,dtor]}, dtor a number or null
+-- [id,rep,dtor], dtor a number or null
 abbrev pub resource_item : Data → Option TypeItem
 resource_item = of_triple type_.Resource whole (word core_types) (or_null whole)
 
-abbrev pub type_item : Data → Option TypeItem
+-- "other", or {"resource":[id,rep,dtor]}
+unfoldable pub type_item : Data → Option TypeItem
 type_item = word_or_key ((codes "other", type_.Other) ∷ []) ((codes "resource", resource_item) ∷ [])
 
 -- [NAME,E]
-abbrev pub import_item : Rules → Data → Option ImportItem
+unfoldable pub import_item : Rules → Data → Option ImportItem
 import_item r = of_pair (λ name ty. record { name = name; ty = ty }) (extern_name r) entity
 
--- [NAME,item kind,i]
+-- [NAME,item kind,i], as three values
 abbrev pub item_by_name : Rules → Data → Option (ExternName × ItemKind × ℕ)
 item_by_name r = triple (extern_name r) (word item_kinds) whole
 
-abbrev pub export_entry : Rules → Data → Option ExportEntry
-export_entry r = of_triple (λ name kind i. record { name = name; kind = kind; index = i }) (extern_name r) (word item_kinds) whole
+-- [NAME,item kind,i], as an entry
+unfoldable pub export_entry : Rules → Data → Option ExportEntry
+export_entry r =
+    of_triple (λ name kind i. record { name = name; kind = kind; index = i }) (extern_name r) (word item_kinds) whole
 
 -- {"instantiate":[module,[["name",i],...]]} or {"exports":[["name",core kind,i],...]}
-abbrev pub instance_item : Rules → Data → Option InstanceItem
+unfoldable pub instance_item : Rules → Data → Option InstanceItem
 instance_item r = by_key (
     (codes "instantiate", of_pair instance.Instantiate whole (each (pair r.name whole)))
     ∷ (codes "exports", making instance.FromExports (each (core_item r)))
@@ -58,12 +62,13 @@ component_instantiation r =
 abbrev pub component_exports : Rules → Data → Option ComponentInstanceItem
 component_exports r = of_pair component_instance.FromExports (each (item_by_name r)) whole
 
-abbrev pub component_instance_item : Rules → Data → Option ComponentInstanceItem
+-- {"instantiate":[component,[["name",item kind,i],...],ty]} or {"exports":[[[NAME,item kind,i],...],ty]}
+unfoldable pub component_instance_item : Rules → Data → Option ComponentInstanceItem
 component_instance_item r =
     by_key ((codes "instantiate", component_instantiation r) ∷ (codes "exports", component_exports r) ∷ [])
 
 -- {"export":[item kind,i,"name"]}, {"core-export":[core kind,i,"name"]} or {"outer":[k,count,i]}
-abbrev pub alias_item : Rules → Data → Option AliasItem
+unfoldable pub alias_item : Rules → Data → Option AliasItem
 alias_item r = by_key (
     (codes "export", of_triple alias.InstanceExport (word item_kinds) whole r.name)
     ∷ (codes "core-export", of_triple alias.CoreInstanceExport (word core_kinds) whole r.name)
@@ -71,7 +76,7 @@ alias_item r = by_key (
     ∷ [])
 
 -- payloads that are words
-abbrev pub payload_words : List (List ℕ × Payload)
+unfoldable pub payload_words : List (List ℕ × Payload)
 payload_words =
     (codes "version", payload.Version encoding.Component)
     ∷ (codes "version-module", payload.Version encoding.Module)
@@ -83,7 +88,7 @@ payload_words =
     ∷ []
 
 -- payloads that are objects, by key
-abbrev pub payload_keys : Rules → List (List ℕ × (Data → Option Payload))
+unfoldable pub payload_keys : Rules → List (List ℕ × (Data → Option Payload))
 payload_keys r =
     (codes "types", making payload.ComponentTypeSection (section r type_item))
     ∷ (codes "imports", making payload.ComponentImportSection (section r (import_item r)))
@@ -95,5 +100,6 @@ payload_keys r =
     ∷ (codes "aliases", making payload.ComponentAliasSection (section r (alias_item r)))
     ∷ []
 
-abbrev pub payload_of : Rules → Data → Option Payload
+-- a payload: a word, or an object of one member
+unfoldable pub payload_of : Rules → Data → Option Payload
 payload_of r = word_or_key payload_words (payload_keys r)

@@ -1,14 +1,14 @@
 -- How a tree of JSON is taken apart. Each function is None where the tree has another shape.
-use Rattle.std.specs.Prelude.{ℕ, ◌^◌, ◌==◌, List, [], ◌∷◌, Bool, false, ⊤, Option, Some, None, option_map, is_some, nat_lt}
-use Rattle.std.specs.Prelude.{if◌then◌else◌}
+use Rattle.std.specs.Prelude.{ℕ, ◌^◌, ◌==◌, List, [], ◌∷◌, Bool, false, ⊤, Option, Some, None, option_map, is_some}
+use Rattle.std.specs.Prelude.{nat_lt, if◌then◌else◌}
 use Rattle.std.specs.Option.{option_map_or}
 use Rattle.serde_json.specs.Data.{Data, Items, no_items, item, Members, no_members, member}
 use Rattle.serde_json.specs.Events.{members_len}
 use Rattle.serde_json.specs.Find.{get, as_null, as_number, as_u64, as_str, as_array, as_object}
 use Rattle.pc_entity.specs.Lists.{map_all, value_of}
 
--- f of the value, where there is one
 infixl 10 ◌>>=◌
+-- f of the value, where there is one
 abbrev pub ◌>>=◌ : {A B : Type 0} → Option A → (A → Option B) → Option B
 (Some x) >>= f = f x
 None >>= f = None
@@ -79,15 +79,16 @@ abbrev pub of_pair : {A B C : Type 0} → (A → B → C) → (Data → Option A
 of_pair {A} {B} make f g d = option_map (λ (p : A × B). make p.0 p.1) (pair f g d)
 
 -- a value made of an array of three
-abbrev pub of_triple : {A B C D : Type 0} → (A → B → C → D) → (Data → Option A) → (Data → Option B) → (Data → Option C) → Data
-    → Option D
+abbrev pub of_triple : {A B C D : Type 0} → (A → B → C → D) → (Data → Option A) → (Data → Option B) → (Data → Option C)
+    → Data → Option D
 of_triple {A} {B} {C} make f g h d = option_map (λ (t : A × B × C). make t.0 t.1 t.2) (triple f g h d)
 
--- the text at the head of an array, and the elements after it
+-- the text at the head of a list, and the elements after it
 abbrev pub head_from : List Data → Option (List ℕ × List Data)
 head_from [] = None
 head_from (d ∷ rest) = option_map (λ w. (w, rest)) (as_str d)
 
+-- the text at the head of an array, and the elements after it
 abbrev pub headed : Data → Option (List ℕ × List Data)
 headed d = list_of d >>= head_from
 
@@ -111,12 +112,13 @@ exactly n d = if has_members n d then Some tt else None
 abbrev pub field : {A : Type 0} → List ℕ → (Data → Option A) → Data → Option A
 field key f d = get key d >>= f
 
--- the one member of an object, as key and value
+-- the one member among members, as key and value
 abbrev pub only : Members → Option (List ℕ × Data)
 only no_members = None
 only (member k d no_members) = Some (k, d)
 only (member k d (member l e ms)) = None
 
+-- the one member of an object, as key and value
 abbrev pub tagged : Data → Option (List ℕ × Data)
 tagged d = as_object d >>= only
 

@@ -25,15 +25,15 @@ abbrev pub signature : List WasmValType → List WasmValType → CoreFuncSig
 signature params results = record { params = params; results = results }
 
 -- [[params],[results]]
-abbrev pub core_sig : Data → Option CoreFuncSig
+unfoldable pub core_sig : Data → Option CoreFuncSig
 core_sig = of_pair signature (each (word core_types)) (each (word core_types))
 
 -- a value type: the number of a table entry, or a primitive
-abbrev pub val_type : Data → Option ValType
+unfoldable pub val_type : Data → Option ValType
 val_type d = if is_some (as_number d) then making val.Type_ whole d else making val.Prim (word prim_types) d
 
--- ["func",n] and its kin, or ["value"]
-abbrev pub entity_kinds : List (List ℕ × (ℕ → Entity))
+-- the kinds of an entity that has a number
+unfoldable pub entity_kinds : List (List ℕ × (ℕ → Entity))
 entity_kinds =
     (codes "func", entity_.Func)
     ∷ (codes "instance", entity_.Instance)
@@ -42,18 +42,21 @@ entity_kinds =
     ∷ (codes "type", entity_.Type_)
     ∷ []
 
+-- an entity of what follows the word of its kind
 abbrev pub entity_from : List ℕ → List Data → Option Entity
 entity_from w [] = if bytes_eq w (codes "value") then Some entity_.Value else None
 entity_from w (n ∷ []) = numbered entity_kinds w n
 entity_from w _ = None
 
-abbrev pub entity : Data → Option Entity
+-- ["func",n] and its kin, or ["value"]
+unfoldable pub entity : Data → Option Entity
 entity d = headed d >>= λ t. entity_from t.0 t.1
 
--- ["table"], ["global"], ["tag"], ["func",s], or ["memory",b], b true for 64-bit
-abbrev pub bare_core_entities : List (List ℕ × CoreEntity)
+-- core entities that their kind alone says
+unfoldable pub bare_core_entities : List (List ℕ × CoreEntity)
 bare_core_entities = (codes "table", core.Table) ∷ (codes "global", core.Global) ∷ (codes "tag", core.Tag) ∷ []
 
+-- a core entity of what follows the word of its kind
 abbrev pub core_entity_from : List ℕ → List Data → Option CoreEntity
 core_entity_from w [] = value_of w bare_core_entities
 core_entity_from w (part ∷ []) =
@@ -61,57 +64,69 @@ core_entity_from w (part ∷ []) =
     else (if bytes_eq w (codes "memory") then making core.Memory as_bool part else None)
 core_entity_from w _ = None
 
-abbrev pub core_entity : Data → Option CoreEntity
+-- ["table"], ["global"], ["tag"], ["func",s], or ["memory",b], b true for 64-bit
+unfoldable pub core_entity : Data → Option CoreEntity
 core_entity d = headed d >>= λ t. core_entity_from t.0 t.1
 
--- {"params":[["name",V],...],"result":V?,"async":bool}
-abbrev pub func_type : Rules → Data → Option DeclType
-func_type r d = do
-  _ ← exactly 3 d
+-- what the members of a function type say
+unfoldable pub func_members : Rules → Data → Option DeclType
+func_members r d = do
   params ← field (codes "params") (each (pair r.name val_type)) d
   outcome ← field (codes "result") (or_null val_type) d
   is_async ← field (codes "async") as_bool d
   Some (entry.Func params outcome is_async)
 
+-- {"params":[["name",V],...],"result":V?,"async":bool}
+unfoldable pub func_type : Rules → Data → Option DeclType
+func_type r d = do
+  _ ← exactly 3 d
+  func_members r d
+
 -- ["name",E]
 abbrev pub named_entity : Rules → Data → Option (List ℕ × Entity)
 named_entity r = pair r.name entity
 
--- ["module","name",C] and ["name",C]
+-- ["module","name",C]
 abbrev pub core_import : Rules → Data → Option (List ℕ × List ℕ × CoreEntity)
 core_import r = triple r.name r.name core_entity
 
+-- ["name",C]
 abbrev pub core_export : Rules → Data → Option (List ℕ × CoreEntity)
 core_export r = pair r.name core_entity
 
--- the entries that are objects, by key
-abbrev pub entry_keys : Rules → List (List ℕ × (Data → Option DeclType))
-entry_keys r =
-    (codes "func", func_type r)
-    ∷ (codes "val", making entry.Val val_type)
+-- entries over value types and resources, by key
+unfoldable pub value_keys : List (List ℕ × (Data → Option DeclType))
+value_keys =
+    (codes "val", making entry.Val val_type)
     ∷ (codes "list", making entry.List val_type)
     ∷ (codes "option", making entry.Option val_type)
-    ∷ (codes "record", making entry.Record (each (pair r.name val_type)))
-    ∷ (codes "variant", making entry.Variant (each (pair r.name (or_null val_type))))
     ∷ (codes "tuple", making entry.Tuple (each val_type))
-    ∷ (codes "flags", making entry.Flags (each r.name))
-    ∷ (codes "enum", making entry.Enum (each r.name))
     ∷ (codes "result", of_pair entry.Result (or_null val_type) (or_null val_type))
     ∷ (codes "own", making entry.Own whole)
     ∷ (codes "borrow", making entry.Borrow whole)
     ∷ (codes "stream", making entry.Stream (or_null val_type))
     ∷ (codes "future", making entry.Future (or_null val_type))
+    ∷ []
+
+-- entries with names, and the ones above
+unfoldable pub entry_keys : Rules → List (List ℕ × (Data → Option DeclType))
+entry_keys r =
+    (codes "func", func_type r)
+    ∷ (codes "record", making entry.Record (each (pair r.name val_type)))
+    ∷ (codes "variant", making entry.Variant (each (pair r.name (or_null val_type))))
+    ∷ (codes "flags", making entry.Flags (each r.name))
+    ∷ (codes "enum", making entry.Enum (each r.name))
     ∷ (codes "instance", making entry.Instance (each (named_entity r)))
     ∷ (codes "component", of_pair entry.Component (each (named_entity r)) (each (named_entity r)))
     ∷ (codes "module", of_pair entry.Module (each (core_import r)) (each (core_export r)))
-    ∷ []
+    ∷ value_keys
 
 -- an entry of the table: "resource", or an object of one member
-abbrev pub decl_type : Rules → Data → Option DeclType
+unfoldable pub decl_type : Rules → Data → Option DeclType
 decl_type r = word_or_key ((codes "resource", entry.Resource) ∷ []) (entry_keys r)
 
 -- {"core":[..],"types":[..]}
-abbrev pub type_table : Rules → Data → Option TypeTable
+unfoldable pub type_table : Rules → Data → Option TypeTable
 type_table r d = do
   _ ← exactly 2 d
   core_funcs ← field (codes "core") (each core_sig) d

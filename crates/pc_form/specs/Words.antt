@@ -12,7 +12,7 @@ use Rattle.pc_parsed.specs.declared.payload.OuterKind.{OuterKind}
 use Rattle.pc_parsed.specs.declared.payload.OuterKind.TheVariants as outer
 
 -- core value types
-abbrev pub core_types : List (List ℕ × WasmValType)
+unfoldable pub core_types : List (List ℕ × WasmValType)
 core_types =
     (codes "i32", core.I32)
     ∷ (codes "i64", core.I64)
@@ -24,7 +24,7 @@ core_types =
     ∷ []
 
 -- primitive types
-abbrev pub prim_types : List (List ℕ × PrimType)
+unfoldable pub prim_types : List (List ℕ × PrimType)
 prim_types =
     (codes "bool", prim.Bool)
     ∷ (codes "s8", prim.S8)
@@ -43,7 +43,7 @@ prim_types =
     ∷ []
 
 -- kinds of a core module's entities
-abbrev pub core_kinds : List (List ℕ × CoreKind)
+unfoldable pub core_kinds : List (List ℕ × CoreKind)
 core_kinds =
     (codes "func", core_kind.Func)
     ∷ (codes "table", core_kind.Table)
@@ -53,7 +53,7 @@ core_kinds =
     ∷ []
 
 -- kinds of a component's items
-abbrev pub item_kinds : List (List ℕ × ItemKind)
+unfoldable pub item_kinds : List (List ℕ × ItemKind)
 item_kinds =
     (codes "func", kind.Func)
     ∷ (codes "module", kind.Module)
@@ -64,7 +64,7 @@ item_kinds =
     ∷ []
 
 -- kinds of what an outer alias names
-abbrev pub outer_kinds : List (List ℕ × OuterKind)
+unfoldable pub outer_kinds : List (List ℕ × OuterKind)
 outer_kinds =
     (codes "core-type", outer.CoreType)
     ∷ (codes "type", outer.Type_)

@@ -1,14 +1,16 @@
-//! Canonical functions and their options.
+//! Canonical functions.
 //!
-//! A canonical function is an array that begins with its name. How many parts follow the name tells the
-//! functions apart first, so that each name stands in one place, with the types of its parts.
+//! A canonical function is an array that begins with its name. How many parts follow the name, and of which shape they
+//! are, tells the functions apart first. So each name stands in one place, in a table of those with the same parts.
 
-ghost use Rattle.std.specs.Prelude.{◌≡◌, option_map};
+ghost use Rattle.std.specs.Prelude.{◌≡◌, option_map, map};
 ghost use Rattle.serde_json.specs.View.{view};
 ghost use Rattle.pc_entity.specs.Lists.{value_of};
-ghost use Rattle.pc_form.specs.Canon.{option_words, option_kinds, canon_option, of_nothing, of_signature};
-ghost use Rattle.pc_form.specs.Canon.{of_one, of_transfer, of_two, of_function, by_row_of_two, canon_item};
-ghost use Rattle.pc_form.specs.Tree.{by_row};
+ghost use Rattle.pc_form.specs.Canon.{of_nothing, of_signature};
+ghost use Rattle.pc_form.specs.Canon.{of_index, of_flag, of_options, of_one, of_cancel, of_copy, of_slot, of_start};
+ghost use Rattle.pc_form.specs.Canon.{of_two_numbered, of_two_with_options, of_two, of_function, of_four, canon_from};
+ghost use Rattle.pc_form.specs.Canon.{canon_item};
+ghost use Rattle.pc_form.specs.Tree.{numbered};
 ghost use Rattle.pc_form.specs.Reads.{Reads};
 
 use crate::DecodeError;
@@ -16,55 +18,12 @@ use crate::form::{Form, ReadForm, read};
 use crate::tree::headed;
 use pc_entity::Seq;
 use pc_parsed::{CanonItem, CanonOption};
+use pc_types::WasmValType;
 use serde_json::Value;
 use std::alloc::Global;
 
-/// An option that is a word.
-fn option_word(word: &str) -> Option<CanonOption>
-    ensures { result ≡ value_of word.now option_words }
-{
-    match word {
-        "utf8" => Some(CanonOption::Utf8),
-        "utf16" => Some(CanonOption::Utf16),
-        "compact-utf16" => Some(CanonOption::CompactUtf16),
-        "async" => Some(CanonOption::Async),
-        "gc" => Some(CanonOption::Gc),
-        _ => None,
-    }
-}
-
-/// An option of a number.
-fn numbered_option(kind: &str, n: u32) -> Option<CanonOption>
-    ensures { result ≡ option_map (λ make. make n) (value_of kind.now option_kinds) }
-{
-    match kind {
-        "memory" => Some(CanonOption::Memory(n)),
-        "realloc" => Some(CanonOption::Realloc(n)),
-        "post-return" => Some(CanonOption::PostReturn(n)),
-        "callback" => Some(CanonOption::Callback(n)),
-        "core-type" => Some(CanonOption::CoreType(n)),
-        _ => None,
-    }
-}
-
-impl ReadForm for CanonOption {
-    ghost shape = { λ _. canon_option };
-
-    fn read<F: Form>(form: &F, alloc: Global, value: &Value) -> Result<CanonOption, DecodeError> {
-        if let Some(word) = value.as_str() {
-            return option_word(word).ok_or(DecodeError::BadForm);
-        }
-        match headed(value) {
-            Some((kind, [n])) => {
-                let n = u32::read(form, alloc, n)?;
-                numbered_option(kind, n).ok_or(DecodeError::BadForm)
-            }
-            _ => Err(DecodeError::BadForm),
-        }
-    }
-}
-
 /// A canonical function of a name alone. A component that has one is refused later on.
+#[tactic(auto, unfolding(crate::specs::Canon::of_nothing))]
 fn of_nothing(name: &str) -> Option<CanonItem>
     ensures { result ≡ value_of name.now of_nothing }
 {
@@ -79,6 +38,7 @@ fn of_nothing(name: &str) -> Option<CanonItem>
 }
 
 /// A canonical function of a signature.
+#[tactic(auto, unfolding(crate::specs::Canon::of_signature))]
 fn of_signature(name: &str, core: u32) -> Option<CanonItem>
     ensures { result ≡ option_map (λ make. make core) (value_of name.now of_signature) }
 {
@@ -103,7 +63,65 @@ fn of_signature(name: &str, core: u32) -> Option<CanonItem>
     }
 }
 
-/// A canonical function of a signature and one part.
+/// A canonical function of a signature alone, which stands in the input.
+fn of_signature_at<F: Form>(
+    form: &F,
+    alloc: Global,
+    name: &str,
+    core: &Value,
+) -> Result<CanonItem, DecodeError>
+    ensures { Reads result (numbered of_signature name.now (view core.now)) }
+{
+    let core = u32::read(form, alloc, core)?;
+    of_signature(name, core).ok_or(DecodeError::BadForm)
+}
+
+/// A canonical function of a signature and a number.
+#[tactic(auto, unfolding(crate::specs::Canon::of_index))]
+fn of_index(name: &str, core: u32, n: u32) -> Option<CanonItem>
+    ensures { result ≡ option_map (λ make. make n) (value_of name.now (of_index core)) }
+{
+    match name {
+        "resource.new" => Some(CanonItem::ResourceNew(core, n)),
+        "resource.rep" => Some(CanonItem::ResourceRep(core, n)),
+        "resource.drop" => Some(CanonItem::ResourceDrop(core, n)),
+        "waitable-set.wait" => Some(CanonItem::WaitableSetWait(core, n)),
+        "waitable-set.poll" => Some(CanonItem::WaitableSetPoll(core, n)),
+        "stream.new" => Some(CanonItem::StreamNew(core, n)),
+        "stream.drop-readable" => Some(CanonItem::StreamDropReadable(core, n)),
+        "stream.drop-writable" => Some(CanonItem::StreamDropWritable(core, n)),
+        "future.new" => Some(CanonItem::FutureNew(core, n)),
+        "future.drop-readable" => Some(CanonItem::FutureDropReadable(core, n)),
+        "future.drop-writable" => Some(CanonItem::FutureDropWritable(core, n)),
+        _ => None,
+    }
+}
+
+/// A canonical function of a signature, asynchronous or not.
+#[tactic(auto, unfolding(crate::specs::Canon::of_flag))]
+fn of_flag(name: &str, core: u32, async_: bool) -> Option<CanonItem>
+    ensures { result ≡ option_map (λ make. make async_) (value_of name.now (of_flag core)) }
+{
+    match name {
+        "subtask.cancel" => Some(CanonItem::SubtaskCancel(core, async_)),
+        _ => None,
+    }
+}
+
+/// A canonical function of a signature and options.
+#[tactic(auto, unfolding(crate::specs::Canon::of_options))]
+fn of_options(name: &str, core: u32, opts: Seq<CanonOption>) -> Option<CanonItem>
+    ensures { result ≡ option_map (λ make. make opts) (value_of name.now (of_options core)) }
+{
+    match name {
+        "error-context.new" => Some(CanonItem::ErrorContextNew(core, opts)),
+        "error-context.debug-message" => Some(CanonItem::ErrorContextDebugMessage(core, opts)),
+        _ => None,
+    }
+}
+
+/// A canonical function of a signature and one part. The part's shape tells apart what it may be.
+#[tactic(auto, unfolding(crate::specs::Canon::of_one))]
 fn of_one<F: Form>(
     form: &F,
     alloc: Global,
@@ -111,32 +129,73 @@ fn of_one<F: Form>(
     core: u32,
     part: &Value,
 ) -> Result<CanonItem, DecodeError>
-    ensures { Reads result (by_row (of_one core) name.now (view part.now)) }
+    ensures { Reads result (of_one core name.now (view part.now)) }
+{
+    if let Some(async_) = part.as_bool() {
+        return of_flag(name, core, async_).ok_or(DecodeError::BadForm);
+    }
+    if part.is_number() {
+        let n = u32::read(form, alloc, part)?;
+        return of_index(name, core, n).ok_or(DecodeError::BadForm);
+    }
+    let opts = read(form, alloc, part)?;
+    of_options(name, core, opts).ok_or(DecodeError::BadForm)
+}
+
+/// A canonical function of a signature and a stream or future type, asynchronous or not.
+#[tactic(auto, unfolding(crate::specs::Canon::of_cancel))]
+fn of_cancel(name: &str, core: u32, ty: u32, async_: bool) -> Option<CanonItem>
+    ensures { result ≡ option_map (λ make. make async_) (value_of name.now (of_cancel core ty)) }
 {
     match name {
-        "resource.new" => Ok(CanonItem::ResourceNew(core, read(form, alloc, part)?)),
-        "resource.rep" => Ok(CanonItem::ResourceRep(core, read(form, alloc, part)?)),
-        "resource.drop" => Ok(CanonItem::ResourceDrop(core, read(form, alloc, part)?)),
-        "waitable-set.wait" => Ok(CanonItem::WaitableSetWait(core, read(form, alloc, part)?)),
-        "waitable-set.poll" => Ok(CanonItem::WaitableSetPoll(core, read(form, alloc, part)?)),
-        "subtask.cancel" => Ok(CanonItem::SubtaskCancel(core, read(form, alloc, part)?)),
-        "stream.new" => Ok(CanonItem::StreamNew(core, read(form, alloc, part)?)),
-        "stream.drop-readable" => Ok(CanonItem::StreamDropReadable(core, read(form, alloc, part)?)),
-        "stream.drop-writable" => Ok(CanonItem::StreamDropWritable(core, read(form, alloc, part)?)),
-        "future.new" => Ok(CanonItem::FutureNew(core, read(form, alloc, part)?)),
-        "future.drop-readable" => Ok(CanonItem::FutureDropReadable(core, read(form, alloc, part)?)),
-        "future.drop-writable" => Ok(CanonItem::FutureDropWritable(core, read(form, alloc, part)?)),
-        "error-context.new" => Ok(CanonItem::ErrorContextNew(core, read(form, alloc, part)?)),
-        "error-context.debug-message" => Ok(CanonItem::ErrorContextDebugMessage(
-            core,
-            read(form, alloc, part)?,
-        )),
-        _ => Err(DecodeError::BadForm),
+        "stream.cancel-read" => Some(CanonItem::StreamCancelRead(core, ty, async_)),
+        "stream.cancel-write" => Some(CanonItem::StreamCancelWrite(core, ty, async_)),
+        "future.cancel-read" => Some(CanonItem::FutureCancelRead(core, ty, async_)),
+        "future.cancel-write" => Some(CanonItem::FutureCancelWrite(core, ty, async_)),
+        _ => None,
     }
 }
 
-/// A canonical function of a signature and two parts, of which the first is a stream or future type.
-fn of_transfer<F: Form>(
+/// A canonical function of a signature, a stream or future type, and options.
+#[tactic(auto, unfolding(crate::specs::Canon::of_copy))]
+fn of_copy(name: &str, core: u32, ty: u32, opts: Seq<CanonOption>) -> Option<CanonItem>
+    ensures { result ≡ option_map (λ make. make opts) (value_of name.now (of_copy core ty)) }
+{
+    match name {
+        "stream.read" => Some(CanonItem::StreamRead(core, ty, opts)),
+        "stream.write" => Some(CanonItem::StreamWrite(core, ty, opts)),
+        "future.read" => Some(CanonItem::FutureRead(core, ty, opts)),
+        "future.write" => Some(CanonItem::FutureWrite(core, ty, opts)),
+        _ => None,
+    }
+}
+
+/// A canonical function of a signature, the type of a slot, and the slot.
+#[tactic(auto, unfolding(crate::specs::Canon::of_slot))]
+fn of_slot(name: &str, core: u32, ty: WasmValType, slot: u32) -> Option<CanonItem>
+    ensures { result ≡ option_map (λ make. make slot) (value_of name.now (of_slot core ty)) }
+{
+    match name {
+        "context.get" => Some(CanonItem::ContextGet(core, ty, slot)),
+        "context.set" => Some(CanonItem::ContextSet(core, ty, slot)),
+        _ => None,
+    }
+}
+
+/// A canonical function of a signature, a start type, and a table.
+#[tactic(auto, unfolding(crate::specs::Canon::of_start))]
+fn of_start(name: &str, core: u32, ty: u32, table: u32) -> Option<CanonItem>
+    ensures { result ≡ option_map (λ make. make table) (value_of name.now (of_start core ty)) }
+{
+    match name {
+        "thread.new-indirect" => Some(CanonItem::ThreadNewIndirect(core, ty, table)),
+        _ => None,
+    }
+}
+
+/// A canonical function of a signature and two parts, of which the second is a number.
+#[tactic(auto, unfolding(crate::specs::Canon::of_two_numbered))]
+fn of_two_numbered<F: Form>(
     form: &F,
     alloc: Global,
     name: &str,
@@ -144,54 +203,42 @@ fn of_transfer<F: Form>(
     a: &Value,
     b: &Value,
 ) -> Result<CanonItem, DecodeError>
-    ensures { Reads result (by_row_of_two (of_transfer core) name.now (view a.now) (view b.now)) }
+    ensures { Reads result (of_two_numbered core name.now (view a.now) (view b.now)) }
 {
-    match name {
-        "stream.read" => Ok(CanonItem::StreamRead(
-            core,
-            read(form, alloc, a)?,
-            read(form, alloc, b)?,
-        )),
-        "stream.write" => Ok(CanonItem::StreamWrite(
-            core,
-            read(form, alloc, a)?,
-            read(form, alloc, b)?,
-        )),
-        "future.read" => Ok(CanonItem::FutureRead(
-            core,
-            read(form, alloc, a)?,
-            read(form, alloc, b)?,
-        )),
-        "future.write" => Ok(CanonItem::FutureWrite(
-            core,
-            read(form, alloc, a)?,
-            read(form, alloc, b)?,
-        )),
-        "stream.cancel-read" => Ok(CanonItem::StreamCancelRead(
-            core,
-            read(form, alloc, a)?,
-            read(form, alloc, b)?,
-        )),
-        "stream.cancel-write" => Ok(CanonItem::StreamCancelWrite(
-            core,
-            read(form, alloc, a)?,
-            read(form, alloc, b)?,
-        )),
-        "future.cancel-read" => Ok(CanonItem::FutureCancelRead(
-            core,
-            read(form, alloc, a)?,
-            read(form, alloc, b)?,
-        )),
-        "future.cancel-write" => Ok(CanonItem::FutureCancelWrite(
-            core,
-            read(form, alloc, a)?,
-            read(form, alloc, b)?,
-        )),
-        _ => Err(DecodeError::BadForm),
+    if a.is_number() {
+        let ty = u32::read(form, alloc, a)?;
+        let table = u32::read(form, alloc, b)?;
+        return of_start(name, core, ty, table).ok_or(DecodeError::BadForm);
     }
+    let ty = WasmValType::read(form, alloc, a)?;
+    let slot = u32::read(form, alloc, b)?;
+    of_slot(name, core, ty, slot).ok_or(DecodeError::BadForm)
 }
 
-/// A canonical function of a signature and any two parts.
+/// A canonical function of a signature and two parts, of which the second has options.
+#[tactic(auto, unfolding(crate::specs::Canon::of_two_with_options))]
+fn of_two_with_options<F: Form>(
+    form: &F,
+    alloc: Global,
+    name: &str,
+    core: u32,
+    a: &Value,
+    b: &Value,
+) -> Result<CanonItem, DecodeError>
+    ensures { Reads result (of_two_with_options core name.now (view a.now) (view b.now)) }
+{
+    if name == "task.return" {
+        let result = read(form, alloc, a)?;
+        let opts = read(form, alloc, b)?;
+        return Ok(CanonItem::TaskReturn(core, result, opts));
+    }
+    let ty = u32::read(form, alloc, a)?;
+    let opts = read(form, alloc, b)?;
+    of_copy(name, core, ty, opts).ok_or(DecodeError::BadForm)
+}
+
+/// A canonical function of a signature and two parts. The second's shape tells apart what they may be.
+#[tactic(auto, unfolding(crate::specs::Canon::of_two))]
 fn of_two<F: Form>(
     form: &F,
     alloc: Global,
@@ -200,34 +247,21 @@ fn of_two<F: Form>(
     a: &Value,
     b: &Value,
 ) -> Result<CanonItem, DecodeError>
-    ensures { Reads result (by_row_of_two (of_two core) name.now (view a.now) (view b.now)) }
+    ensures { Reads result (of_two core name.now (view a.now) (view b.now)) }
 {
-    match name {
-        "task.return" => Ok(CanonItem::TaskReturn(
-            core,
-            read(form, alloc, a)?,
-            read(form, alloc, b)?,
-        )),
-        "context.get" => Ok(CanonItem::ContextGet(
-            core,
-            read(form, alloc, a)?,
-            read(form, alloc, b)?,
-        )),
-        "context.set" => Ok(CanonItem::ContextSet(
-            core,
-            read(form, alloc, a)?,
-            read(form, alloc, b)?,
-        )),
-        "thread.new-indirect" => Ok(CanonItem::ThreadNewIndirect(
-            core,
-            read(form, alloc, a)?,
-            read(form, alloc, b)?,
-        )),
-        _ => of_transfer(form, alloc, name, core, a, b),
+    if let Some(async_) = b.as_bool() {
+        let ty = u32::read(form, alloc, a)?;
+        return of_cancel(name, core, ty, async_).ok_or(DecodeError::BadForm);
+    }
+    if b.is_number() {
+        of_two_numbered(form, alloc, name, core, a, b)
+    } else {
+        of_two_with_options(form, alloc, name, core, a, b)
     }
 }
 
 /// `lift` or `lower`.
+#[tactic(auto, unfolding(crate::specs::Canon::of_function))]
 fn of_function(
     name: &str,
     func: u32,
@@ -244,32 +278,60 @@ fn of_function(
     }
 }
 
+/// `lift` or `lower`, by its four parts.
+#[tactic(auto, unfolding(crate::specs::Canon::of_four))]
+fn of_four<F: Form>(
+    form: &F,
+    alloc: Global,
+    name: &str,
+    func: &Value,
+    ty: &Value,
+    core: &Value,
+    opts: &Value,
+) -> Result<CanonItem, DecodeError>
+    ensures { Reads result (of_four name.now (view func.now) (view ty.now) (view core.now) (view opts.now)) }
+{
+    let func = u32::read(form, alloc, func)?;
+    let ty = u32::read(form, alloc, ty)?;
+    let core = u32::read(form, alloc, core)?;
+    let opts = read(form, alloc, opts)?;
+    of_function(name, func, ty, core, opts).ok_or(DecodeError::BadForm)
+}
+
+/// A canonical function, by its name and what follows it.
+#[tactic(auto, unfolding(crate::specs::Canon::canon_from))]
+fn from_parts<F: Form>(
+    form: &F,
+    alloc: Global,
+    name: &str,
+    parts: &[Value],
+) -> Result<CanonItem, DecodeError>
+    ensures { Reads result (canon_from name.now (map view parts.now)) }
+{
+    match parts {
+        [] => of_nothing(name).ok_or(DecodeError::BadForm),
+        [core] => of_signature_at(form, alloc, name, core),
+        [core, a] => {
+            let core = u32::read(form, alloc, core)?;
+            of_one(form, alloc, name, core, a)
+        }
+        [core, a, b] => {
+            let core = u32::read(form, alloc, core)?;
+            of_two(form, alloc, name, core, a, b)
+        }
+        [func, ty, core, opts] => of_four(form, alloc, name, func, ty, core, opts),
+        _ => Err(DecodeError::BadForm),
+    }
+}
+
 impl ReadForm for CanonItem {
     ghost shape = { λ _. canon_item };
 
+    #[tactic(auto, unfolding(crate::specs::Canon::canon_item))]
     fn read<F: Form>(form: &F, alloc: Global, value: &Value) -> Result<CanonItem, DecodeError> {
         match headed(value) {
-            Some((name, [])) => of_nothing(name).ok_or(DecodeError::BadForm),
-            Some((name, [core])) => {
-                let core = u32::read(form, alloc, core)?;
-                of_signature(name, core).ok_or(DecodeError::BadForm)
-            }
-            Some((name, [core, part])) => {
-                let core = u32::read(form, alloc, core)?;
-                of_one(form, alloc, name, core, part)
-            }
-            Some((name, [core, a, b])) => {
-                let core = u32::read(form, alloc, core)?;
-                of_two(form, alloc, name, core, a, b)
-            }
-            Some((name, [func, ty, core, opts])) => {
-                let func = u32::read(form, alloc, func)?;
-                let ty = u32::read(form, alloc, ty)?;
-                let core = u32::read(form, alloc, core)?;
-                let opts = read(form, alloc, opts)?;
-                of_function(name, func, ty, core, opts).ok_or(DecodeError::BadForm)
-            }
-            _ => Err(DecodeError::BadForm),
+            Some((name, parts)) => from_parts(form, alloc, name, parts),
+            None => Err(DecodeError::BadForm),
         }
     }
 }

@@ -14,6 +14,7 @@ pub enum DecodeError {
     /// The bytes are JSON, and have another shape than an input.
     #[error("not of the input form")]
     BadForm,
+    /// There was no memory for the tree or the input.
     #[error("out of memory")]
     NoMemory,
 }

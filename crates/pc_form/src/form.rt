@@ -161,7 +161,7 @@ impl<T: ReadForm + Drop> ReadForm for Seq<T> {
 }
 
 /// Each value, read.
-pub fn all<T: ReadForm + Drop, F: Form>(
+pub(crate) fn all<T: ReadForm + Drop, F: Form>(
     form: &F,
     alloc: Global,
     values: &[Value],
@@ -176,7 +176,7 @@ pub fn all<T: ReadForm + Drop, F: Form>(
 }
 
 /// The member under a key, read.
-pub fn field<T: ReadForm, F: Form>(
+pub(crate) fn field<T: ReadForm, F: Form>(
     form: &F,
     alloc: Global,
     value: &Value,
@@ -191,7 +191,7 @@ pub fn field<T: ReadForm, F: Form>(
 }
 
 /// The entries of a section, each read.
-pub fn section<T: ReadForm + Drop, F: Form>(
+pub(crate) fn section<T: ReadForm + Drop, F: Form>(
     form: &F,
     alloc: Global,
     value: &Value,
@@ -205,7 +205,11 @@ pub fn section<T: ReadForm + Drop, F: Form>(
 }
 
 /// A value, read as the type that the caller wants.
-pub fn read<T: ReadForm, F: Form>(form: &F, alloc: Global, value: &Value) -> Result<T, DecodeError>
+pub(crate) fn read<T: ReadForm, F: Form>(
+    form: &F,
+    alloc: Global,
+    value: &Value,
+) -> Result<T, DecodeError>
     ensures { Reads result (T.shape (F.rules form.now) (view value.now)) }
 {
     T::read(form, alloc, value)

@@ -18,10 +18,13 @@ use std::alloc::Global;
 /// What a translation is asked for.
 #[derive(Drop)]
 pub struct Input {
+    /// The limit of component instances.
     pub tunables: Tunables,
     /// The import name under which the root finds the unsafe intrinsics, if it may have them.
     pub intrinsics: Option<Text>,
+    /// The core signatures and types that the payloads name by number.
     pub table: TypeTable,
+    /// The payloads in written order, those of nested components among them.
     pub payloads: Seq<Payload>,
 }
 

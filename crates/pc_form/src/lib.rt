@@ -3,6 +3,7 @@
 #![tactic(auto)]
 
 mod canon;
+mod canon_option;
 mod error;
 mod form;
 mod input;
@@ -16,6 +17,3 @@ mod words;
 
 pub use error::DecodeError;
 pub use input::{Input, decode_input};
-
-#[cfg(test)]
-mod tests;

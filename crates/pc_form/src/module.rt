@@ -6,7 +6,6 @@ ghost use Rattle.pc_form.specs.Reads.{Reads};
 
 use crate::DecodeError;
 use crate::form::{Form, field};
-use crate::names::core_items;
 use crate::tree::has_members;
 use pc_parsed::Payload;
 use pc_types::ModuleRecord;
@@ -15,15 +14,17 @@ use std::alloc::Global;
 
 /// An object of eight members: the type, imports, signatures of functions, a count of tables, a 64-bit flag for each
 /// memory, counts of globals and tags, exports.
-pub fn core_module<F: Form>(form: &F, alloc: Global, value: &Value) -> Result<Payload, DecodeError>
+#[tactic(auto, unfolding(crate::specs::Module::core_module))]
+pub(crate) fn core_module<F: Form>(
+    form: &F,
+    alloc: Global,
+    value: &Value,
+) -> Result<Payload, DecodeError>
     ensures { Reads result (core_module (F.rules form.now) (view value.now)) }
 {
     if !has_members(8, value) {
         return Err(DecodeError::BadForm);
     }
-    let Some(exports) = value.get("exports") else {
-        return Err(DecodeError::BadForm);
-    };
     let record_ = ModuleRecord {
         imports: field(form, alloc, value, "imports")?,
         funcs: field(form, alloc, value, "funcs")?,
@@ -31,7 +32,7 @@ pub fn core_module<F: Form>(form: &F, alloc: Global, value: &Value) -> Result<Pa
         memories: field(form, alloc, value, "memories")?,
         globals: field(form, alloc, value, "globals")?,
         tags: field(form, alloc, value, "tags")?,
-        exports: core_items(form, alloc, exports)?,
+        exports: field(form, alloc, value, "exports")?,
     };
     let ty = field(form, alloc, value, "ty")?;
     Ok(Payload::ModuleSection { record_, ty })

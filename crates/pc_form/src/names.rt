@@ -1,18 +1,10 @@
 //! Names, and the items of a core module that stand under a name.
 
-ghost use Rattle.std.specs.Prelude.{◌≡◌};
-ghost use Rattle.serde_json.specs.View.{view};
-ghost use Rattle.pc_entity.specs.Lists.{map_all};
-ghost use Rattle.pc_form.specs.Tree.{each};
-ghost use Rattle.pc_form.specs.Names.{extern_name, entity_of, core_item};
-ghost use Rattle.pc_form.specs.Reads.{Reads};
+ghost use Rattle.pc_form.specs.Names.{extern_name, core_item};
 
 use crate::DecodeError;
-use crate::form::{Form, ReadForm, read};
-use crate::tree::list;
-use pc_entity::{
-    EntityIndex, FuncIndex, GlobalIndex, MemoryIndex, Seq, TableIndex, TagIndex, Text,
-};
+use crate::form::{Form, ReadForm};
+use pc_entity::{EntityIndex, Text};
 use pc_parsed::ExternName;
 use pc_types::CoreKind;
 use serde_json::Value;
@@ -22,6 +14,7 @@ use std::alloc::Global;
 impl ReadForm for ExternName {
     ghost shape = { extern_name };
 
+    #[tactic(auto, unfolding(crate::specs::Names::extern_name))]
     fn read<F: Form>(form: &F, alloc: Global, value: &Value) -> Result<ExternName, DecodeError> {
         if value.is_array() {
             let (name, implements, external_id) = <(Text, Option<Text>, Option<Text>)>::read(
@@ -42,45 +35,17 @@ impl ReadForm for ExternName {
     }
 }
 
-/// The entity of a kind with a number.
-fn entity_of(kind: CoreKind, i: u32) -> EntityIndex
-    ensures { result ≡ entity_of kind i }
-{
-    match kind {
-        CoreKind::Func => EntityIndex::Function(FuncIndex(i)),
-        CoreKind::Table => EntityIndex::Table(TableIndex(i)),
-        CoreKind::Memory => EntityIndex::Memory(MemoryIndex(i)),
-        CoreKind::Global => EntityIndex::Global(GlobalIndex(i)),
-        CoreKind::Tag => EntityIndex::Tag(TagIndex(i)),
-    }
-}
-
 /// `["name", core kind, number]`.
-fn core_item<F: Form>(
-    form: &F,
-    alloc: Global,
-    value: &Value,
-) -> Result<(Text, EntityIndex), DecodeError>
-    ensures { Reads result (core_item (F.rules form.now) (view value.now)) }
-{
-    let (name, kind, i) = <(Text, CoreKind, u32)>::read(form, alloc, value)?;
-    Ok((name, entity_of(kind, i)))
-}
+impl ReadForm for (Text, EntityIndex) {
+    ghost shape = { core_item };
 
-/// A list of core items by name.
-pub fn core_items<F: Form>(
-    form: &F,
-    alloc: Global,
-    value: &Value,
-) -> Result<Seq<(Text, EntityIndex)>, DecodeError>
-    ensures { Reads result (each (core_item (F.rules form.now)) (view value.now)) }
-{
-    let Some(values) = list(value) else {
-        return Err(DecodeError::BadForm);
-    };
-    let mut found = Seq::with_capacity(alloc, values.len())?;
-    for value in values {
-        found.push(core_item(form, alloc, value)?)?;
+    #[tactic(auto, unfolding(crate::specs::Names::core_item))]
+    fn read<F: Form>(
+        form: &F,
+        alloc: Global,
+        value: &Value,
+    ) -> Result<(Text, EntityIndex), DecodeError> {
+        let (name, kind, i) = <(Text, CoreKind, u32)>::read(form, alloc, value)?;
+        Ok((name, kind.entity(i)))
     }
-    Ok(found)
 }

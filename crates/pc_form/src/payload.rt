@@ -16,6 +16,7 @@ use serde_json::Value;
 use std::alloc::Global;
 
 /// A payload without content.
+#[tactic(auto, unfolding(crate::specs::Payload::payload_words))]
 fn bare(word: &str) -> Option<Payload>
     ensures { result ≡ value_of word.now payload_words }
 {
@@ -36,6 +37,7 @@ fn bare(word: &str) -> Option<Payload>
 }
 
 /// A payload with content, by its key.
+#[tactic(auto, unfolding(crate::specs::Payload::payload_keys))]
 fn with_content<F: Form>(
     form: &F,
     alloc: Global,
@@ -62,6 +64,7 @@ fn with_content<F: Form>(
 impl ReadForm for Payload {
     ghost shape = { payload_of };
 
+    #[tactic(auto, unfolding(crate::specs::Payload::payload_of))]
     fn read<F: Form>(form: &F, alloc: Global, value: &Value) -> Result<Payload, DecodeError> {
         if let Some(word) = value.as_str() {
             return bare(word).ok_or(DecodeError::BadForm);

@@ -5,7 +5,6 @@ ghost use Rattle.pc_form.specs.Payload.{component_instance_item, alias_item};
 
 use crate::DecodeError;
 use crate::form::{Form, ReadForm, read};
-use crate::names::core_items;
 use crate::tree::tagged;
 use pc_parsed::{
     AliasItem, ComponentInstanceItem, ExportEntry, ImportItem, InstanceItem, TypeItem,
@@ -17,6 +16,7 @@ use std::alloc::Global;
 impl ReadForm for TypeItem {
     ghost shape = { λ _. type_item };
 
+    #[tactic(auto, unfolding(crate::specs::Payload::type_item))]
     fn read<F: Form>(form: &F, alloc: Global, value: &Value) -> Result<TypeItem, DecodeError> {
         if let Some(word) = value.as_str() {
             return if word == "other" {
@@ -39,6 +39,7 @@ impl ReadForm for TypeItem {
 impl ReadForm for ImportItem {
     ghost shape = { import_item };
 
+    #[tactic(auto, unfolding(crate::specs::Payload::import_item))]
     fn read<F: Form>(form: &F, alloc: Global, value: &Value) -> Result<ImportItem, DecodeError> {
         let (name, ty) = read(form, alloc, value)?;
         Ok(ImportItem { name, ty })
@@ -49,6 +50,7 @@ impl ReadForm for ImportItem {
 impl ReadForm for ExportEntry {
     ghost shape = { export_entry };
 
+    #[tactic(auto, unfolding(crate::specs::Payload::export_entry))]
     fn read<F: Form>(form: &F, alloc: Global, value: &Value) -> Result<ExportEntry, DecodeError> {
         let (name, kind, index) = read(form, alloc, value)?;
         Ok(ExportEntry { name, kind, index })
@@ -59,15 +61,14 @@ impl ReadForm for ExportEntry {
 impl ReadForm for InstanceItem {
     ghost shape = { instance_item };
 
+    #[tactic(auto, unfolding(crate::specs::Payload::instance_item))]
     fn read<F: Form>(form: &F, alloc: Global, value: &Value) -> Result<InstanceItem, DecodeError> {
         match tagged(value) {
             Some(("instantiate", body)) => {
                 let (module, args) = read(form, alloc, body)?;
                 Ok(InstanceItem::Instantiate { module, args })
             }
-            Some(("exports", body)) => Ok(InstanceItem::FromExports(core_items(
-                form, alloc, body,
-            )?)),
+            Some(("exports", body)) => Ok(InstanceItem::FromExports(read(form, alloc, body)?)),
             _ => Err(DecodeError::BadForm),
         }
     }
@@ -77,6 +78,7 @@ impl ReadForm for InstanceItem {
 impl ReadForm for ComponentInstanceItem {
     ghost shape = { component_instance_item };
 
+    #[tactic(auto, unfolding(crate::specs::Payload::component_instance_item))]
     fn read<F: Form>(
         form: &F,
         alloc: Global,
@@ -104,6 +106,7 @@ impl ReadForm for ComponentInstanceItem {
 impl ReadForm for AliasItem {
     ghost shape = { alias_item };
 
+    #[tactic(auto, unfolding(crate::specs::Payload::alias_item))]
     fn read<F: Form>(form: &F, alloc: Global, value: &Value) -> Result<AliasItem, DecodeError> {
         match tagged(value) {
             Some(("export", body)) => {

@@ -1,11 +1,11 @@
 //! The entries of the type table.
 
-ghost use Rattle.std.specs.Prelude.{◌≡◌, Option, Some, None, option_map, map, codes};
+ghost use Rattle.std.specs.Prelude.{◌≡◌, option_map};
 ghost use Rattle.serde_json.specs.View.{view};
 ghost use Rattle.pc_entity.specs.Lists.{value_of};
 ghost use Rattle.pc_form.specs.Types.{core_sig, val_type, entity, entity_kinds, core_entity};
-ghost use Rattle.pc_form.specs.Types.{bare_core_entities, core_entity_from, entity_from, func_type};
-ghost use Rattle.pc_form.specs.Types.{entry_keys, decl_type, type_table};
+ghost use Rattle.pc_form.specs.Types.{bare_core_entities, func_members, func_type, value_keys, entry_keys};
+ghost use Rattle.pc_form.specs.Types.{decl_type, type_table};
 ghost use Rattle.pc_form.specs.Tree.{by_row};
 ghost use Rattle.pc_form.specs.Reads.{Reads};
 
@@ -23,6 +23,7 @@ use std::alloc::Global;
 impl ReadForm for CoreFuncSig {
     ghost shape = { λ _. core_sig };
 
+    #[tactic(auto, unfolding(crate::specs::Types::core_sig))]
     fn read<F: Form>(form: &F, alloc: Global, value: &Value) -> Result<CoreFuncSig, DecodeError> {
         let (params, results) = <(Seq<WasmValType>, Seq<WasmValType>)>::read(form, alloc, value)?;
         Ok(CoreFuncSig { params, results })
@@ -33,6 +34,7 @@ impl ReadForm for CoreFuncSig {
 impl ReadForm for ValType {
     ghost shape = { λ _. val_type };
 
+    #[tactic(auto, unfolding(crate::specs::Types::val_type))]
     fn read<F: Form>(form: &F, alloc: Global, value: &Value) -> Result<ValType, DecodeError> {
         if value.is_number() {
             Ok(ValType::Type_(u32::read(form, alloc, value)?))
@@ -43,6 +45,7 @@ impl ReadForm for ValType {
 }
 
 /// An entity of a kind and a number.
+#[tactic(auto, unfolding(crate::specs::Types::entity_kinds))]
 fn numbered_entity(kind: &str, n: u32) -> Option<Entity>
     ensures { result ≡ option_map (λ make. make n) (value_of kind.now entity_kinds) }
 {
@@ -60,6 +63,7 @@ fn numbered_entity(kind: &str, n: u32) -> Option<Entity>
 impl ReadForm for Entity {
     ghost shape = { λ _. entity };
 
+    #[tactic(auto, unfolding(crate::specs::Types::entity))]
     fn read<F: Form>(form: &F, alloc: Global, value: &Value) -> Result<Entity, DecodeError> {
         match headed(value) {
             Some(("value", [])) => Ok(Entity::Value),
@@ -73,6 +77,7 @@ impl ReadForm for Entity {
 }
 
 /// A core entity that its kind alone says.
+#[tactic(auto, unfolding(crate::specs::Types::bare_core_entities))]
 fn bare_core_entity(kind: &str) -> Option<CoreEntity>
     ensures { result ≡ value_of kind.now bare_core_entities }
 {
@@ -88,6 +93,7 @@ fn bare_core_entity(kind: &str) -> Option<CoreEntity>
 impl ReadForm for CoreEntity {
     ghost shape = { λ _. core_entity };
 
+    #[tactic(auto, unfolding(crate::specs::Types::core_entity))]
     fn read<F: Form>(form: &F, alloc: Global, value: &Value) -> Result<CoreEntity, DecodeError> {
         match headed(value) {
             Some((kind, [])) => bare_core_entity(kind).ok_or(DecodeError::BadForm),
@@ -100,21 +106,62 @@ impl ReadForm for CoreEntity {
     }
 }
 
-/// `{"params":[["name",V],...],"result":V?,"async":bool}`.
-fn func_type<F: Form>(form: &F, alloc: Global, value: &Value) -> Result<DeclType, DecodeError>
-    ensures { Reads result (func_type (F.rules form.now) (view value.now)) }
+/// A function type, by its members.
+#[tactic(auto, unfolding(crate::specs::Types::func_members))]
+fn func_members<F: Form>(form: &F, alloc: Global, value: &Value) -> Result<DeclType, DecodeError>
+    ensures { Reads result (func_members (F.rules form.now) (view value.now)) }
 {
-    if !has_members(3, value) {
-        return Err(DecodeError::BadForm);
-    }
+    let params = field(form, alloc, value, "params")?;
+    let result = field(form, alloc, value, "result")?;
+    let async_ = field(form, alloc, value, "async")?;
     Ok(DeclType::Func {
-        params: field(form, alloc, value, "params")?,
-        result: field(form, alloc, value, "result")?,
-        async_: field(form, alloc, value, "async")?,
+        params,
+        result,
+        async_,
     })
 }
 
+/// `{"params":[["name",V],...],"result":V?,"async":bool}`.
+#[tactic(auto, unfolding(crate::specs::Types::func_type))]
+fn func_type<F: Form>(form: &F, alloc: Global, value: &Value) -> Result<DeclType, DecodeError>
+    ensures { Reads result (func_type (F.rules form.now) (view value.now)) }
+{
+    if has_members(3, value) {
+        func_members(form, alloc, value)
+    } else {
+        Err(DecodeError::BadForm)
+    }
+}
+
+/// An entry over value types or resources, by its key.
+#[tactic(auto, unfolding(crate::specs::Types::value_keys))]
+fn value_entry<F: Form>(
+    form: &F,
+    alloc: Global,
+    key: &str,
+    value: &Value,
+) -> Result<DeclType, DecodeError>
+    ensures { Reads result (by_row value_keys key.now (view value.now)) }
+{
+    match key {
+        "val" => Ok(DeclType::Val(read(form, alloc, value)?)),
+        "list" => Ok(DeclType::List(read(form, alloc, value)?)),
+        "option" => Ok(DeclType::Option(read(form, alloc, value)?)),
+        "tuple" => Ok(DeclType::Tuple(read(form, alloc, value)?)),
+        "result" => {
+            let (ok, err) = read(form, alloc, value)?;
+            Ok(DeclType::Result { ok, err })
+        }
+        "own" => Ok(DeclType::Own(read(form, alloc, value)?)),
+        "borrow" => Ok(DeclType::Borrow(read(form, alloc, value)?)),
+        "stream" => Ok(DeclType::Stream(read(form, alloc, value)?)),
+        "future" => Ok(DeclType::Future(read(form, alloc, value)?)),
+        _ => Err(DecodeError::BadForm),
+    }
+}
+
 /// An entry that is an object, by its key.
+#[tactic(auto, unfolding(crate::specs::Types::entry_keys))]
 fn entry<F: Form>(
     form: &F,
     alloc: Global,
@@ -125,22 +172,10 @@ fn entry<F: Form>(
 {
     match key {
         "func" => func_type(form, alloc, value),
-        "val" => Ok(DeclType::Val(read(form, alloc, value)?)),
-        "list" => Ok(DeclType::List(read(form, alloc, value)?)),
-        "option" => Ok(DeclType::Option(read(form, alloc, value)?)),
         "record" => Ok(DeclType::Record(read(form, alloc, value)?)),
         "variant" => Ok(DeclType::Variant(read(form, alloc, value)?)),
-        "tuple" => Ok(DeclType::Tuple(read(form, alloc, value)?)),
         "flags" => Ok(DeclType::Flags(read(form, alloc, value)?)),
         "enum" => Ok(DeclType::Enum(read(form, alloc, value)?)),
-        "result" => {
-            let (ok, err) = read(form, alloc, value)?;
-            Ok(DeclType::Result { ok, err })
-        }
-        "own" => Ok(DeclType::Own(read(form, alloc, value)?)),
-        "borrow" => Ok(DeclType::Borrow(read(form, alloc, value)?)),
-        "stream" => Ok(DeclType::Stream(read(form, alloc, value)?)),
-        "future" => Ok(DeclType::Future(read(form, alloc, value)?)),
         "instance" => Ok(DeclType::Instance {
             exports: read(form, alloc, value)?,
         }),
@@ -152,7 +187,7 @@ fn entry<F: Form>(
             let (imports, exports) = read(form, alloc, value)?;
             Ok(DeclType::Module { imports, exports })
         }
-        _ => Err(DecodeError::BadForm),
+        _ => value_entry(form, alloc, key, value),
     }
 }
 
@@ -160,6 +195,7 @@ fn entry<F: Form>(
 impl ReadForm for DeclType {
     ghost shape = { decl_type };
 
+    #[tactic(auto, unfolding(crate::specs::Types::decl_type))]
     fn read<F: Form>(form: &F, alloc: Global, value: &Value) -> Result<DeclType, DecodeError> {
         if let Some(word) = value.as_str() {
             return if word == "resource" {
@@ -179,6 +215,7 @@ impl ReadForm for DeclType {
 impl ReadForm for TypeTable {
     ghost shape = { type_table };
 
+    #[tactic(auto, unfolding(crate::specs::Types::type_table))]
     fn read<F: Form>(form: &F, alloc: Global, value: &Value) -> Result<TypeTable, DecodeError> {
         if !has_members(2, value) {
             return Err(DecodeError::BadForm);

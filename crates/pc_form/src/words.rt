@@ -9,6 +9,7 @@ use pc_types::{CoreKind, PrimType, WasmValType};
 impl Word for WasmValType {
     ghost words = { core_types };
 
+    #[tactic(auto, unfolding(crate::specs::Words::core_types))]
     fn of(word: &str) -> Option<WasmValType> {
         match word {
             "i32" => Some(WasmValType::I32),
@@ -26,6 +27,7 @@ impl Word for WasmValType {
 impl Word for PrimType {
     ghost words = { prim_types };
 
+    #[tactic(auto, unfolding(crate::specs::Words::prim_types))]
     fn of(word: &str) -> Option<PrimType> {
         match word {
             "bool" => Some(PrimType::Bool),
@@ -50,6 +52,7 @@ impl Word for PrimType {
 impl Word for CoreKind {
     ghost words = { core_kinds };
 
+    #[tactic(auto, unfolding(crate::specs::Words::core_kinds))]
     fn of(word: &str) -> Option<CoreKind> {
         match word {
             "func" => Some(CoreKind::Func),
@@ -65,6 +68,7 @@ impl Word for CoreKind {
 impl Word for ItemKind {
     ghost words = { item_kinds };
 
+    #[tactic(auto, unfolding(crate::specs::Words::item_kinds))]
     fn of(word: &str) -> Option<ItemKind> {
         match word {
             "func" => Some(ItemKind::Func),
@@ -81,6 +85,7 @@ impl Word for ItemKind {
 impl Word for OuterKind {
     ghost words = { outer_kinds };
 
+    #[tactic(auto, unfolding(crate::specs::Words::outer_kinds))]
     fn of(word: &str) -> Option<OuterKind> {
         match word {
             "core-type" => Some(OuterKind::CoreType),

@@ -32,30 +32,38 @@ pub record TypeNumber : Type 0 where
   pub kind : TypeKind
   pub number : ℕ
 
+-- a function type, by its number
 abbrev pub func_type : ℕ → TypeNumber
 func_type n = record { kind = kind.Func; number = n }
 
+-- a core signature, by its number
 abbrev pub signature : ℕ → TypeNumber
 signature n = record { kind = kind.Signature; number = n }
 
+-- an item of a core instance: by its entity, or by its name
 abbrev pub item_view : ExportItem EntityIndex → ExportedItem
 item_view (item.Index e) = by_index e
 item_view (item.Name name) = by_name name
 
+-- a definition: an item of a core instance that was made before
 abbrev pub def_view : CoreDef → plan.Definition
 def_view (def.Export e) = plan.export e.instance.0 (item_view e.item)
 
+-- a module of the plan with its arguments, and the component instance that it is made for
 abbrev pub source_view : InstantiateModule → Option RuntimeComponentInstanceIndex → plan.Initializer
 source_view (source.Static m args) c =
     plan.instantiate_static m.0 (map def_view args) (option_map (λ (i : RuntimeComponentInstanceIndex). i.0) c)
 
+-- a step
 abbrev pub initializer_view : GlobalInitializer → plan.Initializer
 initializer_view (init.InstantiateModule m c) = source_view m c
 
+-- where values lie: in the heap, or in a memory with a realloc
 abbrev pub model_view : CanonicalOptionsDataModel → plan.ModelEntry
 model_view model.Gc = plan.gc
 model_view (model.LinearMemory o) = plan.linear (option_map (λ m. m.0) o.memory) (option_map (λ r. r.0) o.realloc)
 
+-- the options of a lifted function
 abbrev pub options_view : CanonicalOptions → plan.PlanOptions TypeNumber
 options_view o = record {
   component_instance = o.instance.0;
@@ -67,14 +75,17 @@ options_view o = record {
   model = model_view o.data_model;
 }
 
+-- an item of the exports
 abbrev pub export_view : Export → plan.PlanExport TypeNumber
 export_view (export.LiftedFunction ty func options) = plan.lifted (func_type ty.0) (def_view func) options.0
 
 -- a named export, where its item is held (`has_items` says that each is)
-abbrev pub named_view : List Export → List ℕ × (ExportIndex × ComponentExternData) → Option (plan.NamedExport TypeNumber)
+abbrev pub named_view : List Export → List ℕ × (ExportIndex × ComponentExternData)
+    → Option (plan.NamedExport TypeNumber)
 named_view items e =
     option_map (λ x. record { name = e.0; extern_data = e.1.1; item = export_view x }) (slice_get items e.1.0.0)
 
+-- how many entries of each kind a run makes
 abbrev pub counts_view : Component → plan.Counts
 counts_view c = record {
   runtime_instances = c.num_runtime_instances;
@@ -91,6 +102,7 @@ counts_view c = record {
   error_context_tables = c.num_error_context_tables;
 }
 
+-- a module of the plan, as it was handed in
 abbrev pub module_view : ModuleTranslation → ModuleRecord
 module_view m = m.module
 
@@ -114,4 +126,5 @@ view t modules = record {
 -- whether each name of the exports has an item
 abbrev pub has_items : ComponentTranslation → Bool
 has_items t =
-    list_all (λ (e : List ℕ × (ExportIndex × ComponentExternData)). nat_lt e.1.0.0 (length t.component.export_items)) t.component.exports
+    list_all (λ (e : List ℕ × (ExportIndex × ComponentExternData)). nat_lt e.1.0.0 (length t.component.export_items))
+    t.component.exports

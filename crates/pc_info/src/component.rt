@@ -11,6 +11,7 @@ use pc_types::{ComponentExternData, ModuleRecord};
 pub struct Component {
     /// The exports of the root component in written order, each an item of `export_items`.
     pub exports: TextMap<(ExportIndex, ComponentExternData)>,
+    /// What each export is.
     pub export_items: PrimaryMap<ExportIndex, Export>,
     /// The steps of the plan, in order.
     pub initializers: Seq<GlobalInitializer>,
@@ -26,17 +27,20 @@ pub struct Component {
     pub num_future_tables: usize,
     pub num_stream_tables: usize,
     pub num_error_context_tables: usize,
+    /// The options of lifted functions, which exports name by number.
     pub options: PrimaryMap<OptionsIndex, CanonicalOptions>,
 }
 
 /// What a translation makes of a component.
 #[derive(Drop)]
 pub struct ComponentTranslation {
+    /// The plan.
     pub component: Component,
 }
 
 /// A core module that a plan instantiates.
 #[derive(Drop)]
 pub struct ModuleTranslation {
+    /// What the module imports, defines and exports.
     pub module: ModuleRecord,
 }

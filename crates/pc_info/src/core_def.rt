@@ -13,14 +13,18 @@ pub enum CoreDef {
 /// An item of a core instance.
 #[derive(Drop)]
 pub struct CoreExport<T> {
+    /// The core instance, by its number in the run.
     pub instance: RuntimeInstanceIndex,
+    /// The item of it.
     pub item: ExportItem<T>,
 }
 
 /// Which item of a core instance: an entity of its module, where the module is known, or else a name.
 #[derive(Drop)]
 pub enum ExportItem<T> {
+    /// By the entity of its module, which is known.
     Index(T),
+    /// By the name of the export.
     Name(Text),
 }
 

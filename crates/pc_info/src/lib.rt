@@ -16,6 +16,3 @@ pub use core_def::{CoreDef, CoreExport, ExportItem};
 pub use export::Export;
 pub use initializer::{GlobalInitializer, InstantiateModule};
 pub use options::{CanonicalOptions, CanonicalOptionsDataModel, LinearMemoryOptions};
-
-#[cfg(test)]
-mod tests;

@@ -13,12 +13,17 @@ use pc_types::{ModuleInternedTypeIndex, StringEncoding};
 pub struct CanonicalOptions {
     /// The component instance that the function was lifted or lowered in.
     pub instance: RuntimeComponentInstanceIndex,
+    /// How its strings are encoded.
     pub string_encoding: StringEncoding,
+    /// The slot of the function that goes on with an asynchronous call.
     pub callback: Option<RuntimeCallbackIndex>,
+    /// The slot of the function that is called when the results are read.
     pub post_return: Option<RuntimePostReturnIndex>,
+    /// Whether a call may return before its results are there.
     pub async_: bool,
     /// The core signature, a number of the types builder.
     pub core_type: ModuleInternedTypeIndex,
+    /// Where its values lie.
     pub data_model: CanonicalOptionsDataModel,
 }
 
@@ -31,9 +36,12 @@ pub enum CanonicalOptionsDataModel {
     LinearMemory(LinearMemoryOptions),
 }
 
+/// The slots of the memory that holds a function's values, and of the function that makes room in it.
 #[derive(Clone, Copy, PartialEq, Eq, Hash)]
 pub struct LinearMemoryOptions {
+    /// None where no value lies in memory.
     pub memory: Option<RuntimeMemoryIndex>,
+    /// None where no value needs new room.
     pub realloc: Option<RuntimeReallocIndex>,
 }
 

@@ -24,7 +24,8 @@ module _ {A B : Type 0} (h : A → Option B) (f : B → List ℕ) where
       lines (drop i xs) ≡ lines (x ∷ []) ++ lines (drop (i + 1) xs)
   lines_from xs i x at =
       let rest = drop (i + 1) xs in
-      rw (drop_at xs i x at, filter_map-append h (x ∷ []) rest, flat_map-append f (filter_map h (x ∷ [])) (filter_map h rest))
+      let both = flat_map-append f (filter_map h (x ∷ [])) (filter_map h rest) in
+      rw (drop_at xs i x at, filter_map-append h (x ∷ []) rest, both)
 
   -- the line of one entry was appended, and those after it are left
   pub entry_done : (start before after : List ℕ) (xs : List A) (i : ℕ) (x : A) → slice_get xs i ≡ Some x

@@ -46,7 +46,7 @@ fn put_core_export(out: &mut Vec<u8>, export: &CoreExport<EntityIndex>) -> Resul
 }
 
 /// What an argument, a slot or an export is made of.
-pub fn put_definition(out: &mut Vec<u8>, def: &CoreDef) -> Result<(), NoMemory>
+pub(crate) fn put_definition(out: &mut Vec<u8>, def: &CoreDef) -> Result<(), NoMemory>
     ensures { OnOk result (out.new.items ≡ out.old.items ++ definition (def_view def.now)) }
 {
     match def {
@@ -62,7 +62,7 @@ fn put_separator(out: &mut Vec<u8>, place: usize) -> Result<(), NoMemory>
 }
 
 /// The definitions with a comma and a space between them.
-pub fn put_definitions(out: &mut Vec<u8>, defs: &[CoreDef]) -> Result<(), NoMemory>
+pub(crate) fn put_definitions(out: &mut Vec<u8>, defs: &[CoreDef]) -> Result<(), NoMemory>
     ensures { OnOk result (out.new.items ≡ out.old.items ++ listed (definitions (map def_view defs.now))) }
 {
     for (place, def) in defs.iter().enumerate() {

@@ -4,7 +4,8 @@ ghost use Rattle.std.specs.Prelude.{◌≡◌, ◌++◌, ◌∷◌, [], ℕ, Lis
 ghost use Rattle.std.specs.List.{filter_map, flat_map, list_all};
 ghost use Rattle.pc_numbers.specs.declared.runtime.ExportIndex.{ExportIndex};
 ghost use Rattle.pc_types.specs.declared.types.ComponentExternData.{ComponentExternData};
-ghost use Rattle.pc_semantics.specs.Text.{definition, export_lines, extern_data, id_data, implements_data, named_lines, number, quoted};
+ghost use Rattle.pc_semantics.specs.Text.{definition, export_lines, extern_data, id_data, implements_data};
+ghost use Rattle.pc_semantics.specs.Text.{named_lines, number, quoted};
 ghost use Rattle.pc_info.specs.View.{def_view, export_view, named_view};
 
 use crate::definition::put_definition;
@@ -89,7 +90,7 @@ fn put_entry(
 }
 
 /// A line for each export, in written order.
-pub fn put_exports(
+pub(crate) fn put_exports(
     out: &mut Vec<u8>,
     exports: &TextMap<(ExportIndex, ComponentExternData)>,
     items: &PrimaryMap<ExportIndex, Export>,

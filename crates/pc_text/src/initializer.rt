@@ -55,7 +55,10 @@ fn put_initializer(out: &mut Vec<u8>, step: &GlobalInitializer) -> Result<(), No
 }
 
 /// A line for each step, in order.
-pub fn put_initializers(out: &mut Vec<u8>, steps: &[GlobalInitializer]) -> Result<(), NoMemory>
+pub(crate) fn put_initializers(
+    out: &mut Vec<u8>,
+    steps: &[GlobalInitializer],
+) -> Result<(), NoMemory>
     ensures { OnOk result (out.new.items
         ≡ out.old.items ++ flat_map initializer_line (map initializer_view steps.now)) }
 {

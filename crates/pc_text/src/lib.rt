@@ -1,9 +1,10 @@
 //! The printed texts: of a plan, of a refusal, and of the usage.
 //!
-//! A plan or an `Error` goes in, and its text comes out as bytes. `pc_semantics` defines the text of a plan, over the view
-//! that `pc_info` gives of one; the other texts are defined here.
+//! A plan or an `Error` goes in, and its text comes out as bytes. `pc_semantics` defines the text of a plan, over the
+//! view that `pc_info` gives of one; the other texts are defined here.
 #![tactic(auto)]
 
+mod context;
 mod definition;
 mod export;
 mod fault;
@@ -12,9 +13,8 @@ mod initializer;
 mod options;
 mod piece;
 mod plan;
-#[cfg(test)]
-mod tests;
 
+pub use context::context_text;
 pub use fault::fault_text;
 pub use fixed::{bad_form_text, not_json_text, too_long_text, usage_text};
 pub use plan::plan_text;

@@ -60,7 +60,7 @@ fn put_options_line(out: &mut Vec<u8>, n: usize, options: &CanonicalOptions) -> 
 }
 
 /// A line for each entry of the plan's options, with its number.
-pub fn put_all_options(out: &mut Vec<u8>, all: &[CanonicalOptions]) -> Result<(), NoMemory>
+pub(crate) fn put_all_options(out: &mut Vec<u8>, all: &[CanonicalOptions]) -> Result<(), NoMemory>
     ensures { OnOk result (out.new.items
         ≡ out.old.items ++ numbered options_line 0 (map options_view all.now)) }
 {

@@ -9,7 +9,7 @@ use itoa::Buffer;
 use pc_entity::{EntityRef, NoMemory};
 
 /// The text as it is.
-pub fn put(out: &mut Vec<u8>, text: &str) -> Result<(), NoMemory>
+pub(crate) fn put(out: &mut Vec<u8>, text: &str) -> Result<(), NoMemory>
     ensures { OnOk result (out.new.items ≡ out.old.items ++ text.now) }
 {
     out.extend_from_slice(text.as_bytes())?;
@@ -17,7 +17,7 @@ pub fn put(out: &mut Vec<u8>, text: &str) -> Result<(), NoMemory>
 }
 
 /// A number, with no space before it.
-pub fn put_decimal(out: &mut Vec<u8>, n: u64) -> Result<(), NoMemory>
+pub(crate) fn put_decimal(out: &mut Vec<u8>, n: u64) -> Result<(), NoMemory>
     ensures { OnOk result (out.new.items ≡ out.old.items ++ decimal n) }
 {
     let mut digits = Buffer::new();
@@ -25,7 +25,7 @@ pub fn put_decimal(out: &mut Vec<u8>, n: u64) -> Result<(), NoMemory>
 }
 
 /// A number after a space.
-pub fn put_number(out: &mut Vec<u8>, n: u64) -> Result<(), NoMemory>
+pub(crate) fn put_number(out: &mut Vec<u8>, n: u64) -> Result<(), NoMemory>
     ensures { OnOk result (out.new.items ≡ out.old.items ++ number n) }
 {
     put(out, " ")?;
@@ -33,7 +33,7 @@ pub fn put_number(out: &mut Vec<u8>, n: u64) -> Result<(), NoMemory>
 }
 
 /// Each number after a space.
-pub fn put_numbers(out: &mut Vec<u8>, numbers: &[u64]) -> Result<(), NoMemory>
+pub(crate) fn put_numbers(out: &mut Vec<u8>, numbers: &[u64]) -> Result<(), NoMemory>
     ensures { OnOk result (out.new.items ≡ out.old.items ++ flat_map number numbers.now) }
 {
     for n in numbers {
@@ -43,14 +43,14 @@ pub fn put_numbers(out: &mut Vec<u8>, numbers: &[u64]) -> Result<(), NoMemory>
 }
 
 /// The number of a key after a space.
-pub fn put_key<K: EntityRef>(out: &mut Vec<u8>, key: K) -> Result<(), NoMemory>
+pub(crate) fn put_key<K: EntityRef>(out: &mut Vec<u8>, key: K) -> Result<(), NoMemory>
     ensures { OnOk result (out.new.items ≡ out.old.items ++ number (K.number key)) }
 {
     put_number(out, u64::from(key.as_u32()))
 }
 
 /// The number of a key after a space, or a dash where there is none.
-pub fn put_maybe_key<K: EntityRef>(out: &mut Vec<u8>, key: Option<K>) -> Result<(), NoMemory>
+pub(crate) fn put_maybe_key<K: EntityRef>(out: &mut Vec<u8>, key: Option<K>) -> Result<(), NoMemory>
     ensures { OnOk result (out.new.items ≡ out.old.items ++ maybe_number (option_map K.number key)) }
 {
     match key {
@@ -60,7 +60,7 @@ pub fn put_maybe_key<K: EntityRef>(out: &mut Vec<u8>, key: Option<K>) -> Result<
 }
 
 /// A name between double quotes, in which a quote, a backslash and a line feed stand behind a backslash.
-pub fn put_quoted(out: &mut Vec<u8>, name: &str) -> Result<(), NoMemory>
+pub(crate) fn put_quoted(out: &mut Vec<u8>, name: &str) -> Result<(), NoMemory>
     ensures { OnOk result (out.new.items ≡ out.old.items ++ quoted name.now) }
 {
     put(out, "\"")?;

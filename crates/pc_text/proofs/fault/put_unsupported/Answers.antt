@@ -5,4 +5,5 @@ use Rattle.pc_text.proofs.fault.put_unsupported.Goals as goal
 pub returns : goal.returns
 returns c =
     then_holds c.put-3.result c.put-3.ensures
-    (λ e. rw (e, c.in_ok-put_place.ensures, c.in_ok-put-2.ensures, c.word.ensures, c.in_ok-put.ensures) (simp append_assoc))
+    (λ e. rw (e, c.in_ok-put_place.ensures, c.in_ok-put-2.ensures, c.word.ensures, c.in_ok-put.ensures)
+    (simp append_assoc))

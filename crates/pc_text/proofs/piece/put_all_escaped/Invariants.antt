@@ -4,4 +4,5 @@ use Rattle.pc_semantics.specs.Text.{escaped}
 use Rattle.pc_text.proofs.piece.put_all_escaped.Given as goal
 
 abbrev pub invariant-loop-byte : goal.invariant-loop-byte
-invariant-loop-byte l = l.out.items ++ flat_map escaped (drop l.byte-index l.bytes) ≡ l.fn.out.items ++ flat_map escaped l.bytes
+invariant-loop-byte l =
+    l.out.items ++ flat_map escaped (drop l.byte-index l.bytes) ≡ l.fn.out.items ++ flat_map escaped l.bytes

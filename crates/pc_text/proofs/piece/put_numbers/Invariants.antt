@@ -4,4 +4,5 @@ use Rattle.pc_semantics.specs.Text.{number}
 use Rattle.pc_text.proofs.piece.put_numbers.Given as goal
 
 abbrev pub invariant-loop-n : goal.invariant-loop-n
-invariant-loop-n l = l.out.items ++ flat_map number (drop l.n-index l.numbers) ≡ l.fn.out.items ++ flat_map number l.numbers
+invariant-loop-n l =
+    l.out.items ++ flat_map number (drop l.n-index l.numbers) ≡ l.fn.out.items ++ flat_map number l.numbers

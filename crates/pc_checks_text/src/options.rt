@@ -1,0 +1,79 @@
+//! Options that are equal, and options that differ in one field.
+
+use pc_entity::{
+    ExactEq, RuntimeCallbackIndex, RuntimeComponentInstanceIndex, RuntimeMemoryIndex,
+    RuntimePostReturnIndex, RuntimeReallocIndex,
+};
+use pc_info::{CanonicalOptions, CanonicalOptionsDataModel, LinearMemoryOptions};
+use pc_types::{ModuleInternedTypeIndex, StringEncoding};
+
+const SLOTS: LinearMemoryOptions = LinearMemoryOptions {
+    memory: Some(RuntimeMemoryIndex(5)),
+    realloc: Some(RuntimeReallocIndex(6)),
+};
+
+/// Options of which each field has a value of its own.
+const OPTIONS: CanonicalOptions = CanonicalOptions {
+    instance: RuntimeComponentInstanceIndex(1),
+    string_encoding: StringEncoding::Utf16,
+    callback: Some(RuntimeCallbackIndex(2)),
+    post_return: Some(RuntimePostReturnIndex(3)),
+    async_: true,
+    core_type: ModuleInternedTypeIndex(4),
+    data_model: CanonicalOptionsDataModel::LinearMemory(SLOTS),
+};
+
+/// Options that differ from those in one field each.
+const OTHERS: [CanonicalOptions; 7] = [
+    CanonicalOptions {
+        instance: RuntimeComponentInstanceIndex(0),
+        ..OPTIONS
+    },
+    CanonicalOptions {
+        string_encoding: StringEncoding::CompactUtf16,
+        ..OPTIONS
+    },
+    CanonicalOptions {
+        callback: None,
+        ..OPTIONS
+    },
+    CanonicalOptions {
+        post_return: Some(RuntimePostReturnIndex(2)),
+        ..OPTIONS
+    },
+    CanonicalOptions {
+        async_: false,
+        ..OPTIONS
+    },
+    CanonicalOptions {
+        core_type: ModuleInternedTypeIndex(5),
+        ..OPTIONS
+    },
+    CanonicalOptions {
+        data_model: CanonicalOptionsDataModel::Gc {},
+        ..OPTIONS
+    },
+];
+
+#[test]
+fn options_are_equal_where_each_field_is(rt: HostRuntime) {
+    assert!(rt; OPTIONS == OPTIONS);
+    for (n, other) in OTHERS.iter().enumerate() {
+        assert!(rt; OPTIONS != *other, "at {n}");
+    }
+}
+
+#[test]
+fn models_are_the_same_by_memory_and_realloc(rt: HostRuntime) {
+    let without = LinearMemoryOptions {
+        realloc: None,
+        ..SLOTS
+    };
+    assert!(rt; SLOTS.is_same(&SLOTS) && !SLOTS.is_same(&without));
+    assert!(rt; OPTIONS.data_model.is_same(&OPTIONS.data_model));
+    assert!(rt;
+        !OPTIONS
+            .data_model
+            .is_same(&CanonicalOptionsDataModel::Gc {})
+    );
+}
