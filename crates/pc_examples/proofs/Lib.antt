@@ -1,0 +1,2 @@
+-- What the answers unfold.
+pub mod OnLiterals

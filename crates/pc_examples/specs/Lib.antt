@@ -1,0 +1,24 @@
+-- What the clauses rest on, in reading order.
+pub mod Means
+pub mod Words
+pub mod Flat
+pub mod Functions
+pub mod Host
+pub mod Modules
+pub mod Imports
+pub mod Nested
+pub mod Captures
+pub mod Resources
+pub mod Builtins
+pub mod OtherBuiltins
+pub mod Exports
+pub mod Refused
+pub mod Adapters
+pub mod AdapterParts
+pub mod EqualAdapters
+pub mod Strings
+pub mod UsualTools
+pub mod Bounds
+pub mod Deep
+pub mod StaticRows
+pub mod StaticKinds
