@@ -1,0 +1,4 @@
+-- running sums
+pub mod LayoutLemmas
+-- the fields of a context
+pub mod ContextLemmas
