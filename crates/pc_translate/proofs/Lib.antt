@@ -1,20 +1,23 @@
-mod Means
-mod Finding
+mod MeansLemmas
+mod LookupLemmas
 mod Standing
-mod Growing
-mod Running
-mod Exporting
-mod Simulation
-mod Reading
-mod Ending
-mod Trees
-mod Holding
-mod Numbering
-mod Naming
-mod Adding
-mod Translating
-mod Looping
-mod Plain
-mod Causes
+mod RunGrowthLemmas
+mod RunLemmas
+mod ExportLemmas
+mod ErasureLemmas
+mod ItemLemmas
+mod BodyLemmas
+mod PlanLemmas
+mod TreeLemmas
+mod HeldLemmas
+mod NumberLemmas
+mod NameLemmas
+mod GainLemmas
+mod AddedLemmas
+mod TranslatesLemmas
+mod ReadSoFarLemmas
+mod LiftLemmas
+mod PassingLemmas
+mod CauseLemmas
 -- what an answer says where the types builder is not asked for
-pub mod Alone
+pub mod SomeTypesLemmas

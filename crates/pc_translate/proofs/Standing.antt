@@ -1,25 +1,38 @@
 -- A frame stands for a moment of the reading: the steps of the plan so far run to core instances that are those of
 -- the log, and each entry of the frame's lists is what the entry of the scope's list at its place is.
-use Rattle.std.proofs.Common.{◌≡◌, ℕ, List, [], ◌∷◌, length, map, Option, Some, Bool, true, false}
+use Rattle.std.proofs.Common.{◌≡◌, ℕ, List, [], ◌∷◌, length, map, Option, Some, Bool, true}
 use Rattle.std.specs.Prelude.{slice_get, option_and_then, is_some}
 use Rattle.std.specs.List.{AllZip}
+use Rattle.pc_builder.specs.Types.{Types}
 use Rattle.pc_numbers.specs.declared.component_entity.StaticModuleIndex.{StaticModuleIndex}
 use Rattle.pc_info.specs.declared.core_def.CoreDef.{CoreDef}
-use Rattle.pc_info.specs.View.{TypeNumber, def_view, initializer_view}
+use Rattle.pc_info.specs.View.{TypeNumber, def_view, func_type, initializer_view, signature}
+use Rattle.pc_parsed.specs.ItemRows.{plain_options}
 use Rattle.pc_parsed.specs.Scope as scope
-use Rattle.pc_semantics.specs.CoreValue.{CoreValue, Options, erase_value, erase_options, options, no_value, linear}
-use Rattle.pc_semantics.specs.Log.{Owned, instances_of, erase_owned, of_static}
+use Rattle.pc_semantics.specs.CoreValue.{CoreValue, map_value}
+use Rattle.pc_semantics.specs.Log.{Owned, instances_of, map_owned, of_static}
 use Rattle.pc_semantics.specs.Machine.{RuntimeInstance, State, start, step, resolve, owned_of}
 use Rattle.pc_semantics.specs.PlanView as plan
 use Rattle.pc_translate.specs.declared.frame.CoreInstance.{CoreInstance}
 use Rattle.pc_translate.specs.declared.frame.Frame.{Frame}
 use Rattle.pc_translate.specs.declared.frame.LiftedFunction.{LiftedFunction}
 use Rattle.pc_translate.specs.declared.frame.NamedFunction.{NamedFunction}
-use Rattle.pc_types.specs.declared.encoding.StringEncoding.TheVariants.{Utf8}
+use Rattle.pc_translate.specs.Typed.{Holds, Numbered, number_of, whole_of}
+use Rattle.pc_types.specs.declared.parsed.CoreFuncSig.{CoreFuncSig}
+use Rattle.pc_types.specs.TypeTree.{TypeTree}
 
 -- the state of a run that has made these core instances, and nothing else
 abbrev pub after : List (RuntimeInstance TypeNumber) → State TypeNumber
-after made = record { instances = made; lowerings = []; memories = []; tables = []; reallocs = []; callbacks = []; post_returns = []; resources = [] }
+after made = record {
+  instances = made;
+  lowerings = [];
+  memories = [];
+  tables = [];
+  reallocs = [];
+  callbacks = [];
+  post_returns = [];
+  resources = [];
+}
 
 abbrev pub is_owned : RuntimeInstance TypeNumber → Bool
 is_owned x = is_some x.component_instance
@@ -27,9 +40,15 @@ is_owned x = is_some x.component_instance
 abbrev pub ModuleStands : StaticModuleIndex → scope.Module → Type 0
 ModuleStands m (scope.static n tree) = m.0 ≡ n
 
--- the options of a lift that says nothing of them, without their signature
-abbrev pub plain : Options (Unit {0})
-plain = options 0 Utf8 false tt no_value no_value (linear no_value no_value)
+module _ (made : List (RuntimeInstance TypeNumber)) where
+  pub record InstanceStands (ci : CoreInstance) (w : scope.CoreInstance) : Type 0 where
+    pub arguments : List (CoreValue TypeNumber)
+    pub owner : Option ℕ
+    pub at : slice_get made ci.instance.0 ≡ Some (record {
+      instantiation = of_static ci.core_module.0 arguments;
+      component_instance = owner;
+    })
+    pub is_it : w ≡ scope.of_module ci.instance.0 ci.core_module.0
 
 module _ (p : plan.PlanView TypeNumber) where
   -- a run without a look at the counts
@@ -37,20 +56,23 @@ module _ (p : plan.PlanView TypeNumber) where
   run_free [] s = Some s
   run_free (i ∷ is) s = option_and_then (run_free is) (step p (λ r. true) s i)
 
+module _ (types : Types) (p : plan.PlanView TypeNumber) where
   module _ (made : List (RuntimeInstance TypeNumber)) where
+    -- a definition resolves to a value that is the reading's, its types apart, which are numbers
     pub record DefStands (d : CoreDef) (v : CoreValue scope.Mark) : Type 0 where
-      pub value : CoreValue TypeNumber
-      pub resolves : resolve p (after made) (def_view d) ≡ Some value
-      pub same : erase_value value ≡ erase_value v
+      pub value : CoreValue (Numbered types)
+      pub resolves : resolve p (after made) (def_view d) ≡ Some (map_value (number_of types) value)
+      pub same : map_value (whole_of types) value ≡ v
 
-    pub record InstanceStands (ci : CoreInstance) (w : scope.CoreInstance) : Type 0 where
-      pub arguments : List (CoreValue TypeNumber)
-      pub owner : Option ℕ
-      pub at : slice_get made ci.instance.0 ≡ Some (record { instantiation = of_static ci.core_module.0 arguments; component_instance = owner })
-      pub is_it : w ≡ scope.of_module ci.instance.0 ci.core_module.0
-
-    abbrev pub FunctionStands : LiftedFunction → scope.Function → Type 0
-    FunctionStands x (scope.lifted tree v o) = DefStands x.func v × (erase_options o ≡ plain)
+    -- a lifted function has its type and its signature under its numbers
+    pub record FunctionStands (x : LiftedFunction) (y : scope.Function) : Type 0 where
+      pub tree : TypeTree
+      pub value : CoreValue scope.Mark
+      pub core_signature : CoreFuncSig
+      pub is_it : y ≡ scope.lifted tree value (plain_options 0 core_signature)
+      pub func : DefStands x.func value
+      pub typed : Holds types (func_type x.ty.0) (scope.of_type tree)
+      pub signed : Holds types (signature x.core_type.0) (scope.of_signature core_signature)
 
     pub record NamedStands (x : NamedFunction) (y : scope.NamedFunction) : Type 0 where
       pub name : x.name ≡ y.name
@@ -58,13 +80,13 @@ module _ (p : plan.PlanView TypeNumber) where
 
   -- a core instance of the run is one of the log
   pub record OwnedStands (x : RuntimeInstance TypeNumber) (o : Owned scope.Mark) : Type 0 where
-    pub owned : Owned TypeNumber
-    pub is_it : owned_of x ≡ Some owned
-    pub same : erase_owned owned ≡ erase_owned o
+    pub owned : Owned (Numbered types)
+    pub is_it : owned_of x ≡ Some (map_owned (number_of types) owned)
+    pub same : map_owned (whole_of types) owned ≡ o
 
   pub record StandsFor (f : Frame) (now : scope.Moment) : Type 0 where
     pub made : List (RuntimeInstance TypeNumber)
-    pub runs : run_free (map initializer_view f.initializers) start ≡ Some (after made)
+    pub runs : run_free p (map initializer_view f.initializers) start ≡ Some (after made)
     pub numbered : length f.initializers ≡ length made
     pub log : AllZip OwnedStands made (instances_of now.world.log)
     pub core_funcs : AllZip (DefStands made) f.core_funcs now.scope.core_funcs

@@ -1,13 +1,9 @@
 -- How values are found by name.
-use Rattle.std.specs.Prelude.{◌≡◌, ℕ, List, [], ◌∷◌, ◌++◌, is_some, if◌then◌else◌}
+use Rattle.std.specs.Prelude.{◌≡◌, ℕ, List}
 use Rattle.pc_numbers.specs.declared.entity_index.EntityIndex.{EntityIndex}
 use Rattle.pc_entity.specs.Lists.{value_of}
 use Rattle.pc_types.specs.declared.module_record.ModuleRecord.{ModuleRecord}
 use Rattle.pc_types.specs.Record.{export_of}
-
--- the entries with one more at the end, unless its name has a value
-abbrev pub with_first : {V : Type 0} → List (List ℕ × V) → List ℕ × V → List (List ℕ × V)
-with_first es e = if is_some (value_of e.0 es) then es else es ++ e ∷ []
 
 -- a map has the entity that a module exports under each name
 abbrev pub HasExports : ModuleRecord → List (List ℕ × EntityIndex) → Type 0

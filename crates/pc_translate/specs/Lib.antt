@@ -1,4 +1,6 @@
 -- What the public contracts rest on.
+pub mod Gained
+pub mod Typed
 pub mod Translation
 -- What the functions inside promise each other.
 pub mod Index

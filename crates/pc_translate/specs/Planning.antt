@@ -47,8 +47,8 @@ IsExportOf signatures x (export.LiftedFunction ty func options) =
     (ty ≡ x.function.ty) × (func ≡ x.function.func) × (slice_get signatures options.0 ≡ Some x.function.core_type)
 
 -- an export map, export items and signatures are those of some functions
-pub record Exports (xs : List NamedFunction) (entries : List (List ℕ × (ExportIndex × ComponentExternData))) (items : List Export)
-    (signatures : List ModuleInternedTypeIndex) : Type 0 where
+pub record Exports (xs : List NamedFunction) (entries : List (List ℕ × (ExportIndex × ComponentExternData)))
+    (items : List Export) (signatures : List ModuleInternedTypeIndex) : Type 0 where
   pub names : entries ≡ entries_from 0 xs
   pub each : AllZip (IsExportOf signatures) xs items
   -- each signature is that of an export
@@ -63,7 +63,8 @@ pub record AddsExport (old new : Exported) (x : NamedFunction) : Type 0 where
   pub names : new.names ≡ old.names ++ (x.name.name, (record { 0 = length old.items }, extern_data x.name)) ∷ []
   pub kept : Kept old.signatures new.signatures
   -- each signature was there, or is that of this export
-  pub used : (k : ℕ) (s : ModuleInternedTypeIndex) → slice_get new.signatures k ≡ Some s → (slice_get old.signatures k ≡ Some s) ⊎ HasOptions k item
+  pub used : (k : ℕ) (s : ModuleInternedTypeIndex) → slice_get new.signatures k ≡ Some s
+      → (slice_get old.signatures k ≡ Some s) ⊎ HasOptions k item
   pub few : length new.signatures ≤ length old.signatures + 1
 
 -- the counts of a frame's plan, where the types builder holds these types: each step makes a core instance

@@ -1,15 +1,15 @@
 -- The theorem: the plan that a translation answers does what the nested reading of the payloads says.
-use Rattle.std.specs.Prelude.{◌≡◌, ◌<◌, ℕ, Bool, true, false, List, map, length, nat_lt, slice_get, Option, Some, ◌&&◌, ◌⊎◌}
-use Rattle.pc_builder.specs.Types.{Types, IsFull}
+use Rattle.std.specs.Prelude.{◌≡◌, ◌<◌, ℕ, Bool, true, false, List, map, length, nat_lt, slice_get, Option, Some, None, ◌&&◌, ◌⊎◌}
+use Rattle.pc_builder.specs.Types.{Types}
 use Rattle.pc_entity.specs.Lists.{AreDistinct}
 use Rattle.pc_numbers.specs.declared.runtime.ExportIndex.{ExportIndex}
 use Rattle.pc_types.specs.declared.types.ComponentExternData.{ComponentExternData}
 use Rattle.pc_types.specs.declared.error.Error.{Error}
 use Rattle.pc_types.specs.declared.error.Error.TheVariants as error
 use Rattle.pc_types.specs.declared.parsed.TypeTable.{TypeTable}
-use Rattle.pc_semantics.specs.ExportNode.{NamedNode, erase_named}
+use Rattle.pc_semantics.specs.ExportNode.{erase_named}
 use Rattle.pc_semantics.specs.Log.{instances_of, erase_owned}
-use Rattle.pc_semantics.specs.Machine.{State, owned_instances, run, export_nodes}
+use Rattle.pc_semantics.specs.Machine.{NeverStuck, owned_instances}
 use Rattle.pc_semantics.specs.PlanView.{PlanView, Counts}
 use Rattle.pc_info.specs.declared.component.Component.{Component}
 use Rattle.pc_info.specs.declared.component.ComponentTranslation.{ComponentTranslation}
@@ -20,20 +20,20 @@ use Rattle.pc_info.specs.declared.options.CanonicalOptions.{CanonicalOptions}
 use Rattle.pc_info.specs.View.{view, has_items, module_view, counts_view}
 use Rattle.pc_parsed.specs.declared.payload.Payload.{Payload}
 use Rattle.pc_parsed.specs.declared.fault.ItemFault.TheVariants.{Invalid, BadType}
-use Rattle.pc_parsed.specs.Nest.{modules_of}
+use Rattle.pc_parsed.specs.Nest.{body_items, modules_of}
 use Rattle.pc_parsed.specs.Program.{is_numbered, is_translatable, not_built}
 use Rattle.pc_parsed.specs.Reading.{Reading, reading, done, fault}
+use Rattle.pc_parsed.specs.StaticFault.{static_fault}
+use Rattle.pc_translate.specs.Gained.{AreGained, SomeLacksPlace}
+use Rattle.pc_translate.specs.Typed.{TypedAs}
 
 -- a plan never gets stuck and does what a reading says: run from nothing, it makes the same core instances of the
 -- same modules, in the same order, for the same component instances, with the same arguments, and it ends with the
 -- same exports; adapter modules aside and types erased
 pub record DoesAs {τ : Type 0} (plan : PlanView τ) (r : Reading) : Type 0 where
-  pub last : State τ
-  pub nodes : List (NamedNode τ)
-  pub runs : run plan ≡ Some last
-  pub ends : export_nodes plan last ≡ Some nodes
-  pub same : map erase_owned (owned_instances last) ≡ map erase_owned (instances_of r.log)
-  pub exports : map erase_named nodes ≡ map erase_named r.nodes
+  pub never_stuck : NeverStuck plan
+  pub same : map erase_owned (owned_instances never_stuck.last) ≡ map erase_owned (instances_of r.log)
+  pub exports : map erase_named never_stuck.nodes ≡ map erase_named r.nodes
 
 -- whether payloads can be translated: a limit that lets the root begin, kinds that are built, and no static fault
 abbrev pub can_translate : TypeTable → (exposed : Option (List ℕ)) → (limit : ℕ) → List Payload → Bool
@@ -60,7 +60,8 @@ counts_of r types = record {
 -- each export of a plan has the item at its place, and no item stands beside these
 pub record NumbersItems (c : Component) : Type 0 where
   pub as_many : length c.export_items ≡ length c.exports
-  pub in_order : (n : ℕ) (e : List ℕ × (ExportIndex × ComponentExternData)) → slice_get c.exports n ≡ Some e → e.1.0.0 ≡ n
+  pub in_order : (n : ℕ) (e : List ℕ × (ExportIndex × ComponentExternData)) → slice_get c.exports n ≡ Some e
+      → e.1.0.0 ≡ n
 
 -- an exported function has a type that the builder holds, and an options entry
 abbrev pub IsHeldExport : Types → List CanonicalOptions → Export → Type 0
@@ -73,8 +74,10 @@ HasOptions n (export.LiftedFunction ty func o) = o.0 ≡ n
 -- what an export names is there, and an options entry is there for an export
 pub record NamesHeld (c : Component) (types : Types) : Type 0 where
   pub exports : (n : ℕ) (e : Export) → slice_get c.export_items n ≡ Some e → IsHeldExport types c.options e
-  pub signatures : (n : ℕ) (o : CanonicalOptions) → slice_get c.options n ≡ Some o → o.core_type.0 < length types.signatures
-  pub used : (n : ℕ) → n < length c.options → (k : ℕ) × (e : Export) × (slice_get c.export_items k ≡ Some e) × HasOptions n e
+  pub signatures : (n : ℕ) (o : CanonicalOptions) → slice_get c.options n ≡ Some o
+      → o.core_type.0 < length types.signatures
+  pub used : (n : ℕ) → n < length c.options
+      → (k : ℕ) × (e : Export) × (slice_get c.export_items k ≡ Some e) × HasOptions n e
 
 -- a plan and its modules are what a translation of payloads is to answer, where the types builder holds these types
 -- afterwards
@@ -87,6 +90,8 @@ pub record Translates (t : TypeTable) (exposed : Option (List ℕ)) (limit : ℕ
   pub result : Reading
   pub outcome : reading t exposed limit ps ≡ done result
   pub does : DoesAs (view plan modules) result
+  -- and so it does with its types: under each number the builder holds what the reading has there
+  pub typed : TypedAs types (view plan modules) result
   -- the modules are those of the payloads, in order
   pub handed_in : map module_view modules ≡ modules_of ps
   -- the plan counts what it has
@@ -99,30 +104,39 @@ pub record Translates (t : TypeTable) (exposed : Option (List ℕ)) (limit : ℕ
   pub items : NumbersItems plan.component
   pub held : has_items plan ≡ true
 
+-- an error is the first static fault of an input
+abbrev pub IsFirstFault : TypeTable → (exposed : Option (List ℕ)) → List Payload → Error → Type 0
+IsFirstFault t exposed ps e = (is_numbered t ps ≡ true) × (static_fault t exposed ps ≡ Some e)
+
 -- why a translation was refused, where the types builder holds these types afterwards
 abbrev pub HasCause : TypeTable → (exposed : Option (List ℕ)) → (limit : ℕ) → List Payload → Types → Error → Type 0
-HasCause t exposed limit ps types (error.Invalid p) =
-    (is_numbered t ps ≡ true) × (can_translate t exposed limit ps ≡ true) × (reading t exposed limit ps ≡ fault Invalid p)
-HasCause t exposed limit ps types (error.BadType p) =
-    (is_numbered t ps ≡ true) × (can_translate t exposed limit ps ≡ true) × (reading t exposed limit ps ≡ fault BadType p)
+HasCause t exposed limit ps types (error.Malformed p) = IsFirstFault t exposed ps (error.Malformed p)
+HasCause t exposed limit ps types (error.BadTable p) = IsFirstFault t exposed ps (error.BadTable p)
+HasCause t exposed limit ps types (error.BadIntrinsics p) = IsFirstFault t exposed ps (error.BadIntrinsics p)
+HasCause t exposed limit ps types (error.UnknownIntrinsic p) = IsFirstFault t exposed ps (error.UnknownIntrinsic p)
+HasCause t exposed limit ps types (error.DefinedTwice p) = IsFirstFault t exposed ps (error.DefinedTwice p)
 HasCause t exposed limit ps types (error.Unsupported u p) =
-    (is_numbered t ps ≡ true) × (can_translate t exposed limit ps ≡ false) × (error.Unsupported u p ≡ not_built)
+    (is_numbered t ps ≡ true) × (can_translate t exposed limit ps ≡ false)
+    × ((static_fault t exposed ps ≡ Some (error.Unsupported u p))
+    ⊎ ((static_fault t exposed ps ≡ None) × (error.Unsupported u p ≡ not_built)))
+HasCause t exposed limit ps types (error.Invalid p) =
+    (is_numbered t ps ≡ true) × (can_translate t exposed limit ps ≡ true)
+    × (reading t exposed limit ps ≡ fault Invalid p)
+HasCause t exposed limit ps types (error.BadType p) =
+    (is_numbered t ps ≡ true) × (can_translate t exposed limit ps ≡ true)
+    × (reading t exposed limit ps ≡ fault BadType p)
 HasCause t exposed limit ps types error.TooMany =
-    (is_numbered t ps ≡ false) ⊎ ((can_translate t exposed limit ps ≡ true) × IsFull types)
+    (is_numbered t ps ≡ false) ⊎ ((can_translate t exposed limit ps ≡ true) × SomeLacksPlace t types (body_items ps))
 HasCause t exposed limit ps types error.NoMemory = Unit {0}
-HasCause t exposed limit ps types (error.Malformed p) = ⊥
-HasCause t exposed limit ps types (error.BadTable p) = ⊥
-HasCause t exposed limit ps types (error.BadIntrinsics p) = ⊥
-HasCause t exposed limit ps types (error.UnknownIntrinsic p) = ⊥
-HasCause t exposed limit ps types (error.DefinedTwice p) = ⊥
 HasCause t exposed limit ps types (error.BadOptions p) = ⊥
 HasCause t exposed limit ps types error.TooManyInstances = ⊥
 
--- a plan and its modules are what a translation is to answer, with some types builder
+-- a plan and its modules are what a translation is to answer, with a types builder that held no types before
 unfoldable pub IsPlanOf : TypeTable → (exposed : Option (List ℕ)) → (limit : ℕ) → List Payload
     → ComponentTranslation → List ModuleTranslation → Type 0
-IsPlanOf t exposed limit ps plan modules = (types : Types) × Translates t exposed limit ps types plan modules
+IsPlanOf t exposed limit ps plan modules =
+    (types : Types) × AreGained ps types × Translates t exposed limit ps types plan modules
 
--- an error has its cause, with some types builder
+-- an error has its cause, with a types builder that held no types before
 unfoldable pub IsRefusalOf : TypeTable → (exposed : Option (List ℕ)) → (limit : ℕ) → List Payload → Error → Type 0
-IsRefusalOf t exposed limit ps e = (types : Types) × HasCause t exposed limit ps types e
+IsRefusalOf t exposed limit ps e = (types : Types) × AreGained ps types × HasCause t exposed limit ps types e

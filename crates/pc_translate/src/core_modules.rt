@@ -1,40 +1,13 @@
-//! Look-ups by name: each list of names is gone through once, and what stands under a name is then found without a scan.
+//! The core modules of a program: the exports of each are gone through once, and a name is then found without a scan.
 
-ghost use Rattle.std.specs.Prelude.{◌≡◌, ℕ, List, slice_get, option_and_then, IfOk, OnOk};
+ghost use Rattle.std.specs.Prelude.{◌≡◌, slice_get, option_and_then, IfOk};
 ghost use Rattle.std.specs.Option.{option_copied};
-ghost use Rattle.pc_entity.specs.Lists.{value_of};
 ghost use Rattle.pc_types.specs.Record.{export_of};
-ghost use Rattle.pc_translate.specs.Index.{with_first};
 
-use pc_entity::{EntityIndex, NoMemory, StaticModuleIndex, Text, TextMap, TryClone};
+use pc_entity::{EntityIndex, NoMemory, StaticModuleIndex, TextMap, first_values};
 use pc_types::ModuleRecord;
 use std::alloc::Global;
 use std::marker::Model;
-
-/// Adds an entry, unless its name has a value.
-fn add_first<V: Copy>(
-    alloc: Global,
-    found: &mut TextMap<V>,
-    entry: &(Text, V),
-) -> Result<(), NoMemory>
-    ensures ok { OnOk result (found.new ≡ with_first found.old entry.now) }
-{
-    if found.contains(entry.0.as_str()) {
-        return Ok(());
-    }
-    found.push(entry.0.try_clone(alloc)?, entry.1)
-}
-
-/// The first value of each name.
-pub(crate) fn by_name<V: Copy>(alloc: Global, entries: &[(Text, V)]) -> Result<TextMap<V>, NoMemory>
-    ensures { IfOk result (λ found. (name : List ℕ) → value_of name found ≡ value_of name entries.now) }
-{
-    let mut found = TextMap::new(alloc);
-    for entry in entries {
-        add_first(alloc, &mut found, entry)?;
-    }
-    Ok(found)
-}
 
 fn map_at(
     maps: &[TextMap<EntityIndex>],
@@ -74,7 +47,7 @@ impl<'a> CoreModules<'a> {
     {
         let mut exports = Vec::with_capacity(alloc, records.len())?;
         for record_ in records {
-            exports.push(by_name(alloc, record_.exports.as_slice())?)?;
+            exports.push(first_values(alloc, record_.exports.as_slice())?)?;
         }
         Ok(CoreModules { records, exports })
     }

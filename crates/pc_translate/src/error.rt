@@ -5,6 +5,7 @@ ghost use Rattle.pc_translate.specs.declared.error.ReadError.TheVariants as read
 
 use pc_entity::NoMemory;
 use pc_parsed::ItemFault;
+use pc_types::TypeError;
 
 /// Why an item wasn't read.
 #[derive(Clone, Copy)]
@@ -21,5 +22,19 @@ impl From<NoMemory> for ReadError {
 
     fn from(_error: NoMemory) -> ReadError {
         ReadError::NoMemory
+    }
+}
+
+impl From<TypeError> for ReadError {
+    ghost use Rattle.pc_translate.specs.Building.{read_error_of};
+
+    ghost from_gives = { λ error e. e ≡ read_error_of error };
+
+    fn from(error: TypeError) -> ReadError {
+        match error {
+            TypeError::BadNumber => ReadError::Fault(ItemFault::BadType),
+            TypeError::TooMany => ReadError::TooMany,
+            TypeError::NoMemory => ReadError::NoMemory,
+        }
     }
 }

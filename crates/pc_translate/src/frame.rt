@@ -28,6 +28,7 @@ pub(crate) struct NamedFunction {
     pub function: LiftedFunction,
 }
 
+/// A component instance while its items are read: its index spaces, what it exports, and the steps of the plan so far.
 #[derive(Drop)]
 pub(crate) struct Frame {
     pub core_funcs: Seq<CoreDef>,

@@ -8,12 +8,12 @@ ghost use Rattle.pc_types.specs.Table.{is_module};
 ghost use Rattle.pc_translate.specs.Building.{Becomes, argument_def, argument_defs, build_core_alias, build_export, build_instance, build_module, export_def, knows_instances, with_instance};
 ghost use Rattle.pc_translate.specs.declared.error.ReadError.TheVariants as read_error;
 
-use crate::core_modules::{CoreModules, by_name};
+use crate::core_modules::CoreModules;
 use crate::error::ReadError;
 use crate::frame::{CoreInstance, Frame, LiftedFunction, NamedFunction};
 use pc_entity::{
     NoMemory, RuntimeComponentInstanceIndex, RuntimeInstanceIndex, Seq, StaticModuleIndex, Text,
-    TextMap, TryClone,
+    TextMap, TryClone, first_values,
 };
 use pc_info::{CoreDef, CoreExport, ExportItem, GlobalInitializer, InstantiateModule};
 use pc_parsed::{ExternName, ItemFault};
@@ -23,7 +23,7 @@ use std::alloc::Global;
 fn is_module_type(table: &TypeTable, ty: u32) -> bool
     ensures { result ≡ has_entry table.now is_module ty }
 {
-    match table.types.as_slice().get(ty as usize) {
+    match table.entry(ty) {
         Some(entry) => entry.is_module(),
         None => false,
     }
@@ -98,7 +98,8 @@ fn instance_defs(
     args: &[(Text, u32)],
     core_module: StaticModuleIndex,
 ) -> Result<Option<Seq<CoreDef>>, NoMemory>
-    ensures { IfOk result (λ defs. defs ≡ option_and_then (argument_defs modules.now frame.now args.now) (slice_get modules.now core_module.0)) }
+    ensures { IfOk result (λ defs. defs
+        ≡ option_and_then (argument_defs modules.now frame.now args.now) (slice_get modules.now core_module.0)) }
 {
     let Some(record_) = modules.record_(core_module) else {
         return Ok(None);
@@ -106,7 +107,7 @@ fn instance_defs(
     if !knows_instances(frame, args) {
         return Ok(None);
     }
-    let args = by_name(alloc, args)?;
+    let args = first_values(alloc, args)?;
     argument_defs(alloc, modules, frame, &args, record_.imports.as_slice())
 }
 

@@ -13,8 +13,6 @@ mod lift;
 mod numbers;
 mod plan;
 mod reader;
-#[cfg(test)]
-mod tests;
 mod translator;
 
-pub use translator::{Translator, plan_payloads, translate};
+pub use translator::{PlanWithModules, Translator, plan_payloads, translate};

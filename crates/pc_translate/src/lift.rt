@@ -1,19 +1,21 @@
 //! Lifting core functions.
 
-ghost use Rattle.std.specs.Prelude.{◌≡◌, ◌≢◌, ◌⊎◌, ◌<◌, ◌&&◌, ℕ, None, Some, true, false, length, option_and_then, slice_get, slice_set, Result, IfErr, IfOk, OnOk};
+ghost use Rattle.std.specs.Prelude.{◌≡◌, ◌≢◌, ◌⊎◌, ◌<◌, ◌&&◌, ℕ, None, Some, true, false, length, option_and_then, slice_get, slice_set, IfOk, OnOk};
 ghost use Rattle.std.specs.List.{list_all};
 ghost use Rattle.pc_builder.specs.Trees.{IsEntry};
-ghost use Rattle.pc_builder.specs.Types.{Grows, IsFull};
+ghost use Rattle.pc_builder.specs.Few.{AddsFuncs, AddsSignature};
+ghost use Rattle.pc_builder.specs.Types.{Grows};
+ghost use Rattle.pc_parsed.specs.Built.{is_built_entry};
+ghost use Rattle.pc_translate.specs.Gained.{AddsTypes, IsTooFullForFunc, IsTooFullForSignature};
 ghost use Rattle.pc_parsed.specs.ItemRows.{has_entry};
 ghost use Rattle.pc_parsed.specs.declared.fault.ItemFault.{ItemFault};
 ghost use Rattle.pc_parsed.specs.declared.fault.ItemFault.TheVariants as fault;
 ghost use Rattle.pc_types.specs.declared.types.TypeDef.TheVariants as def;
 ghost use Rattle.pc_types.specs.Record.{has_signature};
 ghost use Rattle.pc_types.specs.Table.{is_func, table_fault};
-ghost use Rattle.pc_translate.specs.Building.{Becomes, Ends, build_lift, build_lifted};
-ghost use Rattle.pc_translate.specs.Held.{AreNumbers, AreSignatures, FrameHeld, IsSignature};
+ghost use Rattle.pc_translate.specs.Building.{Becomes, Ends, Lifts, build_lifted};
+ghost use Rattle.pc_translate.specs.Held.{AreNumbers, AreOfLift, AreSignatures, FrameHeld, IsSignature};
 ghost use Rattle.pc_translate.specs.declared.error.ReadError.TheVariants as read_error;
-ghost use Rattle.pc_translate.specs.declared.frame.Frame.{Frame};
 
 use crate::error::ReadError;
 use crate::frame::{Frame, LiftedFunction};
@@ -21,7 +23,7 @@ use crate::numbers::Numbers;
 use pc_builder::ComponentTypesBuilder;
 use pc_entity::TryClone;
 use pc_parsed::ItemFault;
-use pc_types::{ModuleInternedTypeIndex, TypeError, TypeFuncIndex, TypeTable};
+use pc_types::{ModuleInternedTypeIndex, TypeFuncIndex, TypeTable};
 use std::alloc::Global;
 
 /// The builder's number of a function type, by its table number.
@@ -32,21 +34,20 @@ fn func_type(
     ty: u32,
 ) -> Result<TypeFuncIndex, ReadError>
     requires sound { table_fault table.now ≡ None }
+    requires plain { list_all is_built_entry table.now.types ≡ true }
     requires numbers { AreNumbers types.old table.now numbers.old }
     ensures numbers { AreNumbers types.new table.now numbers.new }
     ensures is { IfOk result (λ i. IsEntry types.new table.now ty (def.ComponentFunc i)) }
     ensures ok { OnOk result (has_entry table.now is_func ty ≡ true) }
-    ensures fault { (k : ItemFault) → result ≡ Err (read_error.Fault k) → (k ≡ fault.BadType) × (has_entry table.now is_func ty ≡ false) }
-    ensures full { result ≡ Err read_error.TooMany → IsFull types.new }
+    ensures fault { (k : ItemFault) → result ≡ Err (read_error.Fault k)
+        → (k ≡ fault.BadType) × (has_entry table.now is_func ty ≡ false) }
+    ensures full { result ≡ Err read_error.TooMany → IsTooFullForFunc types.new table.now ty }
+    ensures adds { OnOk result (AddsFuncs 1 2 types.old types.new) }
+    ensures adds_when_full { result ≡ Err read_error.TooMany → AddsFuncs 1 2 types.old types.new }
     ensures held { IfOk result (λ i. i.0 < length types.new.funcs) }
     ensures grows { Grows types.old types.new }
 {
-    match types.convert_func_with(table, ty, &mut numbers.converted) {
-        Ok(index) => Ok(index),
-        Err(TypeError::BadNumber) => Err(ReadError::Fault(ItemFault::BadType)),
-        Err(TypeError::TooMany) => Err(ReadError::TooMany),
-        Err(TypeError::NoMemory) => Err(ReadError::NoMemory),
-    }
+    Ok(types.convert_func_with(table, ty, &mut numbers.converted)?)
 }
 
 /// The builder's number of a core signature, by its table number.
@@ -60,8 +61,10 @@ fn signature(
     ensures numbers { AreNumbers types.new table.now numbers.new }
     ensures is { IfOk result (λ i. IsSignature types.new table.now core i) }
     ensures ok { OnOk result (has_signature table.now core ≡ true) }
-    ensures fault { (k : ItemFault) → result ≡ Err (read_error.Fault k) → (k ≡ fault.BadType) × (has_signature table.now core ≡ false) }
-    ensures full { result ≡ Err read_error.TooMany → IsFull types.new }
+    ensures fault { (k : ItemFault) → result ≡ Err (read_error.Fault k)
+        → (k ≡ fault.BadType) × (has_signature table.now core ≡ false) }
+    ensures full { result ≡ Err read_error.TooMany → IsTooFullForSignature types.new table.now core }
+    ensures adds { AddsSignature types.old types.new }
     ensures held { IfOk result (λ i. i.0 < length types.new.signatures) }
     ensures grows { Grows types.old types.new }
 {
@@ -84,7 +87,7 @@ fn number_at(
     }
 }
 
-/// The same of one that has no number yet.
+/// The builder's number of a core signature that has none yet.
 fn new_signature(
     types: &mut ComponentTypesBuilder,
     table: &TypeTable,
@@ -95,18 +98,16 @@ fn new_signature(
     ensures signatures { AreSignatures types.new table.now signatures.new.items }
     ensures is { IfOk result (λ i. IsSignature types.new table.now core i) }
     ensures ok { OnOk result (has_signature table.now core ≡ true) }
-    ensures fault { (k : ItemFault) → result ≡ Err (read_error.Fault k) → (k ≡ fault.BadType) × (has_signature table.now core ≡ false) }
-    ensures full { result ≡ Err read_error.TooMany → IsFull types.new }
+    ensures fault { (k : ItemFault) → result ≡ Err (read_error.Fault k)
+        → (k ≡ fault.BadType) × (has_signature table.now core ≡ false) }
+    ensures full { result ≡ Err read_error.TooMany → IsTooFullForSignature types.new table.now core }
+    ensures adds { AddsSignature types.old types.new }
     ensures held { IfOk result (λ i. i.0 < length types.new.signatures) }
     ensures grows { Grows types.old types.new }
 {
-    match core_signature(types, table, core) {
-        Ok(index) => {
-            note(signatures, core, index);
-            Ok(index)
-        }
-        Err(error) => Err(error),
-    }
+    let index = core_signature(types, table, core)?;
+    note(signatures, core, index);
+    Ok(index)
 }
 
 /// A core signature, put into the builder.
@@ -117,17 +118,14 @@ fn core_signature(
 ) -> Result<ModuleInternedTypeIndex, ReadError>
     ensures is { IfOk result (λ i. IsSignature types.new table.now core i) }
     ensures ok { OnOk result (has_signature table.now core ≡ true) }
-    ensures fault { (k : ItemFault) → result ≡ Err (read_error.Fault k) → (k ≡ fault.BadType) × (has_signature table.now core ≡ false) }
-    ensures full { result ≡ Err read_error.TooMany → IsFull types.new }
+    ensures fault { (k : ItemFault) → result ≡ Err (read_error.Fault k)
+        → (k ≡ fault.BadType) × (has_signature table.now core ≡ false) }
+    ensures full { result ≡ Err read_error.TooMany → IsTooFullForSignature types.new table.now core }
+    ensures adds { AddsSignature types.old types.new }
     ensures held { IfOk result (λ i. i.0 < length types.new.signatures) }
     ensures grows { Grows types.old types.new }
 {
-    match types.core_sig(table, core) {
-        Ok(index) => Ok(index),
-        Err(TypeError::BadNumber) => Err(ReadError::Fault(ItemFault::BadType)),
-        Err(TypeError::TooMany) => Err(ReadError::TooMany),
-        Err(TypeError::NoMemory) => Err(ReadError::NoMemory),
-    }
+    Ok(types.core_sig(table, core)?)
 }
 
 /// A signature gets its number.
@@ -152,23 +150,24 @@ fn type_numbers(
     core: u32,
 ) -> Result<(TypeFuncIndex, ModuleInternedTypeIndex), ReadError>
     requires sound { table_fault table.now ≡ None }
+    requires plain { list_all is_built_entry table.now.types ≡ true }
     requires numbers { AreNumbers types.old table.now numbers.old }
     ensures numbers { AreNumbers types.new table.now numbers.new }
     ensures ok { OnOk result ((has_entry table.now is_func ty && has_signature table.now core) ≡ true) }
     ensures fault { (k : ItemFault) → result ≡ Err (read_error.Fault k)
         → (k ≡ fault.BadType) × ((has_entry table.now is_func ty && has_signature table.now core) ≡ false) }
-    ensures full { result ≡ Err read_error.TooMany → IsFull types.new }
-    ensures held { IfOk result (λ numbers. (numbers.0.0 < length types.new.funcs) × (numbers.1.0 < length types.new.signatures)) }
+    ensures full { result ≡ Err read_error.TooMany → IsTooFullForFunc types.new table.now ty
+        ⊎ IsTooFullForSignature types.new table.now core }
+    ensures adds { OnOk result (AddsTypes 1 types.old types.new) }
+    ensures adds_when_full { result ≡ Err read_error.TooMany → AddsTypes 1 types.old types.new }
+    ensures are { IfOk result (λ numbers. AreOfLift types.new table.now ty core numbers.0.0 numbers.1.0) }
+    ensures held { IfOk result (λ numbers.
+        (numbers.0.0 < length types.new.funcs) × (numbers.1.0 < length types.new.signatures)) }
     ensures grows { Grows types.old types.new }
 {
-    let ty = match func_type(types, table, numbers, ty) {
-        Ok(ty) => ty,
-        Err(error) => return Err(error),
-    };
-    match signature(types, table, numbers, core) {
-        Ok(core_type) => Ok((ty, core_type)),
-        Err(error) => Err(error),
-    }
+    let ty = func_type(types, table, numbers, ty)?;
+    let core_type = signature(types, table, numbers, core)?;
+    Ok((ty, core_type))
 }
 
 impl Frame {
@@ -206,17 +205,18 @@ impl Frame {
         core: u32,
     ) -> Result<(), ReadError>
         requires sound { table_fault table.now ≡ None }
+        requires plain { list_all is_built_entry table.now.types ≡ true }
         requires numbers { AreNumbers types.old table.now numbers.old }
         ensures numbers { AreNumbers types.new table.now numbers.new }
-        ensures lifts { Ends (λ (r : Result Frame ItemFault). (n : ℕ) × (s : ℕ) × (build_lift table.now n s self.old func ty core ≡ r)) self.new result }
-        ensures full { result ≡ Err read_error.TooMany → IsFull types.new }
+        ensures lifts { Ends (Lifts types.new table.now self.old func ty core) self.new result }
+        ensures full { result ≡ Err read_error.TooMany → IsTooFullForFunc types.new table.now ty
+            ⊎ IsTooFullForSignature types.new table.now core }
+        ensures adds { OnOk result (AddsTypes 1 types.old types.new) }
+        ensures adds_when_full { result ≡ Err read_error.TooMany → AddsTypes 1 types.old types.new }
         ensures held { FrameHeld types.old self.old → OnOk result (FrameHeld types.new self.new) }
         ensures grows { Grows types.old types.new }
     {
-        let (ty, core_type) = match type_numbers(types, table, numbers, ty, core) {
-            Ok(numbers) => numbers,
-            Err(error) => return Err(error),
-        };
+        let (ty, core_type) = type_numbers(types, table, numbers, ty, core)?;
         self.push_lifted(alloc, ty, core_type, func)
     }
 }

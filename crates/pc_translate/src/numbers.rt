@@ -9,8 +9,8 @@ use pc_entity::{ModuleInternedTypeIndex, NoMemory};
 use pc_types::TypeTable;
 use std::alloc::Global;
 
-/// The builder's numbers of a table's entries and of its core signatures, as far as they were asked for: whatever the items
-/// name, and however often, each entry and each signature is then converted once.
+/// The builder's numbers of a table's entries and of its core signatures, as far as they were asked for: whatever the
+/// items name, and however often, each entry and each signature is then converted once.
 #[derive(Drop)]
 pub(crate) struct Numbers {
     pub converted: Converted,

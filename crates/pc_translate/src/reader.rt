@@ -2,7 +2,9 @@
 
 ghost use Rattle.std.specs.Prelude.{◌≡◌, ◌<◌, ◌≤◌, ◌+◌, None, true, length, IfOk, OnOk};
 ghost use Rattle.std.specs.List.{list_all};
-ghost use Rattle.pc_builder.specs.Types.{Grows, IsFull};
+ghost use Rattle.pc_builder.specs.Types.{Grows};
+ghost use Rattle.pc_parsed.specs.Built.{is_built_entry};
+ghost use Rattle.pc_translate.specs.Gained.{AddsTypes, LacksPlace, SomeLacksPlace};
 ghost use Rattle.pc_types.specs.Table.{table_fault};
 ghost use Rattle.pc_translate.specs.Building.{Builds, Ends, Reads, empty_frame, read_error_at};
 ghost use Rattle.pc_translate.specs.Held.{AreNumbers, FrameHeld};
@@ -43,11 +45,14 @@ impl Frame {
         item: &LocalInitializer,
     ) -> Result<(), ReadError>
         requires sound { table_fault table.now ≡ None }
+        requires plain { list_all is_built_entry table.now.types ≡ true }
         requires numbers { AreNumbers types.old table.now numbers.old }
         requires room { length self.old.initializers < 4294967295 }
         ensures numbers { AreNumbers types.new table.now numbers.new }
-        ensures builds { Ends (Builds table.now modules.now self.old item.now) self.new result }
-        ensures full { result ≡ Err read_error.TooMany → IsFull types.new }
+        ensures builds { Ends (Builds types.new table.now modules.now self.old item.now) self.new result }
+        ensures full { result ≡ Err read_error.TooMany → LacksPlace table.now types.new item.now }
+        ensures adds { OnOk result (AddsTypes 1 types.old types.new) }
+        ensures adds_when_full { result ≡ Err read_error.TooMany → AddsTypes 1 types.old types.new }
         ensures held { FrameHeld types.old self.old → OnOk result (FrameHeld types.new self.new) }
         ensures grows { Grows types.old types.new }
     {
@@ -90,11 +95,14 @@ fn read_items(
     items: &[LocalInitializer],
 ) -> Result<Frame, Error>
     requires sound { table_fault table.now ≡ None }
+    requires plain { list_all is_built_entry table.now.types ≡ true }
     requires numbers { AreNumbers types.old table.now numbers.old }
     requires few { length items.now < 4294967295 }
-    ensures reads { Reads table.now modules.now items.now result }
+    ensures reads { Reads types.new table.now modules.now items.now result }
     ensures held { IfOk result (λ frame. FrameHeld types.new frame) }
-    ensures full { result ≡ Err Error.TooMany → IsFull types.new }
+    ensures full { result ≡ Err Error.TooMany → SomeLacksPlace table.now types.new items.now }
+    ensures adds { OnOk result (AddsTypes (length items.now) types.old types.new) }
+    ensures adds_when_full { result ≡ Err Error.TooMany → AddsTypes (length items.now) types.old types.new }
     ensures grows { Grows types.old types.new }
 {
     let mut frame = Frame::new(alloc);
@@ -115,10 +123,14 @@ pub(crate) fn read_program(
     program: &LocalProgram,
 ) -> Result<Frame, Error>
     requires sound { table_fault table.now ≡ None }
+    requires plain { list_all is_built_entry table.now.types ≡ true }
     requires few { length program.now.root.initializers < 4294967295 }
-    ensures reads { Reads table.now program.now.modules program.now.root.initializers result }
+    ensures reads { Reads types.new table.now program.now.modules program.now.root.initializers result }
     ensures held { IfOk result (λ frame. FrameHeld types.new frame) }
-    ensures full { result ≡ Err Error.TooMany → IsFull types.new }
+    ensures full { result ≡ Err Error.TooMany → SomeLacksPlace table.now types.new program.now.root.initializers }
+    ensures adds { OnOk result (AddsTypes (length program.now.root.initializers) types.old types.new) }
+    ensures adds_when_full { result ≡ Err Error.TooMany
+        → AddsTypes (length program.now.root.initializers) types.old types.new }
     ensures grows { Grows types.old types.new }
 {
     let modules = CoreModules::new(alloc, program.modules.as_slice())?;

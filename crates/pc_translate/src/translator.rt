@@ -1,9 +1,11 @@
 //! The top call over payloads.
 
-ghost use Rattle.std.specs.Prelude.{◌≡◌, false, map, None, Some, is_some, IfErr, IfOk};
+ghost use Rattle.std.specs.Prelude.{◌≡◌, false, length, map, None, Some, Err, is_some, IfErr, IfOk, OnOk};
 ghost use Rattle.std.specs.Option.{option_map};
-ghost use Rattle.pc_builder.specs.Types.{Grows};
+ghost use Rattle.pc_builder.specs.Types.{KeepsTypes, no_types};
 ghost use Rattle.pc_info.specs.View.{module_view};
+ghost use Rattle.pc_parsed.specs.Nest.{body_items};
+ghost use Rattle.pc_translate.specs.Gained.{AddsTypes};
 ghost use Rattle.pc_translate.specs.Translation.{HasCause, IsPlanOf, IsRefusalOf, Translates};
 
 use crate::plan::plan_of;
@@ -14,6 +16,12 @@ use pc_info::{ComponentTranslation, ModuleTranslation};
 use pc_parsed::{Payload, Tunables, is_numbered, translate_payloads};
 use pc_types::{Error, ModuleRecord, Place, TypeTable, Unsupported};
 use std::alloc::Global;
+
+/// A plan and its core modules.
+pub type PlanWithModules = (
+    ComponentTranslation,
+    PrimaryMap<StaticModuleIndex, ModuleTranslation>,
+);
 
 /// The modules of a plan, from their records.
 fn translations(
@@ -40,13 +48,7 @@ pub fn translate(
     types: &mut ComponentTypesBuilder,
     exposed: Option<&str>,
     payloads: &[Payload],
-) -> Result<
-    (
-        ComponentTranslation,
-        PrimaryMap<StaticModuleIndex, ModuleTranslation>,
-    ),
-    Error,
->
+) -> Result<PlanWithModules, Error>
     // The plan does what the nested reading of the payloads says.
     ensures translated { IfOk result (λ r. Translates table.now (option_map (λ name. name.now) exposed.entry)
         tunables.now.max_component_instances payloads.now types.new r.0 r.1) }
@@ -55,11 +57,17 @@ pub fn translate(
     ensures refused { IfErr result (λ e. HasCause table.now (option_map (λ name. name.now) exposed.entry)
         tunables.now.max_component_instances payloads.now types.new e) }
 
-    ensures grows { Grows types.old types.new }
+    ensures keeps { KeepsTypes types.old types.new }
+
+    // The builder gains no more than the items may need.
+    ensures adds { OnOk result (AddsTypes (length (body_items payloads.now)) types.old types.new) }
+    ensures adds_when_full { result ≡ Err Error.TooMany
+        → AddsTypes (length (body_items payloads.now)) types.old types.new }
 {
     if !is_numbered(table, payloads) {
         return Err(Error::TooMany);
     }
+    let program = translate_payloads(alloc, table, exposed, payloads)?;
     if tunables.max_component_instances == 0 {
         return Err(Error::Unsupported(
             Unsupported::NotBuilt,
@@ -69,17 +77,13 @@ pub fn translate(
             },
         ));
     }
-    let program = translate_payloads(alloc, table, exposed, payloads)?;
-    let frame = match read_program(alloc, types, table, &program) {
-        Ok(frame) => frame,
-        Err(error) => return Err(error),
-    };
+    let frame = read_program(alloc, types, table, &program)?;
     let component = plan_of(alloc, types, frame)?;
     let modules = translations(alloc, program.modules)?;
     Ok((ComponentTranslation { component }, modules))
 }
 
-/// What `translate` answers, for callers that don't ask for the types of the plan.
+/// What `translate` answers with a builder that holds no types, for callers that don't ask for those of the plan.
 fn plan_with(
     alloc: Global,
     tunables: &Tunables,
@@ -87,19 +91,18 @@ fn plan_with(
     types: &mut ComponentTypesBuilder,
     exposed: Option<&str>,
     payloads: &[Payload],
-) -> Result<
-    (
-        ComponentTranslation,
-        PrimaryMap<StaticModuleIndex, ModuleTranslation>,
-    ),
-    Error,
->
+) -> Result<PlanWithModules, Error>
+    requires fresh { types.old ≡ no_types }
     ensures translated { IfOk result (λ r. IsPlanOf table.now (option_map (λ name. name.now) exposed.entry)
         tunables.now.max_component_instances payloads.now r.0 r.1) }
     ensures refused { IfErr result (λ e. IsRefusalOf table.now (option_map (λ name. name.now) exposed.entry)
         tunables.now.max_component_instances payloads.now e) }
 {
-    translate(alloc, tunables, table, types, exposed, payloads)
+    // No list is past its bound and no two types are equal, before and after.
+    types.types_are_distinct();
+    let translated = translate(alloc, tunables, table, types, exposed, payloads);
+    types.types_are_distinct();
+    translated
 }
 
 /// The plan that payloads are translated to, and its core modules, with a types builder of its own.
@@ -109,13 +112,7 @@ pub fn plan_payloads(
     table: &TypeTable,
     exposed: Option<&str>,
     payloads: &[Payload],
-) -> Result<
-    (
-        ComponentTranslation,
-        PrimaryMap<StaticModuleIndex, ModuleTranslation>,
-    ),
-    Error,
->
+) -> Result<PlanWithModules, Error>
     ensures translated { IfOk result (λ r. IsPlanOf table.now (option_map (λ name. name.now) exposed.entry)
         tunables.now.max_component_instances payloads.now r.0 r.1) }
     ensures refused { IfErr result (λ e. IsRefusalOf table.now (option_map (λ name. name.now) exposed.entry)
@@ -186,25 +183,24 @@ impl<'a> Translator<'a> {
     /// The plan that payloads are translated to, and its core modules: those of the payloads, in order.
     ///
     /// The builder gains the types of the plan, also on a refusal; the types that it held keep their numbers.
-    pub fn translate(
-        self,
-        component: &[Payload],
-    ) -> Result<
-        (
-            ComponentTranslation,
-            PrimaryMap<StaticModuleIndex, ModuleTranslation>,
-        ),
-        Error,
-    >
+    pub fn translate(self, component: &[Payload]) -> Result<PlanWithModules, Error>
         // The plan does what the nested reading of the payloads says.
-        ensures translated { IfOk result (λ r. Translates self.entry.table.now (option_map (λ name. name.now) self.entry.exposed)
-            self.entry.tunables.now.max_component_instances component.now self.exit.0.now r.0 r.1) }
+        ensures translated { IfOk result (λ r. Translates self.entry.table.now
+            (option_map (λ name. name.now) self.entry.exposed) self.entry.tunables.now.max_component_instances component.now
+            self.exit.0.now r.0 r.1) }
 
         // Each refusal has its cause.
-        ensures refused { IfErr result (λ e. HasCause self.entry.table.now (option_map (λ name. name.now) self.entry.exposed)
-            self.entry.tunables.now.max_component_instances component.now self.exit.0.now e) }
+        ensures refused { IfErr result (λ e. HasCause self.entry.table.now
+            (option_map (λ name. name.now) self.entry.exposed) self.entry.tunables.now.max_component_instances component.now
+            self.exit.0.now e) }
 
-        ensures grows { Grows self.entry.types.now self.exit.0.now }
+        ensures keeps { KeepsTypes self.entry.types.now self.exit.0.now }
+
+        // The builder gains no more than the items may need.
+        ensures adds { OnOk result (AddsTypes (length
+            (body_items component.now)) self.entry.types.now self.exit.0.now) }
+        ensures adds_when_full { result ≡ Err Error.TooMany
+            → AddsTypes (length (body_items component.now)) self.entry.types.now self.exit.0.now }
     {
         let Translator {
             types,

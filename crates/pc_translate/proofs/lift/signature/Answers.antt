@@ -2,7 +2,7 @@ use Rattle.std.proofs.Common.{ap, sym, ◌∙◌}
 use Rattle.std.specs.Prelude.{option_and_then, slice_get}
 use Rattle.pc_builder.proofs.TreeLemmas.{converted_grows}
 use Rattle.pc_translate.specs.Held.{IsSignature}
-use Rattle.pc_translate.proofs.Numbering.{number_there, signature_held, signature_there}
+use Rattle.pc_translate.proofs.NumberLemmas.{number_there, signature_held, signature_there}
 use Rattle.pc_translate.proofs.lift.signature.Goals as goal
 
 -- a number that was noted is that of the signature
@@ -10,7 +10,8 @@ noted : (c : goal.In-Some) → IsSignature c.args.types.now c.args.table.now c.a
 noted c =
     c.requires.numbers.signatures c.args.core c.in-Some.index
     (number_there c.args.numbers.now.signatures.items c.args.core c.in-Some.index
-    (ap (λ ns. option_and_then (λ x. x) (slice_get ns c.args.core)) (sym c.as_slice.ensures.value) ∙ sym c.number_at.ensures ∙ c.in-Some.is))
+    (ap (λ ns. option_and_then (λ x. x) (slice_get ns c.args.core)) (sym c.as_slice.ensures.value)
+    ∙ sym c.number_at.ensures ∙ c.in-Some.is))
 
 pub returns-in-Some-clause-is : goal.returns-in-Some-clause-is
 returns-in-Some-clause-is c = noted c

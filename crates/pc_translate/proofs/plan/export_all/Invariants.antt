@@ -1,5 +1,5 @@
 use Rattle.std.proofs.Common.{take}
-use Rattle.pc_translate.proofs.Naming.{ExportedSoFar}
+use Rattle.pc_translate.proofs.NameLemmas.{ExportedSoFar}
 use Rattle.pc_translate.proofs.plan.export_all.Given as goal
 
 abbrev pub invariant-loop-named : goal.invariant-loop-named

@@ -1,6 +1,6 @@
 use Rattle.std.proofs.Common.{◌++◌, ◌∷◌, [], ◌∙◌, refl}
 use Rattle.pc_info.specs.declared.export.Export.TheVariants as export
-use Rattle.pc_translate.proofs.Naming.{interned_kept, interned_few, interned_used}
+use Rattle.pc_translate.proofs.NameLemmas.{interned_kept, interned_few, interned_used}
 use Rattle.pc_translate.proofs.plan.push_export.Goals as goal
 
 pub returns : goal.returns
@@ -17,7 +17,16 @@ returns c =
         is_it = (refl, c.in_ok-func.ensures, c.in_ok-push.ensures.held);
         items = c.in_ok-index.ensures.ok;
         names = c.in_ok-push-2.ensures.ok
-            ∙ (λ i. old.names ++ (name_is i, (key_is i, record { implements = implements_is i; external_id = id_is i })) ∷ []);
+            ∙ (λ i. old.names ++ (
+              name_is i,
+              (
+                key_is i,
+                record {
+                  implements = implements_is i;
+                  external_id = id_is i;
+                },
+              ),
+            ) ∷ []);
         kept = interned_kept _ _ _ c.in_ok-push.ensures.grows;
         used = interned_used _ _ _ _ c.in_ok-push.ensures.grows c.in_ok-push.ensures.held c.in_ok-push.ensures.distinct;
         few = interned_few _ _ _ c.in_ok-push.ensures.grows;

@@ -1,4 +1,4 @@
-use Rattle.pc_translate.proofs.Holding.{again_held, alias_held, instance_held, module_held}
+use Rattle.pc_translate.proofs.HeldLemmas.{again_held, alias_held, instance_held, module_held}
 use Rattle.pc_translate.proofs.frame.Frame.read.Goals as goal
 
 pub returns-in-ModuleStatic-clause-held : goal.returns-in-ModuleStatic-clause-held

@@ -1,4 +1,4 @@
-use Rattle.pc_translate.proofs.Numbering.{no_signatures}
+use Rattle.pc_translate.proofs.NumberLemmas.{no_signatures}
 use Rattle.pc_translate.proofs.numbers.Numbers.new.Goals as goal
 
 pub returns : goal.returns

@@ -1,0 +1,341 @@
+-- The whole translation: the plan of the frame that was read does what the nested reading says.
+use Rattle.std.specs.Prelude.{slice_get}
+use Rattle.std.proofs.lemmas.Option.{none-some, same_Some}
+use Rattle.pc_builder.specs.Types.{Types}
+use Rattle.pc_entity.specs.Lists.{AreDistinct}
+use Rattle.pc_info.specs.declared.options.CanonicalOptions.{CanonicalOptions}
+use Rattle.pc_numbers.specs.declared.module_entity.ModuleInternedTypeIndex.{ModuleInternedTypeIndex}
+use Rattle.std.proofs.Common.{zero, suc, ◌≡◌, ℕ, ◌+◌, ◌≤◌, ◌<◌, List, [], ◌∷◌, length, map, Option, Some, None, Ok, Err, true, refl, sym, ap, ◌∙◌, subst, arith, ◌&&◌, zero-add}
+use Rattle.std.specs.Prelude.{nat_lt, is_none}
+use Rattle.std.specs.List.{AllZip, filter_map, cons_option, flat_map, list_all}
+use Rattle.std.proofs.lemmas.Bool.{lt-ltb}
+use Rattle.pc_entity.proofs.Elements.{and_true, true_and}
+use Rattle.pc_info.specs.declared.component.Component.{Component}
+use Rattle.pc_info.specs.declared.component.ModuleTranslation.{ModuleTranslation}
+use Rattle.pc_info.specs.View.{TypeNumber, module_view, view, initializer_view, options_view, named_view}
+use Rattle.pc_numbers.specs.declared.runtime.ExportIndex.{ExportIndex}
+use Rattle.pc_parsed.specs.Built.{are_built, is_built_entry, is_built_payload}
+use Rattle.pc_parsed.specs.declared.fault.ItemFault.{ItemFault}
+use Rattle.pc_parsed.specs.declared.payload.Payload.{Payload}
+use Rattle.pc_parsed.specs.declared.payload.Payload.TheVariants as payload
+use Rattle.pc_parsed.specs.Nest.{body_items, module_of, modules_of}
+use Rattle.pc_parsed.specs.Program.{is_numbered, is_translatable}
+use Rattle.pc_parsed.specs.Reading.{Outcome, reading, done, fault, and_then, read_items, result_at}
+use Rattle.pc_parsed.specs.Scope as scope
+use Rattle.pc_parsed.specs.SoundList.{is_sound_list, is_sound_payload}
+use Rattle.pc_parsed.specs.StaticFault.{exported_names}
+use Rattle.pc_parsed.proofs.SoundLemmas.{sound_list}
+use Rattle.pc_parsed.specs.Nest.{is_body}
+use Rattle.pc_semantics.specs.ExportNode.{map_named}
+use Rattle.pc_semantics.specs.Log.{Owned, instances_of, map_owned}
+use Rattle.pc_entity.specs.Lists.{map_all}
+use Rattle.pc_info.specs.declared.initializer.GlobalInitializer.{GlobalInitializer}
+use Rattle.pc_semantics.specs.Machine.{RuntimeInstance, named_node, owned_of, run_from, start}
+use Rattle.pc_semantics.specs.PlanView as plan
+use Rattle.pc_translate.proofs.GainLemmas.{all_names, list_names}
+use Rattle.pc_translate.proofs.PlanLemmas.{all_nodes, runs_within}
+use Rattle.pc_translate.proofs.ErasureLemmas.{does_as}
+use Rattle.pc_translate.proofs.HeldLemmas.{plan_names}
+use Rattle.pc_translate.proofs.MeansLemmas.{zip_length}
+use Rattle.pc_translate.proofs.BodyLemmas.{Ends, items_agree}
+use Rattle.pc_translate.proofs.Standing
+use Rattle.pc_translate.proofs.TreeLemmas.{has_trees}
+use Rattle.pc_translate.specs.Building
+use Rattle.pc_translate.specs.declared.frame.Frame.{Frame}
+use Rattle.pc_translate.specs.declared.frame.NamedFunction.{NamedFunction}
+use Rattle.pc_translate.specs.Held.{FrameHeld}
+use Rattle.pc_translate.specs.Planning.{IsPlanOf, IsExportOf, entries_from, export_name, plain_entry}
+use Rattle.pc_translate.specs.Translation.{Translates}
+use Rattle.pc_translate.specs.Typed.{Numbered, TypedAs, number_of, whole_of}
+use Rattle.pc_types.specs.declared.error.Place.TheVariants as place
+use Rattle.pc_types.specs.declared.module_record.ModuleRecord.{ModuleRecord}
+use Rattle.pc_types.specs.declared.parsed.TypeTable.{TypeTable}
+use Rattle.pc_types.specs.declared.types.ComponentExternData.{ComponentExternData}
+use Rattle.pc_types.specs.Names.{distinct_names}
+use Rattle.pc_types.specs.Record.{is_sound}
+use Rattle.pc_types.specs.Table.{table_fault}
+
+-- the moment in which the root begins
+abbrev first : scope.Moment
+first = record { scope = scope.fresh 0; world = record { log = []; begun = 1 } }
+
+-- the empty frame stands for it
+first_stands : (types : Types) (p : plan.PlanView TypeNumber) → Standing.StandsFor types p Building.empty_frame first
+first_stands types p = record {
+  made = [];
+  runs = refl;
+  numbered = refl;
+  log = tt;
+  core_funcs = tt;
+  modules = tt;
+  core_instances = tt;
+  funcs = tt;
+  exports = tt;
+  root = refl;
+  unknown = refl;
+  begun = refl;
+}
+
+-- a view that has these modules, for runs that end at a fault
+abbrev some_view : List ModuleRecord → plan.PlanView TypeNumber
+some_view ms = record {
+  handed_in = ms;
+  adapter_modules = 0;
+  adapters = [];
+  import_types = [];
+  imports = [];
+  imported_resources = [];
+  initializers = [];
+  options = [];
+  trampolines = [];
+  intrinsics = [];
+  exports = [];
+  counts = record {
+    runtime_instances = 0;
+    component_instances = 1;
+    lowerings = 0;
+    memories = 0;
+    tables = 0;
+    reallocs = 0;
+    callbacks = 0;
+    post_returns = 0;
+    resources = 0;
+    future_tables = 0;
+    stream_tables = 0;
+    error_context_tables = 0;
+  };
+}
+
+-- the modules of sound payloads are sound
+sound_modules : (t : TypeTable) (ps : List Payload) → list_all (is_sound_payload t) ps ≡ true
+    → list_all (is_sound t) (modules_of ps) ≡ true
+sound_modules t [] h = refl
+sound_modules t (p ∷ ps) h =
+    let both = and_true (is_sound_payload t p) (list_all (is_sound_payload t) ps) h in
+    by p both.0 (sound_modules t ps both.1)
+  where
+    by : (q : Payload) → is_sound_payload t q ≡ true → list_all (is_sound t) (modules_of ps) ≡ true
+        → list_all (is_sound t) (cons_option (module_of q) (modules_of ps)) ≡ true
+    by (payload.ModuleSection r ty) s rest = true_and (is_sound t r) (list_all (is_sound t) (modules_of ps)) s rest
+    by (payload.Version e) s rest = rest
+    by payload.CoreTypeSection s rest = rest
+    by payload.CustomSection s rest = rest
+    by payload.ComponentStartSection s rest = rest
+    by payload.ComponentSection s rest = rest
+    by payload.End s rest = rest
+    by (payload.ComponentTypeSection xs) s rest = rest
+    by (payload.ComponentImportSection xs) s rest = rest
+    by (payload.ComponentCanonicalSection xs) s rest = rest
+    by (payload.InstanceSection xs) s rest = rest
+    by (payload.ComponentInstanceSection xs) s rest = rest
+    by (payload.ComponentExportSection xs) s rest = rest
+    by (payload.ComponentAliasSection xs) s rest = rest
+
+-- nothing is in an option that is none
+none_is : {A : Type 0} (o : Option A) → is_none o ≡ true → o ≡ None
+none_is None h = refl
+none_is (Some x) h = cc
+
+-- the parts of what can be translated
+pub record Parts (t : TypeTable) (ps : List Payload) : Type 0 where
+  pub table : table_fault t ≡ None
+  pub entries : list_all is_built_entry t.types ≡ true
+  pub payloads : list_all is_built_payload ps ≡ true
+  pub modules : list_all (is_sound t) (modules_of ps) ≡ true
+  pub names : distinct_names (flat_map exported_names ps) ≡ true
+
+pub parts : (t : TypeTable) (exposed : Option (List ℕ)) (ps : List Payload) → is_translatable t exposed ps ≡ true
+    → Parts t ps
+parts t exposed ps h =
+    let both = sound_list t exposed ps h in
+    let b1 = and_true (is_none exposed && list_all is_built_entry t.types) (list_all is_built_payload ps) both.0 in
+    let b2 = and_true (is_none exposed) (list_all is_built_entry t.types) b1.0 in
+    let s1 = and_true (is_none (table_fault t) && is_body ps && list_all (is_sound_payload t) ps)
+    (distinct_names (flat_map exported_names ps)) both.1 in
+    let s2 = and_true (is_none (table_fault t) && is_body ps) (list_all (is_sound_payload t) ps) s1.0 in
+    let s3 = and_true (is_none (table_fault t)) (is_body ps) s2.0 in
+    record {
+      table = none_is (table_fault t) s3.0;
+      entries = b2.1;
+      payloads = b1.1;
+      modules = sound_modules t ps s2.1;
+      names = s1.1;
+    }
+
+-- the names of the frame's exports are distinct
+pub frame_names : (types : Types) (t : TypeTable) (ps : List Payload) (f : Frame) → Parts t ps
+    → Building.BuildsAll types t (modules_of ps) 0 (body_items ps) Building.empty_frame (Ok f)
+    → distinct_names (map export_name f.exports) ≡ true
+frame_names types t ps f q b =
+    let same = all_names types t (modules_of ps) 0 (body_items ps) Building.empty_frame f b
+    ∙ list_names 0 ps q.payloads in
+    subst (λ (names : List (List ℕ)). distinct_names names ≡ true) (sym same) q.names
+
+-- the core instances of a run, without those of adapter modules, with their types
+record Instances (types : Types) (made : List (RuntimeInstance TypeNumber))
+    (os : List (Owned scope.Mark)) : Type 0 where
+  instances : List (Owned (Numbered types))
+  makes : filter_map owned_of made ≡ map (map_owned (number_of types)) instances
+  same : map (map_owned (whole_of types)) instances ≡ os
+
+-- they are those of the log
+owned_same : (types : Types) (p : plan.PlanView TypeNumber) (made : List (RuntimeInstance TypeNumber))
+    (os : List (Owned scope.Mark))
+    → AllZip (Standing.OwnedStands types p) made os → Instances types made os
+owned_same types p [] [] h = record { instances = []; makes = refl; same = refl }
+owned_same types p [] (o ∷ os) h = absurd h
+owned_same types p (x ∷ made) [] h = absurd h
+owned_same types p (x ∷ made) (o ∷ os) h =
+    let one = h.0 in
+    let same = one.same in
+    let rest = owned_same types p made os h.1 in
+    let makes = rest.makes in
+    let more = rest.same in
+    record {
+      instances = one.owned ∷ rest.instances;
+      makes = rw one.is_it (λ i. map_owned (number_of types) one.owned ∷ makes i);
+      same = λ i. same i ∷ more i;
+    }
+
+-- each entry of an export map names an item
+held_from : (n k : ℕ) (xs : List NamedFunction) → n + length xs ≤ k
+    → list_all (λ (e : List ℕ × (ExportIndex × ComponentExternData)). nat_lt e.1.0.0 k) (entries_from n xs) ≡ true
+held_from n k [] le = refl
+held_from n k (x ∷ xs) le =
+    let lt : n < k = omega arith in
+    let more : n + 1 + length xs ≤ k = omega arith in
+    true_and _ _ (lt-ltb n k lt) (held_from (n + 1) k xs more)
+
+-- an export map has an entry for each function
+length_entries : (n : ℕ) (xs : List NamedFunction) → length (entries_from n xs) ≡ length xs
+length_entries n [] = refl
+length_entries n (x ∷ xs) = ap suc (length_entries (n + 1) xs)
+
+-- the entry at a place names the item at that place
+entry_number : (n i : ℕ) (xs : List NamedFunction) (e : List ℕ × (ExportIndex × ComponentExternData))
+    → slice_get (entries_from n xs) i ≡ Some e
+    → e.1.0.0 ≡ n + i
+entry_number n i [] e h = absurd (none-some e h)
+entry_number n zero (x ∷ xs) e h =
+    let same : n ≡ n + 0 = omega arith in
+    ap (λ (w : List ℕ × (ExportIndex × ComponentExternData)). w.1.0.0) (sym (same_Some _ e h)) ∙ same
+entry_number n (suc i) (x ∷ xs) e h =
+    let later = entry_number (n + 1) i xs e h in
+    let same : n + 1 + i ≡ n + suc i = omega arith in
+    later ∙ same
+
+-- options entries of different signatures differ
+distinct_entries : (signatures : List ModuleInternedTypeIndex) → AreDistinct signatures
+    → AreDistinct (map plain_entry signatures)
+distinct_entries signatures distinct i j x at_i at_j =
+    let p = behind signatures i x at_i in
+    let q = behind signatures j x at_j in
+    let same : p.0 ≡ q.0 = ap (λ (o : CanonicalOptions). o.core_type) (p.2 ∙ sym q.2) in
+    distinct i j p.0 p.1 (q.1 ∙ ap Some (sym same))
+  where
+    behind : (ss : List ModuleInternedTypeIndex) (i : ℕ) (x : CanonicalOptions)
+        → slice_get (map plain_entry ss) i ≡ Some x
+        → (s : ModuleInternedTypeIndex) × (slice_get ss i ≡ Some s) × (plain_entry s ≡ x)
+    behind [] i x h = absurd (none-some x h)
+    behind (s ∷ ss) zero x h = (s, refl, same_Some _ x h)
+    behind (s ∷ ss) (suc i) x h = behind ss i x h
+
+-- a reading whose items end
+reading_is : (t : TypeTable) (exposed : Option (List ℕ)) (limit : ℕ) (ps : List Payload) (o : Outcome scope.Moment)
+    → nat_lt 0 limit ≡ true
+    → read_items t (modules_of ps) 0 (body_items ps) first ≡ o
+    → reading t exposed limit ps ≡ and_then o (λ now. done (result_at now))
+reading_is t exposed limit ps o begins h = rw (begins, h) refl
+
+-- a frame that was read to the end, and its plan
+pub translated : (t : TypeTable) (exposed : Option (List ℕ)) (limit : ℕ) (ps : List Payload) (types : Types)
+    (f : Frame) (c : Component) (mts : List ModuleTranslation)
+    → is_numbered t ps ≡ true → nat_lt 0 limit ≡ true → is_translatable t exposed ps ≡ true → Parts t ps
+    → Building.BuildsAll types t (modules_of ps) 0 (body_items ps) Building.empty_frame (Ok f) → FrameHeld types f
+    → IsPlanOf f types c → map module_view mts ≡ modules_of ps
+    → Translates t exposed limit ps types (record { component = c }) mts
+translated t exposed limit ps types f c mts numbered begins ok q b frame_held is_plan same_modules =
+    let p : plan.PlanView TypeNumber = view (record { component = c }) mts in
+    let counted : nat_lt 0 p.counts.component_instances ≡ true =
+    rw (ap (λ (k : plan.Counts). k.component_instances) is_plan.counts) refl in
+    let sound : list_all (is_sound t) p.handed_in ≡ true = rw same_modules q.modules in
+    let b' = subst (λ (ms : List ModuleRecord). Building.BuildsAll types t ms 0 (body_items ps) Building.empty_frame
+    (Ok f)) (sym same_modules) b in
+    let e : Ends types p f (read_items t p.handed_in 0 (body_items ps) first) =
+    items_agree types t p sound (has_trees t q.table q.entries) counted 0 (body_items ps) Building.empty_frame first
+    (first_stands types p) (Ok f) b' in
+    let is_done : read_items t (modules_of ps) 0 (body_items ps) first ≡ done e.now =
+    subst (λ (ms : List ModuleRecord). read_items t ms 0 (body_items ps) first ≡ done e.now) same_modules e.is_done in
+    let made = e.stands.made in
+    let few : length f.initializers ≤ p.counts.runtime_instances =
+    rw (ap (λ (k : plan.Counts). k.runtime_instances) is_plan.counts) (omega arith) in
+    let listed : p.options ≡ map options_view (map plain_entry is_plan.signatures) =
+    ap (map options_view) is_plan.options in
+    let ns = all_nodes types p made is_plan.signatures counted listed c.export_items f.exports e.now.scope.exports is_plan.exported.each e.stands.exports in
+    let count = zip_length (IsExportOf is_plan.signatures) f.exports c.export_items is_plan.exported.each in
+    let steps : length f.initializers ≡ length (instances_of e.now.world.log) =
+    e.stands.numbered ∙ zip_length (Standing.OwnedStands types p) made (instances_of e.now.world.log) e.stands.log in
+    let begun : 1 ≡ e.now.world.begun = sym e.stands.begun in
+    let names = is_plan.exported.names in
+    let own = owned_same types p made (instances_of e.now.world.log) e.stands.log in
+    let typed : TypedAs types p (result_at e.now) = record {
+      last = Standing.after made;
+      instances = own.instances;
+      exports = ns.nodes;
+      runs = subst (λ (is : List GlobalInitializer). run_from p (λ r. true) (map initializer_view is) start ≡ Some
+          (Standing.after made)) (sym is_plan.initializers)
+          (runs_within p f.initializers made e.stands.runs few);
+      makes = own.makes;
+      ends = subst (λ (es : List (List ℕ × (ExportIndex × ComponentExternData))).
+          map_all (named_node p (Standing.after made)) (filter_map (named_view c.export_items) es) ≡ Some
+          (map (map_named (number_of types)) ns.nodes))
+          (sym is_plan.exported.names) ns.resolve;
+      same_instances = own.same;
+      same_exports = ns.same;
+    } in
+    record {
+      numbered = numbered;
+      able = rw (begins, ok) refl;
+      result = result_at e.now;
+      outcome = reading_is t exposed limit ps (done e.now) begins is_done;
+      does = does_as types p (result_at e.now) typed;
+      typed = typed;
+      handed_in = same_modules;
+      counts = is_plan.counts ∙ (λ i. record {
+        runtime_instances = steps i;
+        component_instances = begun i;
+        lowerings = 0;
+        memories = 0;
+        tables = 0;
+        reallocs = 0;
+        callbacks = 0;
+        post_returns = 0;
+        resources = 0;
+        future_tables = length types.future_tables;
+        stream_tables = length types.stream_tables;
+        error_context_tables = length types.error_context_tables;
+      });
+      shared = subst (λ (os : List CanonicalOptions). AreDistinct os) (sym is_plan.options)
+          (distinct_entries is_plan.signatures is_plan.distinct);
+      names = plan_names types f c frame_held is_plan;
+      items = record {
+        as_many = sym count ∙ sym (ap length names ∙ length_entries 0 f.exports);
+        in_order = λ n x at. entry_number 0 n f.exports x
+            (ap (λ (es : List (List ℕ × (ExportIndex × ComponentExternData))). slice_get es n) (sym names) ∙ at)
+            ∙ zero-add n;
+      };
+      held = rw is_plan.exported.names (held_from 0 (length c.export_items) f.exports
+          (rw (zero-add (length f.exports), count) (omega arith)));
+    }
+
+-- a frame that ended at a fault
+pub faulted : (types : Types) (t : TypeTable) (exposed : Option (List ℕ)) (limit : ℕ) (ps : List Payload)
+    (k : ItemFault) (n : ℕ)
+    → nat_lt 0 limit ≡ true → Parts t ps
+    → Building.BuildsAll types t (modules_of ps) 0 (body_items ps) Building.empty_frame (Err (k, n))
+    → reading t exposed limit ps ≡ fault k (place.Reading 0 n)
+faulted types t exposed limit ps k n begins q b =
+    let p = some_view (modules_of ps) in
+    reading_is t exposed limit ps (fault k (place.Reading 0 n)) begins
+    (items_agree types t p q.modules (has_trees t q.table q.entries) refl 0 (body_items ps) Building.empty_frame first
+    (first_stands types p) (Err (k, n)) b)
