@@ -2,10 +2,20 @@
 #![tactic(auto)]
 
 #[cfg(test)]
-mod examples;
+mod adapters;
+#[cfg(test)]
+mod contexts;
+#[cfg(test)]
+mod hosts;
 #[cfg(test)]
 mod inputs;
 #[cfg(test)]
+mod long;
+#[cfg(test)]
+mod nested;
+#[cfg(test)]
 mod refusals;
+#[cfg(test)]
+mod root;
 #[cfg(test)]
 mod streams;

@@ -1,6 +1,6 @@
--- what an answer tells of an input and of bytes
-pub mod Telling
+-- what an answer says of an input and of bytes
+pub mod AnswerLemmas
 -- that reasons to be refused exclude a plan
-pub mod Excluding
--- what follows of what was said
-pub mod Saying
+pub mod RefusalLemmas
+-- how a run has ended
+pub mod EndLemmas

@@ -9,14 +9,15 @@ use Rattle.pc_info.specs.declared.component.ModuleTranslation.{ModuleTranslation
 use Rattle.pc_form.specs.declared.input.Input.{Input}
 use Rattle.pc_tool.specs.declared.answer.Answer.{Answer}
 use Rattle.pc_tool.specs.declared.answer.Answer.TheVariants as answer
+use Rattle.pc_tool.specs.declared.words.Command.{Command}
 use Rattle.pc_tool.specs.declared.status.Status.{Status}
 use Rattle.pc_tool.specs.declared.status.Status.TheVariants as status
-use Rattle.pc_tool.specs.Headline.{IsPlanFor, IsErrorOf, IsPlanText, IsErrorText, IsNotJson, IsBadForm, Prints, Explains}
+use Rattle.pc_tool.specs.Headline.{IsPlanFor, IsErrorOf, IsTextOf, IsErrorText, IsNotJson, IsBadForm, Prints, Explains}
 use Rattle.pc_tool.specs.Run.{IsWhole, GaveTooMuch}
 
 -- the end of a run that has written an answer
 abbrev pub status_of : Answer → Status
-status_of (answer.Plan text) = status.Done
+status_of (answer.Made text) = status.Done
 status_of (answer.Fault text) = status.Refused
 status_of answer.NotJson = status.Refused
 status_of answer.BadForm = status.Refused
@@ -24,33 +25,35 @@ status_of answer.TooLong = status.TooLong
 
 -- the text of an answer
 abbrev pub text_of : Answer → List ℕ
-text_of (answer.Plan text) = text.items
+text_of (answer.Made text) = text.items
 text_of (answer.Fault text) = text.items
 text_of answer.NotJson = not_json
 text_of answer.BadForm = bad_form
 text_of answer.TooLong = too_long
 
--- an answer is true of an input
-unfoldable pub AnswersInput : Input → Answer → Type 0
-AnswersInput input (answer.Plan text) = (plan : ComponentTranslation) × (modules : List ModuleTranslation)
-    × IsPlanFor input plan modules × Prints plan modules text.items
-AnswersInput input (answer.Fault text) = (e : Error) × (e ≢ error.NoMemory) × IsErrorOf input e × Explains e text.items
-AnswersInput input answer.NotJson = ⊥
-AnswersInput input answer.BadForm = ⊥
-AnswersInput input answer.TooLong = ⊥
+-- an answer to a command is true of an input
+unfoldable pub AnswersInput : Command → Input → Answer → Type 0
+AnswersInput c input (answer.Made text) = (plan : ComponentTranslation) × (modules : List ModuleTranslation)
+    × IsPlanFor input plan modules × Prints c plan modules text.items
+AnswersInput c input (answer.Fault text) =
+    (e : Error) × (e ≢ error.NoMemory) × IsErrorOf input e × Explains e text.items
+AnswersInput c input answer.NotJson = ⊥
+AnswersInput c input answer.BadForm = ⊥
+AnswersInput c input answer.TooLong = ⊥
 
--- an answer is true of bytes
-unfoldable pub Answers : List ℕ → Answer → Type 0
-Answers bytes (answer.Plan text) = IsPlanText bytes text.items
-Answers bytes (answer.Fault text) = IsErrorText bytes text.items
-Answers bytes answer.NotJson = IsNotJson bytes
-Answers bytes answer.BadForm = IsBadForm bytes
-Answers bytes answer.TooLong = ⊥
+-- an answer to a command is true of bytes
+unfoldable pub Answers : Command → List ℕ → Answer → Type 0
+Answers c bytes (answer.Made text) = IsTextOf c bytes text.items
+Answers c bytes (answer.Fault text) = IsErrorText bytes text.items
+Answers c bytes answer.NotJson = IsNotJson bytes
+Answers c bytes answer.BadForm = IsBadForm bytes
+Answers c bytes answer.TooLong = ⊥
 
--- an answer is true of all the bytes of a source, or there are too many of them
-unfoldable pub AnswersSource : (left left_new : Option (List ℕ)) → Answer → Type 0
-AnswersSource left left_new a =
-    ((a ≡ answer.TooLong) × GaveTooMuch left left_new) ⊎ ((bytes : List ℕ) × IsWhole left left_new bytes × Answers bytes a)
+-- an answer to a command is true of all the bytes of a source, or there are too many of them
+unfoldable pub AnswersSource : Command → (left left_new : Option (List ℕ)) → Answer → Type 0
+AnswersSource c left left_new a =
+    ((a ≡ answer.TooLong) × GaveTooMuch left left_new)
+    ⊎ ((bytes : List ℕ) × IsWhole left left_new bytes × Answers c bytes a)
 
 -- a front of a text is all that was written, and a write failed
 pub record Cut (written written_new : Option (List ℕ)) (faults faults_new : ℕ) (text : List ℕ) : Type 0 where
@@ -60,7 +63,8 @@ pub record Cut (written written_new : Option (List ℕ)) (faults faults_new : �
   pub wrote : Takes written written_new (take n text)
 
 -- a text was written whole, and the result is its status; or a write failed
-unfoldable pub Said : (written written_new : Option (List ℕ)) → (faults faults_new : ℕ) → Status → List ℕ → (result : Status) → Type 0
+unfoldable pub Said : (written written_new : Option (List ℕ)) → (faults faults_new : ℕ) → Status → List ℕ
+    → (result : Status) → Type 0
 Said written written_new faults faults_new said text result =
     ((result ≡ said) × Takes written written_new text)
     ⊎ ((result ≡ status.WriteFault) × Cut written written_new faults faults_new text)

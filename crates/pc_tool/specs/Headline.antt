@@ -1,4 +1,5 @@
--- What the texts mean that answer bytes: the text of a plan that does what the nested reading says, or of a fault and its cause.
+-- What the texts mean that answer bytes: the text of a plan that does what the nested reading says, or of a fault and
+-- its cause.
 use Rattle.std.specs.Prelude.{◌≡◌, ◌≢◌, ◌⊎◌, ℕ, false, List, Some, None}
 use Rattle.serde_json.specs.Data.{Data}
 use Rattle.pc_types.specs.declared.error.Error.{Error}
@@ -8,6 +9,8 @@ use Rattle.pc_semantics.specs.Text.{plan_text}
 use Rattle.pc_info.specs.declared.component.ComponentTranslation.{ComponentTranslation}
 use Rattle.pc_info.specs.declared.component.ModuleTranslation.{ModuleTranslation}
 use Rattle.pc_info.specs.View.{view}
+use Rattle.pc_offsets.specs.Context.{context_size}
+use Rattle.pc_text.specs.ContextText.{context_text}
 use Rattle.pc_text.specs.FaultText.{fault_text, not_json, bad_form}
 use Rattle.pc_parsed.specs.declared.fault.ItemFault.{ItemFault}
 use Rattle.pc_parsed.specs.Program.{is_numbered}
@@ -16,6 +19,8 @@ use Rattle.pc_form.specs.declared.input.Input.{Input}
 use Rattle.pc_form.specs.Input.{input_in, input_of, tree_of}
 use Rattle.pc_form.specs.Rules.{plain}
 use Rattle.pc_translate.specs.Translation.{IsPlanOf, IsRefusalOf, can_translate}
+use Rattle.pc_tool.specs.declared.words.Command.{Command}
+use Rattle.pc_tool.specs.declared.words.Command.TheVariants as command
 
 -- bytes stand for an input
 unfoldable pub Decodes : (bytes : List ℕ) → Input → Type 0
@@ -31,13 +36,15 @@ IsBadForm bytes = (tree : Data) × (tree_of bytes ≡ Some tree) × (input_of pl
 
 -- a plan and its modules do what the nested reading of an input's payloads says
 abbrev pub IsPlanFor : Input → ComponentTranslation → List ModuleTranslation → Type 0
-IsPlanFor input plan modules = IsPlanOf input.table input.intrinsics input.tunables.max_component_instances input.payloads plan modules
+IsPlanFor input plan modules =
+    IsPlanOf input.table input.intrinsics input.tunables.max_component_instances input.payloads plan modules
 
 -- an error has its cause in an input
 abbrev pub IsErrorOf : Input → Error → Type 0
 IsErrorOf input e = IsRefusalOf input.table input.intrinsics input.tunables.max_component_instances input.payloads e
 
--- an input has a reason to be refused: a list is too long for its numbers, it can't be translated, or its reading ends at a fault
+-- an input has a reason to be refused: a list is too long for its numbers, it can't be translated, or its reading ends
+-- at a fault
 unfoldable pub HasFault : Input → Type 0
 HasFault input =
     (is_numbered input.table input.payloads ≡ false)
@@ -45,22 +52,33 @@ HasFault input =
     ⊎ ((k : ItemFault) × (p : Place)
     × (reading input.table input.intrinsics input.tunables.max_component_instances input.payloads ≡ fault k p)))
 
--- a text is that of a plan and its modules
-unfoldable pub Prints : ComponentTranslation → List ModuleTranslation → (text : List ℕ) → Type 0
-Prints plan modules text = text ≡ plan_text (view plan modules)
+-- a text is the one that a command makes of a plan and its modules
+unfoldable pub Prints : Command → ComponentTranslation → List ModuleTranslation → (text : List ℕ) → Type 0
+Prints command.Translate plan modules text = text ≡ plan_text (view plan modules)
+Prints command.Context plan modules text =
+    text ≡ context_text (context_size 4 plan.component) (context_size 8 plan.component)
 
 -- a text is that of an error
 unfoldable pub Explains : Error → (text : List ℕ) → Type 0
 Explains e text = text ≡ fault_text e
 
--- a text is that of a plan which does what the nested reading of the payloads says that bytes stand for
-pub record IsPlanText (bytes text : List ℕ) : Type 0 where
+-- a text is the one that a command makes of a plan which does what the nested reading says of the payloads that bytes
+-- stand for
+pub record IsTextOf (c : Command) (bytes text : List ℕ) : Type 0 where
   pub input : Input
   pub decoded : Decodes bytes input
   pub plan : ComponentTranslation
   pub modules : List ModuleTranslation
   pub does : IsPlanFor input plan modules
-  pub printed : Prints plan modules text
+  pub printed : Prints c plan modules text
+
+-- a text is that of such a plan
+abbrev pub IsPlanText : (bytes text : List ℕ) → Type 0
+IsPlanText = IsTextOf command.Translate
+
+-- a text is that of how many bytes the context of such a plan takes
+abbrev pub IsContextText : (bytes text : List ℕ) → Type 0
+IsContextText = IsTextOf command.Context
 
 -- a text is that of an error which has its cause in the input that bytes stand for
 pub record IsErrorText (bytes text : List ℕ) : Type 0 where

@@ -4,16 +4,20 @@ ghost use Rattle.std.specs.Prelude.{ℕ, ◌≡◌, ◌↔◌, ◌≤◌, ◌<�
 ghost use Rattle.pc_stream.specs.declared.whole.TheConstants.{MAX_INPUT};
 ghost use Rattle.std.specs.Option.{option_map};
 ghost use Rattle.pc_stream.specs.Stream.{ShowsFault};
+ghost use Rattle.pc_offsets.specs.Context.{context_size};
+ghost use Rattle.pc_text.specs.ContextText.{context_text};
 ghost use Rattle.pc_tool.specs.Answers.{Answers, AnswersInput, AnswersSource, status_of, text_of};
 ghost use Rattle.pc_tool.specs.Headline.{Decodes, Explains, IsBadForm, IsErrorOf, IsNotJson, IsPlanFor, Prints};
 ghost use Rattle.pc_tool.specs.declared.answer.Unanswered.TheVariants as unanswered;
 
 use crate::Status;
+use crate::words::Command;
 use pc_entity::{NoMemory, PrimaryMap, StaticModuleIndex};
 use pc_form::{DecodeError, Input, decode_input};
 use pc_info::{ComponentTranslation, ModuleTranslation};
+use pc_offsets::{PtrWidth, VMComponentOffsets};
 use pc_stream::{ReadEnd, Source, read_all};
-use pc_text::{bad_form_text, fault_text, not_json_text, plan_text, too_long_text};
+use pc_text::{bad_form_text, context_text, fault_text, not_json_text, plan_text, too_long_text};
 use pc_translate::plan_payloads;
 use pc_types::Error;
 use std::alloc::Global;
@@ -21,8 +25,8 @@ use std::alloc::Global;
 /// What a run has to say of its source.
 #[derive(Drop)]
 pub(crate) enum Answer {
-    /// The text of a plan.
-    Plan(Vec<u8>),
+    /// The text that the command makes of the plan.
+    Made(Vec<u8>),
     /// The text of the error with which the translation was refused.
     Fault(Vec<u8>),
     /// The bytes aren't JSON.
@@ -56,7 +60,7 @@ impl Answer {
         ensures { result ≡ status_of self.now }
     {
         match self {
-            Answer::Plan(_) => Status::Done,
+            Answer::Made(_) => Status::Done,
             Answer::Fault(_) | Answer::NotJson | Answer::BadForm => Status::Refused,
             Answer::TooLong => Status::TooLong,
         }
@@ -67,7 +71,7 @@ impl Answer {
         ensures { result.now ≡ text_of self.now }
     {
         match self {
-            Answer::Plan(text) => text.as_slice(),
+            Answer::Made(text) => text.as_slice(),
             Answer::Fault(text) => text.as_slice(),
             Answer::NotJson => not_json_text().as_bytes(),
             Answer::BadForm => bad_form_text().as_bytes(),
@@ -86,7 +90,7 @@ fn exposed_name(input: &Input) -> Option<&str>
     }
 }
 
-/// The plan of an input, and its core modules.
+/// The plan of an input, and its core modules. It is `plan_payloads`, for callers that see an input and not its parts.
 fn translate_input(
     alloc: Global,
     input: &Input,
@@ -109,20 +113,34 @@ fn translate_input(
     )
 }
 
-/// The text of the plan of an input.
+/// The text of how many bytes the context of a plan takes, with pointers of four bytes and of eight.
+fn print_context(alloc: Global, plan: &ComponentTranslation) -> Result<Vec<u8>, NoMemory>
+    ensures { IfOk result (λ text. text.items
+        ≡ context_text (context_size 4 plan.now.component) (context_size 8 plan.now.component)) }
+{
+    let four = VMComponentOffsets::size_for(PtrWidth::Four, &plan.component);
+    let eight = VMComponentOffsets::size_for(PtrWidth::Eight, &plan.component);
+    context_text(alloc, four, eight)
+}
+
+/// The text that a command makes of the plan of an input.
 fn print(
     alloc: Global,
+    command: Command,
     input: &Input,
     plan: &ComponentTranslation,
     modules: &PrimaryMap<StaticModuleIndex, ModuleTranslation>,
 ) -> Result<Vec<u8>, NoMemory>
     requires { IsPlanFor input.now plan.now modules.now }
-    ensures { IfOk result (λ text. Prints plan.now modules.now text.items) }
+    ensures { IfOk result (λ text. Prints command plan.now modules.now text.items) }
 {
-    plan_text(alloc, plan, modules)
+    match command {
+        Command::Translate => plan_text(alloc, plan, modules),
+        Command::Context => print_context(alloc, plan),
+    }
 }
 
-/// The text of an error.
+/// The text of an error. It is `fault_text`, for callers that don't look into what a text is.
 fn explain(alloc: Global, error: &Error) -> Result<Vec<u8>, NoMemory>
     requires { error.now ≢ Error.NoMemory }
     ensures { IfOk result (λ text. Explains error.now text.items) }
@@ -130,18 +148,18 @@ fn explain(alloc: Global, error: &Error) -> Result<Vec<u8>, NoMemory>
     fault_text(alloc, error)
 }
 
-/// The answer to an input.
-fn answer_input(alloc: Global, input: &Input) -> Result<Answer, NoMemory>
-    ensures { IfOk result (AnswersInput input.now) }
+/// The answer of a command to an input.
+fn answer_input(alloc: Global, command: Command, input: &Input) -> Result<Answer, NoMemory>
+    ensures { IfOk result (AnswersInput command input.now) }
 {
     match translate_input(alloc, input) {
-        Ok((plan, modules)) => Ok(Answer::Plan(print(alloc, input, &plan, &modules)?)),
+        Ok((plan, modules)) => Ok(Answer::Made(print(alloc, command, input, &plan, &modules)?)),
         Err(Error::NoMemory) => Err(NoMemory),
         Err(error) => Ok(Answer::Fault(explain(alloc, &error)?)),
     }
 }
 
-/// The input that bytes stand for.
+/// The input that bytes stand for. It is `decode_input`, for callers that don't look into how bytes are read.
 fn decode(alloc: Global, bytes: &[u8]) -> Result<Input, DecodeError>
     ensures ok { IfOk result (Decodes bytes.now) }
     ensures not_json { result ≡ Err DecodeError.NotJson → IsNotJson bytes.now }
@@ -150,22 +168,26 @@ fn decode(alloc: Global, bytes: &[u8]) -> Result<Input, DecodeError>
     decode_input(alloc, bytes)
 }
 
-/// The answer to bytes.
-fn answer_bytes(alloc: Global, bytes: &[u8]) -> Result<Answer, NoMemory>
-    ensures { IfOk result (Answers bytes.now) }
+/// The answer of a command to bytes.
+fn answer_bytes(alloc: Global, command: Command, bytes: &[u8]) -> Result<Answer, NoMemory>
+    ensures { IfOk result (Answers command bytes.now) }
 {
     match decode(alloc, bytes) {
-        Ok(input) => answer_input(alloc, &input),
+        Ok(input) => answer_input(alloc, command, &input),
         Err(DecodeError::NotJson) => Ok(Answer::NotJson),
         Err(DecodeError::BadForm) => Ok(Answer::BadForm),
         Err(DecodeError::NoMemory) => Err(NoMemory),
     }
 }
 
-/// The answer to all the bytes that a source has.
-pub(crate) fn answer_source<S: Source>(alloc: Global, src: &mut S) -> Result<Answer, Unanswered>
-    ensures ok { IfOk result (AnswersSource (S.left src.old) (S.left src.new)) }
-    // Where bytes are told, n of them were given, from the front, and it is too long exactly where n is above the limit.
+/// The answer of a command to all the bytes that a source has.
+pub(crate) fn answer_source<S: Source>(
+    alloc: Global,
+    command: Command,
+    src: &mut S,
+) -> Result<Answer, Unanswered>
+    ensures ok { IfOk result (AnswersSource command (S.left src.old) (S.left src.new)) }
+    // Where bytes are told, n of them were given, from the front; too long is exactly an n above the limit.
     ensures too_long { (told : List ℕ) → S.left src.old ≡ Some told → (n : ℕ) × (n ≤ length told)
         × (S.left src.new ≡ Some (drop n told)) × ((result ≡ Ok Answer.TooLong) ↔ (MAX_INPUT < n)) }
 
@@ -173,7 +195,7 @@ pub(crate) fn answer_source<S: Source>(alloc: Global, src: &mut S) -> Result<Ans
     ensures never_falls { S.faults src.old ≤ S.faults src.new }
 {
     match read_all(alloc, src) {
-        Ok(bytes) => Ok(answer_bytes(alloc, &bytes)?),
+        Ok(bytes) => Ok(answer_bytes(alloc, command, &bytes)?),
         Err(ReadEnd::TooLong) => Ok(Answer::TooLong),
         Err(ReadEnd::Fault) => Err(Unanswered::ReadFault),
         Err(ReadEnd::NoMemory) => Err(Unanswered::NoMemory),

@@ -1,14 +1,13 @@
 //! One call from bytes to bytes: what the program `plan` does, as a library.
 //!
-//! `run` reads a whole source, decodes it, translates it and writes the text of the plan, or of why there is none. Its
-//! clauses join those of the crates below; `specs/Headline.antt` says what the bytes mean that it writes.
+//! `run` reads a whole source, decodes it, translates it and writes the text that a command makes of the plan, or of
+//! why there is none. Its clauses join those of the crates below; `specs/Headline.antt` says what the bytes mean that
+//! it writes.
 #![tactic(auto)]
 
 mod answer;
 mod command;
 mod status;
-#[cfg(test)]
-mod tests;
 mod words;
 
 pub use command::run;

@@ -9,6 +9,8 @@ ghost use Rattle.pc_tool.specs.Words.{command_of};
 pub(crate) enum Command {
     /// Write the plan of an input.
     Translate,
+    /// Write how many bytes the context of the plan of an input takes.
+    Context,
 }
 
 /// The command that words name, if they name one.
@@ -17,6 +19,7 @@ pub(crate) fn command_of(words: &[String]) -> Option<Command>
 {
     match words {
         [word] if word.as_str() == "translate" => Some(Command::Translate),
+        [word] if word.as_str() == "context" => Some(Command::Context),
         _ => None,
     }
 }

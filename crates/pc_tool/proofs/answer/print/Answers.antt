@@ -1,10 +1,14 @@
-use Rattle.pc_tool.specs.Headline.{Prints}
-use Rattle.pc_tool.proofs.Telling.{has_items_for}
+use Rattle.pc_tool.proofs.AnswerLemmas.{context_printed, has_items_for, plan_printed}
 use Rattle.pc_tool.proofs.answer.print.Goals as goal
 
 pub plan_text-requires : goal.plan_text-requires
-plan_text-requires c = record { has_items = has_items_for c.args.input.now c.args.plan.now c.args.modules.now c.requires }
+plan_text-requires c =
+    record { has_items = has_items_for c.args.input.now c.args.plan.now c.args.modules.now c.requires }
 
-pub returns : goal.returns
-unfolding Prints
-returns c = c.plan_text.ensures
+pub returns-in-Translate : goal.returns-in-Translate
+returns-in-Translate c =
+    plan_printed c.args.command c.args.plan.now c.args.modules.now _ c.in-Translate.is c.plan_text.ensures
+
+pub returns-in-Context : goal.returns-in-Context
+returns-in-Context c =
+    context_printed c.args.command c.args.plan.now c.args.modules.now _ c.in-Context.is c.print_context.ensures

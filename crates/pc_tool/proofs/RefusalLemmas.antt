@@ -8,15 +8,18 @@ use Rattle.pc_form.specs.declared.input.Input.{Input}
 use Rattle.pc_form.specs.Input.{input_of, tree_of}
 use Rattle.pc_form.specs.Rules.{plain}
 use Rattle.pc_form.specs.Tree.{◌>>=◌}
-use Rattle.pc_tool.specs.Headline.{Decodes, IsNotJson, IsBadForm, IsPlanFor, IsPlanText, HasFault, IsRefused}
+use Rattle.pc_tool.specs.Headline.{Decodes, IsNotJson, IsBadForm, IsPlanFor, IsTextOf, HasFault, IsRefused}
 use Rattle.pc_info.specs.declared.component.ComponentTranslation.{ComponentTranslation}
 use Rattle.pc_info.specs.declared.component.ModuleTranslation.{ModuleTranslation}
 use Rattle.pc_translate.specs.Translation.{IsPlanOf}
+use Rattle.pc_tool.specs.declared.words.Command.{Command}
 use Rattle.pc_tool.specs.Run.{Tells}
 
+-- a test has one answer
 false_not_true : (b : Bool) → b ≡ false → b ≡ true → ⊥
 false_not_true b is_false is_true = cc (is_false, is_true)
 
+-- a reading that ends at its first step or at its second has no value
 module _ {I : Type 0} (f : Data → Option I) where
   no_tree : (t : Option Data) (i : I) → t ≡ None → (t >>= f) ≡ Some i → ⊥
   no_tree None i is e = cc e
@@ -26,9 +29,11 @@ module _ {I : Type 0} (f : Data → Option I) where
   no_input None d i is none e = cc is
   no_input (Some x) d i is none e = let same : x ≡ d = cc is in cc (ap f same, none, e)
 
+-- bytes stand for one input
 one_input : (o : Option Input) (i j : Input) → o ≡ Some i → o ≡ Some j → i ≡ j
 one_input o i j a b = cc (a, b)
 
+-- a reading that is done has no fault
 done_or_fault : (o : Outcome Reading) (r : Reading) (k : ItemFault) (p : Place) → o ≡ done r → o ≡ fault k p → ⊥
 done_or_fault o r k p a b = cc (a, b)
 
@@ -36,23 +41,25 @@ done_or_fault o r k p a b = cc (a, b)
 fault_excludes : (input : Input) (plan : ComponentTranslation) (modules : List ModuleTranslation) → HasFault input
     → IsPlanFor input plan modules → ⊥
 unfolding HasFault IsPlanOf
-fault_excludes input plan modules (inl many) is = false_not_true _ many is.1.numbered
-fault_excludes input plan modules (inr (inl unable)) is = false_not_true _ unable is.1.able
-fault_excludes input plan modules (inr (inr at)) is = done_or_fault _ is.1.result at.0 at.1 is.1.outcome at.2
+fault_excludes input plan modules (inl many) is = false_not_true _ many is.2.numbered
+fault_excludes input plan modules (inr (inl unable)) is = false_not_true _ unable is.2.able
+fault_excludes input plan modules (inr (inr at)) is = done_or_fault _ is.2.result at.0 at.1 is.2.outcome at.2
 
-pub refused_has_no_plan : (bytes text : List ℕ) → IsRefused bytes → IsPlanText bytes text → ⊥
+-- bytes with a reason to be refused have no text of a command
+pub refused_has_no_text : (c : Command) (bytes text : List ℕ) → IsRefused bytes → IsTextOf c bytes text → ⊥
 unfolding Decodes IsNotJson IsBadForm
-refused_has_no_plan bytes text (inl json) plan =
-    no_tree (input_of plain) (tree_of bytes) plan.input json plan.decoded
-refused_has_no_plan bytes text (inr (inl bad)) plan =
-    no_input (input_of plain) (tree_of bytes) bad.0 plan.input bad.1 bad.2 plan.decoded
-refused_has_no_plan bytes text (inr (inr at)) plan =
-    let same : plan.input ≡ at.0 = one_input _ plan.input at.0 plan.decoded at.1 in
-    fault_excludes at.0 plan.plan plan.modules at.2 (subst (λ (i : Input). IsPlanFor i plan.plan plan.modules) same plan.does)
+refused_has_no_text c bytes text (inl json) made =
+    no_tree (input_of plain) (tree_of bytes) made.input json made.decoded
+refused_has_no_text c bytes text (inr (inl bad)) made =
+    no_input (input_of plain) (tree_of bytes) bad.0 made.input bad.1 bad.2 made.decoded
+refused_has_no_text c bytes text (inr (inr at)) made =
+    let same : made.input ≡ at.0 = one_input _ made.input at.0 made.decoded at.1 in
+    fault_excludes at.0 made.plan made.modules at.2
+    (subst (λ (i : Input). IsPlanFor i made.plan made.modules) same made.does)
 
--- where all bytes of a source were read and have a plan, they have no reason to be refused
-pub told_has_no_plan : (left left_new written written_new : Option (List ℕ)) (told : List ℕ) → left ≡ Some told → IsRefused told
-    → Tells IsPlanText left left_new written written_new → ⊥
-told_has_no_plan left left_new written written_new told is refused tells =
+-- where all bytes of a source were read and have a text of a command, they have no reason to be refused
+pub told_has_no_text : (c : Command) (left left_new written written_new : Option (List ℕ)) (told : List ℕ)
+    → left ≡ Some told → IsRefused told → Tells (IsTextOf c) left left_new written written_new → ⊥
+told_has_no_text c left left_new written written_new told is refused tells =
     let all : tells.bytes ≡ told = (tells.read.all told is).0 in
-    refused_has_no_plan told tells.text refused (subst (λ (b : List ℕ). IsPlanText b tells.text) all tells.said)
+    refused_has_no_text c told tells.text refused (subst (λ (b : List ℕ). IsTextOf c b tells.text) all tells.said)

@@ -1,0 +1,184 @@
+//! A root component alone: inputs that are translated, faults of their reading, and inputs that are refused as a whole.
+
+use crate::inputs::{NOT_BUILT, SMALLEST, SMALLEST_PLAN, is_answered};
+use pc_tool::Status;
+use std::test::Fail;
+
+/// A component without content.
+pub(crate) const EMPTY_ROOT: &str =
+    r#"{"limit":100,"intrinsics":null,"types":{"core":[],"types":[]},"payloads":["version","end"]}"#;
+
+/// Its plan.
+const EMPTY_PLAN: &str = "plan 1
+modules 0 0
+counts 0 1 0 0 0 0 0 0 0 0 0 0
+";
+
+/// The smallest component, in which the module has as many globals as it may have.
+const GLOBALS_AT_THE_LIMIT: &str =
+    r#"{"limit":100,"intrinsics":null,"types":{"core":[[["i32"],["i32"]]],
+       "types":[{"func":{"params":[["x","u32"]],"result":"u32","async":false}},{"module":[[],[]]}]},
+       "payloads":["version",{"module":{"ty":1,"imports":[],"funcs":[0],"tables":0,"memories":[],"globals":1000000,
+       "tags":0,"exports":[["f","func",0]]}},{"instances":[{"instantiate":[0,[]]}]},
+       {"aliases":[{"core-export":["func",0,"f"]}]},{"canon":[["lift",0,0,0,[]]]},{"exports":[["f","func",0]]},
+       "end"]}"#;
+
+/// Two lifts under two signatures.
+const TWO_LIFTS: &str =
+    r#"{"limit":100,"intrinsics":null,"types":{"core":[[["i32"],["i32"]],[["i64"],["i64"]]],
+       "types":[{"func":{"params":[["x","u32"]],"result":"u32","async":false}},
+       {"func":{"params":[["x","u64"]],"result":"u64","async":false}},{"module":[[],[]]}]},
+       "payloads":["version",{"module":{"ty":2,"imports":[],"funcs":[0,1],"tables":0,"memories":[],"globals":0,
+       "tags":0,"exports":[["f","func",0],["g","func",1]]}},{"instances":[{"instantiate":[0,[]]}]},
+       {"aliases":[{"core-export":["func",0,"f"]},{"core-export":["func",0,"g"]}]},
+       {"canon":[["lift",0,0,0,[]],["lift",1,1,1,[]]]},{"exports":[["f","func",0],["g","func",1]]},"end"]}"#;
+
+/// Their plan. The entries of the options differ in their signatures, which the text doesn't show.
+const TWO_LIFTS_PLAN: &str = "plan 1
+modules 1 0
+counts 1 1 0 0 0 0 0 0 0 0 0 0
+init static 0 0 []
+options 0 0 utf8 sync - - - -
+options 1 0 utf8 sync - - - -
+export \"f\" lifted export(0 func 0) options 0
+export \"g\" lifted export(0 func 1) options 1
+";
+
+/// A lift of a core function that isn't there.
+const CORE_FUNCTION_MISSING: &str =
+    r#"{"limit":100,"intrinsics":null,"types":{"core":[[["i32"],["i32"]]],
+       "types":[{"func":{"params":[["x","u32"]],"result":"u32","async":false}},{"module":[[],[]]}]},
+       "payloads":["version",{"module":{"ty":1,"imports":[],"funcs":[0],"tables":0,"memories":[],"globals":0,
+       "tags":0,"exports":[["f","func",0]]}},{"instances":[{"instantiate":[0,[]]}]},
+       {"aliases":[{"core-export":["func",0,"f"]}]},{"canon":[["lift",1,0,0,[]]]},{"exports":[["f","func",0]]},
+       "end"]}"#;
+
+/// A lift whose type is a module.
+const LIFT_TYPE_OF_ANOTHER_KIND: &str =
+    r#"{"limit":100,"intrinsics":null,"types":{"core":[[["i32"],["i32"]]],
+       "types":[{"func":{"params":[["x","u32"]],"result":"u32","async":false}},{"module":[[],[]]}]},
+       "payloads":["version",{"module":{"ty":1,"imports":[],"funcs":[0],"tables":0,"memories":[],"globals":0,
+       "tags":0,"exports":[["f","func",0]]}},{"instances":[{"instantiate":[0,[]]}]},
+       {"aliases":[{"core-export":["func",0,"f"]}]},{"canon":[["lift",0,1,0,[]]]},{"exports":[["f","func",0]]},
+       "end"]}"#;
+
+/// Inputs and their plans.
+const PLANS: [(&str, &str); 4] = [
+    (SMALLEST, SMALLEST_PLAN),
+    (EMPTY_ROOT, EMPTY_PLAN),
+    (GLOBALS_AT_THE_LIMIT, SMALLEST_PLAN),
+    (TWO_LIFTS, TWO_LIFTS_PLAN),
+];
+
+/// Inputs whose reading is stuck at an item, and its fault.
+const FAULTS: [(&str, &str); 2] = [
+    (
+        CORE_FUNCTION_MISSING,
+        "fault invalid at instance 0 item 3\n",
+    ),
+    (
+        LIFT_TYPE_OF_ANOTHER_KIND,
+        "fault bad-type at instance 0 item 3\n",
+    ),
+];
+
+/// Inputs with a static fault, and its text.
+const STATIC_FAULTS: [(&str, &str); 7] = [
+    (
+        r#"{"limit":100,"intrinsics":null,"types":{"core":[],"types":[{"list":0}]},"payloads":["version","end"]}"#,
+        "fault bad-table at table 0\n",
+    ),
+    (
+        r#"{"limit":100,"intrinsics":null,"types":{"core":[[["i32"],["i32"]]],
+           "types":[{"func":{"params":[["x","u32"]],"result":"u32","async":false}},{"module":[[],[]]}]},
+           "payloads":["version",{"module":{"ty":1,"imports":[],"funcs":[0],"tables":0,"memories":[],"globals":0,
+           "tags":0,"exports":[["f","func",0]]}},{"instances":[{"instantiate":[0,[]]}]},
+           {"aliases":[{"core-export":["func",0,"f"]}]},{"canon":[["lift",0,0,0,[]]]},
+           {"exports":[["f","func",0],["f","func",0]]},"end"]}"#,
+        "fault defined-twice at payload 5 item 1\n",
+    ),
+    (
+        r#"{"limit":100,"intrinsics":null,"types":{"core":[],"types":[]},
+           "payloads":["version",{"canon":[["future.forward"]]},"end"]}"#,
+        "fault unsupported future-forward at payload 1 item 0\n",
+    ),
+    (
+        r#"{"limit":100,"intrinsics":null,"types":{"core":[],"types":[]},"payloads":["version"]}"#,
+        "fault malformed at payload 1 item 0\n",
+    ),
+    (
+        r#"{"limit":100,"intrinsics":null,"types":{"core":[],"types":[]},"payloads":["version","end","custom"]}"#,
+        "fault malformed at payload 2 item 0\n",
+    ),
+    (
+        r#"{"limit":100,"intrinsics":null,"types":{"core":[[["i32"],["i32"]]],
+           "types":[{"func":{"params":[["x","u32"]],"result":"u32","async":false}},{"module":[[],[]]}]},
+           "payloads":["version",{"module":{"ty":1,"imports":[],"funcs":[0],"tables":0,"memories":[],
+           "globals":1000001,"tags":0,"exports":[["f","func",0]]}},{"instances":[{"instantiate":[0,[]]}]},
+           {"aliases":[{"core-export":["func",0,"f"]}]},{"canon":[["lift",0,0,0,[]]]},{"exports":[["f","func",0]]},
+           "end"]}"#,
+        "fault bad-table at payload 1 item 0\n",
+    ),
+    (
+        r#"{"limit":100,"intrinsics":null,"types":{"core":[[["i32"],["i32"]]],
+           "types":[{"func":{"params":[["x","u32"]],"result":"u32","async":false}},{"module":[[],[]]}]},
+           "payloads":["version",{"module":{"ty":1,"imports":[],"funcs":[0],"tables":0,"memories":[],
+           "globals":4294967295,"tags":0,"exports":[["f","func",0]]}},{"instances":[{"instantiate":[0,[]]}]},
+           {"aliases":[{"core-export":["func",0,"f"]}]},{"canon":[["lift",0,0,0,[]]]},{"exports":[["f","func",0]]},
+           "end"]}"#,
+        "fault too-many\n",
+    ),
+];
+
+/// Inputs with a limit of 0, or an item that has no reading yet.
+const REFUSED: [(&str, &str); 2] = [
+    (
+        "limit zero",
+        r#"{"limit":0,"intrinsics":null,"types":{"core":[],"types":[]},"payloads":["version","end"]}"#,
+    ),
+    (
+        "post return",
+        r#"{"limit":100,"intrinsics":null,"types":{"core":[[["i32"],["i32"]]],
+           "types":[{"func":{"params":[["x","u32"]],"result":"u32","async":false}},{"module":[[],[]]}]},
+           "payloads":["version",{"module":{"ty":1,"imports":[],"funcs":[0],"tables":0,"memories":[],"globals":0,
+           "tags":0,"exports":[["f","func",0]]}},{"instances":[{"instantiate":[0,[]]}]},
+           {"aliases":[{"core-export":["func",0,"f"]}]},{"canon":[["lift",0,0,0,[["post-return",0]]]]},
+           {"exports":[["f","func",0]]},"end"]}"#,
+    ),
+];
+
+#[test]
+fn whole_inputs_are_answered(rt: HostRuntime) -> Result<(), Fail> {
+    for (input, plan) in PLANS {
+        let planned = is_answered(rt.alloc(), input, Status::Done, plan)?;
+        assert!(rt; planned, "{input}");
+    }
+    Ok(())
+}
+
+#[test]
+fn an_item_that_is_stuck_is_a_fault(rt: HostRuntime) -> Result<(), Fail> {
+    for (input, fault) in FAULTS {
+        let refused = is_answered(rt.alloc(), input, Status::Refused, fault)?;
+        assert!(rt; refused, "{input}");
+    }
+    Ok(())
+}
+
+#[test]
+fn static_faults_have_their_place(rt: HostRuntime) -> Result<(), Fail> {
+    for (input, fault) in STATIC_FAULTS {
+        let refused = is_answered(rt.alloc(), input, Status::Refused, fault)?;
+        assert!(rt; refused, "{input}");
+    }
+    Ok(())
+}
+
+#[test]
+fn other_items_are_not_built(rt: HostRuntime) -> Result<(), Fail> {
+    for (name, input) in REFUSED {
+        let refused = is_answered(rt.alloc(), input, Status::Refused, NOT_BUILT)?;
+        assert!(rt; refused, "{name}");
+    }
+    Ok(())
+}
