@@ -1,6 +1,6 @@
 -- Laws of the words of `specs/`, for the layers above too.
 pub mod KindLemmas
+pub mod NameLemmas
 -- What the functions of this crate rest on.
-mod NameLemmas
 mod RecordLemmas
 mod Walking

@@ -12,6 +12,7 @@ mod distinct;
 pub mod encoding;
 pub mod error;
 mod exact;
+pub mod intrinsic;
 pub mod module_record;
 pub mod name_set;
 pub mod parsed;
@@ -20,12 +21,14 @@ mod sound_table;
 pub mod trampoline;
 pub mod type_index;
 pub mod types;
+mod words;
 
 pub use by_kind::ByKind;
 pub use core_entity::entity_number;
 pub use distinct::{distinct_keys, distinct_pairs, distinct_texts};
 pub use encoding::StringEncoding;
 pub use error::{Error, Place, TypeError, Unsupported};
+pub use intrinsic::{UnknownName, UnsafeIntrinsic};
 pub use module_record::ModuleRecord;
 pub use name_set::{NameSet, PairSet};
 pub use parsed::{

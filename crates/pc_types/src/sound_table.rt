@@ -20,8 +20,8 @@ use std::alloc::Global;
 /// Looks at the entries in order, and refuses the first that is faulty.
 ///
 /// `BadTable` comes where a number in an entry isn't that of an earlier entry of the right kind, where a core signature
-/// is missing, or where a list of names has one twice. `Unsupported` comes where an entry imports or exports a component
-/// value and is otherwise sound.
+/// is missing, or where a list of names has one twice. `Unsupported` comes where an entry imports or exports a
+/// component value and is otherwise sound.
 pub fn check_table(alloc: Global, table: &TypeTable) -> Result<(), Error>
     requires numbered { length table.now.types < 4294967295 }
     ensures ok { OnOk result (table_fault table.now ≡ None) }

@@ -2,7 +2,7 @@
 
 /// What a trampoline does, without its numbers: one of the lowerings of host functions, the forty builtins
 /// of the canonical ABI, and the eleven helpers that only adapter modules use.
-#[derive(Clone, Copy)]
+#[derive(Clone, Copy, PartialEq, Eq, Hash)]
 pub enum TrampolineKind {
     LowerImport,
     ResourceNew,
