@@ -1,5 +1,5 @@
 -- A map that stands for insertions stands for one more after it, and answers as they say.
-use Rattle.std.proofs.Common.{◌≡◌, ℕ, true, false, cond, List, [], ◌∷◌, ◌++◌, length, Option, Some, None, refl, sym, ap, ◌∙◌, inl, inr, ◌⊎◌}
+use Rattle.std.proofs.Common.{◌≡◌, ℕ, Bool, true, false, cond, List, [], ◌∷◌, ◌++◌, length, Option, Some, None, refl, sym, ap, ◌∙◌, inl, inr, ◌⊎◌}
 use Rattle.std.proofs.lemmas.Bool.{cases_Bool, false≢true}
 use Rattle.std.proofs.lemmas.Option.{same_Some}
 use Rattle.std.proofs.lemmas.Slice.Eq.{bytes_eq-Decides}
@@ -18,9 +18,9 @@ use Rattle.pc_names.proofs.PlaceLemmas.{is_some-lookup}
 use Rattle.pc_names.proofs.VersionLemmas.{version_total}
 use Rattle.pc_names.specs.Contents.{Contents, Newest}
 use Rattle.pc_names.specs.Definitions.{place_by, place_in}
-use Rattle.pc_names.specs.Inserted.{Inserted, IsOn, TrackGives, definitions_of, last_value}
+use Rattle.pc_names.specs.Inserted.{Inserted, IsOn, IsTwice, TrackGives, definitions_of, last_value}
 use Rattle.pc_names.specs.Stands.{AreKeyed, IsNewest, StandsFor, TrackHas}
-use Rattle.pc_names.specs.Steps.{IsTrackKey, defined_at, newest_value, noted_at, with_definition}
+use Rattle.pc_names.specs.Steps.{IsHeld, IsTrackKey, defined_at, newest_value, noted_at, with_definition}
 use Rattle.pc_names.specs.Track.{track_of, version_cmp}
 use Rattle.pc_names.specs.Tracks.{is_passed, noted}
 use Rattle.semver.specs.Parse.{Parts}
@@ -267,11 +267,24 @@ module _ {K V : Type 0} {has_key : List ℕ → K → Type 0} {cmp : K → K →
       ∙ lookup-definitions_of inserted name
 
   -- a name's key has a place exactly where the name was inserted
-  pub is_some-place : (map : Contents K V) (inserted : Inserted V) (name : List ℕ) (key : K)
+  is_some-place : (map : Contents K V) (inserted : Inserted V) (name : List ℕ) (key : K)
       → StandsFor has_key map inserted → has_key name key
       → is_some (place_in cmp map.definitions key) ≡ is_some (last_value inserted name)
   is_some-place map inserted name key s named =
       is_some-lookup (is_at (cmp key)) map.definitions ∙ ap is_some (exact-known map inserted name key s named)
+
+  -- a name's key is held exactly where the name was inserted
+  pub IsHeld-IsTwice : (map : Contents K V) (inserted : Inserted V) (name : List ℕ) (key : K) (shadowing : Bool)
+      → StandsFor has_key map inserted → has_key name key → IsHeld cmp map key shadowing
+      → IsTwice inserted name shadowing
+  IsHeld-IsTwice map inserted name key shadowing s named held =
+      (held.0, sym (is_some-place map inserted name key s named) ∙ held.1)
+
+  pub IsTwice-IsHeld : (map : Contents K V) (inserted : Inserted V) (name : List ℕ) (key : K) (shadowing : Bool)
+      → StandsFor has_key map inserted → has_key name key → IsTwice inserted name shadowing
+      → IsHeld cmp map key shadowing
+  IsTwice-IsHeld map inserted name key shadowing s named twice =
+      (twice.0, is_some-place map inserted name key s named ∙ twice.1)
 
   -- what a track's key leads to is what the track gives
   pub track-known : (map : Contents K V) (inserted : Inserted V) (track : List ℕ × Parts) (key : K)

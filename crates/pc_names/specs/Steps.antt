@@ -1,5 +1,5 @@
 -- What one call does to the contents of a name map.
-use Rattle.std.specs.Prelude.{◌≡◌, ℕ, List, [], ◌∷◌, ◌++◌, Option, None, Some, length, slice_get, unwrap_or}
+use Rattle.std.specs.Prelude.{◌≡◌, ℕ, Bool, false, List, [], ◌∷◌, ◌++◌, Option, None, Some, IsSome, length, slice_get, unwrap_or}
 use Rattle.std.specs.Option.{option_map}
 use Rattle.std.specs.declared.cmp.Ordering.{Ordering}
 use Rattle.pc_names.specs.Contents.{Contents, Newest}
@@ -8,6 +8,10 @@ use Rattle.pc_names.specs.Tracks.{noted}
 use Rattle.semver.specs.Identifiers.{parts_of}
 use Rattle.semver.specs.Parse.{Parts}
 use Rattle.semver.specs.declared.Version.{Version}
+
+-- shadowing is off, and the key is among the definitions
+abbrev pub IsHeld : {K V : Type 0} → (K → K → Ordering) → Contents K V → K → Bool → Type 0
+IsHeld cmp map key allow_shadowing = (allow_shadowing ≡ false) × IsSome (place_in cmp map.definitions key)
 
 -- the key of a name's track, and the name's version there, where it has a track
 abbrev pub IsTrackKey : {K : Type 0} → (List ℕ → K → Type 0) → Option (List ℕ × Parts) → Option (K × Parts) → Type 0

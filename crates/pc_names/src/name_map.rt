@@ -11,7 +11,7 @@
 //!
 //! Names are untrusted input, so they are found in ordered maps and not by a hash whose seed is known.
 
-ghost use Rattle.std.specs.Prelude.{◌≡◌, ◌+◌, ◌≤◌, ◌∷◌, ◌++◌, [], ℕ, List, Some, None, Ok, Err, length, IfOk, OnOk, OnErr};
+ghost use Rattle.std.specs.Prelude.{◌≡◌, ◌+◌, ◌≤◌, ◌∷◌, ◌++◌, [], ℕ, List, Some, None, Ok, Err, length, IfOk, IfErr, OnOk, OnErr};
 ghost use Rattle.std.specs.BTreeMap.{is_at};
 ghost use Rattle.std.specs.Borrow.{LendsIf, sem};
 ghost use Rattle.std.specs.Map.{lookup, set_value};
@@ -20,7 +20,7 @@ ghost use Rattle.pc_names.specs.Contents.{no_names};
 ghost use Rattle.pc_names.specs.Definitions.{place_in, with_value};
 ghost use Rattle.pc_names.specs.Inserted.{Answers, Inserted, IsTwice, TrackGives, last_value};
 ghost use Rattle.pc_names.specs.Stands.{StandsFor};
-ghost use Rattle.pc_names.specs.Steps.{IsTrackKey, keyed_version, newest_value, noted_at, with_definition};
+ghost use Rattle.pc_names.specs.Steps.{IsHeld, IsTrackKey, keyed_version, newest_value, noted_at, with_definition};
 ghost use Rattle.pc_names.specs.Track.{track_of};
 ghost use Rattle.semver.specs.Identifiers.{parts_of};
 ghost use Rattle.semver.specs.Parse.{Parts};
@@ -95,13 +95,23 @@ impl<K: Eq + Ord + Hash + TryClone + Drop, V: Drop> NameMap<K, V> {
         ensures room { I.room cx.old ≤ I.room cx.new + 2 }
     {
         let key = cx.intern(name)?;
-        let place = self.definitions.place_of(&key);
-        if place.is_some() && !allow_shadowing {
-            return Err(NameError::DefinedTwice);
-        }
+        let place = self.place_for(&key, allow_shadowing)?;
         let track = track_key(self.alloc, name, cx)?;
         self.put(place, key.try_clone(self.alloc)?, track, item)?;
         Ok(key)
+    }
+
+    /// The place of a key among the definitions, where the key may only be if shadowing is allowed.
+    fn place_for(&self, key: &K, allow_shadowing: bool) -> Result<Option<usize>, NameError>
+        ensures place { IfOk result (λ place. place ≡ place_in K.cmp self.now.definitions key.now) }
+        ensures once { OnOk result (¬ IsHeld K.cmp self.now key.now allow_shadowing) }
+        ensures twice { IfErr result (λ e. (e ≡ NameError.DefinedTwice) × IsHeld K.cmp self.now key.now allow_shadowing) }
+    {
+        let place = self.definitions.place_of(key);
+        if place.is_some() && !allow_shadowing {
+            return Err(NameError::DefinedTwice);
+        }
+        Ok(place)
     }
 
     /// The item of a name, or else that of the greatest version on the name's track.

@@ -1,27 +1,18 @@
-use Rattle.std.proofs.Common.{sym, ap, ◌∙◌}
-use Rattle.std.proofs.lemmas.Bool.{false≢true}
-use Rattle.std.specs.Option.{is_some}
 use Rattle.pc_names.proofs.TextKeyLemmas.{keys_agree}
-use Rattle.pc_names.proofs.StandingLemmas.{StandsFor-kept, StandsFor-with_definition, is_some-place}
-use Rattle.pc_names.specs.Definitions.{place_in}
+use Rattle.pc_names.proofs.StandingLemmas.{IsHeld-IsTwice, IsTwice-IsHeld, StandsFor-kept, StandsFor-with_definition}
 use Rattle.pc_names.specs.Steps.{keyed_version}
 use Rattle.pc_names.proofs.name_map.NameMap.insert.Goals as goal
-use Rattle.pc_names.proofs.name_map.NameMap.insert.Goals.{else-is_some-via-then-is_some+else-not-allow_shadowing, else-is_some-via-else-is_some}
 
-pub returns-then-not-allow_shadowing-clause-twice : goal.returns-then-not-allow_shadowing-clause-twice
-returns-then-not-allow_shadowing-clause-twice g c inserted stands e =
+pub returns-in_err-place-clause-twice : goal.returns-in_err-place-clause-twice
+returns-in_err-place-clause-twice g c inserted stands e =
     let agree =
     keys_agree (g.I.NameMapIntern.has_key c.intern.new.self) g.K.Ord.cmp g.K.PartialEq.eq g.met.K.Ord.matches_eq
     (g.met.I.NameMapIntern.same_key c.intern.new.self) in
     let now =
     StandsFor-kept (g.I.NameMapIntern.has_key c.args.cx.now) (g.I.NameMapIntern.has_key c.intern.new.self)
     c.intern.ensures.kept c.args.self.now inserted stands in
-    let same =
-    is_some-place agree c.args.self.now inserted c.args.name.now c.in_ok-key.key now c.in_ok-key.ensures.key in
-    let there =
-    ap is_some c.place_of-place.ensures
-    ∙ ap (λ m. is_some (place_in g.K.Ord.cmp m.definitions c.in_ok-key.key)) c.self.view_is ∙ same in
-    (c.if-not-allow_shadowing.true, sym there ∙ sym c.if-is_some.ensures)
+    IsHeld-IsTwice agree c.args.self.now inserted c.args.name.now c.in_ok-key.key c.args.allow_shadowing now
+    c.in_ok-key.ensures.key c.in_err-place.ensures.twice.1
 
 pub returns-clause-ok : goal.returns-clause-ok
 returns-clause-ok g c inserted stands =
@@ -43,13 +34,5 @@ returns-clause-once g c inserted stands twice =
     let now =
     StandsFor-kept (g.I.NameMapIntern.has_key c.args.cx.now) (g.I.NameMapIntern.has_key c.intern.new.self)
     c.intern.ensures.kept c.args.self.now inserted stands in
-    let same =
-    is_some-place agree c.args.self.now inserted c.args.name.now c.in_ok-key.key now c.in_ok-key.ensures.key in
-    let there =
-    ap is_some c.place_of-place.ensures
-    ∙ ap (λ m. is_some (place_in g.K.Ord.cmp m.definitions c.in_ok-key.key)) c.self.view_is ∙ same in
-    elim c.else-is_some.branch [
-      | else-is_some-via-then-is_some+else-not-allow_shadowing w ↦
-          false≢true (sym twice.0 ∙ w.if-not-allow_shadowing.false)
-      | else-is_some-via-else-is_some w ↦ false≢true (w.if-is_some.ensures ∙ there ∙ twice.1)
-    ]
+    c.in_ok-place.ensures.once (IsTwice-IsHeld agree c.args.self.now inserted c.args.name.now c.in_ok-key.key
+    c.args.allow_shadowing now c.in_ok-key.ensures.key twice)
