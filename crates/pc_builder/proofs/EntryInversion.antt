@@ -29,11 +29,12 @@ use Rattle.pc_types.specs.TypeTree.{a_tree, val_tree, entity_tree}
 use Rattle.pc_types.specs.TypeTree.{earlier_tree, maybe_tree, fields_tree, cases_tree, vals_tree, externs_tree}
 use Rattle.pc_types.specs.TypeTree.{entry_tree, module_import_tree, module_export_tree, own_tree}
 use Rattle.pc_types.specs.TypeTree.{borrow_tree, resource_from, identity_of}
-use Rattle.pc_builder.specs.Types.{Types}
-use Rattle.pc_builder.specs.Known.{resource_of as known_resource}
-use Rattle.pc_builder.specs.Trees.{AreHandlesOf, ImportHasTree, ExportHasTree, HasTree, FieldsHaveTrees}
-use Rattle.pc_builder.specs.Trees.{CasesHaveTrees, ValsHaveTrees, MaybeHasTree, ParamsHaveTrees, ResultsHaveTree}
-use Rattle.pc_builder.specs.Trees.{ExternsHaveTrees, identities}
+use Rattle.pc_interned.specs.Types.{Types}
+use Rattle.pc_interned.specs.Known.{resource_of as known_resource}
+use Rattle.pc_interned.specs.Trees.{AreHandlesOf, ImportHasTree, ExportHasTree, HasTree, FieldsHaveTrees}
+use Rattle.pc_interned.specs.Trees.{CasesHaveTrees, ValsHaveTrees, MaybeHasTree, ParamsHaveTrees, ResultsHaveTree}
+use Rattle.pc_interned.specs.Trees.{ExternsHaveTrees}
+use Rattle.pc_builder.specs.Trees.{identities}
 use Rattle.pc_builder.specs.Parts.{ValIs, MaybeIs, FieldIs, CaseIs, EntityIs, ExternIs, IsReady}
 use Rattle.pc_builder.specs.Parts.{MayBeReady, IsThere}
 use Rattle.pc_builder.specs.Entries.{ReturnsAre, DefinedIs, ImportIs, ExportIs, EntryIs, handles_of}

@@ -16,11 +16,12 @@ use Rattle.pc_types.specs.declared.types.TypeDef.{TypeDef}
 use Rattle.pc_types.specs.declared.types.TypeFunc.{TypeFunc}
 use Rattle.pc_types.specs.declared.types.TypeTuple.{TypeTuple}
 use Rattle.pc_types.specs.Table.{is_none_or, is_some_and, table_fault}
-use Rattle.pc_builder.specs.Types.{Types}
+use Rattle.pc_interned.specs.Types.{Types}
 use Rattle.pc_builder.specs.Few.{AddsFuncs, AddsSignature, are_plain, is_plain_func, is_plain_param, is_plain_val}
-use Rattle.pc_builder.specs.Interned.{IsPut}
+use Rattle.pc_interned.specs.Interned.{IsPut}
 use Rattle.pc_builder.specs.Needed.{AreNeeded, Ascend, IsAmong, field_parts, maybe_parts, parts_of, val_parts}
-use Rattle.pc_builder.proofs.Growth.{put_kept}
+use Rattle.pc_interned.proofs.Growth.{put_kept}
+use Rattle.pc_builder.proofs.StepLemmas.{among_next}
 use Rattle.pc_builder.proofs.AmongLemmas.{each_among}
 use Rattle.pc_builder.proofs.SoundLemmas.{found_by, parts_below, sound_at}
 
@@ -84,6 +85,13 @@ one_func a b value rest put =
       funcs = put_length a.funcs b.funcs value put;
       tuples = omega (arith, ap length tuples);
     }
+
+-- one more round of a loop in which each round adds a plain function
+adds_next : (i : ℕ) (a b c : Types) → AddsFuncs i (i + i) a b → AddsFuncs 1 2 b c
+    → AddsFuncs (i + 1) ((i + 1) + (i + 1)) a c
+adds_next i a b c so_far here =
+    adds_more (i + 1) (i + i + 2) (i + 1) ((i + 1) + (i + 1)) (omega arith) (omega arith) a c
+    (adds_trans i (i + i) 1 2 a b c so_far here)
 
 -- the two halves of what is asked of a plain function
 pub plain_params : (params : List (List ℕ × ValType)) (returns : Option ValType) → are_plain params returns ≡ true
@@ -165,13 +173,13 @@ module _ (t : TypeTable) (sound : table_fault t ≡ None) (done : List (Option T
   ]
 
   -- so a plain function is needed alone
-  pub plain_alone : is_some_and is_plain_func (slice_get t.types n) ≡ true → (m : ℕ) → IsAmong m order → m ≡ n
+  plain_alone : is_some_and is_plain_func (slice_get t.types n) ≡ true → (m : ℕ) → IsAmong m order → m ≡ n
   plain_alone plain m among =
       let found = found_by is_plain_func (slice_get t.types n) plain in
       alone found.0 found.1 (func_alone found.0 found.2) (length t.types) m (omega arith) among
 
   -- and no other entry is needed with it
-  pub plain_once : is_some_and is_plain_func (slice_get t.types n) ≡ true → length order ≤ 1
+  plain_once : is_some_and is_plain_func (slice_get t.types n) ≡ true → length order ≤ 1
   plain_once plain = by order are.ascend (plain_alone plain)
     where
       by : (ns : List ℕ) → Ascend ns → ((m : ℕ) → IsAmong m ns → m ≡ n) → length ns ≤ 1
@@ -179,9 +187,19 @@ module _ (t : TypeTable) (sound : table_fault t ≡ None) (done : List (Option T
       by (k ∷ []) rise all = omega arith
       by (k ∷ m ∷ ms) rise all = absurd (omega (arith, rise.0.0, all k (inl refl), all m (inr (inl refl))))
 
--- one more round of a loop in which each round adds a plain function
-pub adds_next : (i : ℕ) (a b c : Types) → AddsFuncs i (i + i) a b → AddsFuncs 1 2 b c
-    → AddsFuncs (i + 1) ((i + 1) + (i + 1)) a c
-adds_next i a b c so_far here =
-    adds_more (i + 1) (i + i + 2) (i + 1) ((i + 1) + (i + 1)) (omega arith) (omega arith) a c
-    (adds_trans i (i + i) 1 2 a b c so_far here)
+  -- one more round of a loop over the needed entries
+  pub adds_step : is_some_and is_plain_func (slice_get t.types n) ≡ true → (i : ℕ) → i < length order
+      → (a b c : Types) → AddsFuncs i (i + i) a b
+      → (is_some_and is_plain_func (slice_get t.types (get_or order i 0)) ≡ true → AddsFuncs 1 2 b c)
+      → AddsFuncs (i + 1) ((i + 1) + (i + 1)) a c
+  adds_step plain i within a b c so_far here =
+      let same = plain_alone plain (get_or order i 0) (among_next order i within) in
+      adds_next i a b c so_far
+      (here (subst (λ m. is_some_and is_plain_func (slice_get t.types m) ≡ true) (sym same) plain))
+
+  -- a loop over the needed entries has at most one round
+  pub adds_few : is_some_and is_plain_func (slice_get t.types n) ≡ true → (i : ℕ) → i ≤ length order
+      → (a b : Types) → AddsFuncs i (i + i) a b → AddsFuncs 1 2 a b
+  adds_few plain i within a b adds =
+      let once = plain_once plain in
+      adds_more i (i + i) 1 2 (omega (arith, once, within)) (omega (arith, once, within)) a b adds

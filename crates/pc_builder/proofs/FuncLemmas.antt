@@ -1,5 +1,6 @@
--- A builder that has the function type of an entry has the tuples and the type that the conversion makes for it.
-use Rattle.std.proofs.Common.{◌≡◌, ℕ, Bool, List, Option, Some, ap, sym, ◌∙◌}
+-- A function type and its two tuples: they stay as the builder grows, and a builder that has the function type of an
+-- entry has the tuples and the type that the conversion makes for it.
+use Rattle.std.proofs.Common.{◌≡◌, ℕ, Bool, List, Option, Some, ap, refl, sym, ◌∙◌}
 use Rattle.std.specs.Prelude.{slice_get}
 use Rattle.std.specs.List.{AllZip}
 use Rattle.pc_entity.specs.Lists.{names_of}
@@ -9,38 +10,58 @@ use Rattle.pc_types.specs.declared.type_index.TypeTupleIndex.{TypeTupleIndex}
 use Rattle.pc_types.specs.declared.types.InterfaceType.{InterfaceType}
 use Rattle.pc_types.specs.declared.types.TypeDef.{TypeDef}
 use Rattle.pc_types.specs.declared.types.TypeKind.TheVariants.{Tuple}
-use Rattle.pc_builder.specs.Types.{Types, HasNumber, IsBuilder}
-use Rattle.pc_builder.specs.Entries.{FuncIs, ReturnsAre}
+use Rattle.pc_interned.specs.Types.{Types, Grows, HasNumber, IsBuilder}
+use Rattle.pc_builder.specs.Entries.{FuncIs, ParamsAre, ResultsAre, ReturnsAre}
 use Rattle.pc_builder.specs.Parts.{ValIs}
 use Rattle.pc_builder.proofs.OneNumber.{one_params, one_returns}
+use Rattle.pc_builder.proofs.PartLemmas.{params_are_grow, returns_grow}
 
-module _ (b : Types) (is : IsBuilder b) (done : List (Option TypeDef)) (params : List (List ℕ × ValType))
-    (returns : Option ValType)
-    (is_async : Bool) (i : TypeFuncIndex) (func : FuncIs b done params returns is_async i) where
-  -- the tuple of its parameters
-  abbrev pub params_there : (ws : List InterfaceType)
-      → AllZip (λ (p : List ℕ × ValType) (w : InterfaceType). ValIs b done p.1 w) params ws
-      → HasNumber b.tuples (record { types = ws })
-  params_there ws are =
-      let same = one_params b is.distinct done params func.1.types ws func.8 are in
-      (func.0.params.0, func.4 ∙ ap (λ x. Some (record { types = x })) same)
+module _ (old new : Types) (g : Grows old new) (done : List (Option TypeDef)) where
+  -- the tuple of the parameters stays
+  pub params_grow : (params : List (List ℕ × ValType)) (i : TypeTupleIndex) → ParamsAre old done params i
+      → ParamsAre new done params i
+  params_grow params i h =
+      (h.0, g.tuples i.0 h.0 h.1, params_are_grow old new g done params h.0.types h.2)
 
-  -- the tuple of its result
-  abbrev pub results_there : (ws : List InterfaceType) → ReturnsAre b done returns ws
+  -- that of what is returned
+  pub results_grow : (returns : Option ValType) (i : TypeTupleIndex) → ResultsAre old done returns i
+      → ResultsAre new done returns i
+  results_grow returns i h = (h.0, g.tuples i.0 h.0 h.1, returns_grow old new g done returns h.0.types h.2)
+
+-- a function type over its two tuples
+pub func_is : (b : Types) (done : List (Option TypeDef)) (params : List (List ℕ × ValType)) (returns : Option ValType)
+    (is_async : Bool) (names : List (List ℕ)) (p r : TypeTupleIndex) (i : TypeFuncIndex)
+    → slice_get b.funcs i.0 ≡ Some (record { param_names = names; params = p; results = r; async_ = is_async })
+    → names ≡ names_of params → ParamsAre b done params p → ResultsAre b done returns r
+    → FuncIs b done params returns is_async i
+func_is b done params returns is_async names p r i at named ps rs =
+    (_, ps.0, rs.0, at, ps.1, rs.1, named, refl, ps.2, rs.2)
+
+module _ (b : Types) (is : IsBuilder b) (done : List (Option TypeDef)) where
+  -- the tuple of the parameters is there under their types
+  abbrev pub params_there : (params : List (List ℕ × ValType)) (i : TypeTupleIndex) → ParamsAre b done params i
+      → (ws : List InterfaceType) → AllZip (λ (p : List ℕ × ValType) (w : InterfaceType). ValIs b done p.1 w) params ws
       → HasNumber b.tuples (record { types = ws })
-  results_there ws are =
-      let same = one_returns b is.distinct done returns func.2.types ws func.9 are in
-      (func.0.results.0, func.5 ∙ ap (λ x. Some (record { types = x })) same)
+  params_there params i h ws are =
+      (i.0, h.1 ∙ ap (λ x. Some (record { types = x })) (one_params b is.distinct done params h.0.types ws h.2 are))
+
+  -- that of what is returned
+  abbrev pub results_there : (returns : Option ValType) (i : TypeTupleIndex) → ResultsAre b done returns i
+      → (ws : List InterfaceType) → ReturnsAre b done returns ws → HasNumber b.tuples (record { types = ws })
+  results_there returns i h ws are =
+      (i.0, h.1 ∙ ap (λ x. Some (record { types = x })) (one_returns b is.distinct done returns h.0.types ws h.2 are))
 
   -- the type of both
-  pub func_there : (names : List (List ℕ)) (ps rs : List InterfaceType) (p r : TypeTupleIndex) → names ≡ names_of params
-      → AllZip (λ (p : List ℕ × ValType) (w : InterfaceType). ValIs b done p.1 w) params ps
-      → ReturnsAre b done returns rs
-      → slice_get b.tuples p.0 ≡ Some (record { types = ps }) → slice_get b.tuples r.0 ≡ Some (record { types = rs })
+  pub func_there : (params : List (List ℕ × ValType)) (returns : Option ValType) (is_async : Bool) (i : TypeFuncIndex)
+      → FuncIs b done params returns is_async i
+      → (names : List (List ℕ)) (p r : TypeTupleIndex) → names ≡ names_of params
+      → ParamsAre b done params p → ResultsAre b done returns r
       → HasNumber b.funcs (record { param_names = names; params = p; results = r; async_ = is_async })
-  func_there names ps rs p r named are gives at_p at_r =
-      let at_params = is.distinct Tuple _ _ (record { types = ps }) (params_there ps are).1 at_p in
-      let at_results = is.distinct Tuple _ _ (record { types = rs }) (results_there rs gives).1 at_r in
+  func_there params returns is_async i func names p r named ps rs =
+      let at_params = is.distinct Tuple func.0.params.0 p.0 ps.0
+      (params_there params func.0.params (func.1, func.4, func.8) ps.0.types ps.2).1 ps.1 in
+      let at_results = is.distinct Tuple func.0.results.0 r.0 rs.0
+      (results_there returns func.0.results (func.2, func.5, func.9) rs.0.types rs.2).1 rs.1 in
       let same_names = func.6 ∙ sym named in (
         i.0,
         func.3

@@ -1,14 +1,12 @@
--- What is held stays held, and the types of entries are held.
-use Rattle.std.proofs.Common.{◌≡◌, ℕ, ◌<◌, Bool, true, false, true≢false, zero, suc, List, [], ◌∷◌, length, Option}
-use Rattle.std.proofs.Common.{None, Some, refl, sym, ap, subst, arith}
-use Rattle.std.specs.Prelude.{slice_get, MatchOption}
+-- The types of entries are held.
+use Rattle.std.proofs.Common.{◌≡◌, List, [], ◌∷◌, Option}
+use Rattle.std.proofs.Common.{None, Some, refl, sym, subst, arith}
+use Rattle.std.specs.Prelude.{MatchOption}
 use Rattle.std.specs.List.{All, AllZip}
 use Rattle.std.proofs.lemmas.List.Elements.{All-cons}
-use Rattle.std.proofs.lemmas.Option.{none-some, same_Some, slice_get_within}
-use Rattle.pc_entity.specs.Lists.{Kept}
+use Rattle.std.proofs.lemmas.Option.{slice_get_within}
 use Rattle.pc_numbers.specs.declared.runtime.ResourceIndex.{ResourceIndex}
 use Rattle.pc_types.specs.declared.parsed.PrimType.{PrimType}
-use Rattle.pc_types.specs.declared.parsed.PrimType.TheVariants as prim
 use Rattle.pc_types.specs.declared.parsed.TypeTable.{TypeTable}
 use Rattle.pc_types.specs.declared.parsed.ValType.{ValType}
 use Rattle.pc_types.specs.declared.parsed.ValType.TheVariants as val
@@ -17,92 +15,21 @@ use Rattle.pc_types.specs.declared.types.InterfaceType.{InterfaceType}
 use Rattle.pc_types.specs.declared.types.InterfaceType.TheVariants as ty
 use Rattle.pc_types.specs.declared.types.TypeDef.{TypeDef}
 use Rattle.pc_types.specs.declared.types.TypeDef.TheVariants as def
-use Rattle.pc_types.specs.TypeTree.{Identity, TypeTree, declared, primitive, error_context, record_of, variant_of}
-use Rattle.pc_types.specs.TypeTree.{list_of, tuple_of, flags_of, enum_of, option_of, result_of, own_of, borrow_of}
-use Rattle.pc_types.specs.TypeTree.{stream_of, future_of, func_of, instance_of, component_of, module_of, resource_of}
-use Rattle.pc_builder.specs.Types.{Types, Grows}
-use Rattle.pc_builder.specs.Held.{IsHeld, MayBeHeld}
-use Rattle.pc_builder.specs.Primitive.{plain_type}
-use Rattle.pc_builder.specs.Trees.{HasTree}
+use Rattle.pc_types.specs.TypeTree.{declared}
+use Rattle.pc_interned.specs.Types.{Types, Grows}
+use Rattle.pc_interned.specs.Held.{IsHeld, MayBeHeld}
+use Rattle.pc_interned.specs.Primitive.{plain_type}
+use Rattle.pc_interned.proofs.HeldLemmas.{held_grows, plain_held, value_held}
 use Rattle.pc_builder.specs.Parts.{AreHeld, PrimIs, ValIs, MaybeIs, IsErrorContext}
 use Rattle.pc_builder.specs.Converted.{AreConverted}
 use Rattle.pc_builder.specs.Entries.{ReturnsAre}
 
--- there is an item at a place within a list
-pub found_at : {A : Type 0} (xs : List A) (n : ℕ) → n < length xs → (x : A) × (slice_get xs n ≡ Some x)
-found_at [] n h = absurd (omega (arith, h))
-found_at (x ∷ xs) zero h = (x, refl)
-found_at (x ∷ xs) (suc n) h = found_at xs n (omega (arith, h))
-
--- a place within a list is within one that keeps its look-ups
-kept_within : {A : Type 0} (xs ys : List A) → Kept xs ys → (n : ℕ) → n < length xs → n < length ys
-kept_within xs ys kept n h =
-    let f = found_at xs n h in
-    slice_get_within ys n f.0 (kept n f.0 f.1)
-
-module _ (old new : Types) (g : Grows old new) where
-  -- a value type that is held stays held
-  pub held_grows : (w : InterfaceType) → IsHeld old w → IsHeld new w
-  held_grows ty.Bool h = h
-  held_grows ty.S8 h = h
-  held_grows ty.U8 h = h
-  held_grows ty.S16 h = h
-  held_grows ty.U16 h = h
-  held_grows ty.S32 h = h
-  held_grows ty.U32 h = h
-  held_grows ty.S64 h = h
-  held_grows ty.U64 h = h
-  held_grows ty.F32 h = h
-  held_grows ty.F64 h = h
-  held_grows ty.Char h = h
-  held_grows ty.String h = h
-  held_grows (ty.ErrorContext i) h =
-      kept_within old.error_context_tables new.error_context_tables g.error_context_tables i.0 h
-  held_grows (ty.Record i) h = kept_within old.records new.records g.records i.0 h
-  held_grows (ty.Variant i) h = kept_within old.variants new.variants g.variants i.0 h
-  held_grows (ty.List i) h = kept_within old.lists new.lists g.lists i.0 h
-  held_grows (ty.Tuple i) h = kept_within old.tuples new.tuples g.tuples i.0 h
-  held_grows (ty.Flags i) h = kept_within old.flags new.flags g.flags i.0 h
-  held_grows (ty.Enum i) h = kept_within old.enums new.enums g.enums i.0 h
-  held_grows (ty.Option i) h = kept_within old.options new.options g.options i.0 h
-  held_grows (ty.Result i) h = kept_within old.results new.results g.results i.0 h
-  held_grows (ty.Own i) h = kept_within old.resource_tables new.resource_tables g.resource_tables i.0 h
-  held_grows (ty.Borrow i) h = kept_within old.resource_tables new.resource_tables g.resource_tables i.0 h
-  held_grows (ty.Future i) h = kept_within old.future_tables new.future_tables g.future_tables i.0 h
-  held_grows (ty.Stream i) h = kept_within old.stream_tables new.stream_tables g.stream_tables i.0 h
-
-  -- the same of the done ones
-  pub are_held_grow : (done : List (Option TypeDef)) → AreHeld old done → AreHeld new done
-  are_held_grow done h n w found = held_grows w (h n w found)
-
--- the value type of a type that has one
-abbrev pub value_of : TypeDef → InterfaceType
-value_of (def.Interface w) = w
-value_of _ = ty.Bool
-
--- whether a type is a value type
-abbrev pub is_value_type : TypeDef → Bool
-is_value_type (def.Interface w) = true
-is_value_type _ = false
+-- the done value types stay held
+pub are_held_grow : (old new : Types) → Grows old new → (done : List (Option TypeDef)) → AreHeld old done
+    → AreHeld new done
+are_held_grow old new g done h n w found = held_grows old new g w (h n w found)
 
 module _ (b : Types) where
-  -- the value type of a primitive without a table is held
-  plain_held : (p : PrimType) (w : InterfaceType) → plain_type p ≡ Some w → IsHeld b w
-  plain_held prim.Bool w h = subst (IsHeld b) (same_Some ty.Bool w h) tt
-  plain_held prim.S8 w h = subst (IsHeld b) (same_Some ty.S8 w h) tt
-  plain_held prim.U8 w h = subst (IsHeld b) (same_Some ty.U8 w h) tt
-  plain_held prim.S16 w h = subst (IsHeld b) (same_Some ty.S16 w h) tt
-  plain_held prim.U16 w h = subst (IsHeld b) (same_Some ty.U16 w h) tt
-  plain_held prim.S32 w h = subst (IsHeld b) (same_Some ty.S32 w h) tt
-  plain_held prim.U32 w h = subst (IsHeld b) (same_Some ty.U32 w h) tt
-  plain_held prim.S64 w h = subst (IsHeld b) (same_Some ty.S64 w h) tt
-  plain_held prim.U64 w h = subst (IsHeld b) (same_Some ty.U64 w h) tt
-  plain_held prim.F32 w h = subst (IsHeld b) (same_Some ty.F32 w h) tt
-  plain_held prim.F64 w h = subst (IsHeld b) (same_Some ty.F64 w h) tt
-  plain_held prim.Char w h = subst (IsHeld b) (same_Some ty.Char w h) tt
-  plain_held prim.String w h = subst (IsHeld b) (same_Some ty.String w h) tt
-  plain_held prim.ErrorContext w h = absurd (none-some w h)
-
   -- the value type of a primitive is held
   prim_held : (p : PrimType) (w : InterfaceType) → PrimIs b p w → IsHeld b w
   prim_held p w h = by (plain_type p) refl h
@@ -112,7 +39,7 @@ module _ (b : Types) where
           ((i : TypeComponentLocalErrorContextTableIndex) × (w ≡ ty.ErrorContext i) × IsErrorContext b i) (λ t. w ≡ t)
           → IsHeld b w
       by None is k = subst (IsHeld b) (sym k.1) (slice_get_within b.error_context_tables k.0.0 _ k.2)
-      by (Some t) is k = subst (IsHeld b) (sym k) (plain_held p t is)
+      by (Some t) is k = subst (IsHeld b) (sym k) (plain_held b p t is)
 
   -- the types of a table's value types are held, where those of the done ones are
   module _ (done : List (Option TypeDef)) (held : AreHeld b done) where
@@ -127,43 +54,12 @@ module _ (b : Types) where
     maybe_held None (Some w) h = absurd h
     maybe_held (Some v) (Some w) h = val_held v w h
 
-  -- a value type that has a tree is held
-  value_held : (who : ResourceIndex → Identity) (w : InterfaceType) (t : TypeTree) → HasTree b who (def.Interface w) t
-      → IsHeld b w
-  value_held who w (primitive p) h = subst (IsHeld b) (sym (ap value_of h.1)) (plain_held p h.0 h.2)
-  value_held who w (error_context c) h =
-      subst (IsHeld b) (sym (ap value_of h.1)) (slice_get_within b.error_context_tables h.0.0 _ h.2)
-  value_held who w (record_of fs) h =
-      subst (IsHeld b) (sym (ap value_of h.2)) (slice_get_within b.records h.0.0 h.1 h.3)
-  value_held who w (variant_of cs) h =
-      subst (IsHeld b) (sym (ap value_of h.2)) (slice_get_within b.variants h.0.0 h.1 h.3)
-  value_held who w (list_of t) h = subst (IsHeld b) (sym (ap value_of h.2)) (slice_get_within b.lists h.0.0 h.1 h.3)
-  value_held who w (tuple_of ts) h = subst (IsHeld b) (sym (ap value_of h.2)) (slice_get_within b.tuples h.0.0 h.1 h.3)
-  value_held who w (flags_of names) h = subst (IsHeld b) (sym (ap value_of h.1)) (slice_get_within b.flags h.0.0 _ h.2)
-  value_held who w (enum_of names) h = subst (IsHeld b) (sym (ap value_of h.1)) (slice_get_within b.enums h.0.0 _ h.2)
-  value_held who w (option_of t) h = subst (IsHeld b) (sym (ap value_of h.2)) (slice_get_within b.options h.0.0 h.1 h.3)
-  value_held who w (result_of ok err) h =
-      subst (IsHeld b) (sym (ap value_of h.2)) (slice_get_within b.results h.0.0 h.1 h.3)
-  value_held who w (own_of r) h =
-      subst (IsHeld b) (sym (ap value_of h.1)) (slice_get_within b.resource_tables h.0.0 h.2.0 h.2.1)
-  value_held who w (borrow_of r) h =
-      subst (IsHeld b) (sym (ap value_of h.1)) (slice_get_within b.resource_tables h.0.0 h.2.0 h.2.1)
-  value_held who w (stream_of t c) h =
-      subst (IsHeld b) (sym (ap value_of h.2)) (slice_get_within b.stream_tables h.0.0 h.1 h.3)
-  value_held who w (future_of t c) h =
-      subst (IsHeld b) (sym (ap value_of h.2)) (slice_get_within b.future_tables h.0.0 h.1 h.3)
-  value_held who w (func_of params result is_async) h = absurd (true≢false (ap is_value_type h.4))
-  value_held who w (instance_of exports) h = absurd (true≢false (ap is_value_type h.2))
-  value_held who w (component_of imports exports) h = absurd (true≢false (ap is_value_type h.2))
-  value_held who w (module_of imports exports) h = absurd (true≢false (ap is_value_type h.2))
-  value_held who w (resource_of r) h = absurd (true≢false (ap is_value_type h.1))
-
   -- the converted value types are held
   pub converted_held : (t : TypeTable) (done : List (Option TypeDef)) → AreConverted b t done → AreHeld b done
   converted_held t done are n w found =
       let who = (λ (r : ResourceIndex). declared 0) in
       let x = are.entries n (def.Interface w) found who in
-      value_held who w x.0 x.2
+      value_held b who w x.0 x.2
 
 -- what holds of each item of the second list, where a relation to one of the first gives it
 pub all_by_zip : {A B : Type 0} (R : A → B → Type 0) (P : B → Type 0) → ((x : A) (y : B) → R x y → P y)
@@ -180,7 +76,3 @@ returns_held b done held None ws h = subst (All (IsHeld b)) (sym h) (λ k d belo
 returns_held b done held (Some v) ws h =
     subst (All (IsHeld b)) (sym h.1)
     (All-cons (IsHeld b) h.0 [] (val_held b done held v h.0 h.2) (λ k d below. absurd (omega (arith, below))))
-
--- a place where an item was found is within the list, also after it grew
-pub kept_place : {A : Type 0} (xs ys : List A) → Kept xs ys → (n : ℕ) (x : A) → slice_get xs n ≡ Some x → n < length ys
-kept_place xs ys kept n x h = slice_get_within ys n x (kept n x h)

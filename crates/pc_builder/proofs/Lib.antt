@@ -1,6 +1,7 @@
+-- Laws of the words of `specs/`, for the layers above too.
+pub use Rattle.pc_interned.proofs.Growth
+pub mod TreeLemmas
 -- What the functions of this crate rest on.
-mod KnownLemmas
-pub mod Growth
 mod PartLemmas
 mod StepLemmas
 mod AmongLemmas
@@ -11,13 +12,8 @@ mod TreeInversion
 mod PartInversion
 mod EntryInversion
 mod RefusalLemmas
-mod ErrorLemmas
 mod SoundLemmas
 mod ReadyLemmas
-pub mod TreeLemmas
-mod FactLemmas
 mod FuncLemmas
-mod PutLemmas
 mod FewLemmas
 mod HeldLemmas
-mod TreeFacts

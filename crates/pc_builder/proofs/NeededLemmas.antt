@@ -1,13 +1,12 @@
 -- Which entries are open on the way, and which are needed.
 use Rattle.std.proofs.Common.{◌≡◌, ℕ, ◌<◌, ◌≤◌, ◌+◌, List, [], ◌∷◌, ◌++◌, length, suc, max, Option, Some, refl, sym}
-use Rattle.std.proofs.Common.{subst, arith, inl, inr, ◌⊎◌, take, get_or}
+use Rattle.std.proofs.Common.{subst, arith, false, inl, inr, ◌⊎◌, take, get_or, true, true≢false}
 use Rattle.std.specs.Prelude.{slice_get}
 use Rattle.std.specs.BTreeMap.Range.{IsLtBy}
 use Rattle.std.specs.List.{All}
 use Rattle.std.specs.Ordering.{MatchOrdering, nat_cmp}
 use Rattle.std.proofs.lemmas.Cmp.{ranked}
 use Rattle.std.proofs.lemmas.Grind.{take_at_read}
-use Rattle.std.proofs.lemmas.Option.{slice_get_read}
 use Rattle.pc_types.specs.declared.parsed.DeclType.{DeclType}
 use Rattle.pc_types.specs.declared.parsed.TypeTable.{TypeTable}
 use Rattle.pc_types.specs.declared.types.TypeDef.{TypeDef}
@@ -270,18 +269,19 @@ module _ (t : TypeTable) (done : List (Option TypeDef)) (n : ℕ) (opened back r
   taken_there = going.there k (subst (λ ks. IsAmong k ks) (sym taken) (among_back rest (k ∷ []) k (inl refl)))
 
   -- what it names is opened, and the greatest open entry falls
-  pub taken_met : (types : List DeclType) (e : DeclType) (named new : List ℕ) → All (λ q. IsLtBy nat_cmp q k) rest
-      → types ≡ t.types
-      → e ≡ get_or types k e → ((f : DeclType) → slice_get t.types k ≡ Some f → Each (λ p. p < k) (parts_of f))
-      → named ≡ parts_of e
+  pub taken_met : (e : DeclType) (named new : List ℕ) → All (λ q. IsLtBy nat_cmp q k) rest
+      → slice_get t.types k ≡ Some e → Each (λ p. p < k) (parts_of e) → named ≡ parts_of e
       → Opens done named rest new → Going t done n new (k ∷ back) × (top new < top opened)
-  taken_met types e named new last same read earlier names opens =
+  taken_met e named new last at earlier names opens =
       let now = subst (λ ks. Going t done n ks back) taken going in
-      let at = slice_get_read t.types (length t.types) k e refl taken_there
-      (subst (λ ts. e ≡ get_or ts k e) same read) in
       let opens_parts = subst (λ ps. Opens done ps rest new) names opens in
       let below = below_last rest k last in (
-        going_step t done n rest back k e new now below at (earlier e at) opens_parts,
+        going_step t done n rest back k e new now below at earlier opens_parts,
         subst (λ ks. top new < top ks) (sym taken)
-            (top_falls t done n rest back k e new now below at (earlier e at) opens_parts),
+            (top_falls t done n rest back k e new now below at earlier opens_parts),
       )
+
+-- nothing is open where nothing was taken
+pub none_open : (ks : List ℕ) → (0 < length ks → false ≡ true) → ks ≡ []
+none_open [] h = refl
+none_open (k ∷ ks) h = absurd (true≢false (sym (h (omega arith))))

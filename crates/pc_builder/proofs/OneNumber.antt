@@ -29,14 +29,14 @@ use Rattle.pc_types.specs.TypeTree.{error_context, record_of, variant_of, list_o
 use Rattle.pc_types.specs.TypeTree.{option_of, result_of, own_of, borrow_of, stream_of, future_of, func_of, instance_of}
 use Rattle.pc_types.specs.TypeTree.{component_of, module_of, resource_of, no_fields, and_field, no_cases, and_case}
 use Rattle.pc_types.specs.TypeTree.{no_trees, and_tree, no_tree, a_tree}
-use Rattle.pc_builder.specs.Types.{Types, HasDistinct}
-use Rattle.pc_builder.specs.Primitive.{plain_type}
+use Rattle.pc_interned.specs.Types.{Types, HasDistinct}
+use Rattle.pc_interned.specs.Primitive.{plain_type}
 use Rattle.pc_builder.specs.Parts.{IsErrorContext, PrimIs, ValIs, MaybeIs, FieldIs, CaseIs, EntityIs, ExternIs}
 use Rattle.pc_builder.specs.Entries.{ReturnsAre, CoreIs, ImportIs, ExportIs}
-use Rattle.pc_builder.specs.Trees.{AreHandlesOf, NumbersHandlesOf, CoreHasTree, ImportHasTree, ExportHasTree, HasTree}
-use Rattle.pc_builder.specs.Trees.{FieldsHaveTrees, CasesHaveTrees, ValsHaveTrees, MaybeHasTree, ParamsHaveTrees}
-use Rattle.pc_builder.specs.Trees.{ResultsHaveTree, ExternsHaveTrees}
-use Rattle.pc_builder.proofs.HeldLemmas.{value_of}
+use Rattle.pc_interned.specs.Trees.{AreHandlesOf, NumbersHandlesOf, CoreHasTree, ImportHasTree, ExportHasTree, HasTree}
+use Rattle.pc_interned.specs.Trees.{FieldsHaveTrees, CasesHaveTrees, ValsHaveTrees, MaybeHasTree, ParamsHaveTrees}
+use Rattle.pc_interned.specs.Trees.{ResultsHaveTree, ExternsHaveTrees}
+use Rattle.pc_interned.proofs.HeldLemmas.{value_of}
 
 -- equal items in front of equal lists
 cons_same : {A : Type 0} (x y : A) (xs ys : List A) → x ≡ y → xs ≡ ys → x ∷ xs ≡ y ∷ ys

@@ -21,12 +21,12 @@ use Rattle.pc_types.specs.TypeTree.{Identity, CoreTree, TypeTree, core_func}
 use Rattle.pc_types.specs.TypeTree.{core_table, core_memory, core_global, core_tag, primitive, error_context}
 use Rattle.pc_types.specs.TypeTree.{val_tree}
 use Rattle.pc_types.specs.TypeTree.{core_tree, module_import_tree, module_export_tree}
-use Rattle.pc_builder.specs.Types.{Types}
-use Rattle.pc_builder.specs.Trees.{CoreHasTree, ImportHasTree, ExportHasTree, HasTree}
+use Rattle.pc_interned.specs.Types.{Types}
+use Rattle.pc_interned.specs.Trees.{CoreHasTree, ImportHasTree, ExportHasTree, HasTree}
 use Rattle.pc_builder.specs.Trees.{identities}
 use Rattle.pc_builder.specs.Parts.{IsErrorContext, PrimIs}
 use Rattle.pc_builder.specs.Entries.{CoreIs, ImportIs, ExportIs}
-use Rattle.pc_builder.proofs.HeldLemmas.{value_of}
+use Rattle.pc_interned.proofs.HeldLemmas.{value_of}
 use Rattle.pc_builder.proofs.TreeInversion.{map_inv}
 
 -- a value type that has the tree of a primitive that needs no table is the primitive's

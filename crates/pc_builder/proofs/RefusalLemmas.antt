@@ -1,6 +1,6 @@
 -- Where a needed entry has no place, the entry that was asked for has none.
 use Rattle.std.proofs.Common.{◌≡◌, ℕ, ◌<◌, ◌≤◌, ◌+◌, List, [], length, take, zero, suc, Option, None, Some, sym, ap}
-use Rattle.std.proofs.Common.{◌∙◌, subst, arith, inl, inr, ◌⊎◌}
+use Rattle.std.proofs.Common.{◌∙◌, subst, arith, get_or, inl, inr, ◌⊎◌}
 use Rattle.std.specs.Prelude.{slice_get, option_and_then}
 use Rattle.std.proofs.lemmas.List.{length-take}
 use Rattle.std.proofs.lemmas.Option.{slice_get_within}
@@ -11,13 +11,13 @@ use Rattle.pc_types.specs.declared.parsed.TypeTable.{TypeTable}
 use Rattle.pc_types.specs.declared.types.TypeDef.{TypeDef}
 use Rattle.pc_types.specs.Table.{table_fault}
 use Rattle.pc_types.specs.TypeTree.{Identity, TypeTree, declared, imported, earlier_tree, entry_tree, trees_from}
-use Rattle.pc_builder.specs.Types.{Types, Grows, IsBuilder}
+use Rattle.pc_interned.specs.Types.{Types, Grows, IsBuilder}
 use Rattle.pc_builder.specs.Trees.{IsEntry, identities}
 use Rattle.pc_builder.specs.Needed.{AreNeeded, Each, IsAmong, IsDone, parts_of}
 use Rattle.pc_builder.specs.Converted.{AreConverted}
 use Rattle.pc_builder.specs.Entries.{EntryIs}
-use Rattle.pc_builder.proofs.StepLemmas.{earlier_back, ready_step, take_found}
-use Rattle.pc_builder.proofs.HeldLemmas.{found_at}
+use Rattle.pc_builder.proofs.StepLemmas.{among_next, earlier_back, parts_done, ready_step, take_found}
+use Rattle.pc_entity.proofs.LookupLemmas.{found_at}
 use Rattle.pc_builder.proofs.AmongLemmas.{each_among}
 use Rattle.pc_builder.proofs.OneNumber.{one_number}
 use Rattle.pc_builder.proofs.TreeInversion.{HasTypeOf, parts_have}
@@ -109,7 +109,7 @@ module _ (t : TypeTable) (sound : table_fault t ≡ None) where
       ]
 
   -- where a builder has the type that was asked for, a needed entry is something in it
-  pub entry_there : (b next : Types) → Grows b next → IsBuilder next
+  entry_there : (b next : Types) → Grows b next → IsBuilder next
       → (before done : List (Option TypeDef)) (n : ℕ) (order : List ℕ)
       → AreNeeded t before n order → (k : ℕ) (e : DeclType) → slice_get t.types k ≡ Some e → IsAmong k order
       → AreConverted b t done
@@ -137,3 +137,19 @@ module _ (t : TypeTable) (sound : table_fault t ≡ None) where
             (one_number next is.distinct who apart) apart k e has.0 has.1 x.1
             (ready_step t sound b done k e are at parts) x.3 has.3,
       )
+
+  -- so the next of the needed entries is something in it
+  pub next_there : (b next : Types) → Grows b next → IsBuilder next
+      → (before done : List (Option TypeDef)) (n : ℕ) (order : List ℕ)
+      → AreNeeded t before n order → (i : ℕ) → i < length order → AreConverted b t done
+      → Each (IsDone done) (take i order) → ((m : ℕ) → IsDone before m → IsDone done m)
+      → (d : TypeDef) → IsEntry next t n d
+      → (e : DeclType) × (slice_get t.types (get_or order i 0) ≡ Some e) × (f : TypeDef)
+      × EntryIs next (take (get_or order i 0) done) t (get_or order i 0) e f
+  next_there b next g is before done n order needed i within are so_far kept d asked =
+      let k = get_or order i 0 in
+      let among = among_next order i within in
+      let e = found_at t.types k (each_among (λ m. m < length t.types) order k needed.within among) in
+      let parts = parts_done t sound before done n order needed i within so_far kept e.0 e.1 in
+      let there = entry_there b next g is before done n order needed k e.0 e.1 among are parts d asked in
+      (e.0, e.1, there.0, there.1)

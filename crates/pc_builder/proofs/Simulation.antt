@@ -34,11 +34,12 @@ use Rattle.pc_types.specs.TypeTree.{a_tree, trees_from, val_tree, entity_tree}
 use Rattle.pc_types.specs.TypeTree.{earlier_tree, maybe_tree, fields_tree, cases_tree, vals_tree, externs_tree}
 use Rattle.pc_types.specs.TypeTree.{entry_tree, core_tree, module_import_tree, module_export_tree, own_tree}
 use Rattle.pc_types.specs.TypeTree.{borrow_tree, resource_from, identity_of}
-use Rattle.pc_builder.specs.Types.{Types}
-use Rattle.pc_builder.specs.Known.{resource_of as known_resource}
-use Rattle.pc_builder.specs.Trees.{AreHandlesOf, NumbersHandlesOf, CoreHasTree, ImportHasTree, ExportHasTree, HasTree}
-use Rattle.pc_builder.specs.Trees.{FieldsHaveTrees, CasesHaveTrees, ValsHaveTrees, MaybeHasTree, ParamsHaveTrees}
-use Rattle.pc_builder.specs.Trees.{ResultsHaveTree, ExternsHaveTrees, identities}
+use Rattle.pc_interned.specs.Types.{Types}
+use Rattle.pc_interned.specs.Known.{resource_of as known_resource}
+use Rattle.pc_interned.specs.Trees.{AreHandlesOf, NumbersHandlesOf, CoreHasTree, ImportHasTree, ExportHasTree, HasTree}
+use Rattle.pc_interned.specs.Trees.{FieldsHaveTrees, CasesHaveTrees, ValsHaveTrees, MaybeHasTree, ParamsHaveTrees}
+use Rattle.pc_interned.specs.Trees.{ResultsHaveTree, ExternsHaveTrees}
+use Rattle.pc_builder.specs.Trees.{identities}
 use Rattle.pc_builder.specs.Parts.{ValIs, MaybeIs, FieldIs, CaseIs, EntityIs, ExternIs}
 use Rattle.pc_builder.specs.Entries.{ReturnsAre, CoreIs, ImportIs, ExportIs, EntryIs, handles_of, handles_from}
 

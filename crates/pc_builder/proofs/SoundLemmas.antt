@@ -1,10 +1,10 @@
 -- What a sound table says of the parts of its entries.
 use Rattle.std.proofs.Common.{◌≡◌, ℕ, ◌<◌, Bool, true, false, List, [], ◌∷◌, ◌++◌, length, take, zero, suc, Option}
-use Rattle.std.proofs.Common.{Some, None, refl, sym, subst, true≢false, ◌&&◌, if◌then◌else◌}
+use Rattle.std.proofs.Common.{Some, None, refl, sym, subst, arith, true≢false, ◌&&◌, if◌then◌else◌}
 use Rattle.std.specs.Prelude.{slice_get}
 use Rattle.std.specs.List.{list_all, flat_map}
 use Rattle.std.proofs.lemmas.Bool.{ltb-true}
-use Rattle.std.proofs.lemmas.List.{append_assoc, append-nil}
+use Rattle.std.proofs.lemmas.List.{append_assoc, append-nil, length-take}
 use Rattle.std.proofs.lemmas.Option.{none-some, same_Some, slice_get_within}
 use Rattle.pc_entity.proofs.Elements.{and_true}
 use Rattle.pc_entity.specs.Lists.{names_of}
@@ -29,7 +29,7 @@ use Rattle.pc_types.specs.Table.{is_func, is_instance, is_module, is_defined_typ
 use Rattle.pc_builder.specs.Needed.{Each, parts_of, val_parts, maybe_parts, field_parts, case_parts, entity_parts}
 use Rattle.pc_builder.specs.Needed.{extern_parts}
 use Rattle.pc_builder.specs.Converted.{IsOfKind}
-use Rattle.pc_builder.proofs.AmongLemmas.{each_append}
+use Rattle.pc_builder.proofs.AmongLemmas.{each_append, each_more}
 
 -- an entry without a fault is sound and holds no component value
 unfaulted : (t : TypeTable) (earlier : List DeclType) (e : DeclType) → entry_fault t earlier e ≡ None
@@ -286,3 +286,11 @@ module_kind (entry.Future v) d h k = absurd (true≢false (sym h))
 module_kind (entry.Instance exports) d h k = absurd (true≢false (sym h))
 module_kind (entry.Component imports exports) d h k = absurd (true≢false (sym h))
 module_kind (entry.Module imports exports) d h k = k
+
+-- an entry of a sound table names earlier ones
+pub names_earlier : (t : TypeTable) (k : ℕ) → table_fault t ≡ None → (e : DeclType) → slice_get t.types k ≡ Some e
+    → Each (λ p. p < k) (parts_of e)
+names_earlier t k sound e at =
+    each_more (λ p. p < length (take k t.types)) (λ p. p < k) (λ p h. omega (arith, h, length-take k t.types))
+    (parts_of e)
+    (parts_below t (take k t.types) e (sound_at t k e sound at).0)

@@ -1,9 +1,9 @@
 -- A step of a conversion: an entry gets its type, once what it names has.
-use Rattle.std.proofs.Common.{◌≡◌, ℕ, ◌<◌, ◌≤◌, ◌+◌, List, [], ◌∷◌, length, take, zero, suc, Option, Some, None, refl}
-use Rattle.std.proofs.Common.{sym, ap, ◌∙◌, subst, arith, inl, inr, ◌⊎◌}
+use Rattle.std.proofs.Common.{◌≡◌, ℕ, ◌<◌, ◌≤◌, ◌+◌, List, [], ◌∷◌, get_or, length, take, zero, suc, Option, Some, None}
+use Rattle.std.proofs.Common.{refl, sym, ap, ◌∙◌, subst, arith, inl, inr, ◌⊎◌}
 use Rattle.std.specs.Prelude.{slice_get, slice_set, option_and_then}
 use Rattle.std.proofs.lemmas.List.{length-set, length-take}
-use Rattle.std.proofs.lemmas.Option.{none-some, same_Some, slice_get_within}
+use Rattle.std.proofs.lemmas.Option.{none-some, same_Some, slice_get-get_or, slice_get_within}
 use Rattle.pc_entity.specs.Lists.{Kept}
 use Rattle.pc_entity.proofs.Growing.{slice_get-set_same, take-next}
 use Rattle.pc_types.specs.declared.parsed.DeclType.{DeclType}
@@ -13,14 +13,15 @@ use Rattle.pc_types.specs.declared.types.TypeDef.{TypeDef}
 use Rattle.pc_types.specs.declared.types.TypeDef.TheVariants as def
 use Rattle.pc_types.specs.Table.{table_fault}
 use Rattle.pc_types.specs.TypeTree.{Identity, TypeTree, earlier_tree, entry_tree, trees_from}
-use Rattle.pc_builder.specs.Types.{Types}
+use Rattle.pc_interned.specs.Types.{Types}
 use Rattle.pc_builder.specs.Trees.{IsEntry, identities}
 use Rattle.pc_builder.specs.Converted.{AreConverted, IsOfKind}
 use Rattle.pc_builder.specs.Entries.{EntryIs}
 use Rattle.pc_builder.specs.Needed.{AreNeeded, Ascend, Each, IsAmong, IsDone, parts_of}
 use Rattle.pc_builder.specs.Parts.{AreHeld}
 use Rattle.pc_builder.specs.Steps.{IsReadyEntry}
-use Rattle.pc_builder.proofs.HeldLemmas.{converted_held, found_at}
+use Rattle.pc_builder.proofs.HeldLemmas.{converted_held}
+use Rattle.pc_entity.proofs.LookupLemmas.{found_at}
 use Rattle.pc_builder.proofs.AmongLemmas.{each_among, each_append, each_more}
 use Rattle.pc_builder.proofs.Simulation.{entry_has, tree_at}
 use Rattle.pc_builder.proofs.SoundLemmas.{parts_below, sound_at}
@@ -120,10 +121,14 @@ among_earlier (n ∷ ns) (suc i) k p rise at among below = elim among as (λ _. 
 ]
 
 -- what stands at a place is one of the numbers
-pub among_at : (ns : List ℕ) (i k : ℕ) → slice_get ns i ≡ Some k → IsAmong k ns
+among_at : (ns : List ℕ) (i k : ℕ) → slice_get ns i ≡ Some k → IsAmong k ns
 among_at [] i k at = absurd (none-some k at)
 among_at (n ∷ ns) zero k at = inl (sym (same_Some n k at))
 among_at (n ∷ ns) (suc i) k at = inr (among_at ns i k at)
+
+-- the next of some numbers is one of them
+pub among_next : (ns : List ℕ) (i : ℕ) → i < length ns → IsAmong (get_or ns i 0) ns
+among_next ns i within = among_at ns i (get_or ns i 0) (slice_get-get_or ns i 0 within)
 
 -- the value types in front of a place are held
 pub front_held : (b : Types) (t : TypeTable) (done : List (Option TypeDef)) (k : ℕ) → AreConverted b t done
@@ -194,28 +199,30 @@ module _ (t : TypeTable) (sound : table_fault t ≡ None) where
 
   -- what the next of the needed entries names is done
   pub parts_done : (before done : List (Option TypeDef)) (n : ℕ) (order : List ℕ) → AreNeeded t before n order
-      → (i k : ℕ) → slice_get order i ≡ Some k
+      → (i : ℕ) → i < length order
       → Each (IsDone done) (take i order) → ((m : ℕ) → IsDone before m → IsDone done m)
-      → (e : DeclType) → slice_get t.types k ≡ Some e → Each (IsDone done) (parts_of e)
-  parts_done before done n order needed i k here so_far kept e at =
+      → (e : DeclType) → slice_get t.types (get_or order i 0) ≡ Some e → Each (IsDone done) (parts_of e)
+  parts_done before done n order needed i within so_far kept e at =
+      let k = get_or order i 0 in
       let earlier = take k t.types in
+      let here = slice_get-get_or order i 0 within in
       each_both (λ p. IsDone before p ⊎ IsAmong p order) (λ p. p < length earlier) (IsDone done)
       (λ p either below. elim either as (λ _. IsDone done p) [
         | inl old ↦ kept p old
         | inr among ↦ each_among (IsDone done) (take i order) p so_far
             (among_earlier order i k p needed.ascend here among (omega (arith, below, length-take k t.types)))
       ])
-      (parts_of e) (needed.closed k e (among_at order i k here) at)
+      (parts_of e) (needed.closed k e (among_next order i within) at)
       (parts_below t earlier e (sound_at t k e sound at).0)
 
 -- one entry more is done
-pub done_next : (old new : List (Option TypeDef)) (order : List ℕ) (i k : ℕ) → slice_get order i ≡ Some k
+pub done_next : (old new : List (Option TypeDef)) (order : List ℕ) (i : ℕ) → i < length order
     → ((m : ℕ) → IsDone old m → IsDone new m)
-    → Each (IsDone old) (take i order) → IsDone new k → Each (IsDone new) (take (i + 1) order)
-done_next old new order i k here kept so_far last =
-    subst (Each (IsDone new)) (sym (take-next order i k here))
-    (each_append (IsDone new) (take i order) (k ∷ []) (each_more (IsDone old) (IsDone new) kept (take i order) so_far)
-    (last, tt))
+    → Each (IsDone old) (take i order) → IsDone new (get_or order i 0) → Each (IsDone new) (take (i + 1) order)
+done_next old new order i within kept so_far last =
+    subst (Each (IsDone new)) (sym (take-next order i (get_or order i 0) (slice_get-get_or order i 0 within)))
+    (each_append (IsDone new) (take i order) (get_or order i 0 ∷ [])
+    (each_more (IsDone old) (IsDone new) kept (take i order) so_far) (last, tt))
 
 -- all are done where the list is gone through
 done_all : (done : List (Option TypeDef)) (order : List ℕ) (i : ℕ) → length order ≤ i

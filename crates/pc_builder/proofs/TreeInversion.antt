@@ -24,10 +24,10 @@ use Rattle.pc_types.specs.TypeTree.{a_tree, val_tree, entity_tree}
 use Rattle.pc_types.specs.TypeTree.{earlier_tree, maybe_tree, fields_tree, cases_tree, vals_tree, externs_tree}
 use Rattle.pc_types.specs.TypeTree.{entry_tree, own_tree}
 use Rattle.pc_types.specs.TypeTree.{borrow_tree}
-use Rattle.pc_builder.specs.Types.{Types}
-use Rattle.pc_builder.specs.Trees.{HasTree, FieldsHaveTrees}
-use Rattle.pc_builder.specs.Trees.{CasesHaveTrees, ValsHaveTrees, MaybeHasTree, ParamsHaveTrees, ResultsHaveTree}
-use Rattle.pc_builder.specs.Trees.{ExternsHaveTrees}
+use Rattle.pc_interned.specs.Types.{Types}
+use Rattle.pc_interned.specs.Trees.{HasTree, FieldsHaveTrees}
+use Rattle.pc_interned.specs.Trees.{CasesHaveTrees, ValsHaveTrees, MaybeHasTree, ParamsHaveTrees, ResultsHaveTree}
+use Rattle.pc_interned.specs.Trees.{ExternsHaveTrees}
 use Rattle.pc_builder.specs.Needed.{Each, parts_of, val_parts, maybe_parts, field_parts, case_parts, entity_parts}
 use Rattle.pc_builder.specs.Needed.{extern_parts}
 use Rattle.pc_builder.proofs.AmongLemmas.{each_append}

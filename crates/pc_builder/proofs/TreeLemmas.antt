@@ -1,5 +1,5 @@
 -- Trees stay as the builder grows.
-use Rattle.std.proofs.Common.{◌≡◌, ℕ, List, [], ◌∷◌, Option, Some, refl, sym, ap, ◌∙◌, subst, Bool, true, false}
+use Rattle.std.proofs.Common.{◌≡◌, ℕ, List, [], ◌∷◌, Option, Some, refl, sym, ap, ◌∙◌, subst, true}
 use Rattle.std.proofs.Common.{true≢false, ◌<◌, length, arith}
 use Rattle.pc_numbers.specs.declared.runtime.ResourceIndex.{ResourceIndex}
 use Rattle.pc_types.specs.declared.parsed.CoreEntity.{CoreEntity}
@@ -16,16 +16,18 @@ use Rattle.pc_types.specs.TypeTree.{variant_of, list_of, tuple_of, flags_of, enu
 use Rattle.pc_types.specs.TypeTree.{borrow_of, stream_of, future_of, func_of, instance_of, component_of, module_of}
 use Rattle.pc_types.specs.TypeTree.{resource_of, no_fields, and_field, no_cases, and_case, no_trees, and_tree, no_tree}
 use Rattle.pc_types.specs.TypeTree.{a_tree, tree_of}
-use Rattle.pc_builder.specs.Types.{Types, Grows}
+use Rattle.pc_interned.specs.Types.{Types, Grows}
 use Rattle.pc_builder.specs.Converted.{AreConverted}
-use Rattle.pc_builder.specs.Trees.{NumbersHandlesOf, CoreHasTree, ImportHasTree, ExportHasTree, HasTree}
-use Rattle.pc_builder.specs.Trees.{FieldsHaveTrees, CasesHaveTrees, ValsHaveTrees, MaybeHasTree, ParamsHaveTrees}
-use Rattle.pc_builder.specs.Trees.{ResultsHaveTree, ExternsHaveTrees, IsEntry, IsEntity, identities}
+use Rattle.pc_interned.specs.Trees.{NumbersHandlesOf, CoreHasTree, ImportHasTree, ExportHasTree, HasTree}
+use Rattle.pc_interned.specs.Trees.{FieldsHaveTrees, CasesHaveTrees, ValsHaveTrees, MaybeHasTree, ParamsHaveTrees}
+use Rattle.pc_interned.specs.Trees.{ResultsHaveTree, ExternsHaveTrees}
+use Rattle.pc_builder.specs.Trees.{IsEntry, IsEntity, identities}
 use Rattle.pc_types.specs.declared.parsed.Entity.TheVariants as entity
 use Rattle.pc_types.specs.TypeTree.{declared}
 use Rattle.std.proofs.lemmas.Option.{slice_get_within}
 use Rattle.pc_builder.specs.Needed.{entity_parts}
-use Rattle.pc_builder.proofs.PartLemmas.{all_zip_more}
+use Rattle.pc_interned.proofs.HeldLemmas.{func_number, is_a_func}
+use Rattle.pc_interned.proofs.ZipLemmas.{all_zip_more}
 
 module _ (old new : Types) (g : Grows old new) (who : ResourceIndex → Identity) where
   -- the number of handles keeps its resource
@@ -166,16 +168,6 @@ converted_grows old new g t done are = record {
   kinds = are.kinds;
   entries = λ n d found. entry_grows old new g t n d (are.entries n d found);
 }
-
--- whether a type is a function type, and its number
-abbrev pub is_a_func : TypeDef → Bool
-is_a_func (def.ComponentFunc i) = true
-is_a_func _ = false
-
--- the number of a function type
-abbrev pub func_number : TypeDef → ℕ
-func_number (def.ComponentFunc i) = i.0
-func_number _ = 0
 
 -- the number of a function type that has a tree is held
 func_held_as : (b : Types) (who : ResourceIndex → Identity) (d : TypeDef) (i : TypeFuncIndex) (tree : TypeTree)

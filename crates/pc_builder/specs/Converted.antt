@@ -11,7 +11,7 @@ use Rattle.pc_types.specs.declared.type_index.TypeResourceTableIndex.{TypeResour
 use Rattle.pc_types.specs.declared.types.InterfaceType.{InterfaceType}
 use Rattle.pc_types.specs.declared.types.TypeDef.{TypeDef}
 use Rattle.pc_types.specs.declared.types.TypeDef.TheVariants as def
-use Rattle.pc_builder.specs.Types.{Types}
+use Rattle.pc_interned.specs.Types.{Types}
 use Rattle.pc_builder.specs.Trees.{IsEntry}
 
 -- the type is of the kind of the entry

@@ -44,8 +44,8 @@ use Rattle.pc_types.specs.declared.types.TypeStreamTable.{TypeStreamTable}
 use Rattle.pc_types.specs.declared.types.TypeTuple.{TypeTuple}
 use Rattle.pc_types.specs.declared.types.TypeVariant.{TypeVariant}
 use Rattle.pc_entity.specs.Lists.{names_of}
-use Rattle.pc_builder.specs.Types.{Types, Resources}
-use Rattle.pc_builder.specs.Known.{resource_of}
+use Rattle.pc_interned.specs.Types.{Types, Resources}
+use Rattle.pc_interned.specs.Known.{resource_of}
 use Rattle.pc_builder.specs.Parts.{ValIs, MaybeIs, FieldIs, CaseIs, ExternIs}
 
 -- the handles of a resource in the current component instance, or those of one that isn't known
@@ -62,6 +62,16 @@ module _ (b : Types) (done : List (Option TypeDef)) where
   abbrev pub ReturnsAre : Option ValType → List InterfaceType → Type 0
   ReturnsAre None ws = ws ≡ []
   ReturnsAre (Some v) ws = (w : InterfaceType) × (ws ≡ w ∷ []) × ValIs b done v w
+
+  -- the number is that of the tuple of the parameters
+  abbrev pub ParamsAre : List (List ℕ × ValType) → TypeTupleIndex → Type 0
+  ParamsAre params i =
+      (ps : TypeTuple) × (slice_get b.tuples i.0 ≡ Some ps)
+      × AllZip (λ (p : List ℕ × ValType) (w : InterfaceType). ValIs b done p.1 w) params ps.types
+
+  -- the number is that of the tuple of what is returned
+  abbrev pub ResultsAre : Option ValType → TypeTupleIndex → Type 0
+  ResultsAre returns i = (rs : TypeTuple) × (slice_get b.tuples i.0 ≡ Some rs) × ReturnsAre returns rs.types
 
   -- the number is that of a function type with these parameters and results
   abbrev pub FuncIs : List (List ℕ × ValType) → Option ValType → Bool → TypeFuncIndex → Type 0

@@ -8,8 +8,8 @@ use Rattle.pc_types.specs.declared.parsed.ValType.{ValType}
 use Rattle.pc_types.specs.declared.parsed.ValType.TheVariants as val
 use Rattle.pc_types.specs.Table.{is_none_or}
 use Rattle.pc_entity.specs.Lists.{Kept}
-use Rattle.pc_builder.specs.Types.{Types}
-use Rattle.pc_builder.specs.Primitive.{plain_type}
+use Rattle.pc_interned.specs.Types.{Types}
+use Rattle.pc_interned.specs.Primitive.{plain_type}
 
 -- whether a value type is a primitive that needs no table: any but an error context
 abbrev pub is_plain_val : ValType → Bool

@@ -2,7 +2,7 @@
 use mir.Syntax.{named}
 use Rattle.std.specs.Borrow.{Lends, MutBor, Fml}
 use Rattle.std.specs.Prelude.{[]}
-use Rattle.pc_builder.specs.Types.{Types}
+use Rattle.pc_interned.specs.Types.{Types}
 use Rattle.pc_builder.specs.contracts.builder.ComponentTypesBuilder.{the_row as builder_row}
 use Rattle.pc_builder.specs.declared.pre_inlining.PreInliningComponentTypes.{PreInliningComponentTypes}
 use Rattle.pc_builder.specs.contracts.pre_inlining.PreInliningComponentTypes.{the_row as lent_row}

@@ -1,10 +1,10 @@
 -- What the public contracts rest on.
-pub mod Types
-pub mod Held
-pub mod Known
+pub use Rattle.pc_interned.specs.Types
+pub use Rattle.pc_interned.specs.Held
+pub use Rattle.pc_interned.specs.Known
+pub use Rattle.pc_interned.specs.Primitive
 pub mod Lending
 pub mod LendingTypes
-pub mod Primitive
 pub mod Trees
 pub mod Converted
 pub mod Few
@@ -13,7 +13,3 @@ pub mod Needed
 pub mod Parts
 pub mod Entries
 pub mod Steps
-pub mod Refusal
-pub mod Interned
-pub mod Facts
-pub mod View

@@ -11,9 +11,9 @@ use Rattle.pc_types.specs.declared.types.InterfaceType.{InterfaceType}
 use Rattle.pc_types.specs.declared.types.InterfaceType.TheVariants as ty
 use Rattle.pc_types.specs.declared.types.TypeDef.{TypeDef}
 use Rattle.pc_types.specs.declared.types.TypeDef.TheVariants as def
-use Rattle.pc_builder.specs.Types.{Types}
-use Rattle.pc_builder.specs.Held.{IsHeld}
-use Rattle.pc_builder.specs.Primitive.{plain_type}
+use Rattle.pc_interned.specs.Types.{Types}
+use Rattle.pc_interned.specs.Held.{IsHeld}
+use Rattle.pc_interned.specs.Primitive.{plain_type}
 
 -- the number is that of the error contexts of the current component instance
 abbrev pub IsErrorContext : Types → TypeComponentLocalErrorContextTableIndex → Type 0

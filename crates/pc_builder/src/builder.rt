@@ -1,126 +1,27 @@
-//! The lists of the builder.
+//! The types builder.
 
 ghost use Rattle.std.specs.Prelude.{◌≡◌};
 ghost use Rattle.std.specs.Borrow.{sem};
-ghost use Rattle.pc_builder.specs.Types.{IsBuilder, held, no_types};
+ghost use Rattle.pc_interned.specs.Types.{IsBuilder, held, no_types};
 ghost use Rattle.pc_builder.specs.Lending.{LendsResources};
 
-use crate::ResourcesBuilder;
-use pc_entity::Interner;
-use pc_facts::FactTable;
-use pc_types::{
-    CoreFuncSig, TypeComponent, TypeComponentInstance, TypeEnum, TypeErrorContextTable, TypeFlags,
-    TypeFunc, TypeFutureTable, TypeKind, TypeList, TypeModule, TypeOption, TypeRecord,
-    TypeResourceTable, TypeResult, TypeStreamTable, TypeTuple, TypeVariant,
-};
+use pc_interned::{InternedTypes, ResourcesBuilder};
+use pc_types::TypeKind;
 use std::alloc::Global;
 use std::marker::Model;
 
-/// One list for each kind of type, in which equal types share a number, the facts of the types that have parts, and the
-/// resources that are known.
+/// The interned types, and the conversions that put types into their lists.
+#[derive(Drop)]
 pub struct ComponentTypesBuilder {
-    pub(crate) alloc: Global,
-    pub(crate) funcs: Interner<TypeFunc>,
-    pub(crate) tuples: Interner<TypeTuple>,
-    pub(crate) records: Interner<TypeRecord>,
-    pub(crate) variants: Interner<TypeVariant>,
-    pub(crate) lists: Interner<TypeList>,
-    pub(crate) options: Interner<TypeOption>,
-    pub(crate) results: Interner<TypeResult>,
-    pub(crate) flags: Interner<TypeFlags>,
-    pub(crate) enums: Interner<TypeEnum>,
-    pub(crate) resource_tables: Interner<TypeResourceTable>,
-    pub(crate) future_tables: Interner<TypeFutureTable>,
-    pub(crate) stream_tables: Interner<TypeStreamTable>,
-    pub(crate) error_context_tables: Interner<TypeErrorContextTable>,
-    pub(crate) instances: Interner<TypeComponentInstance>,
-    pub(crate) components: Interner<TypeComponent>,
-    pub(crate) modules: Interner<TypeModule>,
-    pub(crate) signatures: Interner<CoreFuncSig>,
-    pub(crate) facts: FactTable,
-    pub(crate) resources: ResourcesBuilder,
+    pub(crate) interned: InternedTypes,
 }
-
-// By hand, since a derived drop of so many lists is proved anew, and slowly, in each crate that lets a builder go.
-impl Drop for ComponentTypesBuilder {
-    fn drop(self) {
-        let ComponentTypesBuilder {
-            alloc: _,
-            funcs,
-            tuples,
-            records,
-            variants,
-            lists,
-            options,
-            results,
-            flags,
-            enums,
-            resource_tables,
-            future_tables,
-            stream_tables,
-            error_context_tables,
-            instances,
-            components,
-            modules,
-            signatures,
-            facts,
-            resources,
-        } = self;
-        drop_values(funcs, tuples, records, variants, lists);
-        drop_more_values(options, results, flags, enums);
-        drop_tables(
-            resource_tables,
-            future_tables,
-            stream_tables,
-            error_context_tables,
-        );
-        drop_facts(facts);
-        drop_externs(instances, components, modules, signatures, resources);
-    }
-}
-
-fn drop_values(
-    _funcs: Interner<TypeFunc>,
-    _tuples: Interner<TypeTuple>,
-    _records: Interner<TypeRecord>,
-    _variants: Interner<TypeVariant>,
-    _lists: Interner<TypeList>,
-) {}
-
-fn drop_more_values(
-    _options: Interner<TypeOption>,
-    _results: Interner<TypeResult>,
-    _flags: Interner<TypeFlags>,
-    _enums: Interner<TypeEnum>,
-) {}
-
-fn drop_tables(
-    _resource_tables: Interner<TypeResourceTable>,
-    _future_tables: Interner<TypeFutureTable>,
-    _stream_tables: Interner<TypeStreamTable>,
-    _error_context_tables: Interner<TypeErrorContextTable>,
-) {}
-
-fn drop_facts(_facts: FactTable) {}
-
-fn drop_externs(
-    _instances: Interner<TypeComponentInstance>,
-    _components: Interner<TypeComponent>,
-    _modules: Interner<TypeModule>,
-    _signatures: Interner<CoreFuncSig>,
-    _resources: ResourcesBuilder,
-) {}
 
 impl Model for ComponentTypesBuilder {
-    ghost use Rattle.pc_builder.specs.Types.{Types};
+    ghost use Rattle.pc_interned.specs.Types.{Types};
 
     ghost Value = { Types };
 
-    ghost use Rattle.pc_builder.specs.View.{types_of, IsWithin};
-
-    ghost view = { types_of };
-
-    ghost invariant = { IsWithin };
+    ghost view = { λ s. s.interned };
 }
 
 impl ComponentTypesBuilder {
@@ -129,26 +30,7 @@ impl ComponentTypesBuilder {
         ensures { result ≡ no_types }
     {
         ComponentTypesBuilder {
-            alloc,
-            funcs: Interner::new(alloc),
-            tuples: Interner::new(alloc),
-            records: Interner::new(alloc),
-            variants: Interner::new(alloc),
-            lists: Interner::new(alloc),
-            options: Interner::new(alloc),
-            results: Interner::new(alloc),
-            flags: Interner::new(alloc),
-            enums: Interner::new(alloc),
-            resource_tables: Interner::new(alloc),
-            future_tables: Interner::new(alloc),
-            stream_tables: Interner::new(alloc),
-            error_context_tables: Interner::new(alloc),
-            instances: Interner::new(alloc),
-            components: Interner::new(alloc),
-            modules: Interner::new(alloc),
-            signatures: Interner::new(alloc),
-            facts: FactTable::new(alloc),
-            resources: ResourcesBuilder::new(alloc),
+            interned: InternedTypes::new(alloc),
         }
     }
 
@@ -156,30 +38,14 @@ impl ComponentTypesBuilder {
     pub fn types_are_distinct(&self)
         ensures { IsBuilder self.now }
     {
-        self.funcs.as_slice();
-        self.tuples.as_slice();
-        self.records.as_slice();
-        self.variants.as_slice();
-        self.lists.as_slice();
-        self.options.as_slice();
-        self.results.as_slice();
-        self.flags.as_slice();
-        self.enums.as_slice();
-        self.resource_tables.as_slice();
-        self.future_tables.as_slice();
-        self.stream_tables.as_slice();
-        self.error_context_tables.as_slice();
-        self.instances.as_slice();
-        self.components.as_slice();
-        self.modules.as_slice();
-        self.signatures.as_slice();
+        self.interned.types_are_distinct();
     }
 
     /// The registered resources.
     pub fn resources(&self) -> &ResourcesBuilder
         ensures { result.now ≡ self.now.resources }
     {
-        &self.resources
+        self.interned.resources()
     }
 
     /// The registered resources, to be changed.
@@ -187,31 +53,13 @@ impl ComponentTypesBuilder {
         ensures* writes_back { sem 𝓛 (LendsResources self.entry result) }
         ensures value { result.now ≡ self.old.resources }
     {
-        &mut self.resources
+        self.interned.resources_mut()
     }
 
     /// How many types of a kind are held. The numbers below it name them.
     pub fn held(&self, kind: TypeKind) -> usize
         ensures { result ≡ held self.now kind }
     {
-        match kind {
-            TypeKind::Func => self.funcs.len(),
-            TypeKind::Tuple => self.tuples.len(),
-            TypeKind::Record => self.records.len(),
-            TypeKind::Variant => self.variants.len(),
-            TypeKind::List => self.lists.len(),
-            TypeKind::Option => self.options.len(),
-            TypeKind::Result => self.results.len(),
-            TypeKind::Flags => self.flags.len(),
-            TypeKind::Enum => self.enums.len(),
-            TypeKind::ResourceTable => self.resource_tables.len(),
-            TypeKind::FutureTable => self.future_tables.len(),
-            TypeKind::StreamTable => self.stream_tables.len(),
-            TypeKind::ErrorContextTable => self.error_context_tables.len(),
-            TypeKind::Instance => self.instances.len(),
-            TypeKind::Component => self.components.len(),
-            TypeKind::Module => self.modules.len(),
-            TypeKind::Signature => self.signatures.len(),
-        }
+        self.interned.held(kind)
     }
 }

@@ -5,10 +5,11 @@
 //! sort of what the entry leads to, whatever tree it stands for, and nothing recurses. A caller that converts many
 //! entries keeps what was converted (`Converted`), and all conversions together then meet each entry once.
 
-ghost use Rattle.std.specs.Prelude.{◌≡◌, ◌<◌, ◌∷◌, [], true, false, None, Some, Err, IfOk, length};
+ghost use Rattle.std.specs.Prelude.{◌≡◌, ◌<◌, ◌∷◌, [], true, false, None, Some, Err, All, IfOk, length};
 ghost use Rattle.std.specs.Prelude.{slice_get};
 ghost use Rattle.pc_types.specs.declared.parsed.CoreFuncSig.{CoreFuncSig};
 ghost use Rattle.pc_types.specs.declared.type_index.TypeComponentInstanceIndex.{TypeComponentInstanceIndex};
+ghost use Rattle.pc_types.specs.declared.type_index.TypeComponentLocalErrorContextTableIndex.{TypeComponentLocalErrorContextTableIndex};
 ghost use Rattle.pc_types.specs.declared.type_index.TypeFuncIndex.{TypeFuncIndex};
 ghost use Rattle.pc_types.specs.declared.type_index.TypeModuleIndex.{TypeModuleIndex};
 ghost use Rattle.pc_types.specs.declared.types.InterfaceType.{InterfaceType};
@@ -17,17 +18,26 @@ ghost use Rattle.pc_types.specs.declared.types.TypeDef.TheVariants as def;
 ghost use Rattle.pc_types.specs.Record.{has_signature};
 ghost use Rattle.pc_types.specs.Table.{is_defined_type, is_func, is_instance, is_module, is_some_and, is_sound_entity};
 ghost use Rattle.pc_types.specs.Table.{is_sound_val, is_value, table_fault};
-ghost use Rattle.pc_builder.specs.Types.{Grows, HasNumber, IsTooFullFor};
+ghost use Rattle.pc_interned.specs.Types.{Grows, HasNumber, IsTooFullFor};
+ghost use Rattle.pc_interned.specs.Held.{IsHeld};
+ghost use Rattle.pc_interned.specs.Known.{resource_of};
+ghost use Rattle.pc_builder.specs.Entries.{handles_of};
+ghost use Rattle.pc_builder.specs.Parts.{IsErrorContext};
 ghost use Rattle.pc_builder.specs.Few.{AddsFuncs, AddsSignature, is_plain_func};
 ghost use Rattle.pc_builder.specs.Trees.{IsEntity, IsEntry, IsValue};
 ghost use Rattle.pc_builder.specs.Converted.{AreConverted};
 ghost use Rattle.pc_builder.specs.Needed.{entity_parts};
 
+use crate::steps::{
+    defined_at, entry_type, entry_with, func_at, func_with, instance_at, module_at, signature_at,
+};
+use crate::value::{error_contexts, primitive};
 use crate::{ComponentTypesBuilder, Converted};
-use pc_entity::ModuleInternedTypeIndex;
+use pc_entity::{ModuleInternedTypeIndex, Seq};
 use pc_types::{
-    Entity, InterfaceType, TypeComponentInstanceIndex, TypeDef, TypeError, TypeFuncIndex,
-    TypeModuleIndex, TypeTable, ValType,
+    Entity, InterfaceType, TypeComponentInstanceIndex, TypeComponentLocalErrorContextTableIndex,
+    TypeDef, TypeError, TypeFuncIndex, TypeModuleIndex, TypeResourceTable, TypeResourceTableIndex,
+    TypeTable, TypeTuple, TypeTupleIndex, ValType,
 };
 
 impl ComponentTypesBuilder {
@@ -45,7 +55,7 @@ impl ComponentTypesBuilder {
             → IsTooFullFor self.new (λ b. (d : TypeDef) × IsEntry b table.now n d) }
     {
         if (n as usize) < table.types.len() {
-            Ok(self.entry(table, n)?)
+            Ok(entry_type(&mut self.interned, table, n)?)
         } else {
             Err(TypeError::BadNumber)
         }
@@ -72,7 +82,7 @@ impl ComponentTypesBuilder {
         if (n as usize) >= table.types.len() {
             return Err(TypeError::BadNumber);
         }
-        Ok(self.entry_with(table, n, converted)?)
+        Ok(entry_with(&mut self.interned, table, n, converted)?)
     }
 
     /// The number of the function type that is entry `n` of the table.
@@ -90,8 +100,8 @@ impl ComponentTypesBuilder {
             × IsTooFullFor self.new (λ b. (i : TypeFuncIndex) × IsEntry b table.now n (def.ComponentFunc i)) }
         ensures few { is_some_and is_plain_func (slice_get table.now.types n) ≡ true → AddsFuncs 1 2 self.old self.new }
     {
-        if is_kind_at(table, Entity::Func(n)) {
-            Ok(self.func_at(table, n)?)
+        if Entity::Func(n).is_sound(table.types.as_slice()) {
+            Ok(func_at(&mut self.interned, table, n)?)
         } else {
             Err(TypeError::BadNumber)
         }
@@ -118,8 +128,8 @@ impl ComponentTypesBuilder {
             × IsTooFullFor self.new (λ b. (i : TypeFuncIndex) × IsEntry b table.now n (def.ComponentFunc i)) }
         ensures few { is_some_and is_plain_func (slice_get table.now.types n) ≡ true → AddsFuncs 1 2 self.old self.new }
     {
-        if is_kind_at(table, Entity::Func(n)) {
-            Ok(self.func_with(table, n, converted)?)
+        if Entity::Func(n).is_sound(table.types.as_slice()) {
+            Ok(func_with(&mut self.interned, table, n, converted)?)
         } else {
             Err(TypeError::BadNumber)
         }
@@ -141,8 +151,8 @@ impl ComponentTypesBuilder {
             → IsTooFullFor self.new
             (λ b. (i : TypeComponentInstanceIndex) × IsEntry b table.now n (def.ComponentInstance i)) }
     {
-        if is_kind_at(table, Entity::Instance(n)) {
-            Ok(self.instance_at(table, n)?)
+        if Entity::Instance(n).is_sound(table.types.as_slice()) {
+            Ok(instance_at(&mut self.interned, table, n)?)
         } else {
             Err(TypeError::BadNumber)
         }
@@ -163,8 +173,8 @@ impl ComponentTypesBuilder {
         ensures full { result ≡ Err TypeError.TooMany
             → IsTooFullFor self.new (λ b. (i : TypeModuleIndex) × IsEntry b table.now n (def.Module i)) }
     {
-        if is_kind_at(table, Entity::Module(n)) {
-            Ok(self.module_at(table, n)?)
+        if Entity::Module(n).is_sound(table.types.as_slice()) {
+            Ok(module_at(&mut self.interned, table, n)?)
         } else {
             Err(TypeError::BadNumber)
         }
@@ -187,7 +197,7 @@ impl ComponentTypesBuilder {
             → IsTooFullFor self.new (λ b. (w : InterfaceType) × IsValue b table.now v.now w) }
     {
         match *v {
-            ValType::Prim(p) => Ok(self.primitive(p)?),
+            ValType::Prim(p) => Ok(primitive(&mut self.interned, p)?),
             ValType::Type_(n) => self.defined_type(table, n),
         }
     }
@@ -205,8 +215,8 @@ impl ComponentTypesBuilder {
         ensures full { result ≡ Err TypeError.TooMany
             → IsTooFullFor self.new (λ b. (d : TypeDef) × IsEntity b table.now e.now d) }
     {
-        if is_kind_at(table, *e) {
-            Ok(self.entry(table, number_of(*e))?)
+        if e.is_sound(table.types.as_slice()) {
+            Ok(entry_type(&mut self.interned, table, number_of(*e))?)
         } else {
             Err(TypeError::BadNumber)
         }
@@ -232,10 +242,56 @@ impl ComponentTypesBuilder {
         ensures few { AddsSignature self.old self.new }
     {
         if (n as usize) < table.core_funcs.len() {
-            Ok(self.signature_at(table, n)?)
+            Ok(signature_at(&mut self.interned, table, n)?)
         } else {
             Err(TypeError::BadNumber)
         }
+    }
+
+    /// The number of the handles of a registered resource in the current component instance.
+    pub fn resource_id(&mut self, n: u32) -> Result<TypeResourceTableIndex, TypeError>
+        ensures is { IfOk result
+            (λ i. slice_get self.new.resource_tables i.0 ≡ Some (handles_of self.new.resources n)) }
+        ensures grows { Grows self.old self.new }
+        ensures bad { result ≡ Err TypeError.BadNumber → resource_of self.old.resources.known n ≡ None }
+        ensures missing { resource_of self.old.resources.known n ≡ None → result ≡ Err TypeError.BadNumber }
+        ensures full { result ≡ Err TypeError.TooMany
+            → IsTooFullFor self.new (λ b. HasNumber b.resource_tables (handles_of b.resources n)) }
+    {
+        let instance = self.interned.resources().current_instance();
+        match self.interned.resources().lookup(n) {
+            Some(ty) => Ok(
+                self.interned
+                    .put_resource_table(TypeResourceTable::Concrete { ty, instance })?,
+            ),
+            None => Err(TypeError::BadNumber),
+        }
+    }
+
+    /// The number of the error contexts of the current component instance.
+    pub fn error_context_table_type(
+        &mut self,
+    ) -> Result<TypeComponentLocalErrorContextTableIndex, TypeError>
+        ensures is { IfOk result (λ i. IsErrorContext self.new i) }
+        ensures grows { Grows self.old self.new }
+        ensures never_bad { result ≡ Err TypeError.BadNumber → ⊥ }
+        ensures full { result ≡ Err TypeError.TooMany
+            → IsTooFullFor self.new (λ b. (i : TypeComponentLocalErrorContextTableIndex) × IsErrorContext b i) }
+    {
+        Ok(error_contexts(&mut self.interned)?)
+    }
+
+    /// The number of a tuple of these types, which are held.
+    pub fn new_tuple_type(&mut self, types: Vec<InterfaceType>) -> Result<TypeTupleIndex, TypeError>
+        requires held { All (IsHeld self.old) types.items }
+        ensures is { IfOk result (λ i. slice_get self.new.tuples i.0 ≡ Some (record { types = types.items })) }
+        ensures grows { Grows self.old self.new }
+        ensures never_bad { result ≡ Err TypeError.BadNumber → ⊥ }
+        ensures full { result ≡ Err TypeError.TooMany
+            → IsTooFullFor self.new (λ b. HasNumber b.tuples (record { types = types.items })) }
+    {
+        let types = Seq::from_vec(types);
+        Ok(self.interned.put_tuple(TypeTuple { types })?)
     }
 
     fn defined_type(&mut self, table: &TypeTable, n: u32) -> Result<InterfaceType, TypeError>
@@ -250,36 +306,10 @@ impl ComponentTypesBuilder {
             → IsTooFullFor self.new (λ b. (w : InterfaceType) × IsEntry b table.now n (def.Interface w)) }
     {
         if is_defined_at(table, n) {
-            Ok(self.value_at(table, n)?)
+            Ok(defined_at(&mut self.interned, table, n)?)
         } else {
             Err(TypeError::BadNumber)
         }
-    }
-}
-
-// Whether an entity's number is that of an entry of its kind.
-fn is_kind_at(table: &TypeTable, e: Entity) -> bool
-    ensures { result ≡ is_sound_entity table.now.types e }
-{
-    match e {
-        Entity::Func(n) => match table.entry(n) {
-            Some(entry) => entry.is_func(),
-            None => false,
-        },
-        Entity::Instance(n) => match table.entry(n) {
-            Some(entry) => entry.is_instance(),
-            None => false,
-        },
-        Entity::Component(n) => match table.entry(n) {
-            Some(entry) => entry.is_component(),
-            None => false,
-        },
-        Entity::Module(n) => match table.entry(n) {
-            Some(entry) => entry.is_module(),
-            None => false,
-        },
-        Entity::Type_(n) => (n as usize) < table.types.len(),
-        Entity::Value => true,
     }
 }
 

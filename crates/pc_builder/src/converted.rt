@@ -1,7 +1,7 @@
 //! What was converted already.
 
 ghost use Rattle.std.specs.Prelude.{◌≡◌, ◌<◌, ◌≤◌, length, take, slice_set, Some, IfOk};
-ghost use Rattle.pc_builder.specs.Types.{Types};
+ghost use Rattle.pc_interned.specs.Types.{Types};
 ghost use Rattle.pc_builder.specs.Converted.{AreConverted};
 
 use pc_entity::NoMemory;

@@ -1,5 +1,5 @@
 //! The types builder: entries of a type table in, numbers of interned types out, one number for equal types.
-//! It stands on `pc_types`.
+//! It stands on `pc_types` and `pc_interned`.
 #![tactic(auto)]
 
 pub mod builder;
@@ -8,17 +8,13 @@ pub mod converted;
 mod defined;
 mod entry;
 mod extern_type;
-mod intern;
-mod no_place;
 mod parts;
 pub mod pre_inlining;
-mod put;
 mod readers;
-pub mod resources;
 mod steps;
 mod value;
 
 pub use builder::ComponentTypesBuilder;
 pub use converted::Converted;
+pub use pc_interned::ResourcesBuilder;
 pub use pre_inlining::PreInliningComponentTypes;
-pub use resources::ResourcesBuilder;

@@ -4,7 +4,7 @@
 //! them once, from the last to the first, whatever the table's shape. Entries that are done are not opened, and what
 //! they lead to is done too.
 
-ghost use Rattle.std.specs.Prelude.{◌≡◌, ℕ, ◌⊎◌, ◌<◌, ◌++◌, ◌∷◌, [], None, length, IfOk, OnOk};
+ghost use Rattle.std.specs.Prelude.{◌≡◌, ℕ, ◌⊎◌, ◌<◌, ◌++◌, ◌∷◌, [], None, Some, length, slice_get, IfOk, OnOk};
 ghost use Rattle.std.specs.List.{flat_map};
 ghost use Rattle.pc_types.specs.Table.{table_fault};
 ghost use Rattle.pc_builder.specs.Needed.{AreNeeded, Each, IsAmong, IsDone, case_parts, entity_parts, extern_parts};
@@ -28,17 +28,24 @@ pub(crate) fn needed(
     requires there { n < length table.now.types }
     ensures { IfOk result (λ order. AreNeeded table.now done.now n order.items) }
 {
-    let types = table.types.as_slice();
     let mut order = Vec::new(alloc);
     let mut opened = BTreeSet::new(alloc);
     open_entry(&mut opened, done, n)?;
     while let Some(k) = opened.pop_last() {
         order.push(k)?;
-        let named = parts(alloc, &types[k as usize])?;
+        let named = parts(alloc, entry_at(table, k))?;
         open_entries(&mut opened, done, named.as_slice())?;
     }
     order.reverse();
     Ok(order)
+}
+
+// Entry `k`, which is there.
+pub(crate) fn entry_at(table: &TypeTable, k: u32) -> &DeclType
+    requires { k < length table.now.types }
+    ensures { slice_get table.now.types k ≡ Some result.now }
+{
+    table.entry(k).unwrap()
 }
 
 // An entry is opened, unless it is done.

@@ -1,4 +1,4 @@
-//! The types by number.
+//! The types by number, as the interned types answer.
 
 ghost use Rattle.std.specs.Prelude.{◌≡◌, ◌<◌, length, slice_get, Some};
 ghost use Rattle.pc_numbers.specs.declared.runtime.ResourceIndex.{ResourceIndex};
@@ -6,7 +6,7 @@ ghost use Rattle.pc_types.specs.declared.types.InterfaceType.TheVariants as ty;
 ghost use Rattle.pc_types.specs.declared.types.TypeDef.TheVariants as def;
 ghost use Rattle.pc_types.specs.TypeTree.{Identity, TypeTree};
 ghost use Rattle.pc_facts.specs.Facts.{facts_of, has_handle};
-ghost use Rattle.pc_builder.specs.Trees.{HasTree};
+ghost use Rattle.pc_interned.specs.Trees.{HasTree};
 
 use crate::ComponentTypesBuilder;
 use pc_entity::ModuleInternedTypeIndex;
@@ -15,10 +15,10 @@ use pc_types::{
     CoreFuncSig, TypeComponent, TypeComponentIndex, TypeComponentInstance,
     TypeComponentInstanceIndex, TypeComponentLocalErrorContextTableIndex, TypeEnum, TypeEnumIndex,
     TypeErrorContextTable, TypeFlags, TypeFlagsIndex, TypeFunc, TypeFuncIndex, TypeFutureTable,
-    TypeFutureTableIndex, TypeList, TypeListIndex, TypeModule, TypeModuleIndex, TypeOption,
-    TypeOptionIndex, TypeRecord, TypeRecordIndex, TypeResourceTable, TypeResourceTableIndex,
-    TypeResult, TypeResultIndex, TypeStreamTable, TypeStreamTableIndex, TypeTuple, TypeTupleIndex,
-    TypeVariant, TypeVariantIndex,
+    TypeFutureTableIndex, TypeKind, TypeList, TypeListIndex, TypeModule, TypeModuleIndex,
+    TypeOption, TypeOptionIndex, TypeRecord, TypeRecordIndex, TypeResourceTable,
+    TypeResourceTableIndex, TypeResult, TypeResultIndex, TypeStreamTable, TypeStreamTableIndex,
+    TypeTuple, TypeTupleIndex, TypeVariant, TypeVariantIndex,
 };
 
 impl ComponentTypesBuilder {
@@ -28,84 +28,84 @@ impl ComponentTypesBuilder {
         ensures params { result.now.params.0 < length self.now.tuples }
         ensures results { result.now.results.0 < length self.now.tuples }
     {
-        self.funcs.get(i.0).unwrap()
+        self.interned.func(i)
     }
 
     pub fn tuple(&self, i: TypeTupleIndex) -> &TypeTuple
         requires held { i.0 < length self.now.tuples }
         ensures { slice_get self.now.tuples i.0 ≡ Some result.now }
     {
-        self.tuples.get(i.0).unwrap()
+        self.interned.tuple(i)
     }
 
     pub fn record_type(&self, i: TypeRecordIndex) -> &TypeRecord
         requires held { i.0 < length self.now.records }
         ensures { slice_get self.now.records i.0 ≡ Some result.now }
     {
-        self.records.get(i.0).unwrap()
+        self.interned.record_type(i)
     }
 
     pub fn variant(&self, i: TypeVariantIndex) -> &TypeVariant
         requires held { i.0 < length self.now.variants }
         ensures { slice_get self.now.variants i.0 ≡ Some result.now }
     {
-        self.variants.get(i.0).unwrap()
+        self.interned.variant(i)
     }
 
     pub fn list(&self, i: TypeListIndex) -> &TypeList
         requires held { i.0 < length self.now.lists }
         ensures { slice_get self.now.lists i.0 ≡ Some result.now }
     {
-        self.lists.get(i.0).unwrap()
+        self.interned.list(i)
     }
 
     pub fn option(&self, i: TypeOptionIndex) -> &TypeOption
         requires held { i.0 < length self.now.options }
         ensures { slice_get self.now.options i.0 ≡ Some result.now }
     {
-        self.options.get(i.0).unwrap()
+        self.interned.option(i)
     }
 
     pub fn result(&self, i: TypeResultIndex) -> &TypeResult
         requires held { i.0 < length self.now.results }
         ensures { slice_get self.now.results i.0 ≡ Some result.now }
     {
-        self.results.get(i.0).unwrap()
+        self.interned.result(i)
     }
 
     pub fn flags(&self, i: TypeFlagsIndex) -> &TypeFlags
         requires held { i.0 < length self.now.flags }
         ensures { slice_get self.now.flags i.0 ≡ Some result.now }
     {
-        self.flags.get(i.0).unwrap()
+        self.interned.flags(i)
     }
 
     pub fn enum_type(&self, i: TypeEnumIndex) -> &TypeEnum
         requires held { i.0 < length self.now.enums }
         ensures { slice_get self.now.enums i.0 ≡ Some result.now }
     {
-        self.enums.get(i.0).unwrap()
+        self.interned.enum_type(i)
     }
 
     pub fn resource_table(&self, i: TypeResourceTableIndex) -> &TypeResourceTable
         requires held { i.0 < length self.now.resource_tables }
         ensures { slice_get self.now.resource_tables i.0 ≡ Some result.now }
     {
-        self.resource_tables.get(i.0).unwrap()
+        self.interned.resource_table(i)
     }
 
     pub fn future_table(&self, i: TypeFutureTableIndex) -> &TypeFutureTable
         requires held { i.0 < length self.now.future_tables }
         ensures { slice_get self.now.future_tables i.0 ≡ Some result.now }
     {
-        self.future_tables.get(i.0).unwrap()
+        self.interned.future_table(i)
     }
 
     pub fn stream_table(&self, i: TypeStreamTableIndex) -> &TypeStreamTable
         requires held { i.0 < length self.now.stream_tables }
         ensures { slice_get self.now.stream_tables i.0 ≡ Some result.now }
     {
-        self.stream_tables.get(i.0).unwrap()
+        self.interned.stream_table(i)
     }
 
     pub fn error_context_table(
@@ -115,53 +115,53 @@ impl ComponentTypesBuilder {
         requires held { i.0 < length self.now.error_context_tables }
         ensures { slice_get self.now.error_context_tables i.0 ≡ Some result.now }
     {
-        self.error_context_tables.get(i.0).unwrap()
+        self.interned.error_context_table(i)
     }
 
     pub fn instance(&self, i: TypeComponentInstanceIndex) -> &TypeComponentInstance
         requires held { i.0 < length self.now.instances }
         ensures { slice_get self.now.instances i.0 ≡ Some result.now }
     {
-        self.instances.get(i.0).unwrap()
+        self.interned.instance(i)
     }
 
     pub fn component(&self, i: TypeComponentIndex) -> &TypeComponent
         requires held { i.0 < length self.now.components }
         ensures { slice_get self.now.components i.0 ≡ Some result.now }
     {
-        self.components.get(i.0).unwrap()
+        self.interned.component(i)
     }
 
     pub fn module(&self, i: TypeModuleIndex) -> &TypeModule
         requires held { i.0 < length self.now.modules }
         ensures { slice_get self.now.modules i.0 ≡ Some result.now }
     {
-        self.modules.get(i.0).unwrap()
+        self.interned.module(i)
     }
 
     pub fn signature(&self, i: ModuleInternedTypeIndex) -> &CoreFuncSig
         requires held { i.0 < length self.now.signatures }
         ensures { slice_get self.now.signatures i.0 ≡ Some result.now }
     {
-        self.signatures.get(i.0).unwrap()
+        self.interned.signature(i)
     }
 
     pub fn num_future_tables(&self) -> usize
         ensures { result ≡ length self.now.future_tables }
     {
-        self.future_tables.len()
+        self.interned.held(TypeKind::FutureTable)
     }
 
     pub fn num_stream_tables(&self) -> usize
         ensures { result ≡ length self.now.stream_tables }
     {
-        self.stream_tables.len()
+        self.interned.held(TypeKind::StreamTable)
     }
 
     pub fn num_error_context_tables(&self) -> usize
         ensures { result ≡ length self.now.error_context_tables }
     {
-        self.error_context_tables.len()
+        self.interned.held(TypeKind::ErrorContextTable)
     }
 
     /// Which types stand anywhere in a tuple.
@@ -170,7 +170,7 @@ impl ComponentTypesBuilder {
         ensures { (who : ResourceIndex → Identity) (tree : TypeTree)
             → HasTree self.now who (def.Interface (ty.Tuple i)) tree → result ≡ facts_of tree }
     {
-        self.facts.tuples.get(i.0)
+        self.interned.tuple_facts(i)
     }
 
     /// Whether a handle to a resource, a future, a stream or an error context stands anywhere in a function's
@@ -180,6 +180,6 @@ impl ComponentTypesBuilder {
         ensures { (who : ResourceIndex → Identity) (tree : TypeTree) → HasTree self.now who (def.ComponentFunc i) tree
             → result ≡ has_handle (facts_of tree) }
     {
-        self.facts.funcs.get(i.0).has_handle()
+        self.interned.func_contains_any_handle(i)
     }
 }

@@ -2,7 +2,7 @@ use Rattle.std.proofs.Common.{List, ℕ, ◌+◌, arith, subst, sym, take}
 use Rattle.std.specs.List.{AllZip}
 use Rattle.pc_types.specs.declared.parsed.Entity.{Entity}
 use Rattle.pc_builder.specs.Parts.{ExternIs, IsThere}
-use Rattle.pc_builder.proofs.PartLemmas.{all_zip_next}
+use Rattle.pc_interned.proofs.ZipLemmas.{all_zip_next}
 use Rattle.pc_builder.proofs.extern_type.externs.Goals as goal
 
 pub entity_at-requires : goal.entity_at-requires

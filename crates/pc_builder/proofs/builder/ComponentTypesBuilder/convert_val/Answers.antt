@@ -1,7 +1,7 @@
 use Rattle.pc_builder.proofs.RefusalLemmas.{by_number}
 use Rattle.pc_builder.proofs.PartInversion.{prim_from}
-use Rattle.pc_builder.proofs.ErrorLemmas.{told}
-use Rattle.pc_builder.proofs.Growth.{too_full}
+use Rattle.pc_interned.proofs.ErrorLemmas.{told}
+use Rattle.pc_interned.proofs.Growth.{too_full}
 use Rattle.std.proofs.Common.{[], Some, sym, subst}
 use Rattle.std.proofs.lemmas.Option.{none-some}
 use Rattle.pc_types.specs.declared.parsed.ValType.TheVariants as val
@@ -13,7 +13,7 @@ use Rattle.pc_builder.proofs.builder.ComponentTypesBuilder.convert_val.Goals as 
 
 pub returns-in_ok-primitive-in-Prim-clause-tree : goal.returns-in_ok-primitive-in-Prim-clause-tree
 returns-in_ok-primitive-in-Prim-clause-tree c =
-    let b = c.primitive.new.self in
+    let b = c.primitive.new.interned in
     let t = c.args.table.now in
     let answer = c.in_ok-primitive-in-Prim in
     subst (λ v. IsValue b t v answer.field-0) (sym c.in-Prim.is)
