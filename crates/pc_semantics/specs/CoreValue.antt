@@ -97,11 +97,3 @@ module _ {τ υ : Type 0} (f : τ → υ) where
 -- the mark that is left where types are erased
 abbrev pub erased : {τ : Type 0} → τ → Unit {0}
 erased m = tt
-
--- a value with its types erased
-abbrev pub erase_value : {τ : Type 0} → CoreValue τ → CoreValue (Unit {0})
-erase_value v = map_value erased v
-
--- options with their types erased
-abbrev pub erase_options : {τ : Type 0} → Options τ → Options (Unit {0})
-erase_options o = map_options erased o

@@ -4,4 +4,6 @@ pub mod ExportNode
 pub mod Log
 pub mod PlanView
 pub mod Machine
+pub mod Trace
+pub mod Counts
 pub mod Text

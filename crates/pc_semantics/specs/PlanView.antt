@@ -28,8 +28,8 @@ pub record NamedDefinition : Type 0 where
   pub name : List ℕ
   pub definition : Definition
 
--- a step of a plan: a core instance of one of its modules or of an imported one, the lowering of an import, a slot that is
--- filled, a resource that is declared
+-- a step of a plan: a core instance of one of its modules or of an imported one, the lowering of an import, a slot that
+-- is filled, a resource that is declared
 pub data Initializer : Type 0 where
   instantiate_static : (number : ℕ) → List Definition → (component_instance : Option ℕ) → Initializer
   instantiate_import : (runtime_import : ℕ) → List NamedDefinition → (component_instance : Option ℕ) → Initializer
@@ -100,8 +100,8 @@ pub record RuntimeImport : Type 0 where
   pub names : List (List ℕ)
 
 mutual
-  -- an export: a lifted function with the number of its options, a core module of the plan or of the host, an instance with
-  -- what it exports, or a type
+  -- an export: a lifted function with the number of its options, a core module of the plan or of the host, an instance
+  -- with what it exports, or a type
   pub data PlanExport (τ : Type 0) : Type 0 where
     lifted : (function_type : τ) → Definition → (options : ℕ) → PlanExport τ
     static_module : (number : ℕ) → (module_type : τ) → PlanExport τ
