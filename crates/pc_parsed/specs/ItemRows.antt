@@ -1,5 +1,5 @@
--- What each kind of item adds, or why it is stuck: type numbers and core signatures are looked at first, in written
--- order, then indices and names.
+-- What each of the five kinds of items adds, or why it is stuck: type numbers and core signatures are looked at first,
+-- in written order, then indices and names. No statement rests on it.
 use Rattle.std.specs.Prelude.{ℕ, Bool, false, List, [], ◌∷◌, ◌++◌, length, Option, Some, None, Result, Ok, Err, nat_lt, if◌then◌else◌, slice_get, option_and_then, option_map}
 use Rattle.std.specs.List.{list_all}
 use Rattle.pc_numbers.specs.declared.entity_index.EntityIndex.{EntityIndex}
@@ -118,6 +118,7 @@ module _ (t : TypeTable) (ms : List ModuleRecord) where
       found Invalid (option_and_then (arguments ms now.scope args) (slice_get ms m))
       (λ (vs : List (CoreValue Scope.Mark)). Ok (add_core_instance now m vs))
 
+  -- a core instance of the module of this number, which the scope may lack
   abbrev pub read_instance : Scope.Moment → (core_module : ℕ) → List (List ℕ × ℕ) → Result Scope.Moment ItemFault
   read_instance now n args = found Invalid (slice_get now.scope.modules n) (instantiate now args)
 

@@ -40,7 +40,7 @@ pub record GoOnBehind (outer : List Names) (old : Names) (p : Payload) (componen
   pub gains : gains_payload old p new
   pub are : components ≡ open_then (nesting p) outer new
 
--- the payloads before the innermost open body, or nothing where it is the root; `n` closed bodies lie behind
+-- the payloads before the innermost open body, by what the last of these payloads does
 abbrev pub outer_step : Nesting → (n : ℕ) → (before : List Payload) → (go : ℕ → Option (List Payload))
     → Option (List Payload)
 outer_step closes n before go = go (suc n)
@@ -48,6 +48,7 @@ outer_step opens zero before go = Some before
 outer_step opens (suc n) before go = go n
 outer_step stays n before go = go n
 
+-- the payloads before the innermost open body, or nothing where it is the root; `n` closed bodies lie behind
 abbrev pub outer_from : (n : ℕ) → (before : List Payload) → Option (List Payload)
 outer_from n [] = None
 outer_from n (p ∷ before) = outer_step (nesting p) n before (λ m. outer_from m before)

@@ -1,5 +1,6 @@
--- What a payload list holds: its body, as a list of items, and its core modules.
-use Rattle.std.specs.Prelude.{ℕ, ◌+◌, Bool, true, false, List, [], ◌∷◌, ◌++◌, length, Option, Some, None, if◌then◌else◌}
+-- What a payload list of the five kinds holds: its body, as a list of items, and its core modules. The functions inside
+-- and the proofs above work with this; what a list means is said by the reading of all kinds, in the crate above.
+use Rattle.std.specs.Prelude.{◌≡◌, ℕ, ◌+◌, Bool, true, false, List, [], ◌∷◌, ◌++◌, length, Option, Some, None, if◌then◌else◌}
 use Rattle.std.specs.List.{filter_map}
 use Rattle.pc_types.specs.declared.module_record.ModuleRecord.{ModuleRecord}
 use Rattle.pc_types.specs.declared.parsed.CoreKind.TheVariants as core
@@ -7,6 +8,7 @@ use Rattle.pc_parsed.specs.declared.canon.CanonItem.{CanonItem}
 use Rattle.pc_parsed.specs.declared.canon.CanonItem.TheVariants as canon
 use Rattle.pc_parsed.specs.declared.item.LocalInitializer.{LocalInitializer}
 use Rattle.pc_parsed.specs.declared.item.LocalInitializer.TheVariants as local
+use Rattle.pc_parsed.specs.declared.item.LocalProgram.{LocalProgram}
 use Rattle.pc_parsed.specs.declared.payload.AliasItem.{AliasItem}
 use Rattle.pc_parsed.specs.declared.payload.AliasItem.TheVariants as alias
 use Rattle.pc_parsed.specs.declared.payload.Encoding.TheVariants as encoding
@@ -82,3 +84,9 @@ items_from n (p ∷ ps) = items_of n p ++ items_from (n + modules_in p) ps
 -- the items of a body; the place of one in the list is its number
 abbrev pub body_items : List Payload → List LocalInitializer
 body_items ps = items_from 0 ps
+
+-- a program has the items and the core modules of a list
+pub record IsProgramOf (ps : List Payload) (p : LocalProgram) : Type 0 where
+  pub items : p.root.initializers ≡ body_items ps
+  pub modules : p.modules ≡ modules_of ps
+  pub components : p.components ≡ []

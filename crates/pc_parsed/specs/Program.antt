@@ -1,5 +1,5 @@
--- What a local program is of a payload list, and when there is none.
-use Rattle.std.specs.Prelude.{◌≡◌, ℕ, ◌+◌, Bool, List, [], Option, Some, None, ◌&&◌, nat_lt, is_none, sum_by, length, if◌then◌else◌}
+-- When a payload list has a local program, and why it has none.
+use Rattle.std.specs.Prelude.{ℕ, ◌+◌, Bool, List, [], Option, Some, None, ◌&&◌, nat_lt, is_none, sum_by, length, if◌then◌else◌}
 use Rattle.std.specs.Option.{option_or}
 use Rattle.pc_types.specs.declared.error.Error.{Error}
 use Rattle.pc_types.specs.declared.error.Error.TheVariants as error
@@ -7,11 +7,9 @@ use Rattle.pc_types.specs.declared.error.Place.TheVariants as place
 use Rattle.pc_types.specs.declared.error.Unsupported.TheVariants as unsupported
 use Rattle.pc_types.specs.declared.module_record.ModuleRecord.{ModuleRecord}
 use Rattle.pc_types.specs.declared.parsed.TypeTable.{TypeTable}
-use Rattle.pc_parsed.specs.declared.item.LocalProgram.{LocalProgram}
 use Rattle.pc_parsed.specs.declared.payload.Payload.{Payload}
 use Rattle.pc_parsed.specs.declared.payload.Payload.TheVariants as payload
 use Rattle.pc_parsed.specs.Built.{are_built}
-use Rattle.pc_parsed.specs.Nest.{body_items, modules_of}
 use Rattle.pc_parsed.specs.StaticFault.{static_fault}
 
 -- how many items a payload counts as; one without a list counts as one
@@ -51,9 +49,3 @@ refusal t exposed ps = option_or (static_fault t exposed ps) (if are_built t exp
 -- whether a list can be translated: it has no static fault, and its kinds are built
 abbrev pub is_translatable : TypeTable → (exposed : Option (List ℕ)) → List Payload → Bool
 is_translatable t exposed ps = is_none (refusal t exposed ps)
-
--- a program has the items and the core modules of a list
-pub record IsProgramOf (ps : List Payload) (p : LocalProgram) : Type 0 where
-  pub items : p.root.initializers ≡ body_items ps
-  pub modules : p.modules ≡ modules_of ps
-  pub components : p.components ≡ []

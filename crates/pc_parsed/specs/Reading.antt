@@ -1,5 +1,5 @@
--- The nested reading: what a component means. Its items are read one after the other, in a fresh scope; each adds
--- to the scope and to the log, or the reading ends there.
+-- The reading of lists of five kinds of items, one after the other, in a fresh scope; each adds to the scope and to the
+-- log, or the reading ends there. No statement rests on it: the proofs above show that the one of all kinds says the same.
 use Rattle.std.specs.Prelude.{ℕ, ◌+◌, List, [], ◌∷◌, map, Option, Result, Ok, Err, nat_lt, if◌then◌else◌}
 use Rattle.pc_types.specs.declared.error.Place.{Place}
 use Rattle.pc_types.specs.declared.error.Place.TheVariants as place

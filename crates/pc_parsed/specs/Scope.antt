@@ -1,15 +1,12 @@
--- What a reading knows at one moment: the scope of the component instance that it reads, and the log so far.
+-- What the reading of five kinds of items knows at one moment: the scope of the component instance that it reads, and
+-- the log so far. The proofs above work with this reading; they show that the one of all kinds says the same, and no
+-- statement rests on it.
 use Rattle.std.specs.Prelude.{ℕ, List, []}
-use Rattle.pc_types.specs.declared.parsed.CoreFuncSig.{CoreFuncSig}
 use Rattle.pc_types.specs.TypeTree.{TypeTree, Identity}
 use Rattle.pc_semantics.specs.CoreValue.{CoreValue, Options}
 use Rattle.pc_semantics.specs.Log.{Entry}
 use Rattle.pc_parsed.specs.declared.payload.ExternName.{ExternName}
-
--- what a reading marks its values with: whole types and core signatures
-pub data Mark : Type 0 where
-  of_type : TypeTree → Mark
-  of_signature : CoreFuncSig → Mark
+pub use Rattle.pc_parsed.specs.Mark.{Mark, of_type, of_signature}
 
 -- a component function: lifted from a core function, with its type
 pub data Function : Type 0 where

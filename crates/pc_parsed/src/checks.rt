@@ -1,6 +1,6 @@
 //! What is wrong with items that are looked at one by one.
 
-ghost use Rattle.std.specs.Prelude.{◌≡◌, ℕ, Option, IfOk, map};
+ghost use Rattle.std.specs.Prelude.{◌≡◌, ℕ, List, Option, IfOk, map};
 ghost use Rattle.std.specs.List.{list_any};
 ghost use Rattle.std.specs.Option.{option_or};
 ghost use Rattle.pc_types.specs.Names.{distinct_names};
@@ -12,8 +12,8 @@ use crate::fault::StaticFault;
 use crate::payload::{
     AliasItem, ComponentInstanceItem, ExternName, InstanceItem, ItemKind, OuterKind,
 };
-use pc_entity::{NoMemory, Seq, Text, TryClone};
-use pc_types::{Unsupported, WasmValType, distinct_keys, distinct_texts};
+use pc_entity::{NoMemory, Text};
+use pc_types::{NameSet, Unsupported, WasmValType, distinct_keys};
 use std::alloc::Global;
 
 /// An item that is looked at by itself, where so many bodies are open.
@@ -105,24 +105,46 @@ impl Checked for InstanceItem {
     }
 }
 
-fn argument_names(alloc: Global, args: &[(Text, ItemKind, u32)]) -> Result<Seq<Text>, NoMemory>
-    ensures { IfOk result (λ names. names ≡ map argument_name args.now) }
-{
-    let mut names = Seq::with_capacity(alloc, args.len())?;
-    for arg in args {
-        names.push(arg.0.try_clone(alloc)?)?;
-    }
-    Ok(names)
+/// An entry of a list that stands there under a name.
+trait Named {
+    ghost name_of: { Self → List ℕ };
+
+    fn name(&self) -> &Text
+        ensures { result.now ≡ name_of self.now };
 }
 
-fn item_names(alloc: Global, items: &[(ExternName, ItemKind, u32)]) -> Result<Seq<Text>, NoMemory>
-    ensures { IfOk result (λ names. names ≡ map item_name items.now) }
-{
-    let mut names = Seq::with_capacity(alloc, items.len())?;
-    for item in items {
-        names.push(item.0.name.try_clone(alloc)?)?;
+impl Named for (Text, ItemKind, u32) {
+    ghost name_of = { argument_name };
+
+    fn name(&self) -> &Text {
+        &self.0
     }
-    Ok(names)
+}
+
+impl Named for (ExternName, ItemKind, u32) {
+    ghost name_of = { item_name };
+
+    fn name(&self) -> &Text {
+        &self.0.name
+    }
+}
+
+fn are_named_apart<T: Named>(alloc: Global, entries: &[T]) -> Result<bool, NoMemory>
+    ensures { IfOk result (λ apart. apart ≡ distinct_names (map T.name_of entries.now)) }
+{
+    let mut met = NameSet::new(alloc);
+    for entry in entries {
+        if !met.insert(entry.name())? {
+            return Ok(false);
+        }
+    }
+    Ok(true)
+}
+
+fn names_fault<T: Named>(alloc: Global, entries: &[T]) -> Result<Option<StaticFault>, NoMemory>
+    ensures { IfOk result (λ f. f ≡ unless (distinct_names (map T.name_of entries.now)) StaticFault.DefinedTwice) }
+{
+    Ok(unless(are_named_apart(alloc, entries)?, StaticFault::DefinedTwice))
 }
 
 fn have_value_argument(args: &[(Text, ItemKind, u32)]) -> bool
@@ -135,12 +157,6 @@ fn have_value_item(items: &[(ExternName, ItemKind, u32)]) -> bool
     ensures { result ≡ list_any (λ i. is_value_kind i.1) items.now }
 {
     items.iter().any(|i| is_value_kind(i.1))
-}
-
-fn names_fault(alloc: Global, names: &[Text]) -> Result<Option<StaticFault>, NoMemory>
-    ensures { IfOk result (λ f. f ≡ unless (distinct_names names.now) StaticFault.DefinedTwice) }
-{
-    Ok(unless(distinct_texts(alloc, names)?, StaticFault::DefinedTwice))
 }
 
 fn first_of(first: Option<StaticFault>, later: Option<StaticFault>) -> Option<StaticFault>
@@ -158,8 +174,7 @@ fn arguments_fault(
 ) -> Result<Option<StaticFault>, NoMemory>
     ensures { IfOk result (λ f. f ≡ arguments_fault args.now) }
 {
-    let names = argument_names(alloc, args)?;
-    let twice = names_fault(alloc, names.as_slice())?;
+    let twice = names_fault(alloc, args)?;
     Ok(first_of(value_fault(have_value_argument(args)), twice))
 }
 
@@ -169,8 +184,7 @@ fn items_fault(
 ) -> Result<Option<StaticFault>, NoMemory>
     ensures { IfOk result (λ f. f ≡ items_fault items.now) }
 {
-    let names = item_names(alloc, items)?;
-    let twice = names_fault(alloc, names.as_slice())?;
+    let twice = names_fault(alloc, items)?;
     Ok(first_of(value_fault(have_value_item(items)), twice))
 }
 

@@ -26,4 +26,4 @@ pub use payload::{
     ItemKind, OuterKind, Payload, Tunables, TypeItem,
 };
 pub use room::is_numbered;
-pub use translate::translate_payloads;
+pub use translate::{not_built, static_fault, translate_payloads};

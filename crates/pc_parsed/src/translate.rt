@@ -3,8 +3,8 @@
 ghost use Rattle.std.specs.Prelude.{◌≡◌, ◌⊎◌, ◌<◌, ◌≤◌, ◌+◌, ◌++◌, ◌∷◌, [], true, length, Some, sum_by, IfOk, IfErr, OnOk};
 ghost use Rattle.std.specs.Option.{option_map};
 ghost use Rattle.pc_parsed.specs.declared.item.LocalInitializer.TheVariants as local;
-ghost use Rattle.pc_parsed.specs.Nest.{items_of, modules_of};
-ghost use Rattle.pc_parsed.specs.Program.{IsProgramOf, is_translatable, is_numbered, item_count, refusal};
+ghost use Rattle.pc_parsed.specs.Nest.{IsProgramOf, items_of, modules_of};
+ghost use Rattle.pc_parsed.specs.Program.{is_translatable, is_numbered, item_count, not_built, refusal};
 ghost use Rattle.pc_parsed.specs.StaticFault.{static_fault};
 ghost use Rattle.pc_types.specs.Table.{table_error, table_fault};
 
@@ -29,9 +29,9 @@ fn table_error(alloc: Global, table: &TypeTable) -> Result<Option<Error>, NoMemo
     }
 }
 
-/// The first static fault of an input.
+/// The first static fault of an input: of the type table, then of the payloads, item by item, then of the list's end.
 #[tactic(auto, unfolding(crate::specs::StaticFault::static_fault))]
-fn static_fault(
+pub fn static_fault(
     alloc: Global,
     table: &TypeTable,
     exposed: Option<&str>,
@@ -44,6 +44,17 @@ fn static_fault(
         Some(error) => Ok(Some(error)),
         None => payloads_error(alloc, table, exposed, payloads),
     }
+}
+
+/// The answer where something stands in an input of a kind that isn't built.
+pub fn not_built() -> Error
+    ensures { result ≡ not_built }
+{
+    let place = Place::Payload {
+        payload: 0,
+        item: 0,
+    };
+    Error::Unsupported(Unsupported::NotBuilt, place)
 }
 
 /// Why an input is refused.
@@ -62,13 +73,7 @@ fn refusal(
     if are_built(table, exposed, payloads) {
         Ok(None)
     } else {
-        Ok(Some(Error::Unsupported(
-            Unsupported::NotBuilt,
-            Place::Payload {
-                payload: 0,
-                item: 0,
-            },
-        )))
+        Ok(Some(not_built()))
     }
 }
 

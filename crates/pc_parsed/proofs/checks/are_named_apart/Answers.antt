@@ -1,0 +1,34 @@
+use Rattle.std.proofs.Common.{sym, ◌∙◌, ap, ◌<◌, length, not, ◌||◌, arith}
+use Rattle.std.specs.Str.{bytes_eq}
+use Rattle.pc_types.specs.Names.{has_name}
+use Rattle.pc_types.proofs.NameLemmas.{are_distinct-next, are_distinct-again, list_any-next, bytes_eq-sym, not_false, not_true}
+use Rattle.pc_parsed.proofs.checks.are_named_apart.Goals as goal
+
+pub returns-then-not-branch : goal.returns-then-not-branch
+returns-then-not-branch g c =
+    let f = g.T.Named.name_of in
+    let e = c.entry-item.result in
+    let met = not_false c.in_ok-insert.field-0 (has_name c.loop-entry.met (f e))
+    (c.in_ok-insert.ensures.added ∙ ap (λ n. not (has_name c.loop-entry.met n)) c.name.ensures)
+    c.if-not-branch.true in
+    sym (are_distinct-again f c.args.entries.now c.loop-entry.entry-index e (omega arith) c.entry-item.is
+    bytes_eq bytes_eq-sym
+    (sym (c.loop-entry.invariant.0 (f e)) ∙ met))
+
+pub loop-entry-preserved : goal.loop-entry-preserved
+loop-entry-preserved g c =
+    let f = g.T.Named.name_of in
+    let e = c.entry-item.result in
+    let items = c.args.entries.now in
+    let i = c.loop-entry.entry-index in
+    let new = not_true c.in_ok-insert.field-0 (has_name c.loop-entry.met (f e))
+    (c.in_ok-insert.ensures.added ∙ ap (λ n. not (has_name c.loop-entry.met n)) c.name.ensures)
+    c.if-not-branch.false in
+    let within : i < length items = omega arith in (
+      (λ q.
+          c.in_ok-insert.ensures.names q
+          ∙ (λ j. bytes_eq q (c.name.ensures j) || c.loop-entry.invariant.0 q j)
+          ∙ sym (list_any-next f items i e within c.entry-item.is bytes_eq bytes_eq-sym q)),
+      are_distinct-next f items i e within c.entry-item.is bytes_eq bytes_eq-sym c.loop-entry.invariant.1
+          (sym (c.loop-entry.invariant.0 (f e)) ∙ new),
+    )
