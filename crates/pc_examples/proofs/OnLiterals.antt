@@ -12,6 +12,7 @@ use Rattle.pc_form.specs.Canon.{canon_item}
 use Rattle.pc_form.specs.Module.{core_module}
 use Rattle.pc_form.specs.Payload.{type_item, import_item, export_entry, instance_item, component_instance_item}
 use Rattle.pc_form.specs.Payload.{alias_item, payload_words, payload_keys, payload_of}
+use Rattle.pc_parsed.specs.StaticFault.{static_fault}
 use Rattle.pc_reading.specs.Canonical.{canonical_item}
 use Rattle.pc_reading.specs.Section.{items_of}
 use Rattle.pc_reading.specs.Nest.{rest_of, root_of, exposing, counts_in}
@@ -33,9 +34,6 @@ use Rattle.pc_reading.specs.Rows.{read_resource, read_row}
 use Rattle.pc_reading.specs.Total.{counted, body_weight, prepared_weight, item_weight}
 use Rattle.pc_reading.specs.Nodes.{root_nodes, host_node, value_node}
 use Rattle.pc_reading.specs.Reading.{instantiate, read_item, read_items, read_body, enter_at, read_root, finishing, reading_of, reading}
-use Rattle.pc_reading.specs.Intrinsics.{intrinsics_fault}
-use Rattle.pc_reading.specs.StaticItems.{canon_fault, instance_fault, component_instance_fault, alias_fault, export_fault, import_fault}
-use Rattle.pc_reading.specs.Static.{in_open, step, list_fault, static_fault}
 
 -- what an answer unfolds to compute the tree of a text, the input that it is, and its reading
 unfoldable pub on_literals : ⊤
@@ -53,6 +51,5 @@ unfolding serde_json_on_literals core_types prim_types core_kinds item_kinds out
     outer_of read_call add_child read_return is_definable prepare prepare_all import_resources read_import
     read_intrinsics read_resource read_row counted body_weight prepared_weight item_weight root_nodes host_node
     value_node instantiate read_item read_items read_body enter_at read_root finishing reading_of reading
-    intrinsics_fault canon_fault instance_fault component_instance_fault alias_fault export_fault import_fault in_open
-    step list_fault static_fault
+    static_fault
 on_literals = tt

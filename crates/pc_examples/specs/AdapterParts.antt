@@ -4,11 +4,11 @@ use Rattle.pc_types.specs.declared.encoding.StringEncoding.TheVariants.{Utf8}
 use Rattle.pc_types.specs.declared.parsed.WasmValType.TheVariants as core
 use Rattle.pc_semantics.specs.CoreValue.{CoreValue, Options, options, no_value, a_value, linear, lowered}
 use Rattle.pc_semantics.specs.Log.{made, needed, declared, declared_resource}
-use Rattle.pc_parsed.specs.Scope.{Mark, of_type, of_signature}
+use Rattle.pc_parsed.specs.Mark.{Mark, of_type, of_signature}
 use Rattle.pc_reading.specs.Outcome.{Outcome}
 use Rattle.pc_reading.specs.Reading.{Reading}
-use Rattle.pc_examples.specs.Means.{finished}
-use Rattle.pc_examples.specs.Words.{func_of_instance, ran, path, i32_to_i32, u32_to_u32}
+use Rattle.pc_examples.specs.Means.{finished, given}
+use Rattle.pc_examples.specs.Words.{import_named, func_of_instance, ran, path, i32_to_i32, u32_to_u32}
 use Rattle.pc_examples.specs.Adapters.{adapted}
 
 -- a host function whose realloc is an adapter
@@ -50,10 +50,11 @@ log_with_r = lowered (path 0 []) (of_type u32_to_u32) r_options
 -- its outcome
 abbrev pub realloc_is_an_adapter : Outcome Reading
 realloc_is_an_adapter =
-    finished
+    given (import_named (codes "log") u32_to_u32 ∷ []) []
+    (finished
     (ran 0 [] 1 ∷ made r_adapter ∷ needed (path 0 []) ∷ declared log_with_r ∷ ran 1 (log_with_r ∷ []) 2
     ∷ made (adapted 2 3 (func_of_instance 1 1)) ∷ ran 2 (adapted 2 3 (func_of_instance 1 1) ∷ []) 3 ∷ [])
-    [] 4
+    [] 4)
 
 -- a resource whose destructor is an adapter
 abbrev pub destructor_text : List ℕ

@@ -3,7 +3,7 @@ use Rattle.std.specs.Prelude.{ℕ, true, List, [], ◌∷◌, ◌++◌, codes}
 use Rattle.pc_types.specs.declared.encoding.StringEncoding.TheVariants.{Utf8}
 use Rattle.pc_semantics.specs.CoreValue.{CoreValue, Options, options, no_value, linear, adapter}
 use Rattle.pc_semantics.specs.Log.{made}
-use Rattle.pc_parsed.specs.Scope.{Mark, of_type, of_signature}
+use Rattle.pc_parsed.specs.Mark.{Mark, of_type, of_signature}
 use Rattle.pc_reading.specs.Outcome.{Outcome}
 use Rattle.pc_reading.specs.Reading.{Reading}
 use Rattle.pc_examples.specs.Means.{finished}

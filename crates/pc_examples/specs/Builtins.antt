@@ -9,7 +9,7 @@ use Rattle.pc_types.specs.TypeTree.{TypeTree, primitive, stream_of, future_of, t
 use Rattle.pc_types.specs.TypeTree as tree
 use Rattle.pc_semantics.specs.CoreValue.{CoreValue, Options, Part, options, no_value, a_value, linear, builtin, mark_part, flag_part, options_part, and_part}
 use Rattle.pc_semantics.specs.Log.{Entry, declared, declared_resource}
-use Rattle.pc_parsed.specs.Scope.{Mark, of_type, of_signature}
+use Rattle.pc_parsed.specs.Mark.{Mark, of_type, of_signature}
 use Rattle.pc_reading.specs.Builtins.{parts_of}
 use Rattle.pc_reading.specs.Outcome.{Outcome, invalid}
 use Rattle.pc_reading.specs.Reading.{Reading}

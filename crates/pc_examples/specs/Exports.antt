@@ -8,11 +8,11 @@ use Rattle.pc_semantics.specs.CoreValue.{no_value}
 use Rattle.pc_semantics.specs.ExportNode.{ExportNode, ExportNodes, NamedNode, no_nodes, and_node}
 use Rattle.pc_semantics.specs.ExportNode as node
 use Rattle.pc_semantics.specs.Log.{needed, declared_resource}
-use Rattle.pc_parsed.specs.Scope.{Mark, of_type}
+use Rattle.pc_parsed.specs.Mark.{Mark, of_type}
 use Rattle.pc_reading.specs.Outcome.{Outcome}
 use Rattle.pc_reading.specs.Reading.{Reading}
-use Rattle.pc_examples.specs.Means.{finished}
-use Rattle.pc_examples.specs.Words.{func_of_instance, silent, ran, path, node_named, no_data, i32_to_i32, u32_to_u32, plain_module}
+use Rattle.pc_examples.specs.Means.{finished, given}
+use Rattle.pc_examples.specs.Words.{import_named, func_of_instance, silent, ran, path, node_named, no_data, i32_to_i32, u32_to_u32, plain_module}
 
 -- an instance of one lifted function
 abbrev pub instance_export_text : List ℕ
@@ -107,7 +107,8 @@ host_leaf names = node.host_module (path 0 names) (of_type plain_module)
 -- the resource is needed when the import is prepared, and each module where its node is reached
 abbrev pub host_tree : Outcome Reading
 host_tree =
-    finished
+    given (import_named (codes "i") outer_type ∷ []) (path 0 (codes "a" ∷ codes "r" ∷ []) ∷ [])
+    (finished
     (needed (path 0 (codes "a" ∷ codes "r" ∷ [])) ∷ needed (path 0 (codes "a" ∷ codes "m" ∷ []))
     ∷ needed (path 0 (codes "t" ∷ [])) ∷ [])
     (node_named (codes "e")
@@ -118,4 +119,4 @@ host_tree =
     (and_node (codes "m") no_data (host_leaf (codes "a" ∷ codes "m" ∷ [])) no_nodes)))
     (and_node (codes "t") no_data (host_leaf (codes "t" ∷ [])) no_nodes)))
     ∷ [])
-    1
+    1)

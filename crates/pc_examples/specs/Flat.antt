@@ -4,7 +4,7 @@ use Rattle.pc_semantics.specs.CoreValue.{Options, options, a_value, no_value, li
 use Rattle.pc_semantics.specs.ExportNode.{NamedNode}
 use Rattle.pc_semantics.specs.ExportNode as node
 use Rattle.pc_types.specs.declared.encoding.StringEncoding.TheVariants.{Utf8}
-use Rattle.pc_parsed.specs.Scope.{Mark, of_type, of_signature}
+use Rattle.pc_parsed.specs.Mark.{Mark, of_type, of_signature}
 use Rattle.pc_reading.specs.Outcome.{Outcome, invalid, bad_type}
 use Rattle.pc_reading.specs.Reading.{Reading}
 use Rattle.pc_examples.specs.Means.{finished, stuck}

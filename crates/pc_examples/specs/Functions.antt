@@ -4,11 +4,11 @@ use Rattle.pc_types.specs.declared.encoding.StringEncoding.TheVariants.{Utf8, Ut
 use Rattle.pc_types.specs.TypeTree.{TypeTree, func_of, no_fields, no_tree}
 use Rattle.pc_semantics.specs.CoreValue.{Options, options, no_value, a_value, linear, gc, intrinsic}
 use Rattle.pc_semantics.specs.ExportNode as node
-use Rattle.pc_parsed.specs.Scope.{Mark, of_type, of_signature}
+use Rattle.pc_parsed.specs.Mark.{Mark, of_type, of_signature}
 use Rattle.pc_reading.specs.Outcome.{Outcome, invalid, unknown_intrinsic}
 use Rattle.pc_reading.specs.Reading.{Reading}
-use Rattle.pc_examples.specs.Means.{finished, stuck}
-use Rattle.pc_examples.specs.Words.{func_of_instance, memory_of_instance, ran, node_named, i32_to_i32}
+use Rattle.pc_examples.specs.Means.{added, finished, stuck}
+use Rattle.pc_examples.specs.Words.{intrinsic_under, func_of_instance, memory_of_instance, ran, node_named, i32_to_i32}
 
 -- options that are written twice: the last counts
 abbrev pub options_twice_text : List ℕ
@@ -122,4 +122,5 @@ intrinsic_lowered_text =
 
 -- its place is 4
 abbrev pub intrinsic_lowered : Outcome Reading
-intrinsic_lowered = finished (ran 0 (intrinsic 4 ∷ []) 0 ∷ []) [] 1
+intrinsic_lowered =
+    added (intrinsic_under i32_to_i32 4 ∷ []) (finished (ran 0 (intrinsic 4 ∷ []) 0 ∷ []) [] 1)

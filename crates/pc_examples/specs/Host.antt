@@ -1,15 +1,15 @@
 -- Rows with imports of the root.
 use Rattle.std.specs.Prelude.{ℕ, false, List, [], ◌∷◌, ◌++◌, codes}
 use Rattle.pc_types.specs.declared.error.Unsupported.TheVariants as refusal
-use Rattle.pc_types.specs.TypeTree.{TypeTree, module_of, core_memory, core_table}
+use Rattle.pc_types.specs.TypeTree.{TypeTree, Path, module_of, core_memory, core_table, instance_of, and_field, no_fields, resource_of, concrete, imported}
 use Rattle.pc_semantics.specs.CoreValue.{CoreValue, a_value, lowered}
 use Rattle.pc_semantics.specs.ExportNode as node
 use Rattle.pc_semantics.specs.Log.{NamedArgument, instantiated, of_host, needed, declared}
-use Rattle.pc_parsed.specs.Scope.{Mark, of_type}
+use Rattle.pc_parsed.specs.Mark.{Mark, of_type}
 use Rattle.pc_reading.specs.Outcome.{Outcome, unsupported}
 use Rattle.pc_reading.specs.Reading.{Reading}
-use Rattle.pc_examples.specs.Means.{finished, stuck, refused}
-use Rattle.pc_examples.specs.Words.{func_of_instance, memory_of_instance, with_memory, ran, path, node_named, two_i32, of_string}
+use Rattle.pc_examples.specs.Means.{finished, given, stuck, refused}
+use Rattle.pc_examples.specs.Words.{import_named, func_of_instance, memory_of_instance, with_memory, ran, path, node_named, two_i32, of_string}
 
 -- a host function, lowered with a memory and a realloc, and given to a module
 abbrev pub host_lowering_text : List ℕ
@@ -37,7 +37,8 @@ log_lowering = lowering 0 (func_of_instance 0 0)
 -- the host function is needed where it is lowered
 abbrev pub host_lowering : Outcome Reading
 host_lowering =
-    finished (ran 0 [] 0 ∷ needed (path 0 []) ∷ declared log_lowering ∷ ran 1 (log_lowering ∷ []) 0 ∷ []) [] 1
+    given (import_named (codes "log") of_string ∷ []) []
+    (finished (ran 0 [] 0 ∷ needed (path 0 []) ∷ declared log_lowering ∷ ran 1 (log_lowering ∷ []) 0 ∷ []) [] 1)
 
 -- a lowering whose realloc is a lowering
 abbrev pub realloc_is_a_lowering_text : List ℕ
@@ -61,10 +62,11 @@ grow_lowering = lowering 1 (func_of_instance 0 0)
 -- the second import is needed first
 abbrev pub realloc_is_a_lowering : Outcome Reading
 realloc_is_a_lowering =
-    finished
+    given (import_named (codes "log") of_string ∷ import_named (codes "grow") of_string ∷ []) []
+    (finished
     (ran 0 [] 0 ∷ needed (path 1 []) ∷ declared grow_lowering ∷ needed (path 0 []) ∷ declared (lowering 0 grow_lowering)
     ∷ ran 1 (lowering 0 grow_lowering ∷ []) 0 ∷ [])
-    [] 1
+    [] 1)
 
 -- a host module, made and exported
 abbrev pub host_module_text : List ℕ
@@ -87,12 +89,13 @@ given_memory = record { module_name = codes "e"; name = codes "m"; value = memor
 -- it is needed where it is made, and where it is exported
 abbrev pub host_module : Outcome Reading
 host_module =
-    finished
+    given (import_named (codes "h") host_module_type ∷ []) []
+    (finished
     (ran 0 [] 0 ∷ needed (path 0 [])
     ∷ instantiated (of_host (path 0 []) (given_memory ∷ [])) 0
     ∷ needed (path 0 []) ∷ [])
     (node_named (codes "h2") (node.host_module (path 0 []) (of_type host_module_type)) ∷ [])
-    1
+    1)
 
 -- a host instance with a resource, which is needed when the import is prepared
 abbrev pub host_resource_text : List ℕ
@@ -100,9 +103,18 @@ host_resource_text =
     codes "{\"limit\":100,\"intrinsics\":null,\"types\":{\"core\":[],\"types\":[\"resource\",{\"instance\":[[\"r\","
     ++ codes "[\"type\",0]]]}]},\"payloads\":[\"version\",{\"imports\":[[\"i\",[\"instance\",1]]]},\"end\"]}"
 
+-- the path of the resource
+abbrev pub r_path : Path
+r_path = path 0 (codes "r" ∷ [])
+
+-- the type of the host instance, whose resource is known
+abbrev pub host_instance_type : TypeTree
+host_instance_type = instance_of (and_field (codes "r") (resource_of (concrete (imported r_path) 0)) no_fields)
+
 -- its outcome
 abbrev pub host_resource : Outcome Reading
-host_resource = finished (needed (path 0 (codes "r" ∷ [])) ∷ []) [] 1
+host_resource =
+    given (import_named (codes "i") host_instance_type ∷ []) (r_path ∷ []) (finished (needed r_path ∷ []) [] 1)
 
 -- a component of the host
 abbrev pub component_import_text : List ℕ

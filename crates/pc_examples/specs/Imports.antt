@@ -1,14 +1,14 @@
 -- Imports, and aliases of what a host instance has.
 use Rattle.std.specs.Prelude.{ℕ, false, List, [], ◌∷◌, ◌++◌, codes}
 use Rattle.pc_types.specs.declared.error.Unsupported.TheVariants as refusal
-use Rattle.pc_types.specs.TypeTree.{func_of, no_fields, no_tree}
+use Rattle.pc_types.specs.TypeTree.{TypeTree, func_of, instance_of, and_field, no_fields, no_tree}
 use Rattle.pc_semantics.specs.CoreValue.{CoreValue, lowered}
 use Rattle.pc_semantics.specs.Log.{needed, declared}
-use Rattle.pc_parsed.specs.Scope.{Mark, of_type}
+use Rattle.pc_parsed.specs.Mark.{Mark, of_type}
 use Rattle.pc_reading.specs.Outcome.{Outcome, invalid, bad_type, unsupported}
 use Rattle.pc_reading.specs.Reading.{Reading}
-use Rattle.pc_examples.specs.Means.{finished, stuck}
-use Rattle.pc_examples.specs.Words.{path, silent, ran, i32_to_i32}
+use Rattle.pc_examples.specs.Means.{finished, given, stuck}
+use Rattle.pc_examples.specs.Words.{import_named, path, silent, ran, i32_to_i32}
 
 -- a function of an instance of a host instance, lowered and given to a module
 abbrev pub host_alias_text : List ℕ
@@ -26,10 +26,19 @@ host_alias_text =
 abbrev pub host_f : CoreValue Mark
 host_f = lowered (path 1 (codes "a" ∷ codes "f" ∷ [])) (of_type (func_of no_fields no_tree false)) (silent 0 i32_to_i32)
 
+-- a function of nothing to nothing
+abbrev pub idle : TypeTree
+idle = func_of no_fields no_tree false
+
+-- an instance of an instance of it
+abbrev pub idle_inside : TypeTree
+idle_inside = instance_of (and_field (codes "a") (instance_of (and_field (codes "f") idle no_fields)) no_fields)
+
 -- its outcome
 abbrev pub host_alias : Outcome Reading
 host_alias =
-    finished (needed (path 1 (codes "a" ∷ codes "f" ∷ [])) ∷ declared host_f ∷ ran 0 (host_f ∷ []) 0 ∷ []) [] 1
+    given (import_named (codes "t") idle ∷ import_named (codes "i") idle_inside ∷ []) []
+    (finished (needed (path 1 (codes "a" ∷ codes "f" ∷ [])) ∷ declared host_f ∷ ran 0 (host_f ∷ []) 0 ∷ []) [] 1)
 
 -- the import of a defined type takes no place
 abbrev pub defined_import_text : List ℕ
@@ -45,7 +54,8 @@ first_f = lowered (path 0 []) (of_type (func_of no_fields no_tree false)) (silen
 
 -- its outcome
 abbrev pub defined_import : Outcome Reading
-defined_import = finished (needed (path 0 []) ∷ declared first_f ∷ []) [] 1
+defined_import =
+    given (import_named (codes "f") idle ∷ []) [] (finished (needed (path 0 []) ∷ declared first_f ∷ []) [] 1)
 
 -- a component of a host instance, also by an alias of another kind, and where it stands as a type
 abbrev pub component_alias_text : List ℕ

@@ -1,12 +1,13 @@
 -- Core modules, core instances and core aliases.
-use Rattle.std.specs.Prelude.{ℕ, List, [], ◌∷◌, ◌++◌, codes}
+use Rattle.std.specs.Prelude.{ℕ, true, List, [], ◌∷◌, ◌++◌, codes}
+use Rattle.pc_types.specs.TypeTree.{TypeTree, module_of, core_func, core_table, core_memory, core_global}
 use Rattle.pc_semantics.specs.CoreValue.{CoreValue, exported, by_name}
 use Rattle.pc_semantics.specs.Log.{NamedArgument, instantiated, of_host, needed}
-use Rattle.pc_parsed.specs.Scope.{Mark}
+use Rattle.pc_parsed.specs.Mark.{Mark}
 use Rattle.pc_reading.specs.Outcome.{Outcome, invalid, bad_type}
 use Rattle.pc_reading.specs.Reading.{Reading}
-use Rattle.pc_examples.specs.Means.{finished, stuck}
-use Rattle.pc_examples.specs.Words.{func_of_instance, memory_of_instance, table_of_instance, ran, path}
+use Rattle.pc_examples.specs.Means.{finished, given, stuck}
+use Rattle.pc_examples.specs.Words.{import_named, func_of_instance, memory_of_instance, table_of_instance, ran, path, i32_to_i32}
 
 -- a host module, whose imports are given by module name, and whose exports go through a bag to another module
 abbrev pub host_items_text : List ℕ
@@ -36,14 +37,23 @@ host_arguments =
 abbrev pub host_named : List ℕ → CoreValue Mark
 host_named name = exported 1 (by_name name)
 
+-- the type of the host module
+abbrev pub host_items_type : TypeTree
+host_items_type =
+    module_of
+    ((codes "a", codes "x", core_table) ∷ (codes "b", codes "y", core_memory true)
+    ∷ (codes "a", codes "z", core_func i32_to_i32) ∷ [])
+    ((codes "f", core_func i32_to_i32) ∷ (codes "g", core_global) ∷ [])
+
 -- a bag is nothing of its own: both times the module is given the host module's items
 abbrev pub host_items : Outcome Reading
 host_items =
-    finished
+    given (import_named (codes "h") host_items_type ∷ []) []
+    (finished
     (ran 0 [] 0 ∷ needed (path 0 []) ∷ instantiated (of_host (path 0 []) host_arguments) 0
     ∷ ran 1 (host_named (codes "g") ∷ host_named (codes "f") ∷ []) 0
     ∷ ran 1 (host_named (codes "g") ∷ host_named (codes "f") ∷ []) 0 ∷ [])
-    [] 1
+    [] 1)
 
 -- an import that isn't given anything
 abbrev pub argument_missing_text : List ℕ

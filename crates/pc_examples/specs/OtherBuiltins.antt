@@ -4,12 +4,12 @@ use Rattle.pc_types.specs.declared.trampoline.TrampolineKind.TheVariants as kind
 use Rattle.pc_types.specs.TypeTree.{error_context}
 use Rattle.pc_semantics.specs.CoreValue.{CoreValue, no_value, a_value, builtin, intrinsic, mark_part, number_part, value_part, options_part}
 use Rattle.pc_semantics.specs.Log.{declared}
-use Rattle.pc_parsed.specs.Scope.{Mark, of_type, of_signature}
+use Rattle.pc_parsed.specs.Mark.{Mark, of_type, of_signature}
 use Rattle.pc_reading.specs.Builtins.{parts_of}
 use Rattle.pc_reading.specs.Outcome.{Outcome, invalid, bad_type}
 use Rattle.pc_reading.specs.Reading.{Reading}
-use Rattle.pc_examples.specs.Means.{finished, stuck}
-use Rattle.pc_examples.specs.Words.{memory_of_instance, table_of_instance, with_memory, ran, i32_to_i32}
+use Rattle.pc_examples.specs.Means.{added, finished, stuck}
+use Rattle.pc_examples.specs.Words.{intrinsic_under, memory_of_instance, table_of_instance, with_memory, ran, i32_to_i32, one_i32}
 use Rattle.pc_examples.specs.Builtins.{of_root}
 
 -- error contexts, a context slot and a new thread; the last two are given to a module
@@ -38,14 +38,26 @@ new_thread =
 -- a slot of the context is an intrinsic, and nothing is declared for it
 abbrev pub other_builtins : Outcome Reading
 other_builtins =
-    finished
+    added (intrinsic_under i32_to_i32 20 ∷ [])
+    (finished
     (ran 0 [] 0
     ∷ of_root kind.ErrorContextNew
     (mark_part (of_type (error_context 0))
     ∷ options_part (with_memory 0 i32_to_i32 (memory_of_instance 0 0) no_value) ∷ [])
     ∷ of_root kind.ErrorContextDrop (mark_part (of_type (error_context 0)) ∷ [])
     ∷ declared new_thread ∷ ran 1 (intrinsic 20 ∷ new_thread ∷ []) 0 ∷ [])
-    [] 1
+    [] 1)
+
+-- a slot is read under two signatures, and then written: the first signature stands
+abbrev pub slot_twice_text : List ℕ
+slot_twice_text =
+    codes "{\"limit\":100,\"intrinsics\":null,\"types\":{\"core\":[[[\"i32\"],[\"i32\"]],[[\"i32\"],[]]],\"types\":[]},"
+    ++ codes "\"payloads\":[\"version\",{\"canon\":[[\"context.get\",1,\"i32\",0],[\"context.get\",0,\"i32\",0],"
+    ++ codes "[\"context.set\",0,\"i32\",0]]},\"end\"]}"
+
+-- its outcome
+abbrev pub slot_twice : Outcome Reading
+slot_twice = added (intrinsic_under one_i32 17 ∷ intrinsic_under i32_to_i32 18 ∷ []) (finished [] [] 1)
 
 -- a resource that isn't known
 abbrev pub unknown_resource_text : List ℕ

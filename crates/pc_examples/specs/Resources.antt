@@ -6,12 +6,13 @@ use Rattle.pc_types.specs.TypeTree.{Identity, resource_of, concrete, imported}
 use Rattle.pc_types.specs.TypeTree as tree
 use Rattle.pc_semantics.specs.CoreValue.{CoreValue, no_value, builtin, mark_part}
 use Rattle.pc_semantics.specs.Log.{needed, declared, declared_resource}
-use Rattle.pc_parsed.specs.Scope.{Mark, of_type, of_signature}
+use Rattle.pc_parsed.specs.Mark.{Mark, of_type, of_signature}
 use Rattle.pc_reading.specs.Builtins.{parts_of}
 use Rattle.pc_reading.specs.Outcome.{Outcome, bad_type}
 use Rattle.pc_reading.specs.Reading.{Reading}
-use Rattle.pc_examples.specs.Means.{finished, stuck}
-use Rattle.pc_examples.specs.Words.{path, one_i32}
+use Rattle.pc_examples.specs.Means.{finished, given, stuck}
+use Rattle.pc_examples.specs.Host.{r_path, host_instance_type}
+use Rattle.pc_examples.specs.Words.{import_named, path, one_i32}
 
 -- `resource.drop` in a component instance
 abbrev pub dropping : Identity → (component_instance : ℕ) → CoreValue Mark
@@ -31,7 +32,8 @@ given_resource_text =
 -- its outcome
 abbrev pub given_resource : Outcome Reading
 given_resource =
-    finished (needed (path 0 (codes "r" ∷ [])) ∷ declared (dropping (imported (path 0 (codes "r" ∷ []))) 1) ∷ []) [] 2
+    given (import_named (codes "i") host_instance_type ∷ []) (r_path ∷ [])
+    (finished (needed r_path ∷ declared (dropping (imported r_path) 1) ∷ []) [] 2)
 
 -- a resource that a component exports: the caller drops it for itself
 abbrev pub exported_resource_text : List ℕ

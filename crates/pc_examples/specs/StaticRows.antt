@@ -9,7 +9,7 @@ use Rattle.pc_form.specs.declared.input.Input.{Input}
 use Rattle.pc_form.specs.Tree.{◌>>=◌}
 use Rattle.pc_form.specs.Rules.{plain}
 use Rattle.pc_form.specs.Input.{input_of}
-use Rattle.pc_reading.specs.Static.{static_fault}
+use Rattle.pc_parsed.specs.StaticFault.{static_fault}
 
 -- an input with its first static fault, if it has one
 abbrev pub with_fault : Input → Option (Option Error)

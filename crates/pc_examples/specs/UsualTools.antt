@@ -2,17 +2,18 @@
 use Rattle.std.specs.Prelude.{ℕ, false, List, [], ◌∷◌, ◌++◌, map, flat_map, codes}
 use Rattle.pc_types.specs.declared.encoding.StringEncoding.TheVariants.{Utf8}
 use Rattle.pc_types.specs.declared.trampoline.TrampolineKind.TheVariants as kind
-use Rattle.pc_types.specs.TypeTree.{TypeTree, Path, resource_of, concrete, imported, instance_of, and_field, no_fields}
+use Rattle.pc_types.specs.TypeTree.{TypeTree, Fields, Path, resource_of, concrete, imported, instance_of, and_field, no_fields}
 use Rattle.pc_semantics.specs.CoreValue.{CoreValue, Options, MaybeValue, options, a_value, no_value, linear, lowered, builtin, mark_part}
 use Rattle.pc_semantics.specs.ExportNode.{NamedNode, no_nodes, and_node}
 use Rattle.pc_semantics.specs.ExportNode as node
 use Rattle.pc_semantics.specs.Log.{Entry, needed, declared}
-use Rattle.pc_parsed.specs.Scope.{Mark, of_type, of_signature}
+use Rattle.pc_parsed.specs.Mark.{Mark, of_type, of_signature}
 use Rattle.pc_reading.specs.Builtins.{parts_of}
 use Rattle.pc_reading.specs.Outcome.{Outcome}
 use Rattle.pc_reading.specs.Reading.{Reading}
-use Rattle.pc_examples.specs.Means.{finished}
-use Rattle.pc_examples.specs.Words.{func_of_instance, memory_of_instance, table_of_instance, ran, path, node_named, no_data, two_i32, one_i32, of_string}
+use Rattle.pc_reading.specs.World.{HostImport}
+use Rattle.pc_examples.specs.Means.{finished, given}
+use Rattle.pc_examples.specs.Words.{functions_named, import_named, func_of_instance, memory_of_instance, table_of_instance, ran, path, node_named, no_data, two_i32, one_i32, of_string}
 
 -- eleven host functions of four instances, a main module, a shim with a table, and a fixup
 abbrev pub usual_tools_text : List ℕ
@@ -130,6 +131,18 @@ usual_nodes =
     no_nodes)))
     ∷ []
 
+-- what a host instance has behind a resource that is known
+abbrev pub after_resource : (import : ℕ) → Fields → Fields
+after_resource n fields = and_field (codes "r") (resource_of (concrete (imported (r_of n)) 0)) fields
+
+-- the four host instances
+abbrev pub usual_imports : List HostImport
+usual_imports =
+    import_named (codes "a") (instance_of (after_resource 0 (functions_named (codes "f0" ∷ codes "f1" ∷ codes "f2" ∷ []))))
+    ∷ import_named (codes "b") (instance_of (after_resource 1 (functions_named (codes "f3" ∷ codes "f4" ∷ codes "f5" ∷ []))))
+    ∷ import_named (codes "c") (instance_of (functions_named (codes "f6" ∷ codes "f7" ∷ codes "f8" ∷ [])))
+    ∷ import_named (codes "d") (instance_of (functions_named (codes "f9" ∷ codes "f10" ∷ []))) ∷ []
+
 -- its outcome
 abbrev pub usual_tools : Outcome Reading
-usual_tools = finished usual_log usual_nodes 1
+usual_tools = given usual_imports (r_of 0 ∷ r_of 1 ∷ []) (finished usual_log usual_nodes 1)

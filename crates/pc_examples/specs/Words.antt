@@ -7,11 +7,12 @@ use Rattle.pc_types.specs.declared.parsed.PrimType.TheVariants as prim
 use Rattle.pc_types.specs.declared.parsed.WasmValType.{WasmValType}
 use Rattle.pc_types.specs.declared.parsed.WasmValType.TheVariants as core
 use Rattle.pc_types.specs.declared.types.ComponentExternData.{ComponentExternData}
-use Rattle.pc_types.specs.TypeTree.{TypeTree, Path, primitive, func_of, module_of, and_field, no_fields, a_tree, no_tree}
+use Rattle.pc_types.specs.TypeTree.{TypeTree, Fields, Path, primitive, func_of, module_of, and_field, no_fields, a_tree, no_tree}
 use Rattle.pc_semantics.specs.CoreValue.{CoreValue, Options, MaybeValue, exported, by_index, options, no_value, a_value, linear}
 use Rattle.pc_semantics.specs.ExportNode.{ExportNode, NamedNode}
 use Rattle.pc_semantics.specs.Log.{Entry, instantiated, of_static}
-use Rattle.pc_parsed.specs.Scope.{Mark, of_signature}
+use Rattle.pc_parsed.specs.Mark.{Mark, of_signature}
+use Rattle.pc_reading.specs.World.{HostImport, AddedIntrinsic}
 
 -- a function of the nth core instance, by index
 abbrev pub func_of_instance : (order number : ℕ) → CoreValue Mark
@@ -46,6 +47,15 @@ signature params results = record { params = params; results = results }
 abbrev pub path : ℕ → List (List ℕ) → Path
 path n names = record { import = n; names = names }
 
+-- an import that the host gives, under a name that says nothing more
+abbrev pub import_named : List ℕ → TypeTree → HostImport
+import_named name tree =
+    record { name = record { name = name; implements = None; external_id = None }; import_type = tree }
+
+-- an unsafe intrinsic, by its place, with a core signature
+abbrev pub intrinsic_under : CoreFuncSig → (place : ℕ) → AddedIntrinsic
+intrinsic_under s n = record { place = n; signature = s }
+
 -- an export under a name that says nothing more
 abbrev pub node_named : List ℕ → ExportNode Mark → NamedNode Mark
 node_named name n = record { name = name; extern_data = record { implements = None; external_id = None }; node = n }
@@ -77,3 +87,8 @@ of_string = func_of (and_field (codes "s") (primitive prim.String) no_fields) no
 -- the type of a module without imports and exports
 abbrev pub plain_module : TypeTree
 plain_module = module_of [] []
+
+-- functions of strings, under names
+abbrev pub functions_named : List (List ℕ) → Fields
+functions_named [] = no_fields
+functions_named (name ∷ names) = and_field name of_string (functions_named names)

@@ -2,7 +2,7 @@
 
 ghost use Rattle.pc_examples.specs.Means.{Means};
 ghost use Rattle.pc_examples.specs.Builtins.{two_drops_text, two_drops, slot_two_text, slot_two, typed_builtins_text, typed_builtins, task_builtins_text, task_builtins};
-ghost use Rattle.pc_examples.specs.OtherBuiltins.{other_builtins_text, other_builtins, unknown_resource_text, unknown_resource, no_stream_text, no_stream, no_signature_text, stuck_type, no_memory_text, stuck_index, no_table_text, no_result_text};
+ghost use Rattle.pc_examples.specs.OtherBuiltins.{other_builtins_text, other_builtins, slot_twice_text, slot_twice, unknown_resource_text, unknown_resource, no_stream_text, no_stream, no_signature_text, stuck_type, no_memory_text, stuck_index, no_table_text, no_result_text};
 
 /// Each text means the outcome beside it.
 pub fn are_read()
@@ -15,6 +15,7 @@ pub fn are_read()
 /// Likewise, with what builtins are stuck at.
 pub fn others_are_read()
     ensures other_builtins { Means other_builtins_text other_builtins }
+    ensures slot_twice { Means slot_twice_text slot_twice }
     ensures unknown_resource { Means unknown_resource_text unknown_resource }
     ensures no_stream { Means no_stream_text no_stream }
     ensures no_signature { Means no_signature_text stuck_type }

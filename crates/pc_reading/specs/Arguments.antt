@@ -13,7 +13,7 @@ use Rattle.pc_types.specs.Names.{has_name}
 use Rattle.pc_types.specs.TypeTree.{TypeTree, CoreTree, core_func, core_table, core_memory, core_global, core_tag}
 use Rattle.pc_semantics.specs.CoreValue.{CoreValue, exported, by_index, by_name}
 use Rattle.pc_semantics.specs.Log.{NamedArgument}
-use Rattle.pc_parsed.specs.Scope.{Mark}
+use Rattle.pc_parsed.specs.Mark.{Mark}
 use Rattle.pc_reading.specs.Scope.{Scope, CoreInstance, CoreItem, of_module, of_host_module, bag}
 use Rattle.pc_reading.specs.Types.{module_imports, module_exports}
 

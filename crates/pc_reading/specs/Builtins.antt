@@ -12,7 +12,7 @@ use Rattle.pc_types.specs.TypeTree.{TypeTree, error_context}
 use Rattle.pc_semantics.specs.CoreValue.{CoreValue, Options, Parts, Part, builtin, no_parts, and_part, mark_part, number_part, flag_part, value_part, options_part, a_value}
 use Rattle.pc_semantics.specs.Log.{declared}
 use Rattle.pc_parsed.specs.declared.canon.CanonOption.{CanonOption}
-use Rattle.pc_parsed.specs.Scope.{Mark, of_type, of_signature}
+use Rattle.pc_parsed.specs.Mark.{Mark, of_type, of_signature}
 use Rattle.pc_reading.specs.Item.{Operand, a_resource, a_stream, a_future, a_flag, the_options}
 use Rattle.pc_reading.specs.Options.{options_of, memory_options}
 use Rattle.pc_reading.specs.Outcome.{Fault, invalid, bad_type, found, held}

@@ -34,9 +34,13 @@ host_value p (entity.Type_ n) tree = Some (type_value tree)
 host_value p (entity.Component n) tree = None
 host_value p entity.Value tree = None
 
--- a moment with one more argument
-abbrev pub with_argument : Moment → List ℕ → Value → Moment
-with_argument now name v = record now { scope = record now.scope { arguments = now.scope.arguments ++ (name, v) ∷ [] } }
+-- a moment in which the host has given one import more, which is an argument of the root
+abbrev pub with_given : Moment → ExternName → TypeTree → Value → Moment
+with_given now name tree v =
+    record now {
+      scope = record now.scope { arguments = now.scope.arguments ++ (name.name, v) ∷ [] };
+      world = record now.world { imports = now.world.imports ++ record { name = name; import_type = tree } ∷ [] };
+    }
 
 -- the path of a resource that an import of the host leads to
 abbrev pub resource_path : (import : ℕ) → ResourcePath → Path
@@ -44,12 +48,19 @@ resource_path i p = record { import = i; names = p.names }
 
 -- the path of the next import that the host gives
 abbrev pub next_import : Moment → Path
-next_import now = record { import = length now.scope.arguments; names = [] }
+next_import now = record { import = length now.world.imports; names = [] }
+
+-- a moment with one more resource that came with an import of the host
+abbrev pub with_imported : Moment → Path → Moment
+with_imported now p =
+    record now { world = record now.world { imported_resources = now.world.imported_resources ++ p ∷ [] } }
 
 -- the resource at a path becomes known, and its path is needed
 abbrev pub importing : Moment → (import : ℕ) → ResourcePath → Moment
 importing now i p =
-    add_entry (with_known now (knowing now.scope.known p.number (imported (resource_path i p))))
+    add_entry
+    (with_imported (with_known now (knowing now.scope.known p.number (imported (resource_path i p))))
+    (resource_path i p))
     (needed (resource_path i p))
 
 -- the resources of an import of the host become known by their paths, unless their numbers are
@@ -64,7 +75,7 @@ module _ (t : TypeTable) where
   give name e now =
       found bad_type (declared_tree t now.scope e) (λ (tree : TypeTree).
       found (unsupported ComponentImport) (host_value (next_import now) e tree) (λ (v : Value).
-      Ok (with_argument now name.name v)))
+      Ok (with_given now name tree v)))
 
   -- an import of the root is prepared: `BadType` where the entity names no entry of its kind; a defined type is given
   -- nothing for; a component is not supported
@@ -72,7 +83,7 @@ module _ (t : TypeTable) where
   prepare name e now =
       held bad_type (names_entry t e) (
       if is_defined_entity t e then Ok now
-      else give name e (import_resources now (length now.scope.arguments) (resource_paths t e)))
+      else give name e (import_resources now (length now.world.imports) (resource_paths t e)))
 
   -- the imports of the root are prepared in order, each with its place, before the first item is read
   unfoldable pub prepare_all : (item : ℕ) → Items → Moment → Outcome Moment

@@ -5,6 +5,7 @@ pub mod Section
 pub mod Nest
 pub mod Outcome
 pub mod Value
+pub mod World
 pub mod Scope
 pub mod Types
 pub mod Options
@@ -24,7 +25,3 @@ pub mod Rows
 pub mod Total
 pub mod Nodes
 pub mod Reading
-pub mod StaticFault
-pub mod Intrinsics
-pub mod StaticItems
-pub mod Static

@@ -10,7 +10,7 @@ use Rattle.pc_types.specs.Table.{is_module}
 use Rattle.pc_types.specs.TypeTree.{TypeTree, Path}
 use Rattle.pc_semantics.specs.CoreValue.{CoreValue}
 use Rattle.pc_semantics.specs.Log.{NamedArgument, instantiated, needed, of_static, of_host, instances_of}
-use Rattle.pc_parsed.specs.Scope.{Mark}
+use Rattle.pc_parsed.specs.Mark.{Mark}
 use Rattle.pc_reading.specs.Arguments.{core_export, static_arguments, host_arguments}
 use Rattle.pc_reading.specs.Outcome.{Fault, invalid, bad_type, found}
 use Rattle.pc_reading.specs.Scope.{Scope, Moment, CoreItem, of_module, of_host_module, bag, core_list, add_core, add_value, add_entry, add_core_instance}

@@ -1,6 +1,6 @@
 -- What the root exports, as nodes. A node is reached before what is under it, and counts 8 in the total; what no plan
 -- can export is refused before it counts.
-use Rattle.std.specs.Prelude.{ℕ, ◌+◌, List, [], ◌∷◌, None, nat_lt, if◌then◌else◌}
+use Rattle.std.specs.Prelude.{ℕ, ◌+◌, List, [], ◌∷◌, Option, None, if◌then◌else◌}
 use Rattle.pc_types.specs.declared.error.Place.TheVariants as place
 use Rattle.pc_types.specs.declared.error.Unsupported.{Unsupported}
 use Rattle.pc_types.specs.declared.error.Unsupported.TheVariants as refusal
@@ -10,12 +10,11 @@ use Rattle.pc_semantics.specs.ExportNode as node
 use Rattle.pc_semantics.specs.ExportNode.{ExportNode, ExportNodes, NamedNode, no_nodes, and_node}
 use Rattle.pc_semantics.specs.Log.{needed}
 use Rattle.pc_parsed.specs.declared.payload.ExternName.{ExternName}
-use Rattle.pc_parsed.specs.Scope.{Mark, of_type}
+use Rattle.pc_parsed.specs.Mark.{Mark, of_type}
 use Rattle.pc_reading.specs.Member.{further}
 use Rattle.pc_reading.specs.Outcome.{Outcome, done, fault, past, and_then, unsupported}
-use Rattle.pc_reading.specs.Scope.{World, logging}
-use Rattle.pc_reading.specs.Total.{full}
 use Rattle.pc_reading.specs.Value.{Value, Function, Module, Instance, NamedValues, NamedValue, func_value, module_value, instance_value, component_value, type_value, host_function, lifted_function, intrinsic_function, static_module, host_module, made_instance, host_instance, the_intrinsics, no_values, and_value}
+use Rattle.pc_reading.specs.World.{World, grown, has_room, logging}
 
 -- what is reached: something, in the world then; or it is refused; or the total is past
 pub data Reached (A : Type 0) : Type 0 where
@@ -30,12 +29,12 @@ then_reach (refused u) go = refused u
 then_reach passed go = passed
 
 -- goes on with a total, if it isn't past
-abbrev pub within_total : {A : Type 0} → (total : ℕ) → Reached A → Reached A
-within_total total go = if nat_lt total full then go else passed
+abbrev pub within_total : {A : Type 0} → (total : Option ℕ) → Reached A → Reached A
+within_total total go = if has_room total then go else passed
 
 -- a node counts 8
 abbrev pub counting : {A : Type 0} → World → (World → Reached A) → Reached A
-counting w go = within_total (w.total + 8) (go (record w { total = w.total + 8 }))
+counting w go = within_total (grown w.total 8) (go (record w { total = grown w.total 8 }))
 
 -- what a name says of itself; what a host instance exports says nothing
 abbrev pub extern_data : ExternName → ComponentExternData

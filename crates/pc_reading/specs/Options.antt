@@ -8,7 +8,7 @@ use Rattle.pc_types.specs.declared.parsed.CoreFuncSig.{CoreFuncSig}
 use Rattle.pc_semantics.specs.CoreValue.{CoreValue, Options, DataModel, MaybeValue, options, gc, linear, no_value, a_value}
 use Rattle.pc_parsed.specs.declared.canon.CanonOption.{CanonOption}
 use Rattle.pc_parsed.specs.declared.canon.CanonOption.TheVariants as option
-use Rattle.pc_parsed.specs.Scope.{Mark, of_signature}
+use Rattle.pc_parsed.specs.Mark.{Mark, of_signature}
 use Rattle.pc_reading.specs.Scope.{Scope}
 
 -- whether the index of an option is sound; that of a core type isn't looked at

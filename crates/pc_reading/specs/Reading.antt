@@ -3,11 +3,11 @@
 use Rattle.std.specs.Prelude.{ℕ, zero, suc, ◌+◌, List, [], Option, nat_lt, option_map, if◌then◌else◌}
 use Rattle.pc_types.specs.declared.module_record.ModuleRecord.{ModuleRecord}
 use Rattle.pc_types.specs.declared.parsed.TypeTable.{TypeTable}
-use Rattle.pc_types.specs.TypeTree.{Identity}
+use Rattle.pc_types.specs.TypeTree.{Identity, Path}
 use Rattle.pc_semantics.specs.ExportNode.{NamedNode}
 use Rattle.pc_semantics.specs.Log.{Entry}
 use Rattle.pc_parsed.specs.declared.payload.Payload.{Payload}
-use Rattle.pc_parsed.specs.Scope.{Mark}
+use Rattle.pc_parsed.specs.Mark.{Mark}
 use Rattle.pc_reading.specs.Components.{Call, read_call, read_return}
 use Rattle.pc_reading.specs.Imports.{prepare_all}
 use Rattle.pc_reading.specs.Item.{Item, Items, ArgumentOf, no_items, and_item, instantiate_component_item, exports_in}
@@ -16,16 +16,32 @@ use Rattle.pc_reading.specs.Nest.{root_of}
 use Rattle.pc_reading.specs.Nodes.{Finish, root_nodes}
 use Rattle.pc_reading.specs.Outcome.{Outcome, done, over, past, and_then, at_item}
 use Rattle.pc_reading.specs.Rows.{read_row}
-use Rattle.pc_reading.specs.Scope.{World, Moment, fresh}
+use Rattle.pc_reading.specs.Scope.{Moment, fresh}
 use Rattle.pc_reading.specs.Section.{modules_of}
-use Rattle.pc_reading.specs.Total.{full, body_weight, prepared_weight}
+use Rattle.pc_reading.specs.Total.{body_weight, prepared_weight}
 use Rattle.pc_reading.specs.Value.{Value, NamedValue, Component, Chain, closed, outermost}
+use Rattle.pc_reading.specs.World.{World, HostImport, AddedIntrinsic, grown, has_room, new_world}
 
--- what a finished reading gives: its log, what the root exports, and how many component instances began
+-- what a finished reading gives: its log, what the root exports, and how many component instances began; the imports
+-- that the host gives, the resources that came with them, and the unsafe intrinsics with their first signatures
 pub record Reading : Type 0 where
   pub log : List (Entry Mark)
   pub nodes : List (NamedNode Mark)
   pub begun : ℕ
+  pub imports : List HostImport
+  pub imported_resources : List Path
+  pub intrinsics : List AddedIntrinsic
+
+-- the result of a reading that is done, from what the root exports and the world then
+abbrev pub result_of : List (NamedNode Mark) → World → Reading
+result_of nodes w = record {
+  log = w.log;
+  nodes = nodes;
+  begun = w.begun;
+  imports = w.imports;
+  imported_resources = w.imported_resources;
+  intrinsics = w.intrinsics;
+}
 
 -- what a child gives back: what it exports, in the world then
 pub record Return : Type 0 where
@@ -41,8 +57,8 @@ Enter = Call → List (ℕ × Identity) → World → Outcome Return
 abbrev pub beginning : {A : Type 0} → (limit weight : ℕ) → World → (World → Outcome A) → Outcome A
 beginning limit weight w go =
     if nat_lt w.begun limit
-    then (if nat_lt (w.total + 1 + weight) full
-    then go (record w { begun = w.begun + 1; total = w.total + 1 + weight })
+    then (if has_room (grown w.total (1 + weight))
+    then go (record w { begun = w.begun + 1; total = grown w.total (1 + weight) })
     else past)
     else over
 
@@ -101,14 +117,15 @@ module _ (t : TypeTable) (ms : List ModuleRecord) (limit : ℕ) where
   unfoldable pub finishing : Return → Outcome Reading
   finishing r =
       and_then (root_nodes 0 r.exports r.world) (λ (f : Finish).
-      done (record { log = f.1.log; nodes = f.0; begun = f.1.begun }))
+      done (result_of f.0 f.1))
 
   -- what the body of a root means, where the total before its first item is given
-  unfoldable pub reading_of : (counted : ℕ) → Items → Outcome Reading
-  reading_of counted body = and_then (read_root body (record { log = []; begun = 0; total = counted })) finishing
+  unfoldable pub reading_of : (counted : Option ℕ) → Items → Outcome Reading
+  reading_of counted body = and_then (read_root body (new_world counted)) finishing
 
 -- what a payload list means, or nothing where it doesn't nest: the name that exposes the unsafe intrinsics, the limit
--- of component instances and the total before the first item are given
-unfoldable pub reading : TypeTable → (exposed : Option (List ℕ)) → (limit counted : ℕ) → List Payload
+-- of component instances and the total before the first item are given. Without a total nothing is counted, and no
+-- reading is past it
+unfoldable pub reading : TypeTable → (exposed : Option (List ℕ)) → (limit : ℕ) → (counted : Option ℕ) → List Payload
     → Option (Outcome Reading)
 reading t exposed limit counted ps = option_map (reading_of t (modules_of ps) limit counted) (root_of exposed ps)

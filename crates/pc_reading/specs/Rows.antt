@@ -7,7 +7,7 @@ use Rattle.pc_types.specs.Table.{is_resource}
 use Rattle.pc_types.specs.TypeTree.{declared}
 use Rattle.pc_semantics.specs.CoreValue.{CoreValue, MaybeValue, no_value, a_value}
 use Rattle.pc_semantics.specs.Log.{declared_resource}
-use Rattle.pc_parsed.specs.Scope.{Mark}
+use Rattle.pc_parsed.specs.Mark.{Mark}
 use Rattle.pc_reading.specs.Builtins.{read_builtin, read_waitable, read_task_return, read_error_context, read_new_thread}
 use Rattle.pc_reading.specs.Components.{read_component, read_outer}
 use Rattle.pc_reading.specs.Functions.{read_lift, read_lower, read_context}
@@ -17,8 +17,9 @@ use Rattle.pc_reading.specs.Item
 use Rattle.pc_reading.specs.Modules.{read_module, read_core_instance, read_core_exports, read_core_alias}
 use Rattle.pc_reading.specs.Outcome.{Fault, invalid, bad_type, found, held}
 use Rattle.pc_reading.specs.Resource.{knowing}
-use Rattle.pc_reading.specs.Scope.{Scope, Moment, add_entry, resources_declared, with_known}
+use Rattle.pc_reading.specs.Scope.{Scope, Moment, add_entry, with_known}
 use Rattle.pc_reading.specs.Types.{has_entry}
+use Rattle.pc_reading.specs.World.{resources_declared}
 
 -- a value that is there
 abbrev pub option_as_value : Option (CoreValue Mark) → Option (MaybeValue Mark)

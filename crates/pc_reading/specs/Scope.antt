@@ -1,14 +1,15 @@
 -- What a reading knows at one moment: the scope of the component instance that it reads, and what all of them share.
-use Rattle.std.specs.Prelude.{ℕ, List, [], ◌∷◌, ◌++◌, length, Option, Some, None}
-use Rattle.std.specs.List.{filter_map}
+use Rattle.std.specs.Prelude.{ℕ, List, [], ◌∷◌, ◌++◌}
+use Rattle.pc_types.specs.declared.parsed.CoreFuncSig.{CoreFuncSig}
 use Rattle.pc_types.specs.declared.parsed.CoreKind.{CoreKind}
 use Rattle.pc_types.specs.declared.parsed.CoreKind.TheVariants as core
 use Rattle.pc_types.specs.TypeTree.{TypeTree, Identity}
-use Rattle.pc_semantics.specs.CoreValue.{CoreValue}
-use Rattle.pc_semantics.specs.Log.{Entry, declared_resource}
-use Rattle.pc_parsed.specs.Scope.{Mark}
+use Rattle.pc_semantics.specs.CoreValue.{CoreValue, intrinsic}
+use Rattle.pc_semantics.specs.Log.{Entry}
+use Rattle.pc_parsed.specs.Mark.{Mark}
 use Rattle.pc_reading.specs.Value.{Function, Module, Instance, Component, Value, Chain, inside, pack_components}
 use Rattle.pc_reading.specs.Value as value
+use Rattle.pc_reading.specs.World.{World, logging, with_intrinsic}
 
 -- an item of a bag, with its kind
 pub record CoreItem : Type 0 where
@@ -58,12 +59,6 @@ fresh args known chain c = record {
   component_instance = c;
 }
 
--- what all component instances share: what was done so far, how many of them have begun, and the total
-pub record World : Type 0 where
-  pub log : List (Entry Mark)
-  pub begun : ℕ
-  pub total : ℕ
-
 -- a scope in a world
 pub record Moment : Type 0 where
   pub scope : Scope
@@ -101,19 +96,6 @@ with_value s (value.type_value t) = s
 abbrev pub with_core_instance : Scope → CoreInstance → Scope
 with_core_instance s i = record s { core_instances = s.core_instances ++ i ∷ [] }
 
--- a world with one more entry in the log
-abbrev pub logging : World → Entry Mark → World
-logging w e = record w { log = w.log ++ e ∷ [] }
-
--- an entry that declares a resource
-abbrev pub is_declaration : Entry Mark → Option (Entry Mark)
-is_declaration (declared_resource representation destructor c) = Some (declared_resource representation destructor c)
-is_declaration _ = None
-
--- how many resources were declared so far
-abbrev pub resources_declared : World → ℕ
-resources_declared w = length (filter_map is_declaration w.log)
-
 -- a moment in which these resources are known
 abbrev pub with_known : Moment → List (ℕ × Identity) → Moment
 with_known now known = record now { scope = record now.scope { known = known } }
@@ -133,3 +115,8 @@ add_core_instance now i = record now { scope = with_core_instance now.scope i }
 -- one more entry in the log
 abbrev pub add_entry : Moment → Entry Mark → Moment
 add_entry now e = record now { world = logging now.world e }
+
+-- one more core function, which is an intrinsic
+abbrev pub add_intrinsic : Moment → (place : ℕ) → CoreFuncSig → Moment
+add_intrinsic now place s =
+    add_core (record now { world = with_intrinsic now.world place s }) core.Func (intrinsic place)

@@ -18,10 +18,6 @@ use Rattle.pc_parsed.specs.Program.{item_count}
 use Rattle.pc_reading.specs.Item
 use Rattle.pc_reading.specs.Section.{modules_of}
 
--- the number that the total may not reach
-abbrev pub full : ℕ
-full = 4294967295
-
 -- the entities of a module record, imported and defined
 abbrev pub entities_of : ModuleRecord → ℕ
 entities_of r =
@@ -67,8 +63,9 @@ greatest f (x ∷ xs) = max (f x) (greatest f xs)
 abbrev pub record_imports : ModuleRecord → ℕ
 record_imports r = length r.imports
 
--- What an item weighs: 8, and 1 for each option, argument and export, and for each type number or entity three and
--- three times the entries of the table; and for four kinds more.
+-- What an item weighs: 8, and 1 for each option, argument and export, of which an export item is one itself; for each
+-- type number or entity three and three times the entries of the table, which are its types alone; and for four kinds
+-- more. An argument or export whose index is that of a type names a type number besides.
 module _ (t : TypeTable) (ms : List ModuleRecord) where
   -- what a type number weighs
   abbrev pub type_weight : ℕ

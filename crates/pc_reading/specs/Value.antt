@@ -5,7 +5,7 @@ use Rattle.std.specs.Prelude.{if◌then◌else◌}
 use Rattle.pc_types.specs.TypeTree.{TypeTree, Path}
 use Rattle.pc_semantics.specs.CoreValue.{CoreValue, Options}
 use Rattle.pc_parsed.specs.declared.payload.ExternName.{ExternName}
-use Rattle.pc_parsed.specs.Scope.{Mark}
+use Rattle.pc_parsed.specs.Mark.{Mark}
 use Rattle.pc_reading.specs.Item.{Items, Lent, a_module, a_component}
 
 -- a component function: one of the host, by its path; one lifted from a core function; or an unsafe intrinsic, by its

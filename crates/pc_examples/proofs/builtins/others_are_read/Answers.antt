@@ -6,6 +6,10 @@ pub returns-clause-other_builtins : goal.returns-clause-other_builtins
 unfolding on_literals
 returns-clause-other_builtins c = refl
 
+pub returns-clause-slot_twice : goal.returns-clause-slot_twice
+unfolding on_literals
+returns-clause-slot_twice c = refl
+
 pub returns-clause-unknown_resource : goal.returns-clause-unknown_resource
 unfolding on_literals
 returns-clause-unknown_resource c = refl
