@@ -1,0 +1,2 @@
+-- What the contract rests on.
+pub mod Whole
