@@ -1,0 +1,46 @@
+//! Inputs without a program.
+
+use crate::inputs::{input_of, program};
+use pc_types::{Error, Place, Unsupported};
+use std::alloc::Global;
+use std::test::Fail;
+
+fn at(payload: u64, item: u64) -> Place {
+    Place::Payload { payload, item }
+}
+
+fn refusal(alloc: Global, payloads: &str) -> Result<Option<Error>, Fail> {
+    let input = input_of(alloc, payloads)?;
+    Ok(program(alloc, &input).err())
+}
+
+#[test]
+fn a_list_with_a_static_fault_has_no_program(rt: HostRuntime) -> Result<(), Fail> {
+    let rows = [
+        (r#""version","end","custom""#, Error::Malformed(at(2, 0))),
+        (
+            r#""version","component","version","end""#,
+            Error::Malformed(at(4, 0)),
+        ),
+        (
+            r#""version","component","version",{"aliases":[{"outer":["core-module",1,0]},{"outer":["component",2,0]}]},"end","end""#,
+            Error::Malformed(at(3, 1)),
+        ),
+        (
+            r#""version",{"canon":[["future.forward"]]},"end""#,
+            Error::Unsupported(Unsupported::FutureForward, at(1, 0)),
+        ),
+    ];
+    for (text, error) in rows {
+        assert_eq!(rt; refusal(rt.alloc(), text)?, Some(error), "{text}");
+    }
+    Ok(())
+}
+
+#[test]
+fn an_outer_alias_of_types_may_count_past_the_root(rt: HostRuntime) -> Result<(), Fail> {
+    let text =
+        r#""version",{"aliases":[{"outer":["type",7,0]},{"outer":["core-type",9,0]}]},"end""#;
+    assert_eq!(rt; refusal(rt.alloc(), text)?, None);
+    Ok(())
+}

@@ -1,0 +1,12 @@
+-- What the functions of this crate rest on.
+mod PlaceLemmas
+mod CaptureLemmas
+mod StandLemmas
+mod PartLemmas
+mod EntryLemmas
+mod ReadLemmas
+mod StateLemmas
+mod EndLemmas
+mod PassLemmas
+mod NextLemmas
+mod RoomLemmas

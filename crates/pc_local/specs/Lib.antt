@@ -1,0 +1,8 @@
+-- What the public contract rests on, in reading order.
+pub mod Plain
+pub mod Standing
+pub mod Program
+-- What the functions inside promise each other.
+pub mod Entries
+pub mod Captured
+pub mod Open
