@@ -1,5 +1,5 @@
 -- Canonical functions: an array that begins with a name. `s` is the core signature that follows it.
-use Rattle.std.specs.Prelude.{ℕ, Bool, List, [], ◌∷◌, Option, Some, None, option_map, codes, is_some}
+use Rattle.std.specs.Prelude.{ℕ, Bool, List, [], ◌∷◌, Option, Some, None, codes, is_some}
 use Rattle.std.specs.Prelude.{if◌then◌else◌}
 use Rattle.std.specs.Str.{bytes_eq}
 use Rattle.serde_json.specs.Data.{Data}
@@ -10,7 +10,7 @@ use Rattle.pc_parsed.specs.declared.canon.CanonItem.{CanonItem}
 use Rattle.pc_parsed.specs.declared.canon.CanonItem.TheVariants as canon
 use Rattle.pc_parsed.specs.declared.canon.CanonOption.{CanonOption}
 use Rattle.pc_parsed.specs.declared.canon.CanonOption.TheVariants as option
-use Rattle.pc_form.specs.Tree.{◌>>=◌, whole, word, or_null, making, each, headed, numbered}
+use Rattle.pc_form.specs.Tree.{◌>>=◌, whole, word, or_null, each, headed, numbered}
 use Rattle.pc_form.specs.Words.{core_types}
 use Rattle.pc_form.specs.Types.{val_type}
 
@@ -47,20 +47,10 @@ canon_option d = if is_some (as_str d) then word option_words d else (headed d >
 abbrev pub options : Data → Option (List CanonOption)
 options = each canon_option
 
--- two parts of a canonical function
-abbrev pub making_two : {A B C : Type 0} → (A → B → C) → (Data → Option A) → (Data → Option B)
-    → Data → Data → Option C
-making_two make f g a b = do
-  x ← f a
-  y ← g b
-  Some (make x y)
-
 -- what the row of a name makes of a part that f reads
-abbrev pub by_part : {A : Type 0} → List (List ℕ × (A → CanonItem)) → List ℕ → (Data → Option A)
+abbrev pub by_part : {A : Type 0} → (A → List (List ℕ × CanonItem)) → List ℕ → (Data → Option A)
     → Data → Option CanonItem
-by_part rows w f d = do
-  x ← f d
-  option_map (λ make. make x) (value_of w rows)
+by_part rows w f d = f d >>= λ x. value_of w (rows x)
 
 -- nothing follows
 unfoldable pub of_nothing : List (List ℕ × CanonItem)
@@ -73,51 +63,51 @@ of_nothing =
     ∷ []
 
 -- the signature alone
-unfoldable pub of_signature : List (List ℕ × (ℕ → CanonItem))
-of_signature =
-    (codes "backpressure.inc", canon.BackpressureInc)
-    ∷ (codes "backpressure.dec", canon.BackpressureDec)
-    ∷ (codes "task.cancel", canon.TaskCancel)
-    ∷ (codes "waitable-set.new", canon.WaitableSetNew)
-    ∷ (codes "waitable-set.drop", canon.WaitableSetDrop)
-    ∷ (codes "waitable.join", canon.WaitableJoin)
-    ∷ (codes "subtask.drop", canon.SubtaskDrop)
-    ∷ (codes "error-context.drop", canon.ErrorContextDrop)
-    ∷ (codes "thread.index", canon.ThreadIndex)
-    ∷ (codes "thread.resume-later", canon.ThreadResumeLater)
-    ∷ (codes "thread.suspend", canon.ThreadSuspend)
-    ∷ (codes "thread.yield", canon.ThreadYield)
-    ∷ (codes "thread.suspend-then-resume", canon.ThreadSuspendThenResume)
-    ∷ (codes "thread.yield-then-resume", canon.ThreadYieldThenResume)
-    ∷ (codes "thread.suspend-then-promote", canon.ThreadSuspendThenPromote)
-    ∷ (codes "thread.yield-then-promote", canon.ThreadYieldThenPromote)
+unfoldable pub of_signature : ℕ → List (List ℕ × CanonItem)
+of_signature s =
+    (codes "backpressure.inc", canon.BackpressureInc s)
+    ∷ (codes "backpressure.dec", canon.BackpressureDec s)
+    ∷ (codes "task.cancel", canon.TaskCancel s)
+    ∷ (codes "waitable-set.new", canon.WaitableSetNew s)
+    ∷ (codes "waitable-set.drop", canon.WaitableSetDrop s)
+    ∷ (codes "waitable.join", canon.WaitableJoin s)
+    ∷ (codes "subtask.drop", canon.SubtaskDrop s)
+    ∷ (codes "error-context.drop", canon.ErrorContextDrop s)
+    ∷ (codes "thread.index", canon.ThreadIndex s)
+    ∷ (codes "thread.resume-later", canon.ThreadResumeLater s)
+    ∷ (codes "thread.suspend", canon.ThreadSuspend s)
+    ∷ (codes "thread.yield", canon.ThreadYield s)
+    ∷ (codes "thread.suspend-then-resume", canon.ThreadSuspendThenResume s)
+    ∷ (codes "thread.yield-then-resume", canon.ThreadYieldThenResume s)
+    ∷ (codes "thread.suspend-then-promote", canon.ThreadSuspendThenPromote s)
+    ∷ (codes "thread.yield-then-promote", canon.ThreadYieldThenPromote s)
     ∷ []
 
 -- the signature, and a number: a resource, a memory, a stream or future type
-unfoldable pub of_index : ℕ → List (List ℕ × (ℕ → CanonItem))
-of_index s =
-    (codes "resource.new", canon.ResourceNew s)
-    ∷ (codes "resource.rep", canon.ResourceRep s)
-    ∷ (codes "resource.drop", canon.ResourceDrop s)
-    ∷ (codes "waitable-set.wait", canon.WaitableSetWait s)
-    ∷ (codes "waitable-set.poll", canon.WaitableSetPoll s)
-    ∷ (codes "stream.new", canon.StreamNew s)
-    ∷ (codes "stream.drop-readable", canon.StreamDropReadable s)
-    ∷ (codes "stream.drop-writable", canon.StreamDropWritable s)
-    ∷ (codes "future.new", canon.FutureNew s)
-    ∷ (codes "future.drop-readable", canon.FutureDropReadable s)
-    ∷ (codes "future.drop-writable", canon.FutureDropWritable s)
+unfoldable pub of_index : ℕ → ℕ → List (List ℕ × CanonItem)
+of_index s n =
+    (codes "resource.new", canon.ResourceNew s n)
+    ∷ (codes "resource.rep", canon.ResourceRep s n)
+    ∷ (codes "resource.drop", canon.ResourceDrop s n)
+    ∷ (codes "waitable-set.wait", canon.WaitableSetWait s n)
+    ∷ (codes "waitable-set.poll", canon.WaitableSetPoll s n)
+    ∷ (codes "stream.new", canon.StreamNew s n)
+    ∷ (codes "stream.drop-readable", canon.StreamDropReadable s n)
+    ∷ (codes "stream.drop-writable", canon.StreamDropWritable s n)
+    ∷ (codes "future.new", canon.FutureNew s n)
+    ∷ (codes "future.drop-readable", canon.FutureDropReadable s n)
+    ∷ (codes "future.drop-writable", canon.FutureDropWritable s n)
     ∷ []
 
 -- the signature, and whether the call is asynchronous
-unfoldable pub of_flag : ℕ → List (List ℕ × (Bool → CanonItem))
-of_flag s = (codes "subtask.cancel", canon.SubtaskCancel s) ∷ []
+unfoldable pub of_flag : ℕ → Bool → List (List ℕ × CanonItem)
+of_flag s async = (codes "subtask.cancel", canon.SubtaskCancel s async) ∷ []
 
 -- the signature, and options
-unfoldable pub of_options : ℕ → List (List ℕ × (List CanonOption → CanonItem))
-of_options s =
-    (codes "error-context.new", canon.ErrorContextNew s)
-    ∷ (codes "error-context.debug-message", canon.ErrorContextDebugMessage s)
+unfoldable pub of_options : ℕ → List CanonOption → List (List ℕ × CanonItem)
+of_options s os =
+    (codes "error-context.new", canon.ErrorContextNew s os)
+    ∷ (codes "error-context.debug-message", canon.ErrorContextDebugMessage s os)
     ∷ []
 
 -- the signature and one part, whose shape tells the tables apart
@@ -128,30 +118,31 @@ of_one s w a =
     else by_part (of_options s) w options a)
 
 -- the signature, a stream or future type, and whether the call is asynchronous
-unfoldable pub of_cancel : ℕ → ℕ → List (List ℕ × (Bool → CanonItem))
-of_cancel s ty =
-    (codes "stream.cancel-read", canon.StreamCancelRead s ty)
-    ∷ (codes "stream.cancel-write", canon.StreamCancelWrite s ty)
-    ∷ (codes "future.cancel-read", canon.FutureCancelRead s ty)
-    ∷ (codes "future.cancel-write", canon.FutureCancelWrite s ty)
+unfoldable pub of_cancel : ℕ → ℕ → Bool → List (List ℕ × CanonItem)
+of_cancel s ty async =
+    (codes "stream.cancel-read", canon.StreamCancelRead s ty async)
+    ∷ (codes "stream.cancel-write", canon.StreamCancelWrite s ty async)
+    ∷ (codes "future.cancel-read", canon.FutureCancelRead s ty async)
+    ∷ (codes "future.cancel-write", canon.FutureCancelWrite s ty async)
     ∷ []
 
 -- the signature, a stream or future type, and options
-unfoldable pub of_copy : ℕ → ℕ → List (List ℕ × (List CanonOption → CanonItem))
-of_copy s ty =
-    (codes "stream.read", canon.StreamRead s ty)
-    ∷ (codes "stream.write", canon.StreamWrite s ty)
-    ∷ (codes "future.read", canon.FutureRead s ty)
-    ∷ (codes "future.write", canon.FutureWrite s ty)
+unfoldable pub of_copy : ℕ → ℕ → List CanonOption → List (List ℕ × CanonItem)
+of_copy s ty os =
+    (codes "stream.read", canon.StreamRead s ty os)
+    ∷ (codes "stream.write", canon.StreamWrite s ty os)
+    ∷ (codes "future.read", canon.FutureRead s ty os)
+    ∷ (codes "future.write", canon.FutureWrite s ty os)
     ∷ []
 
 -- the signature, the type of a slot, and the slot
-unfoldable pub of_slot : ℕ → WasmValType → List (List ℕ × (ℕ → CanonItem))
-of_slot s ty = (codes "context.get", canon.ContextGet s ty) ∷ (codes "context.set", canon.ContextSet s ty) ∷ []
+unfoldable pub of_slot : ℕ → WasmValType → ℕ → List (List ℕ × CanonItem)
+of_slot s ty slot =
+    (codes "context.get", canon.ContextGet s ty slot) ∷ (codes "context.set", canon.ContextSet s ty slot) ∷ []
 
 -- the signature, a start type, and a table
-unfoldable pub of_start : ℕ → ℕ → List (List ℕ × (ℕ → CanonItem))
-of_start s ty = (codes "thread.new-indirect", canon.ThreadNewIndirect s ty) ∷ []
+unfoldable pub of_start : ℕ → ℕ → ℕ → List (List ℕ × CanonItem)
+of_start s ty table = (codes "thread.new-indirect", canon.ThreadNewIndirect s ty table) ∷ []
 
 -- the signature and two parts, of which the second is a number
 unfoldable pub of_two_numbered : ℕ → List ℕ → Data → Data → Option CanonItem
@@ -159,10 +150,17 @@ of_two_numbered s w a b =
     if is_some (as_number a) then (whole a >>= λ ty. by_part (of_start s ty) w whole b)
     else (word core_types a >>= λ ty. by_part (of_slot s ty) w whole b)
 
--- the signature and two parts, of which the second has options; a task's result may be left out
+-- a task's result, which may be left out, and options
+abbrev pub task_return : ℕ → Data → Data → Option CanonItem
+task_return s a b = do
+  x ← or_null val_type a
+  os ← options b
+  Some (canon.TaskReturn s x os)
+
+-- the signature and two parts, of which the second has options
 unfoldable pub of_two_with_options : ℕ → List ℕ → Data → Data → Option CanonItem
 of_two_with_options s w a b =
-    if bytes_eq w (codes "task.return") then making_two (canon.TaskReturn s) (or_null val_type) options a b
+    if bytes_eq w (codes "task.return") then task_return s a b
     else (whole a >>= λ ty. by_part (of_copy s ty) w options b)
 
 -- the signature and two parts, of which the shape of the second tells the tables apart
@@ -172,8 +170,8 @@ of_two s w a b =
     else (if is_some (as_number b) then of_two_numbered s w a b else of_two_with_options s w a b)
 
 -- function, function type, signature, options
-unfoldable pub of_function : List (List ℕ × (ℕ → ℕ → ℕ → List CanonOption → CanonItem))
-of_function = (codes "lift", canon.Lift) ∷ (codes "lower", canon.Lower) ∷ []
+unfoldable pub of_function : ℕ → ℕ → ℕ → List CanonOption → List (List ℕ × CanonItem)
+of_function f ty s os = (codes "lift", canon.Lift f ty s os) ∷ (codes "lower", canon.Lower f ty s os) ∷ []
 
 -- `lift` or `lower`, by its four parts
 unfoldable pub of_four : List ℕ → Data → Data → Data → Data → Option CanonItem
@@ -182,16 +180,20 @@ of_four w func ty core opts = do
   t ← whole ty
   s ← whole core
   os ← options opts
-  option_map (λ make. make f t s os) (value_of w of_function)
+  value_of w (of_function f t s os)
+
+-- the signature, and what follows it
+abbrev pub of_rest : ℕ → List ℕ → List Data → Option CanonItem
+of_rest s w [] = value_of w (of_signature s)
+of_rest s w (a ∷ []) = of_one s w a
+of_rest s w (a ∷ b ∷ []) = of_two s w a b
+of_rest s w _ = None
 
 -- a canonical function, by its name and what follows it
 unfoldable pub canon_from : List ℕ → List Data → Option CanonItem
 canon_from w [] = value_of w of_nothing
-canon_from w (core ∷ []) = numbered of_signature w core
-canon_from w (core ∷ a ∷ []) = whole core >>= λ s. of_one s w a
-canon_from w (core ∷ a ∷ b ∷ []) = whole core >>= λ s. of_two s w a b
 canon_from w (func ∷ ty ∷ core ∷ opts ∷ []) = of_four w func ty core opts
-canon_from w _ = None
+canon_from w (core ∷ rest) = whole core >>= λ s. of_rest s w rest
 
 -- a canonical function: an array that begins with its name
 unfoldable pub canon_item : Data → Option CanonItem

@@ -25,17 +25,29 @@ module_record imports funcs tables memories globals tags exports = record {
   exports = exports;
 }
 
+-- how many tables, globals and tags there are
+abbrev pub counts : Data → Option (ℕ × ℕ × ℕ)
+counts d = do
+  tables ← field (codes "tables") whole d
+  globals ← field (codes "globals") whole d
+  tags ← field (codes "tags") whole d
+  Some (tables, globals, tags)
+
+-- what the members of a core module say, without its type
+abbrev pub record_members : Rules → Data → Option ModuleRecord
+record_members r d = do
+  imports ← field (codes "imports") (each (core_import r)) d
+  funcs ← field (codes "funcs") (each whole) d
+  memories ← field (codes "memories") (each as_bool) d
+  exports ← field (codes "exports") (each (core_item r)) d
+  n ← counts d
+  Some (module_record imports funcs n.0 memories n.1 n.2 exports)
+
 -- {"ty":n,"imports":[["module","name",C],...],"funcs":[s,...],"tables":n,"memories":[bool,...],"globals":n,
 -- "tags":n,"exports":[["name",core kind,i],...]}
 unfoldable pub core_module : Rules → Data → Option Payload
 core_module r d = do
   _ ← exactly 8 d
   ty ← field (codes "ty") whole d
-  imports ← field (codes "imports") (each (core_import r)) d
-  funcs ← field (codes "funcs") (each whole) d
-  tables ← field (codes "tables") whole d
-  memories ← field (codes "memories") (each as_bool) d
-  globals ← field (codes "globals") whole d
-  tags ← field (codes "tags") whole d
-  exports ← field (codes "exports") (each (core_item r)) d
-  Some (payload.ModuleSection (module_record imports funcs tables memories globals tags exports) ty)
+  entities ← record_members r d
+  Some (payload.ModuleSection entities ty)

@@ -46,12 +46,16 @@ unfoldable pub export_entry : Rules → Data → Option ExportEntry
 export_entry r =
     of_triple (λ name kind i. record { name = name; kind = kind; index = i }) (extern_name r) (word item_kinds) whole
 
--- {"instantiate":[module,[["name",i],...]]} or {"exports":[["name",core kind,i],...]}
-unfoldable pub instance_item : Rules → Data → Option InstanceItem
-instance_item r = by_key (
+-- core instances, by key
+abbrev pub instance_keys : Rules → List (List ℕ × (Data → Option InstanceItem))
+instance_keys r =
     (codes "instantiate", of_pair instance.Instantiate whole (each (pair r.name whole)))
     ∷ (codes "exports", making instance.FromExports (each (core_item r)))
-    ∷ [])
+    ∷ []
+
+-- {"instantiate":[module,[["name",i],...]]} or {"exports":[["name",core kind,i],...]}
+unfoldable pub instance_item : Rules → Data → Option InstanceItem
+instance_item r = by_key (instance_keys r)
 
 -- [component,[["name",item kind,i],...],ty]
 abbrev pub component_instantiation : Rules → Data → Option ComponentInstanceItem
@@ -62,18 +66,26 @@ component_instantiation r =
 abbrev pub component_exports : Rules → Data → Option ComponentInstanceItem
 component_exports r = of_pair component_instance.FromExports (each (item_by_name r)) whole
 
+-- component instances, by key
+abbrev pub component_instance_keys : Rules → List (List ℕ × (Data → Option ComponentInstanceItem))
+component_instance_keys r =
+    (codes "instantiate", component_instantiation r) ∷ (codes "exports", component_exports r) ∷ []
+
 -- {"instantiate":[component,[["name",item kind,i],...],ty]} or {"exports":[[[NAME,item kind,i],...],ty]}
 unfoldable pub component_instance_item : Rules → Data → Option ComponentInstanceItem
-component_instance_item r =
-    by_key ((codes "instantiate", component_instantiation r) ∷ (codes "exports", component_exports r) ∷ [])
+component_instance_item r = by_key (component_instance_keys r)
 
--- {"export":[item kind,i,"name"]}, {"core-export":[core kind,i,"name"]} or {"outer":[k,count,i]}
-unfoldable pub alias_item : Rules → Data → Option AliasItem
-alias_item r = by_key (
+-- aliases, by key
+abbrev pub alias_keys : Rules → List (List ℕ × (Data → Option AliasItem))
+alias_keys r =
     (codes "export", of_triple alias.InstanceExport (word item_kinds) whole r.name)
     ∷ (codes "core-export", of_triple alias.CoreInstanceExport (word core_kinds) whole r.name)
     ∷ (codes "outer", of_triple alias.Outer (word outer_kinds) whole whole)
-    ∷ [])
+    ∷ []
+
+-- {"export":[item kind,i,"name"]}, {"core-export":[core kind,i,"name"]} or {"outer":[k,count,i]}
+unfoldable pub alias_item : Rules → Data → Option AliasItem
+alias_item r = by_key (alias_keys r)
 
 -- payloads that are words
 unfoldable pub payload_words : List (List ℕ × Payload)
@@ -87,18 +99,23 @@ payload_words =
     ∷ (codes "end", payload.End)
     ∷ []
 
+-- payloads of core modules, instances and aliases, by key
+abbrev pub instance_sections : Rules → List (List ℕ × (Data → Option Payload))
+instance_sections r =
+    (codes "module", core_module r)
+    ∷ (codes "instances", making payload.InstanceSection (section r (instance_item r)))
+    ∷ (codes "component-instances", making payload.ComponentInstanceSection (section r (component_instance_item r)))
+    ∷ (codes "aliases", making payload.ComponentAliasSection (section r (alias_item r)))
+    ∷ []
+
 -- payloads that are objects, by key
 unfoldable pub payload_keys : Rules → List (List ℕ × (Data → Option Payload))
 payload_keys r =
     (codes "types", making payload.ComponentTypeSection (section r type_item))
     ∷ (codes "imports", making payload.ComponentImportSection (section r (import_item r)))
     ∷ (codes "canon", making payload.ComponentCanonicalSection (section r canon_item))
-    ∷ (codes "module", core_module r)
-    ∷ (codes "instances", making payload.InstanceSection (section r (instance_item r)))
-    ∷ (codes "component-instances", making payload.ComponentInstanceSection (section r (component_instance_item r)))
     ∷ (codes "exports", making payload.ComponentExportSection (section r (export_entry r)))
-    ∷ (codes "aliases", making payload.ComponentAliasSection (section r (alias_item r)))
-    ∷ []
+    ∷ instance_sections r
 
 -- a payload: a word, or an object of one member
 unfoldable pub payload_of : Rules → Data → Option Payload

@@ -59,10 +59,9 @@ two f g _ = None
 abbrev pub three : {A B C : Type 0} → (Data → Option A) → (Data → Option B) → (Data → Option C) → List Data
     → Option (A × B × C)
 three f g h (a ∷ b ∷ c ∷ []) = do
-  x ← f a
-  y ← g b
+  x ← two f g (a ∷ b ∷ [])
   z ← h c
-  Some (x, y, z)
+  Some (x.0, x.1, z)
 three f g h _ = None
 
 -- an array of two

@@ -56,12 +56,16 @@ entity d = headed d >>= λ t. entity_from t.0 t.1
 unfoldable pub bare_core_entities : List (List ℕ × CoreEntity)
 bare_core_entities = (codes "table", core.Table) ∷ (codes "global", core.Global) ∷ (codes "tag", core.Tag) ∷ []
 
+-- a core entity of the word of its kind and one part
+abbrev pub core_entity_of : List ℕ → Data → Option CoreEntity
+core_entity_of w part =
+    if bytes_eq w (codes "func") then making core.Func whole part
+    else (if bytes_eq w (codes "memory") then making core.Memory as_bool part else None)
+
 -- a core entity of what follows the word of its kind
 abbrev pub core_entity_from : List ℕ → List Data → Option CoreEntity
 core_entity_from w [] = value_of w bare_core_entities
-core_entity_from w (part ∷ []) =
-    if bytes_eq w (codes "func") then making core.Func whole part
-    else (if bytes_eq w (codes "memory") then making core.Memory as_bool part else None)
+core_entity_from w (part ∷ []) = core_entity_of w part
 core_entity_from w _ = None
 
 -- ["table"], ["global"], ["tag"], ["func",s], or ["memory",b], b true for 64-bit
@@ -94,7 +98,16 @@ core_import r = triple r.name r.name core_entity
 abbrev pub core_export : Rules → Data → Option (List ℕ × CoreEntity)
 core_export r = pair r.name core_entity
 
--- entries over value types and resources, by key
+-- entries over resources, streams and futures, by key
+abbrev pub handle_keys : List (List ℕ × (Data → Option DeclType))
+handle_keys =
+    (codes "own", making entry.Own whole)
+    ∷ (codes "borrow", making entry.Borrow whole)
+    ∷ (codes "stream", making entry.Stream (or_null val_type))
+    ∷ (codes "future", making entry.Future (or_null val_type))
+    ∷ []
+
+-- entries over value types, resources, streams and futures, by key
 unfoldable pub value_keys : List (List ℕ × (Data → Option DeclType))
 value_keys =
     (codes "val", making entry.Val val_type)
@@ -102,24 +115,25 @@ value_keys =
     ∷ (codes "option", making entry.Option val_type)
     ∷ (codes "tuple", making entry.Tuple (each val_type))
     ∷ (codes "result", of_pair entry.Result (or_null val_type) (or_null val_type))
-    ∷ (codes "own", making entry.Own whole)
-    ∷ (codes "borrow", making entry.Borrow whole)
-    ∷ (codes "stream", making entry.Stream (or_null val_type))
-    ∷ (codes "future", making entry.Future (or_null val_type))
-    ∷ []
+    ∷ handle_keys
 
--- entries with names, and the ones above
-unfoldable pub entry_keys : Rules → List (List ℕ × (Data → Option DeclType))
-entry_keys r =
-    (codes "func", func_type r)
-    ∷ (codes "record", making entry.Record (each (pair r.name val_type)))
+-- entries whose parts have names, and those over value types, by key
+abbrev pub named_keys : Rules → List (List ℕ × (Data → Option DeclType))
+named_keys r =
+    (codes "record", making entry.Record (each (pair r.name val_type)))
     ∷ (codes "variant", making entry.Variant (each (pair r.name (or_null val_type))))
     ∷ (codes "flags", making entry.Flags (each r.name))
     ∷ (codes "enum", making entry.Enum (each r.name))
+    ∷ value_keys
+
+-- all entries that are objects, by key
+unfoldable pub entry_keys : Rules → List (List ℕ × (Data → Option DeclType))
+entry_keys r =
+    (codes "func", func_type r)
     ∷ (codes "instance", making entry.Instance (each (named_entity r)))
     ∷ (codes "component", of_pair entry.Component (each (named_entity r)) (each (named_entity r)))
     ∷ (codes "module", of_pair entry.Module (each (core_import r)) (each (core_export r)))
-    ∷ value_keys
+    ∷ named_keys r
 
 -- an entry of the table: "resource", or an object of one member
 unfoldable pub decl_type : Rules → Data → Option DeclType

@@ -3,14 +3,13 @@
 //! A canonical function is an array that begins with its name. How many parts follow the name, and of which shape they
 //! are, tells the functions apart first. So each name stands in one place, in a table of those with the same parts.
 
-ghost use Rattle.std.specs.Prelude.{◌≡◌, option_map, map};
+ghost use Rattle.std.specs.Prelude.{◌≡◌, map};
 ghost use Rattle.serde_json.specs.View.{view};
 ghost use Rattle.pc_entity.specs.Lists.{value_of};
 ghost use Rattle.pc_form.specs.Canon.{of_nothing, of_signature};
 ghost use Rattle.pc_form.specs.Canon.{of_index, of_flag, of_options, of_one, of_cancel, of_copy, of_slot, of_start};
-ghost use Rattle.pc_form.specs.Canon.{of_two_numbered, of_two_with_options, of_two, of_function, of_four, canon_from};
-ghost use Rattle.pc_form.specs.Canon.{canon_item};
-ghost use Rattle.pc_form.specs.Tree.{numbered};
+ghost use Rattle.pc_form.specs.Canon.{of_two_numbered, of_two_with_options, of_two, of_function, of_four, of_rest, canon_from};
+ghost use Rattle.pc_form.specs.Canon.{canon_item, task_return};
 ghost use Rattle.pc_form.specs.Reads.{Reads};
 
 use crate::DecodeError;
@@ -40,7 +39,7 @@ fn of_nothing(name: &str) -> Option<CanonItem>
 /// A canonical function of a signature.
 #[tactic(auto, unfolding(crate::specs::Canon::of_signature))]
 fn of_signature(name: &str, core: u32) -> Option<CanonItem>
-    ensures { result ≡ option_map (λ make. make core) (value_of name.now of_signature) }
+    ensures { result ≡ value_of name.now (of_signature core) }
 {
     match name {
         "backpressure.inc" => Some(CanonItem::BackpressureInc(core)),
@@ -63,23 +62,10 @@ fn of_signature(name: &str, core: u32) -> Option<CanonItem>
     }
 }
 
-/// A canonical function of a signature alone, which stands in the input.
-fn of_signature_at<F: Form>(
-    form: &F,
-    alloc: Global,
-    name: &str,
-    core: &Value,
-) -> Result<CanonItem, DecodeError>
-    ensures { Reads result (numbered of_signature name.now (view core.now)) }
-{
-    let core = u32::read(form, alloc, core)?;
-    of_signature(name, core).ok_or(DecodeError::BadForm)
-}
-
 /// A canonical function of a signature and a number.
 #[tactic(auto, unfolding(crate::specs::Canon::of_index))]
 fn of_index(name: &str, core: u32, n: u32) -> Option<CanonItem>
-    ensures { result ≡ option_map (λ make. make n) (value_of name.now (of_index core)) }
+    ensures { result ≡ value_of name.now (of_index core n) }
 {
     match name {
         "resource.new" => Some(CanonItem::ResourceNew(core, n)),
@@ -100,7 +86,7 @@ fn of_index(name: &str, core: u32, n: u32) -> Option<CanonItem>
 /// A canonical function of a signature, asynchronous or not.
 #[tactic(auto, unfolding(crate::specs::Canon::of_flag))]
 fn of_flag(name: &str, core: u32, async_: bool) -> Option<CanonItem>
-    ensures { result ≡ option_map (λ make. make async_) (value_of name.now (of_flag core)) }
+    ensures { result ≡ value_of name.now (of_flag core async_) }
 {
     match name {
         "subtask.cancel" => Some(CanonItem::SubtaskCancel(core, async_)),
@@ -111,7 +97,7 @@ fn of_flag(name: &str, core: u32, async_: bool) -> Option<CanonItem>
 /// A canonical function of a signature and options.
 #[tactic(auto, unfolding(crate::specs::Canon::of_options))]
 fn of_options(name: &str, core: u32, opts: Seq<CanonOption>) -> Option<CanonItem>
-    ensures { result ≡ option_map (λ make. make opts) (value_of name.now (of_options core)) }
+    ensures { result ≡ value_of name.now (of_options core opts) }
 {
     match name {
         "error-context.new" => Some(CanonItem::ErrorContextNew(core, opts)),
@@ -145,7 +131,7 @@ fn of_one<F: Form>(
 /// A canonical function of a signature and a stream or future type, asynchronous or not.
 #[tactic(auto, unfolding(crate::specs::Canon::of_cancel))]
 fn of_cancel(name: &str, core: u32, ty: u32, async_: bool) -> Option<CanonItem>
-    ensures { result ≡ option_map (λ make. make async_) (value_of name.now (of_cancel core ty)) }
+    ensures { result ≡ value_of name.now (of_cancel core ty async_) }
 {
     match name {
         "stream.cancel-read" => Some(CanonItem::StreamCancelRead(core, ty, async_)),
@@ -159,7 +145,7 @@ fn of_cancel(name: &str, core: u32, ty: u32, async_: bool) -> Option<CanonItem>
 /// A canonical function of a signature, a stream or future type, and options.
 #[tactic(auto, unfolding(crate::specs::Canon::of_copy))]
 fn of_copy(name: &str, core: u32, ty: u32, opts: Seq<CanonOption>) -> Option<CanonItem>
-    ensures { result ≡ option_map (λ make. make opts) (value_of name.now (of_copy core ty)) }
+    ensures { result ≡ value_of name.now (of_copy core ty opts) }
 {
     match name {
         "stream.read" => Some(CanonItem::StreamRead(core, ty, opts)),
@@ -173,7 +159,7 @@ fn of_copy(name: &str, core: u32, ty: u32, opts: Seq<CanonOption>) -> Option<Can
 /// A canonical function of a signature, the type of a slot, and the slot.
 #[tactic(auto, unfolding(crate::specs::Canon::of_slot))]
 fn of_slot(name: &str, core: u32, ty: WasmValType, slot: u32) -> Option<CanonItem>
-    ensures { result ≡ option_map (λ make. make slot) (value_of name.now (of_slot core ty)) }
+    ensures { result ≡ value_of name.now (of_slot core ty slot) }
 {
     match name {
         "context.get" => Some(CanonItem::ContextGet(core, ty, slot)),
@@ -185,7 +171,7 @@ fn of_slot(name: &str, core: u32, ty: WasmValType, slot: u32) -> Option<CanonIte
 /// A canonical function of a signature, a start type, and a table.
 #[tactic(auto, unfolding(crate::specs::Canon::of_start))]
 fn of_start(name: &str, core: u32, ty: u32, table: u32) -> Option<CanonItem>
-    ensures { result ≡ option_map (λ make. make table) (value_of name.now (of_start core ty)) }
+    ensures { result ≡ value_of name.now (of_start core ty table) }
 {
     match name {
         "thread.new-indirect" => Some(CanonItem::ThreadNewIndirect(core, ty, table)),
@@ -215,6 +201,21 @@ fn of_two_numbered<F: Form>(
     of_slot(name, core, ty, slot).ok_or(DecodeError::BadForm)
 }
 
+/// `task.return` of a signature, with its result and options.
+fn task_return<F: Form>(
+    form: &F,
+    alloc: Global,
+    core: u32,
+    a: &Value,
+    b: &Value,
+) -> Result<CanonItem, DecodeError>
+    ensures { Reads result (task_return core (view a.now) (view b.now)) }
+{
+    let result = read(form, alloc, a)?;
+    let opts = read(form, alloc, b)?;
+    Ok(CanonItem::TaskReturn(core, result, opts))
+}
+
 /// A canonical function of a signature and two parts, of which the second has options.
 #[tactic(auto, unfolding(crate::specs::Canon::of_two_with_options))]
 fn of_two_with_options<F: Form>(
@@ -228,9 +229,7 @@ fn of_two_with_options<F: Form>(
     ensures { Reads result (of_two_with_options core name.now (view a.now) (view b.now)) }
 {
     if name == "task.return" {
-        let result = read(form, alloc, a)?;
-        let opts = read(form, alloc, b)?;
-        return Ok(CanonItem::TaskReturn(core, result, opts));
+        return task_return(form, alloc, core, a, b);
     }
     let ty = u32::read(form, alloc, a)?;
     let opts = read(form, alloc, b)?;
@@ -269,7 +268,7 @@ fn of_function(
     core: u32,
     opts: Seq<CanonOption>,
 ) -> Option<CanonItem>
-    ensures { result ≡ option_map (λ make. make func ty core opts) (value_of name.now of_function) }
+    ensures { result ≡ value_of name.now (of_function func ty core opts) }
 {
     match name {
         "lift" => Some(CanonItem::Lift(func, ty, core, opts)),
@@ -298,6 +297,24 @@ fn of_four<F: Form>(
     of_function(name, func, ty, core, opts).ok_or(DecodeError::BadForm)
 }
 
+/// A canonical function of a signature and what follows it.
+fn of_rest<F: Form>(
+    form: &F,
+    alloc: Global,
+    name: &str,
+    core: u32,
+    parts: &[Value],
+) -> Result<CanonItem, DecodeError>
+    ensures { Reads result (of_rest core name.now (map view parts.now)) }
+{
+    match parts {
+        [] => of_signature(name, core).ok_or(DecodeError::BadForm),
+        [a] => of_one(form, alloc, name, core, a),
+        [a, b] => of_two(form, alloc, name, core, a, b),
+        _ => Err(DecodeError::BadForm),
+    }
+}
+
 /// A canonical function, by its name and what follows it.
 #[tactic(auto, unfolding(crate::specs::Canon::canon_from))]
 fn from_parts<F: Form>(
@@ -310,17 +327,11 @@ fn from_parts<F: Form>(
 {
     match parts {
         [] => of_nothing(name).ok_or(DecodeError::BadForm),
-        [core] => of_signature_at(form, alloc, name, core),
-        [core, a] => {
-            let core = u32::read(form, alloc, core)?;
-            of_one(form, alloc, name, core, a)
-        }
-        [core, a, b] => {
-            let core = u32::read(form, alloc, core)?;
-            of_two(form, alloc, name, core, a, b)
-        }
         [func, ty, core, opts] => of_four(form, alloc, name, func, ty, core, opts),
-        _ => Err(DecodeError::BadForm),
+        [core, rest @ ..] => {
+            let core = u32::read(form, alloc, core)?;
+            of_rest(form, alloc, name, core, rest)
+        }
     }
 }
 

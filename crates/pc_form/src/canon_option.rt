@@ -1,8 +1,10 @@
 //! The options of canonical functions: a word, or an array of a word and a number.
 
-ghost use Rattle.std.specs.Prelude.{◌≡◌, option_map};
+ghost use Rattle.std.specs.Prelude.{◌≡◌, option_map, map};
+ghost use Rattle.serde_json.specs.View.{view};
 ghost use Rattle.pc_entity.specs.Lists.{value_of};
-ghost use Rattle.pc_form.specs.Canon.{option_words, option_kinds, canon_option};
+ghost use Rattle.pc_form.specs.Canon.{option_words, option_kinds, option_from, canon_option};
+ghost use Rattle.pc_form.specs.Reads.{Reads};
 
 use crate::DecodeError;
 use crate::form::{Form, ReadForm};
@@ -41,6 +43,24 @@ fn numbered_option(kind: &str, n: u32) -> Option<CanonOption>
     }
 }
 
+/// An option of what follows its name.
+fn option_from<F: Form>(
+    form: &F,
+    alloc: Global,
+    kind: &str,
+    parts: &[Value],
+) -> Result<CanonOption, DecodeError>
+    ensures { Reads result (option_from kind.now (map view parts.now)) }
+{
+    match parts {
+        [n] => {
+            let n = u32::read(form, alloc, n)?;
+            numbered_option(kind, n).ok_or(DecodeError::BadForm)
+        }
+        _ => Err(DecodeError::BadForm),
+    }
+}
+
 impl ReadForm for CanonOption {
     ghost shape = { λ _. canon_option };
 
@@ -50,11 +70,8 @@ impl ReadForm for CanonOption {
             return option_word(word).ok_or(DecodeError::BadForm);
         }
         match headed(value) {
-            Some((kind, [n])) => {
-                let n = u32::read(form, alloc, n)?;
-                numbered_option(kind, n).ok_or(DecodeError::BadForm)
-            }
-            _ => Err(DecodeError::BadForm),
+            Some((kind, parts)) => option_from(form, alloc, kind, parts),
+            None => Err(DecodeError::BadForm),
         }
     }
 }

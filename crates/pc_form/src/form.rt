@@ -2,14 +2,14 @@
 //!
 //! A trait carries the shape of each type, so that one loop reads every list.
 
-ghost use Rattle.std.specs.Prelude.{◌≡◌, ℕ, List, Option, option_map, map, option_and_then};
+ghost use Rattle.std.specs.Prelude.{◌≡◌, ◌∷◌, [], ℕ, List, Option, option_map, map, option_and_then};
 ghost use Rattle.serde_json.specs.Data.{Data};
 ghost use Rattle.serde_json.specs.View.{view};
 ghost use Rattle.serde_json.specs.Find.{as_bool, get};
 ghost use Rattle.pc_entity.specs.Lists.{map_all, value_of};
 ghost use Rattle.pc_form.specs.Rules.{Rules, plain, section};
 ghost use Rattle.pc_form.specs.Reads.{Reads};
-ghost use Rattle.pc_form.specs.Tree.{whole, word, or_null, list_of, each, pair, triple, field};
+ghost use Rattle.pc_form.specs.Tree.{whole, word, or_null, list_of, each, two, pair, triple, field};
 
 use crate::DecodeError;
 use crate::tree::list;
@@ -118,16 +118,27 @@ impl<T: ReadForm> ReadForm for Option<T> {
     }
 }
 
+/// Two values, each read.
+fn two<A: ReadForm + Drop, B: ReadForm, F: Form>(
+    form: &F,
+    alloc: Global,
+    a: &Value,
+    b: &Value,
+) -> Result<(A, B), DecodeError>
+    ensures { Reads result (two (A.shape (F.rules form.now)) (B.shape (F.rules form.now))
+        (view a.now ∷ view b.now ∷ [])) }
+{
+    let first = A::read(form, alloc, a)?;
+    let second = B::read(form, alloc, b)?;
+    Ok((first, second))
+}
+
 impl<A: ReadForm + Drop, B: ReadForm> ReadForm for (A, B) {
     ghost shape = { λ rules. pair (A.shape rules) (B.shape rules) };
 
     fn read<F: Form>(form: &F, alloc: Global, value: &Value) -> Result<(A, B), DecodeError> {
         match list(value) {
-            Some([a, b]) => {
-                let first = A::read(form, alloc, a)?;
-                let second = B::read(form, alloc, b)?;
-                Ok((first, second))
-            }
+            Some([a, b]) => two(form, alloc, a, b),
             _ => Err(DecodeError::BadForm),
         }
     }
@@ -139,8 +150,7 @@ impl<A: ReadForm + Drop, B: ReadForm + Drop, C: ReadForm> ReadForm for (A, B, C)
     fn read<F: Form>(form: &F, alloc: Global, value: &Value) -> Result<(A, B, C), DecodeError> {
         match list(value) {
             Some([a, b, c]) => {
-                let first = A::read(form, alloc, a)?;
-                let second = B::read(form, alloc, b)?;
+                let (first, second) = two(form, alloc, a, b)?;
                 let third = C::read(form, alloc, c)?;
                 Ok((first, second, third))
             }

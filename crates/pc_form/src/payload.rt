@@ -3,7 +3,7 @@
 ghost use Rattle.std.specs.Prelude.{◌≡◌};
 ghost use Rattle.serde_json.specs.View.{view};
 ghost use Rattle.pc_entity.specs.Lists.{value_of};
-ghost use Rattle.pc_form.specs.Payload.{payload_words, payload_keys, payload_of};
+ghost use Rattle.pc_form.specs.Payload.{instance_sections, payload_words, payload_keys, payload_of};
 ghost use Rattle.pc_form.specs.Tree.{by_row};
 ghost use Rattle.pc_form.specs.Reads.{Reads};
 
@@ -36,6 +36,26 @@ fn bare(word: &str) -> Option<Payload>
     }
 }
 
+/// A payload of core modules, instances or aliases, by its key.
+fn instance_section<F: Form>(
+    form: &F,
+    alloc: Global,
+    key: &str,
+    value: &Value,
+) -> Result<Payload, DecodeError>
+    ensures { Reads result (by_row (instance_sections (F.rules form.now)) key.now (view value.now)) }
+{
+    match key {
+        "module" => core_module(form, alloc, value),
+        "instances" => Ok(Payload::InstanceSection(section(form, alloc, value)?)),
+        "component-instances" => Ok(Payload::ComponentInstanceSection(section(
+            form, alloc, value,
+        )?)),
+        "aliases" => Ok(Payload::ComponentAliasSection(section(form, alloc, value)?)),
+        _ => Err(DecodeError::BadForm),
+    }
+}
+
 /// A payload with content, by its key.
 #[tactic(auto, unfolding(crate::specs::Payload::payload_keys))]
 fn with_content<F: Form>(
@@ -50,14 +70,8 @@ fn with_content<F: Form>(
         "types" => Ok(Payload::ComponentTypeSection(section(form, alloc, value)?)),
         "imports" => Ok(Payload::ComponentImportSection(section(form, alloc, value)?)),
         "canon" => Ok(Payload::ComponentCanonicalSection(section(form, alloc, value)?)),
-        "module" => core_module(form, alloc, value),
-        "instances" => Ok(Payload::InstanceSection(section(form, alloc, value)?)),
-        "component-instances" => Ok(Payload::ComponentInstanceSection(section(
-            form, alloc, value,
-        )?)),
         "exports" => Ok(Payload::ComponentExportSection(section(form, alloc, value)?)),
-        "aliases" => Ok(Payload::ComponentAliasSection(section(form, alloc, value)?)),
-        _ => Err(DecodeError::BadForm),
+        _ => instance_section(form, alloc, key, value),
     }
 }
 

@@ -1,7 +1,11 @@
 //! The entries of a component's sections.
 
 ghost use Rattle.pc_form.specs.Payload.{type_item, import_item, export_entry, instance_item};
+ghost use Rattle.serde_json.specs.View.{view};
 ghost use Rattle.pc_form.specs.Payload.{component_instance_item, alias_item};
+ghost use Rattle.pc_form.specs.Payload.{instance_keys, component_instance_keys, alias_keys};
+ghost use Rattle.pc_form.specs.Tree.{by_row};
+ghost use Rattle.pc_form.specs.Reads.{Reads};
 
 use crate::DecodeError;
 use crate::form::{Form, ReadForm, read};
@@ -57,6 +61,25 @@ impl ReadForm for ExportEntry {
     }
 }
 
+/// A core instance, by its key.
+fn instance<F: Form>(
+    form: &F,
+    alloc: Global,
+    key: &str,
+    body: &Value,
+) -> Result<InstanceItem, DecodeError>
+    ensures { Reads result (by_row (instance_keys (F.rules form.now)) key.now (view body.now)) }
+{
+    match key {
+        "instantiate" => {
+            let (module, args) = read(form, alloc, body)?;
+            Ok(InstanceItem::Instantiate { module, args })
+        }
+        "exports" => Ok(InstanceItem::FromExports(read(form, alloc, body)?)),
+        _ => Err(DecodeError::BadForm),
+    }
+}
+
 /// `{"instantiate":[module,[["name",i],...]]}` or `{"exports":[["name",core kind,i],...]}`.
 impl ReadForm for InstanceItem {
     ghost shape = { instance_item };
@@ -64,13 +87,35 @@ impl ReadForm for InstanceItem {
     #[tactic(auto, unfolding(crate::specs::Payload::instance_item))]
     fn read<F: Form>(form: &F, alloc: Global, value: &Value) -> Result<InstanceItem, DecodeError> {
         match tagged(value) {
-            Some(("instantiate", body)) => {
-                let (module, args) = read(form, alloc, body)?;
-                Ok(InstanceItem::Instantiate { module, args })
-            }
-            Some(("exports", body)) => Ok(InstanceItem::FromExports(read(form, alloc, body)?)),
-            _ => Err(DecodeError::BadForm),
+            Some((key, body)) => instance(form, alloc, key, body),
+            None => Err(DecodeError::BadForm),
         }
+    }
+}
+
+/// A component instance, by its key.
+fn component_instance<F: Form>(
+    form: &F,
+    alloc: Global,
+    key: &str,
+    body: &Value,
+) -> Result<ComponentInstanceItem, DecodeError>
+    ensures { Reads result (by_row (component_instance_keys (F.rules form.now)) key.now (view body.now)) }
+{
+    match key {
+        "instantiate" => {
+            let (component, args, ty) = read(form, alloc, body)?;
+            Ok(ComponentInstanceItem::Instantiate {
+                component,
+                args,
+                ty,
+            })
+        }
+        "exports" => {
+            let (exports, ty) = read(form, alloc, body)?;
+            Ok(ComponentInstanceItem::FromExports { exports, ty })
+        }
+        _ => Err(DecodeError::BadForm),
     }
 }
 
@@ -85,20 +130,43 @@ impl ReadForm for ComponentInstanceItem {
         value: &Value,
     ) -> Result<ComponentInstanceItem, DecodeError> {
         match tagged(value) {
-            Some(("instantiate", body)) => {
-                let (component, args, ty) = read(form, alloc, body)?;
-                Ok(ComponentInstanceItem::Instantiate {
-                    component,
-                    args,
-                    ty,
-                })
-            }
-            Some(("exports", body)) => {
-                let (exports, ty) = read(form, alloc, body)?;
-                Ok(ComponentInstanceItem::FromExports { exports, ty })
-            }
-            _ => Err(DecodeError::BadForm),
+            Some((key, body)) => component_instance(form, alloc, key, body),
+            None => Err(DecodeError::BadForm),
         }
+    }
+}
+
+/// An alias, by its key.
+fn alias<F: Form>(
+    form: &F,
+    alloc: Global,
+    key: &str,
+    body: &Value,
+) -> Result<AliasItem, DecodeError>
+    ensures { Reads result (by_row (alias_keys (F.rules form.now)) key.now (view body.now)) }
+{
+    match key {
+        "export" => {
+            let (kind, instance, name) = read(form, alloc, body)?;
+            Ok(AliasItem::InstanceExport {
+                kind,
+                instance,
+                name,
+            })
+        }
+        "core-export" => {
+            let (kind, instance, name) = read(form, alloc, body)?;
+            Ok(AliasItem::CoreInstanceExport {
+                kind,
+                instance,
+                name,
+            })
+        }
+        "outer" => {
+            let (kind, count, index) = read(form, alloc, body)?;
+            Ok(AliasItem::Outer { kind, count, index })
+        }
+        _ => Err(DecodeError::BadForm),
     }
 }
 
@@ -109,27 +177,8 @@ impl ReadForm for AliasItem {
     #[tactic(auto, unfolding(crate::specs::Payload::alias_item))]
     fn read<F: Form>(form: &F, alloc: Global, value: &Value) -> Result<AliasItem, DecodeError> {
         match tagged(value) {
-            Some(("export", body)) => {
-                let (kind, instance, name) = read(form, alloc, body)?;
-                Ok(AliasItem::InstanceExport {
-                    kind,
-                    instance,
-                    name,
-                })
-            }
-            Some(("core-export", body)) => {
-                let (kind, instance, name) = read(form, alloc, body)?;
-                Ok(AliasItem::CoreInstanceExport {
-                    kind,
-                    instance,
-                    name,
-                })
-            }
-            Some(("outer", body)) => {
-                let (kind, count, index) = read(form, alloc, body)?;
-                Ok(AliasItem::Outer { kind, count, index })
-            }
-            _ => Err(DecodeError::BadForm),
+            Some((key, body)) => alias(form, alloc, key, body),
+            None => Err(DecodeError::BadForm),
         }
     }
 }

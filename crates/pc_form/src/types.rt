@@ -1,10 +1,12 @@
 //! The entries of the type table.
 
-ghost use Rattle.std.specs.Prelude.{◌≡◌, option_map};
+ghost use Rattle.std.specs.Prelude.{◌≡◌, option_map, map};
 ghost use Rattle.serde_json.specs.View.{view};
 ghost use Rattle.pc_entity.specs.Lists.{value_of};
-ghost use Rattle.pc_form.specs.Types.{core_sig, val_type, entity, entity_kinds, core_entity};
+ghost use Rattle.pc_form.specs.Types.{core_sig, val_type, entity, entity_from, entity_kinds, core_entity};
+ghost use Rattle.pc_form.specs.Types.{core_entity_from, core_entity_of};
 ghost use Rattle.pc_form.specs.Types.{bare_core_entities, func_members, func_type, value_keys, entry_keys};
+ghost use Rattle.pc_form.specs.Types.{handle_keys, named_keys};
 ghost use Rattle.pc_form.specs.Types.{decl_type, type_table};
 ghost use Rattle.pc_form.specs.Tree.{by_row};
 ghost use Rattle.pc_form.specs.Reads.{Reads};
@@ -59,6 +61,31 @@ fn numbered_entity(kind: &str, n: u32) -> Option<Entity>
     }
 }
 
+/// An entity of what follows the word of its kind.
+fn entity_from<F: Form>(
+    form: &F,
+    alloc: Global,
+    kind: &str,
+    parts: &[Value],
+) -> Result<Entity, DecodeError>
+    ensures { Reads result (entity_from kind.now (map view parts.now)) }
+{
+    match parts {
+        [] => {
+            if kind == "value" {
+                Ok(Entity::Value)
+            } else {
+                Err(DecodeError::BadForm)
+            }
+        }
+        [n] => {
+            let n = u32::read(form, alloc, n)?;
+            numbered_entity(kind, n).ok_or(DecodeError::BadForm)
+        }
+        _ => Err(DecodeError::BadForm),
+    }
+}
+
 /// `["func",n]` and its kin, or `["value"]`.
 impl ReadForm for Entity {
     ghost shape = { λ _. entity };
@@ -66,12 +93,8 @@ impl ReadForm for Entity {
     #[tactic(auto, unfolding(crate::specs::Types::entity))]
     fn read<F: Form>(form: &F, alloc: Global, value: &Value) -> Result<Entity, DecodeError> {
         match headed(value) {
-            Some(("value", [])) => Ok(Entity::Value),
-            Some((kind, [n])) => {
-                let n = u32::read(form, alloc, n)?;
-                numbered_entity(kind, n).ok_or(DecodeError::BadForm)
-            }
-            _ => Err(DecodeError::BadForm),
+            Some((kind, parts)) => entity_from(form, alloc, kind, parts),
+            None => Err(DecodeError::BadForm),
         }
     }
 }
@@ -89,6 +112,40 @@ fn bare_core_entity(kind: &str) -> Option<CoreEntity>
     }
 }
 
+/// A core entity of the word of its kind and one part.
+fn core_entity_of<F: Form>(
+    form: &F,
+    alloc: Global,
+    kind: &str,
+    part: &Value,
+) -> Result<CoreEntity, DecodeError>
+    ensures { Reads result (core_entity_of kind.now (view part.now)) }
+{
+    match kind {
+        "func" => Ok(CoreEntity::Func(u32::read(form, alloc, part)?)),
+        "memory" => Ok(CoreEntity::Memory {
+            memory64: bool::read(form, alloc, part)?,
+        }),
+        _ => Err(DecodeError::BadForm),
+    }
+}
+
+/// A core entity of what follows the word of its kind.
+fn core_entity_from<F: Form>(
+    form: &F,
+    alloc: Global,
+    kind: &str,
+    parts: &[Value],
+) -> Result<CoreEntity, DecodeError>
+    ensures { Reads result (core_entity_from kind.now (map view parts.now)) }
+{
+    match parts {
+        [] => bare_core_entity(kind).ok_or(DecodeError::BadForm),
+        [part] => core_entity_of(form, alloc, kind, part),
+        _ => Err(DecodeError::BadForm),
+    }
+}
+
 /// `["func",s]`, `["memory",b]` with `b` true for 64-bit, `["table"]`, `["global"]` or `["tag"]`.
 impl ReadForm for CoreEntity {
     ghost shape = { λ _. core_entity };
@@ -96,12 +153,8 @@ impl ReadForm for CoreEntity {
     #[tactic(auto, unfolding(crate::specs::Types::core_entity))]
     fn read<F: Form>(form: &F, alloc: Global, value: &Value) -> Result<CoreEntity, DecodeError> {
         match headed(value) {
-            Some((kind, [])) => bare_core_entity(kind).ok_or(DecodeError::BadForm),
-            Some(("func", [signature])) => Ok(CoreEntity::Func(u32::read(form, alloc, signature)?)),
-            Some(("memory", [wide])) => Ok(CoreEntity::Memory {
-                memory64: bool::read(form, alloc, wide)?,
-            }),
-            _ => Err(DecodeError::BadForm),
+            Some((kind, parts)) => core_entity_from(form, alloc, kind, parts),
+            None => Err(DecodeError::BadForm),
         }
     }
 }
@@ -133,7 +186,25 @@ fn func_type<F: Form>(form: &F, alloc: Global, value: &Value) -> Result<DeclType
     }
 }
 
-/// An entry over value types or resources, by its key.
+/// An entry over resources, streams or futures, by its key.
+fn handle_entry<F: Form>(
+    form: &F,
+    alloc: Global,
+    key: &str,
+    value: &Value,
+) -> Result<DeclType, DecodeError>
+    ensures { Reads result (by_row handle_keys key.now (view value.now)) }
+{
+    match key {
+        "own" => Ok(DeclType::Own(read(form, alloc, value)?)),
+        "borrow" => Ok(DeclType::Borrow(read(form, alloc, value)?)),
+        "stream" => Ok(DeclType::Stream(read(form, alloc, value)?)),
+        "future" => Ok(DeclType::Future(read(form, alloc, value)?)),
+        _ => Err(DecodeError::BadForm),
+    }
+}
+
+/// An entry over value types, resources, streams or futures, by its key.
 #[tactic(auto, unfolding(crate::specs::Types::value_keys))]
 fn value_entry<F: Form>(
     form: &F,
@@ -152,11 +223,25 @@ fn value_entry<F: Form>(
             let (ok, err) = read(form, alloc, value)?;
             Ok(DeclType::Result { ok, err })
         }
-        "own" => Ok(DeclType::Own(read(form, alloc, value)?)),
-        "borrow" => Ok(DeclType::Borrow(read(form, alloc, value)?)),
-        "stream" => Ok(DeclType::Stream(read(form, alloc, value)?)),
-        "future" => Ok(DeclType::Future(read(form, alloc, value)?)),
-        _ => Err(DecodeError::BadForm),
+        _ => handle_entry(form, alloc, key, value),
+    }
+}
+
+/// An entry whose parts have names, or one over value types, by its key.
+fn named_entry<F: Form>(
+    form: &F,
+    alloc: Global,
+    key: &str,
+    value: &Value,
+) -> Result<DeclType, DecodeError>
+    ensures { Reads result (by_row (named_keys (F.rules form.now)) key.now (view value.now)) }
+{
+    match key {
+        "record" => Ok(DeclType::Record(read(form, alloc, value)?)),
+        "variant" => Ok(DeclType::Variant(read(form, alloc, value)?)),
+        "flags" => Ok(DeclType::Flags(read(form, alloc, value)?)),
+        "enum" => Ok(DeclType::Enum(read(form, alloc, value)?)),
+        _ => value_entry(form, alloc, key, value),
     }
 }
 
@@ -172,10 +257,6 @@ fn entry<F: Form>(
 {
     match key {
         "func" => func_type(form, alloc, value),
-        "record" => Ok(DeclType::Record(read(form, alloc, value)?)),
-        "variant" => Ok(DeclType::Variant(read(form, alloc, value)?)),
-        "flags" => Ok(DeclType::Flags(read(form, alloc, value)?)),
-        "enum" => Ok(DeclType::Enum(read(form, alloc, value)?)),
         "instance" => Ok(DeclType::Instance {
             exports: read(form, alloc, value)?,
         }),
@@ -187,7 +268,7 @@ fn entry<F: Form>(
             let (imports, exports) = read(form, alloc, value)?;
             Ok(DeclType::Module { imports, exports })
         }
-        _ => value_entry(form, alloc, key, value),
+        _ => named_entry(form, alloc, key, value),
     }
 }
 
