@@ -1,8 +1,8 @@
 -- Bytes that have a reason to be refused have no plan.
 use Rattle.std.proofs.Common.{◌≡◌, inl, inr, ℕ, Bool, true, false, List, Option, Some, None, ap, subst}
 use Rattle.serde_json.specs.Data.{Data}
-use Rattle.pc_parsed.specs.Reading.{Outcome, Reading, done, fault}
-use Rattle.pc_parsed.specs.declared.fault.ItemFault.{ItemFault}
+use Rattle.pc_reading.specs.Outcome.{Outcome, Fault, done, fault}
+use Rattle.pc_reading.specs.Reading.{Reading}
 use Rattle.pc_types.specs.declared.error.Place.{Place}
 use Rattle.pc_form.specs.declared.input.Input.{Input}
 use Rattle.pc_form.specs.Input.{input_of, tree_of}
@@ -34,7 +34,8 @@ one_input : (o : Option Input) (i j : Input) → o ≡ Some i → o ≡ Some j �
 one_input o i j a b = cc (a, b)
 
 -- a reading that is done has no fault
-done_or_fault : (o : Outcome Reading) (r : Reading) (k : ItemFault) (p : Place) → o ≡ done r → o ≡ fault k p → ⊥
+done_or_fault : (o : Option (Outcome Reading)) (r : Reading) (k : Fault) (p : Place) → o ≡ Some (done r)
+    → o ≡ Some (fault k p) → ⊥
 done_or_fault o r k p a b = cc (a, b)
 
 -- an input with a reason to be refused has no plan

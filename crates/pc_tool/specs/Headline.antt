@@ -12,13 +12,12 @@ use Rattle.pc_info.specs.View.{view}
 use Rattle.pc_offsets.specs.Context.{context_size}
 use Rattle.pc_text.specs.ContextText.{context_text}
 use Rattle.pc_text.specs.FaultText.{fault_text, not_json, bad_form}
-use Rattle.pc_parsed.specs.declared.fault.ItemFault.{ItemFault}
 use Rattle.pc_parsed.specs.Program.{is_numbered}
-use Rattle.pc_parsed.specs.Reading.{reading, fault}
+use Rattle.pc_reading.specs.Outcome.{Fault, fault}
 use Rattle.pc_form.specs.declared.input.Input.{Input}
 use Rattle.pc_form.specs.Input.{input_in, input_of, tree_of}
 use Rattle.pc_form.specs.Rules.{plain}
-use Rattle.pc_translate.specs.Translation.{IsPlanOf, IsRefusalOf, can_translate}
+use Rattle.pc_translate.specs.Translation.{IsPlanOf, IsRefusalOf, can_translate, meaning}
 use Rattle.pc_tool.specs.declared.words.Command.{Command}
 use Rattle.pc_tool.specs.declared.words.Command.TheVariants as command
 
@@ -49,8 +48,8 @@ unfoldable pub HasFault : Input → Type 0
 HasFault input =
     (is_numbered input.table input.payloads ≡ false)
     ⊎ ((can_translate input.table input.intrinsics input.tunables.max_component_instances input.payloads ≡ false)
-    ⊎ ((k : ItemFault) × (p : Place)
-    × (reading input.table input.intrinsics input.tunables.max_component_instances input.payloads ≡ fault k p)))
+    ⊎ ((k : Fault) × (p : Place)
+    × (meaning input.table input.intrinsics input.tunables.max_component_instances input.payloads ≡ Some (fault k p))))
 
 -- a text is the one that a command makes of a plan and its modules
 unfoldable pub Prints : Command → ComponentTranslation → List ModuleTranslation → (text : List ℕ) → Type 0

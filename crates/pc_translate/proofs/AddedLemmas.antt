@@ -1,5 +1,5 @@
 -- What items add to a types builder, together.
-use Rattle.std.proofs.Common.{◌≡◌, ℕ, ◌+◌, ◌≤◌, ◌∙◌, List, [], ◌∷◌, length, Option, Some, None, true, false, true≢false, refl, sym, subst, ap, arith, ◌&&◌}
+use Rattle.std.proofs.Common.{◌≡◌, ℕ, ◌+◌, ◌≤◌, ◌∙◌, List, [], ◌∷◌, length, Option, Some, None, true, false, true≢false, refl, sym, subst, ap, arith}
 use Rattle.std.specs.Prelude.{slice_get, is_some}
 use Rattle.std.specs.List.{list_all}
 use Rattle.pc_builder.specs.Few.{AddsFuncs, AddsSignature}

@@ -15,20 +15,24 @@ use Rattle.pc_parsed.specs.declared.fault.ItemFault.TheVariants.{Invalid, BadTyp
 use Rattle.pc_parsed.specs.declared.item.LocalInitializer.{LocalInitializer}
 use Rattle.pc_parsed.specs.declared.item.LocalProgram.{LocalProgram}
 use Rattle.pc_parsed.specs.declared.payload.Payload.{Payload}
-use Rattle.pc_parsed.specs.Nest.{body_items, modules_of}
-use Rattle.pc_parsed.specs.Program.{IsProgramOf, is_numbered, is_translatable, item_count, not_built, refusal}
+use Rattle.pc_parsed.specs.Nest.{IsProgramOf, body_items, modules_of}
+use Rattle.pc_parsed.specs.Program.{is_numbered, is_translatable, item_count, not_built, refusal}
 use Rattle.pc_parsed.specs.StaticFault.{static_fault}
 use Rattle.pc_parsed.proofs.KindLemmas.{IsStatic, refused_by, static_kind}
 use Rattle.pc_translate.proofs.GainLemmas.{frame_few}
 use Rattle.pc_translate.proofs.TranslatesLemmas.{parts, frame_names, translated, faulted}
 use Rattle.pc_translate.specs.Building
-use Rattle.pc_translate.specs.Gained.{AddsTypes, SomeLacksPlace}
+use Rattle.pc_translate.proofs.WholeLemmas.{lift_lacks, stuck_whole}
+use Rattle.pc_translate.specs.Places.{SomeLacksPlace}
 use Rattle.pc_translate.specs.declared.frame.Frame.{Frame}
 use Rattle.pc_translate.specs.Held.{FrameHeld}
 use Rattle.pc_translate.specs.Planning.{IsPlanOf, export_name}
+use Rattle.pc_bridge.proofs.SizeLemmas.{sizes_alike}
+use Rattle.pc_translate.specs.Gained.{AddsTypes, items_in}
 use Rattle.pc_translate.specs.Translation.{Translates, HasCause, can_translate}
 use Rattle.pc_types.specs.declared.error.Error.{Error}
 use Rattle.pc_types.specs.declared.error.Error.TheVariants as error
+use Rattle.pc_types.specs.declared.error.Place.TheVariants as place
 use Rattle.pc_types.specs.declared.module_record.ModuleRecord.{ModuleRecord}
 use Rattle.pc_types.specs.declared.parsed.TypeTable.{TypeTable}
 use Rattle.pc_types.specs.Names.{distinct_names}
@@ -61,10 +65,14 @@ module _ (t : TypeTable) (exposed : Option (List ℕ)) (limit : ℕ) (ps : List 
   pub entries_plain : list_all is_built_entry t.types ≡ true
   entries_plain = (parts t exposed ps ok).entries
 
+  -- the program has as many items as the payloads
+  as_many : length program.root.initializers ≡ sum_by items_in ps
+  as_many = ap length is_program.items ∙ sizes_alike 0 ps (parts t exposed ps ok).payloads
+
   -- what was added for the items of the program was added for those of the payloads
   pub adds_for : (old new : Types) → AddsTypes (length program.root.initializers) old new
-      → AddsTypes (length (body_items ps)) old new
-  adds_for old new h = subst (λ (items : List LocalInitializer). AddsTypes (length items) old new) is_program.items h
+      → AddsTypes (sum_by items_in ps) old new
+  adds_for old new h = subst (λ (n : ℕ). AddsTypes n old new) as_many h
 
   -- the names that the frame exports are distinct
   pub names_distinct : (types : Types) (f : Frame)
@@ -105,14 +113,14 @@ module _ (t : TypeTable) (exposed : Option (List ℕ)) (limit : ℕ) (ps : List 
   fault_cause types Invalid n numbered begins b = (
     numbered,
     true_and _ _ begins ok,
-    faulted types t exposed limit ps Invalid n begins (parts t exposed ps ok)
-        (of_payloads types (Err (Invalid, n)) b),
+    stuck_whole t exposed limit ps ok Invalid (place.Reading 0 n) (faulted types t exposed limit ps Invalid n begins (parts t exposed ps ok)
+        (of_payloads types (Err (Invalid, n)) b)),
   )
   fault_cause types BadType n numbered begins b = (
     numbered,
     true_and _ _ begins ok,
-    faulted types t exposed limit ps BadType n begins (parts t exposed ps ok)
-        (of_payloads types (Err (BadType, n)) b),
+    stuck_whole t exposed limit ps ok BadType (place.Reading 0 n) (faulted types t exposed limit ps BadType n begins (parts t exposed ps ok)
+        (of_payloads types (Err (BadType, n)) b)),
   )
 
   pub read_cause : (types : Types) (e : Error) → is_numbered t ps ≡ true → nat_lt 0 limit ≡ true
@@ -123,7 +131,10 @@ module _ (t : TypeTable) (exposed : Option (List ℕ)) (limit : ℕ) (ps : List 
         | inl memory ↦ subst (λ (x : Error). HasCause t exposed limit ps types x) (sym memory) tt
         | inr rest ↦ elim rest [
           | inl many ↦ subst (λ (x : Error). HasCause t exposed limit ps types x) (sym many)
-              (inr (true_and _ _ begins ok, subst (SomeLacksPlace t types) is_program.items (full many)))
+              (inr (
+                true_and _ _ begins ok,
+                lift_lacks t types ps (subst (SomeLacksPlace t types) is_program.items (full many)),
+              ))
           | inr at ↦ subst (λ (x : Error). HasCause t exposed limit ps types x) (sym at.3)
               (fault_cause types at.0 at.1 numbered begins at.2)
         ]

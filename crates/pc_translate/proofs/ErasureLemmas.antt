@@ -2,7 +2,7 @@
 use Rattle.std.proofs.Common.{◌≡◌, List, [], ◌∷◌, map, refl, sym, ap, ◌∙◌}
 use Rattle.pc_builder.specs.Types.{Types}
 use Rattle.pc_info.specs.View.{TypeNumber}
-use Rattle.pc_parsed.specs.Reading.{Reading}
+use Rattle.pc_reading.specs.Reading.{Reading}
 use Rattle.pc_semantics.specs.CoreValue as value
 use Rattle.pc_semantics.specs.CoreValue.{CoreValue, Options, DataModel, MaybeValue, Parts, Part, map_value, map_options, map_model, map_maybe, map_parts, map_part, erased}
 use Rattle.pc_semantics.specs.ExportNode as node

@@ -14,6 +14,7 @@ mod NumberLemmas
 mod NameLemmas
 mod GainLemmas
 mod AddedLemmas
+mod WholeLemmas
 mod TranslatesLemmas
 mod ReadSoFarLemmas
 mod LiftLemmas

@@ -14,7 +14,7 @@ use Rattle.pc_info.specs.declared.component.Component.{Component}
 use Rattle.pc_info.specs.declared.component.ModuleTranslation.{ModuleTranslation}
 use Rattle.pc_info.specs.View.{TypeNumber, module_view, view, initializer_view, options_view, named_view}
 use Rattle.pc_numbers.specs.declared.runtime.ExportIndex.{ExportIndex}
-use Rattle.pc_parsed.specs.Built.{are_built, is_built_entry, is_built_payload}
+use Rattle.pc_parsed.specs.Built.{is_built_entry, is_built_payload}
 use Rattle.pc_parsed.specs.declared.fault.ItemFault.{ItemFault}
 use Rattle.pc_parsed.specs.declared.payload.Payload.{Payload}
 use Rattle.pc_parsed.specs.declared.payload.Payload.TheVariants as payload
@@ -22,7 +22,7 @@ use Rattle.pc_parsed.specs.Nest.{body_items, module_of, modules_of}
 use Rattle.pc_parsed.specs.Program.{is_numbered, is_translatable}
 use Rattle.pc_parsed.specs.Reading.{Outcome, reading, done, fault, and_then, read_items, result_at}
 use Rattle.pc_parsed.specs.Scope as scope
-use Rattle.pc_parsed.specs.SoundList.{is_sound_list, is_sound_payload}
+use Rattle.pc_parsed.specs.SoundList.{is_sound_payload}
 use Rattle.pc_parsed.specs.StaticFault.{exported_names}
 use Rattle.pc_parsed.proofs.SoundLemmas.{sound_list}
 use Rattle.pc_parsed.specs.Nest.{is_body}
@@ -45,6 +45,9 @@ use Rattle.pc_translate.specs.declared.frame.Frame.{Frame}
 use Rattle.pc_translate.specs.declared.frame.NamedFunction.{NamedFunction}
 use Rattle.pc_translate.specs.Held.{FrameHeld}
 use Rattle.pc_translate.specs.Planning.{IsPlanOf, IsExportOf, entries_from, export_name, plain_entry}
+use Rattle.pc_bridge.specs.Whole.{whole_reading}
+use Rattle.pc_bridge.proofs.BodyLemmas.{modules_alike}
+use Rattle.pc_translate.proofs.WholeLemmas.{done_whole}
 use Rattle.pc_translate.specs.Translation.{Translates}
 use Rattle.pc_translate.specs.Typed.{Numbered, TypedAs, number_of, whole_of}
 use Rattle.pc_types.specs.declared.error.Place.TheVariants as place
@@ -278,7 +281,7 @@ translated t exposed limit ps types f c mts numbered begins ok q b frame_held is
     let begun : 1 ≡ e.now.world.begun = sym e.stands.begun in
     let names = is_plan.exported.names in
     let own = owned_same types p made (instances_of e.now.world.log) e.stands.log in
-    let typed : TypedAs types p (result_at e.now) = record {
+    let typed : TypedAs types p (whole_reading (result_at e.now)) = record {
       last = Standing.after made;
       instances = own.instances;
       exports = ns.nodes;
@@ -296,11 +299,12 @@ translated t exposed limit ps types f c mts numbered begins ok q b frame_held is
     record {
       numbered = numbered;
       able = rw (begins, ok) refl;
-      result = result_at e.now;
-      outcome = reading_is t exposed limit ps (done e.now) begins is_done;
-      does = does_as types p (result_at e.now) typed;
+      result = whole_reading (result_at e.now);
+      outcome = done_whole t exposed limit ps ok (result_at e.now)
+          (reading_is t exposed limit ps (done e.now) begins is_done);
+      does = does_as types p (whole_reading (result_at e.now)) typed;
       typed = typed;
-      handed_in = same_modules;
+      handed_in = same_modules ∙ sym (modules_alike ps);
       counts = is_plan.counts ∙ (λ i. record {
         runtime_instances = steps i;
         component_instances = begun i;

@@ -3,6 +3,7 @@ pub mod Gained
 pub mod Typed
 pub mod Translation
 -- What the functions inside promise each other.
+pub mod Places
 pub mod Index
 pub mod Building
 pub mod Held

@@ -19,13 +19,17 @@ use Rattle.pc_info.specs.declared.export.Export.TheVariants as export
 use Rattle.pc_info.specs.declared.options.CanonicalOptions.{CanonicalOptions}
 use Rattle.pc_info.specs.View.{view, has_items, module_view, counts_view}
 use Rattle.pc_parsed.specs.declared.payload.Payload.{Payload}
-use Rattle.pc_parsed.specs.declared.fault.ItemFault.TheVariants.{Invalid, BadType}
-use Rattle.pc_parsed.specs.Nest.{body_items, modules_of}
 use Rattle.pc_parsed.specs.Program.{is_numbered, is_translatable, not_built}
-use Rattle.pc_parsed.specs.Reading.{Reading, reading, done, fault}
 use Rattle.pc_parsed.specs.StaticFault.{static_fault}
-use Rattle.pc_translate.specs.Gained.{AreGained, SomeLacksPlace}
+use Rattle.pc_reading.specs.Outcome.{Outcome, done, fault, invalid, bad_type}
+use Rattle.pc_reading.specs.Reading.{Reading, reading}
+use Rattle.pc_reading.specs.Section.{modules_of}
+use Rattle.pc_translate.specs.Gained.{AreGained, SomeLiftLacksPlace}
 use Rattle.pc_translate.specs.Typed.{TypedAs}
+
+-- what payloads mean; no total is counted yet
+unfoldable pub meaning : TypeTable → (exposed : Option (List ℕ)) → (limit : ℕ) → List Payload → Option (Outcome Reading)
+meaning t exposed limit ps = reading t exposed limit None ps
 
 -- a plan never gets stuck and does what a reading says: run from nothing, it makes the same core instances of the
 -- same modules, in the same order, for the same component instances, with the same arguments, and it ends with the
@@ -88,7 +92,7 @@ pub record Translates (t : TypeTable) (exposed : Option (List ℕ)) (limit : ℕ
   -- no item was passed over: all are of kinds that are built
   pub able : can_translate t exposed limit ps ≡ true
   pub result : Reading
-  pub outcome : reading t exposed limit ps ≡ done result
+  pub outcome : meaning t exposed limit ps ≡ Some (done result)
   pub does : DoesAs (view plan modules) result
   -- and so it does with its types: under each number the builder holds what the reading has there
   pub typed : TypedAs types (view plan modules) result
@@ -121,12 +125,12 @@ HasCause t exposed limit ps types (error.Unsupported u p) =
     ⊎ ((static_fault t exposed ps ≡ None) × (error.Unsupported u p ≡ not_built)))
 HasCause t exposed limit ps types (error.Invalid p) =
     (is_numbered t ps ≡ true) × (can_translate t exposed limit ps ≡ true)
-    × (reading t exposed limit ps ≡ fault Invalid p)
+    × (meaning t exposed limit ps ≡ Some (fault invalid p))
 HasCause t exposed limit ps types (error.BadType p) =
     (is_numbered t ps ≡ true) × (can_translate t exposed limit ps ≡ true)
-    × (reading t exposed limit ps ≡ fault BadType p)
+    × (meaning t exposed limit ps ≡ Some (fault bad_type p))
 HasCause t exposed limit ps types error.TooMany =
-    (is_numbered t ps ≡ false) ⊎ ((can_translate t exposed limit ps ≡ true) × SomeLacksPlace t types (body_items ps))
+    (is_numbered t ps ≡ false) ⊎ ((can_translate t exposed limit ps ≡ true) × SomeLiftLacksPlace t types ps)
 HasCause t exposed limit ps types error.NoMemory = Unit {0}
 HasCause t exposed limit ps types (error.BadOptions p) = ⊥
 HasCause t exposed limit ps types error.TooManyInstances = ⊥

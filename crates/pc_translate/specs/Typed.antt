@@ -12,8 +12,8 @@ use Rattle.pc_semantics.specs.Log.{Owned, instances_of, map_owned}
 use Rattle.pc_semantics.specs.Machine.{State, export_nodes, owned_instances, run}
 use Rattle.pc_semantics.specs.PlanView.{PlanView}
 use Rattle.pc_info.specs.View.{TypeNumber}
-use Rattle.pc_parsed.specs.Reading.{Reading}
-use Rattle.pc_parsed.specs.Scope.{Mark, of_type, of_signature}
+use Rattle.pc_parsed.specs.Mark.{Mark, of_type, of_signature}
+use Rattle.pc_reading.specs.Reading.{Reading}
 
 module _ (types : Types) where
   -- the builder holds this function type, or this core signature, under the number

@@ -4,7 +4,8 @@ ghost use Rattle.std.specs.Prelude.{◌≡◌, ◌<◌, ◌≤◌, ◌+◌, None
 ghost use Rattle.std.specs.List.{list_all};
 ghost use Rattle.pc_builder.specs.Types.{Grows};
 ghost use Rattle.pc_parsed.specs.Built.{is_built_entry};
-ghost use Rattle.pc_translate.specs.Gained.{AddsTypes, LacksPlace, SomeLacksPlace};
+ghost use Rattle.pc_translate.specs.Gained.{AddsTypes};
+ghost use Rattle.pc_translate.specs.Places.{LacksPlace, SomeLacksPlace};
 ghost use Rattle.pc_types.specs.Table.{table_fault};
 ghost use Rattle.pc_translate.specs.Building.{Builds, Ends, Reads, empty_frame, read_error_at};
 ghost use Rattle.pc_translate.specs.Held.{AreNumbers, FrameHeld};

@@ -1,11 +1,10 @@
 //! The top call over payloads.
 
-ghost use Rattle.std.specs.Prelude.{◌≡◌, false, length, map, None, Some, Err, is_some, IfErr, IfOk, OnOk};
+ghost use Rattle.std.specs.Prelude.{◌≡◌, false, map, sum_by, None, Some, Err, is_some, IfErr, IfOk, OnOk};
 ghost use Rattle.std.specs.Option.{option_map};
 ghost use Rattle.pc_builder.specs.Types.{KeepsTypes, no_types};
 ghost use Rattle.pc_info.specs.View.{module_view};
-ghost use Rattle.pc_parsed.specs.Nest.{body_items};
-ghost use Rattle.pc_translate.specs.Gained.{AddsTypes};
+ghost use Rattle.pc_translate.specs.Gained.{AddsTypes, items_in};
 ghost use Rattle.pc_translate.specs.Translation.{HasCause, IsPlanOf, IsRefusalOf, Translates};
 
 use crate::plan::plan_of;
@@ -13,8 +12,8 @@ use crate::reader::read_program;
 use pc_builder::ComponentTypesBuilder;
 use pc_entity::{NoMemory, PrimaryMap, StaticModuleIndex};
 use pc_info::{ComponentTranslation, ModuleTranslation};
-use pc_parsed::{Payload, Tunables, is_numbered, translate_payloads};
-use pc_types::{Error, ModuleRecord, Place, TypeTable, Unsupported};
+use pc_parsed::{Payload, Tunables, is_numbered, not_built, translate_payloads};
+use pc_types::{Error, ModuleRecord, TypeTable};
 use std::alloc::Global;
 
 /// A plan and its core modules.
@@ -60,22 +59,16 @@ pub fn translate(
     ensures keeps { KeepsTypes types.old types.new }
 
     // The builder gains no more than the items may need.
-    ensures adds { OnOk result (AddsTypes (length (body_items payloads.now)) types.old types.new) }
+    ensures adds { OnOk result (AddsTypes (sum_by items_in payloads.now) types.old types.new) }
     ensures adds_when_full { result ≡ Err Error.TooMany
-        → AddsTypes (length (body_items payloads.now)) types.old types.new }
+        → AddsTypes (sum_by items_in payloads.now) types.old types.new }
 {
     if !is_numbered(table, payloads) {
         return Err(Error::TooMany);
     }
     let program = translate_payloads(alloc, table, exposed, payloads)?;
     if tunables.max_component_instances == 0 {
-        return Err(Error::Unsupported(
-            Unsupported::NotBuilt,
-            Place::Payload {
-                payload: 0,
-                item: 0,
-            },
-        ));
+        return Err(not_built());
     }
     let frame = read_program(alloc, types, table, &program)?;
     let component = plan_of(alloc, types, frame)?;
@@ -197,10 +190,9 @@ impl<'a> Translator<'a> {
         ensures keeps { KeepsTypes self.entry.types.now self.exit.0.now }
 
         // The builder gains no more than the items may need.
-        ensures adds { OnOk result (AddsTypes (length
-            (body_items component.now)) self.entry.types.now self.exit.0.now) }
+        ensures adds { OnOk result (AddsTypes (sum_by items_in component.now) self.entry.types.now self.exit.0.now) }
         ensures adds_when_full { result ≡ Err Error.TooMany
-            → AddsTypes (length (body_items component.now)) self.entry.types.now self.exit.0.now }
+            → AddsTypes (sum_by items_in component.now) self.entry.types.now self.exit.0.now }
     {
         let Translator {
             types,

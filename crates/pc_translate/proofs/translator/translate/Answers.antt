@@ -3,7 +3,7 @@ use Rattle.std.specs.Prelude.{nat_lt}
 use Rattle.std.specs.Option.{option_map}
 use Rattle.std.proofs.lemmas.Bool.{lt-ltb}
 use Rattle.pc_translate.proofs.CauseLemmas
-use Rattle.pc_translate.proofs.PassingLemmas.{passed_err}
+use Rattle.pc_translate.proofs.PassingLemmas.{passed, passed_err}
 use Rattle.pc_translate.specs.Translation.{HasCause}
 use Rattle.pc_types.specs.declared.error.Error.{Error}
 use Rattle.pc_translate.proofs.translator.translate.Goals as goal
@@ -62,3 +62,18 @@ pub read_program-requires-clause-sound : goal.read_program-requires-clause-sound
 read_program-requires-clause-sound c =
     let exposed = option_map {T = Bor (List ℕ)} (λ name. name.now) c.args.exposed in
     CauseLemmas.table_sound c.args.table.now exposed c.args.payloads.now c.in_ok-program.ensures.translatable
+
+pub returns-clause-adds : goal.returns-clause-adds
+returns-clause-adds c =
+    let exposed = option_map {T = Bor (List ℕ)} (λ name. name.now) c.args.exposed in
+    CauseLemmas.adds_for c.args.table.now exposed c.args.tunables.now.max_component_instances c.args.payloads.now
+    c.in_ok-program.program c.in_ok-program.ensures.program c.in_ok-program.ensures.translatable c.args.types.now
+    c.read_program.new.types c.in_ok-frame.ensures.adds
+
+pub returns-in_err-frame-clause-adds_when_full : goal.returns-in_err-frame-clause-adds_when_full
+returns-in_err-frame-clause-adds_when_full c = λ h.
+    let exposed = option_map {T = Bor (List ℕ)} (λ name. name.now) c.args.exposed in
+    CauseLemmas.adds_for c.args.table.now exposed c.args.tunables.now.max_component_instances c.args.payloads.now
+    c.in_ok-program.program c.in_ok-program.ensures.program c.in_ok-program.ensures.translatable c.args.types.now
+    c.read_program.new.types
+    (c.in_err-frame.ensures.adds_when_full (passed _ _ _ c.from_residual-in_err-frame.ensures.1 h))
