@@ -3,7 +3,7 @@
 ghost use Rattle.std.specs.Prelude.{◌<◌};
 ghost use Rattle.pc_graph.specs.Digraph.{Digraph};
 
-use crate::graphs::{CHAIN, graph_of, long_path};
+use crate::graphs::{CHAIN, Edges, MANY, graph_of};
 use pc_entity::{FuncIndex, NoMemory};
 use pc_graph::{Graph, GraphError, Scc, StronglyConnectedComponents};
 use std::alloc::Global;
@@ -51,7 +51,7 @@ fn has_components(
 ) -> Result<bool, GraphError<NoMemory>>
     requires { count < 4294967295 }
 {
-    let graph = graph_of(alloc, count, edges)?;
+    let graph = graph_of(alloc, count, Edges::Listed(edges))?;
     Ok(are(components_of(alloc, &graph)?.as_slice(), want))
 }
 
@@ -67,7 +67,7 @@ fn components_stand_as_they_are_left(rt: HostRuntime) -> Result<(), Fail> {
 fn split(
     alloc: Global,
     count: u32,
-    edges: &[(u32, u32)],
+    edges: Edges<'_>,
 ) -> Result<StronglyConnectedComponents<FuncIndex>, GraphError<NoMemory>>
     requires { count < 4294967295 }
 {
@@ -75,48 +75,30 @@ fn split(
     Ok(StronglyConnectedComponents::new(alloc, &graph)?)
 }
 
-/// Each node's number, behind that of its component.
-fn told(
-    alloc: Global,
-    components: &StronglyConnectedComponents<FuncIndex>,
-) -> Result<Vec<(u32, u32)>, NoMemory> {
-    let mut told = Vec::new(alloc);
-    for (number, nodes) in components.iter() {
-        for node in nodes {
-            told.push((number.0, node.0))?;
-        }
-    }
-    Ok(told)
+/// Whether the first component has one node, the second two, and there is no third.
+fn are_two(components: &StronglyConnectedComponents<FuncIndex>) -> bool {
+    let sizes = components
+        .iter()
+        .map(|(number, nodes)| (number.0, nodes.len()));
+    !components.is_empty() && sizes.eq([(0, 1), (1, 2)])
+}
+
+/// Whether there are two numbers and two values.
+fn are_numbered(components: &StronglyConnectedComponents<FuncIndex>) -> bool {
+    components.keys().eq([Scc(0), Scc(1)])
+        && components.values().map(|nodes| nodes.len()).eq([1, 2])
 }
 
 #[test]
 fn components_are_told_with_their_numbers(rt: HostRuntime) -> Result<(), Fail> {
-    let components = split(rt.alloc(), 3, &[(0, 1), (1, 0), (1, 2)])?;
-    assert!(rt; !components.is_empty());
-    assert!(rt; told(rt.alloc(), &components)?.as_slice() == [(0, 2), (1, 0), (1, 1)].as_slice());
-    assert_eq!(rt; components.iter().len(), 2);
-    Ok(())
-}
-
-#[test]
-fn the_numbers_of_the_components_ascend(rt: HostRuntime) -> Result<(), Fail> {
-    let components = split(rt.alloc(), 3, &[(0, 1), (1, 0), (1, 2)])?;
-    let mut keys = components.keys();
-    assert_eq!(rt; keys.len(), 2);
-    assert!(rt; keys.next() == Some(Scc(0)) && keys.next() == Some(Scc(1)));
-    assert!(rt; keys.next().is_none());
-    let values = components.values();
-    assert_eq!(rt; values.len(), 2);
-    assert_eq!(rt; values.map(|nodes| nodes.len()).max(), Some(2));
+    let components = split(rt.alloc(), 3, Edges::Listed(&[(0, 1), (1, 0), (1, 2)]))?;
+    assert!(rt; are_two(&components) && are_numbered(&components));
     Ok(())
 }
 
 #[test]
 fn a_long_path_and_a_long_cycle_are_split(rt: HostRuntime) -> Result<(), Fail> {
-    for (is_closed, want) in [(false, 200000), (true, 1)] {
-        let graph = long_path(rt.alloc(), is_closed)?;
-        let components = StronglyConnectedComponents::new(rt.alloc(), &graph)?;
-        assert_eq!(rt; components.len(), want);
-    }
+    assert_eq!(rt; split(rt.alloc(), MANY, Edges::Path)?.len(), 200000);
+    assert_eq!(rt; split(rt.alloc(), MANY, Edges::Cycle)?.len(), 1);
     Ok(())
 }

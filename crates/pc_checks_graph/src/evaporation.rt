@@ -4,7 +4,7 @@ ghost use Rattle.std.specs.Prelude.{◌<◌};
 ghost use Rattle.pc_graph.specs.Digraph.{Digraph};
 
 use crate::components::are;
-use crate::graphs::{CHAIN, MANY, graph_of, star};
+use crate::graphs::{CHAIN, Edges, MANY, graph_of};
 use pc_entity::{FuncIndex, NoMemory};
 use pc_graph::{Graph, GraphError, Scc, StronglyConnectedComponents};
 use std::alloc::Global;
@@ -20,10 +20,7 @@ fn numbers_in(alloc: Global, components: &[Scc]) -> Result<Vec<u32>, NoMemory> {
 }
 
 /// The numbers of the components that have an edge into each component.
-pub fn evaporation_of<G: Graph<FuncIndex>>(
-    alloc: Global,
-    graph: &G,
-) -> Result<Vec<Vec<u32>>, NoMemory>
+fn evaporation_of<G: Graph<FuncIndex>>(alloc: Global, graph: &G) -> Result<Vec<Vec<u32>>, NoMemory>
     requires { (d : Digraph FuncIndex) × G.Shows graph.now d }
 {
     let components = StronglyConnectedComponents::new(alloc, graph)?;
@@ -44,7 +41,7 @@ fn evaporates_to(
 ) -> Result<bool, GraphError<NoMemory>>
     requires { count < 4294967295 }
 {
-    let graph = graph_of(alloc, count, edges)?;
+    let graph = graph_of(alloc, count, Edges::Listed(edges))?;
     Ok(are(evaporation_of(alloc, &graph)?.as_slice(), want))
 }
 
@@ -64,22 +61,27 @@ fn edges_lead_from_the_listed_components(rt: HostRuntime) -> Result<(), Fail> {
     Ok(())
 }
 
-/// The list of this number, none past the lists.
-pub fn list_at(lists: &[Vec<u32>], number: u32) -> &[u32] {
-    match lists.get(number as usize) {
-        Some(list) => list.as_slice(),
-        None => &[],
+/// How long each of the first two lists is, and how many lists there are.
+fn lengths(lists: &[Vec<u32>]) -> (usize, usize, usize) {
+    match lists {
+        [first, second, ..] => (first.len(), second.len(), lists.len()),
+        _ => (0, 0, 0),
     }
+}
+
+/// The same of the evaporation of a star of so many nodes.
+fn star_lengths(alloc: Global, count: u32) -> Result<(usize, usize, usize), GraphError<NoMemory>>
+    requires { count < 4294967295 }
+{
+    let graph = graph_of(alloc, count, Edges::Star)?;
+    let lists = evaporation_of(alloc, &graph)?;
+    Ok(lengths(lists.as_slice()))
 }
 
 #[test]
 fn the_edges_of_a_star_are_reversed(rt: HostRuntime) -> Result<(), Fail> {
-    for count in [300, MANY] {
-        // The component of node 0 is left first.
-        let lists = evaporation_of(rt.alloc(), &star(rt.alloc(), count)?)?;
-        assert_eq!(rt; lists.len(), count as usize);
-        assert_eq!(rt; list_at(lists.as_slice(), 0).len(), count as usize - 1);
-        assert_eq!(rt; list_at(lists.as_slice(), 1).len(), 0);
-    }
+    // The component of node 0 is left first.
+    assert_eq!(rt; star_lengths(rt.alloc(), 300)?, (299, 0, 300));
+    assert_eq!(rt; star_lengths(rt.alloc(), MANY)?, (199999, 0, 200000));
     Ok(())
 }

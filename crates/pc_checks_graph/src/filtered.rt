@@ -4,7 +4,7 @@ ghost use Rattle.std.specs.Prelude.{◌≡◌, nat_eq, not};
 ghost use Rattle.pc_graph.specs.Digraph.{Digraph};
 
 use crate::components::{are, components_of};
-use crate::graphs::{CHAIN, graph_of};
+use crate::graphs::{CHAIN, Edges, graph_of};
 use pc_entity::{FuncIndex, NoMemory};
 use pc_graph::Graph;
 use std::alloc::Global;
@@ -34,35 +34,24 @@ fn shows<G: Graph<FuncIndex>>(
     Ok(found.as_slice() == nodes && are(lists.as_slice(), components))
 }
 
+/// The nodes that are left in the chain without node 3, and behind them the successors of node 1.
+const NODES: [FuncIndex; 6] = [
+    FuncIndex(0),
+    FuncIndex(1),
+    FuncIndex(2),
+    FuncIndex(4),
+    FuncIndex(5),
+    FuncIndex(2),
+];
+
 #[test]
 fn a_node_that_is_filtered_out_is_no_successor(rt: HostRuntime) -> Result<(), Fail> {
-    let graph = graph_of(rt.alloc(), 6, &CHAIN)?;
+    let graph = graph_of(rt.alloc(), 6, Edges::Listed(&CHAIN))?;
     let filtered = graph.by_ref().filter_nodes(
         |node: &FuncIndex| -> bool
             ensures { result ≡ not (nat_eq node.now.0 3) }
         { node.0 != 3 },
     );
-    let nodes = [
-        FuncIndex(0),
-        FuncIndex(1),
-        FuncIndex(2),
-        FuncIndex(4),
-        FuncIndex(5),
-        FuncIndex(2),
-    ];
-    let components = [
-        [4].as_slice(),
-        [5].as_slice(),
-        [1, 2].as_slice(),
-        [0].as_slice(),
-    ];
-    assert!(rt;
-        shows(
-            rt.alloc(),
-            &filtered,
-            nodes.as_slice(),
-            components.as_slice()
-        )?
-    );
+    assert!(rt; shows(rt.alloc(), &filtered, &NODES, &[&[4], &[5], &[1, 2], &[0]])?);
     Ok(())
 }

@@ -35,50 +35,53 @@ pub fn numbers(alloc: Global, count: u32) -> Result<Vec<FuncIndex>, NoMemory>
     Ok(list)
 }
 
-/// The graph of the nodes below `count` with these edges, each node's in their order.
+/// The edges of a graph.
+#[derive(Clone, Copy)]
+pub enum Edges<'a> {
+    /// These, each node's in their order.
+    Listed(&'a [(u32, u32)]),
+
+    /// A path through many nodes.
+    Path,
+
+    /// A cycle through many nodes.
+    Cycle,
+
+    /// Two edges from each other node into node 0.
+    Star,
+}
+
+impl Edges<'_> {
+    /// Where an edge of a node leads, if there is one of this number.
+    fn target(self, node: u32, number: usize) -> Option<u32> {
+        match self {
+            Edges::Listed(edges) => match edges.get(number) {
+                Some((from, to)) if *from == node => Some(*to),
+                _ => None,
+            },
+            Edges::Path if number == 0 && node < MANY - 1 => Some(node + 1),
+            Edges::Cycle if number == 0 && node < MANY - 1 => Some(node + 1),
+            Edges::Cycle if number == 0 => Some(0),
+            Edges::Star if number < 2 && node > 0 => Some(0),
+            _ => None,
+        }
+    }
+}
+
+/// The graph of the nodes below `count` with these edges.
 pub fn graph_of(
     alloc: Global,
     count: u32,
-    edges: &[(u32, u32)],
+    edges: Edges<'_>,
 ) -> Result<EntityGraph<FuncIndex>, GraphError<NoMemory>>
     requires { count < 4294967295 }
 {
     let nodes = numbers(alloc, count)?;
     EntityGraph::new(alloc, nodes.as_slice(), |node, into| {
-        for (from, to) in edges {
-            if *from == node.0 {
-                into.push(FuncIndex(*to))?;
+        for number in 0..8 {
+            if let Some(to) = edges.target(node.0, number) {
+                into.push(FuncIndex(to))?;
             }
-        }
-        Ok(())
-    })
-}
-
-/// A path through many nodes, or, if it is closed, a cycle.
-pub fn long_path(
-    alloc: Global,
-    is_closed: bool,
-) -> Result<EntityGraph<FuncIndex>, GraphError<NoMemory>> {
-    let nodes = numbers(alloc, MANY)?;
-    EntityGraph::new(alloc, nodes.as_slice(), |node, into| {
-        if node.0 < MANY - 1 {
-            into.push(FuncIndex(node.0 + 1))?;
-        } else if is_closed {
-            into.push(FuncIndex(0))?;
-        }
-        Ok(())
-    })
-}
-
-/// Two edges lead from each other node below `count` into node 0.
-pub fn star(alloc: Global, count: u32) -> Result<EntityGraph<FuncIndex>, GraphError<NoMemory>>
-    requires { count < 4294967295 }
-{
-    let nodes = numbers(alloc, count)?;
-    EntityGraph::new(alloc, nodes.as_slice(), |node, into| {
-        if node.0 > 0 {
-            into.push(FuncIndex(0))?;
-            into.push(FuncIndex(0))?;
         }
         Ok(())
     })

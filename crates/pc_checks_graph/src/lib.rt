@@ -15,8 +15,6 @@ mod graphs;
 #[cfg(test)]
 mod names;
 #[cfg(test)]
-mod small;
-#[cfg(test)]
 mod traversal;
 #[cfg(test)]
 mod versions;

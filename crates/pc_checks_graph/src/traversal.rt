@@ -2,9 +2,9 @@
 
 ghost use Rattle.pc_graph.specs.Digraph.{Digraph};
 
-use crate::graphs::{graph_of, long_path};
+use crate::graphs::{Edges, MANY, graph_of};
 use pc_entity::{FuncIndex, NoMemory, SecondaryMap};
-use pc_graph::{Dfs, DfsEvent, EntityGraph, Graph};
+use pc_graph::{Dfs, DfsEvent, EntityGraph, Graph, GraphError};
 use std::alloc::Global;
 use std::test::*;
 
@@ -34,20 +34,21 @@ pub fn tour_of<G: Graph<FuncIndex>>(
     Ok(events)
 }
 
+/// The traversal of two nodes, of which one has two edges to the other.
+const TWICE: [DfsEvent<FuncIndex>; 6] = [
+    DfsEvent::Pre(FuncIndex(0)),
+    DfsEvent::Pre(FuncIndex(1)),
+    DfsEvent::Post(FuncIndex(1)),
+    DfsEvent::AfterEdge(FuncIndex(0), FuncIndex(1)),
+    DfsEvent::AfterEdge(FuncIndex(0), FuncIndex(1)),
+    DfsEvent::Post(FuncIndex(0)),
+];
+
 #[test]
 fn an_edge_given_twice_is_followed_twice(rt: HostRuntime) -> Result<(), Fail> {
-    let [a, b] = [FuncIndex(0), FuncIndex(1)];
-    let graph = graph_of(rt.alloc(), 2, &[(0, 1), (0, 1)])?;
-    let events = tour_of(rt.alloc(), &graph, &[a], 99)?;
-    let want = [
-        DfsEvent::Pre(a),
-        DfsEvent::Pre(b),
-        DfsEvent::Post(b),
-        DfsEvent::AfterEdge(a, b),
-        DfsEvent::AfterEdge(a, b),
-        DfsEvent::Post(a),
-    ];
-    assert!(rt; events.as_slice() == want.as_slice());
+    let graph = graph_of(rt.alloc(), 2, Edges::Listed(&[(0, 1), (0, 1)]))?;
+    let events = tour_of(rt.alloc(), &graph, &[FuncIndex(0)], 99)?;
+    assert!(rt; events.as_slice() == TWICE.as_slice());
     Ok(())
 }
 
@@ -69,7 +70,7 @@ fn next_but_first(
 
 #[test]
 fn the_last_root_is_visited_first(rt: HostRuntime) -> Result<(), Fail> {
-    let graph = graph_of(rt.alloc(), 2, &[])?;
+    let graph = graph_of(rt.alloc(), 2, Edges::Listed(&[]))?;
     let mut dfs = Dfs::empty(rt.alloc());
     assert!(rt; next_of(&mut dfs, &graph)?.is_none());
     dfs.add_root(FuncIndex(0))?;
@@ -80,13 +81,17 @@ fn the_last_root_is_visited_first(rt: HostRuntime) -> Result<(), Fail> {
     Ok(())
 }
 
+/// How many events the traversal of a long graph has.
+fn events_of(alloc: Global, edges: Edges<'_>) -> Result<usize, GraphError<NoMemory>> {
+    let graph = graph_of(alloc, MANY, edges)?;
+    let events = tour_of(alloc, &graph, &[FuncIndex(0)], 999999)?;
+    Ok(events.len())
+}
+
 #[test]
 fn a_long_path_and_a_long_cycle_are_toured(rt: HostRuntime) -> Result<(), Fail> {
     // Two events for each node, and one for each edge.
-    for (is_closed, want) in [(false, 599999), (true, 600000)] {
-        let graph = long_path(rt.alloc(), is_closed)?;
-        let events = tour_of(rt.alloc(), &graph, &[FuncIndex(0)], 999999)?;
-        assert_eq!(rt; events.len(), want);
-    }
+    assert_eq!(rt; events_of(rt.alloc(), Edges::Path)?, 599999);
+    assert_eq!(rt; events_of(rt.alloc(), Edges::Cycle)?, 600000);
     Ok(())
 }

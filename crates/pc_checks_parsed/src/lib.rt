@@ -1,19 +1,9 @@
-//! Tests of `pc_parsed`: what a payload list is translated to, and why one is refused.
+//! Tests of `pc_parsed`: what a payload list is translated to, and which lists have room for their numbers.
 #![tactic(auto)]
 
 #[cfg(test)]
 mod inputs;
 #[cfg(test)]
-mod interface;
-#[cfg(test)]
-mod items;
-#[cfg(test)]
 mod numbered;
 #[cfg(test)]
-mod order;
-#[cfg(test)]
-mod structure;
-#[cfg(test)]
 mod translated;
-#[cfg(test)]
-mod whole;

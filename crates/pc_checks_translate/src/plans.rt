@@ -1,74 +1,89 @@
 //! Plans with types builders of their own.
 
-use crate::inputs::{ONE, lifted, small_table, smallest, table_of};
+use crate::inputs::{FUNCTION, input_of, lifted, smallest, text_of};
+use pc_form::Input;
 use pc_info::ComponentTranslation;
-use pc_parsed::Payload;
 use pc_translate::plan_payloads;
-use pc_types::TypeTable;
-use std::alloc::Global;
+use pc_types::Error;
+use std::alloc::{AllocError, Global};
 use std::test::*;
 
 // A plan, without its modules.
-fn plan_of(
-    alloc: Global,
-    table: &TypeTable,
-    payloads: &[Payload],
-) -> Result<ComponentTranslation, Fail> {
-    let (plan, _) = plan_payloads(alloc, &ONE, table, None, payloads)?;
-    Ok(plan)
+fn plan_of(alloc: Global, input: &Input) -> Result<ComponentTranslation, Error> {
+    let payloads = input.payloads.as_slice();
+    Ok(plan_payloads(alloc, &input.tunables, &input.table, None, payloads)?.0)
+}
+
+// Whether there is one core instance, and an export of this name.
+fn has_one_export(plan: &ComponentTranslation, name: &str) -> bool {
+    plan.component.num_runtime_instances == 1 && plan.component.exports.contains(name)
 }
 
 #[test]
 fn a_lifted_function_is_planned(rt: HostRuntime) -> Result<(), Fail> {
-    let alloc = rt.alloc();
-    let table = small_table(alloc)?;
-    let payloads = smallest(alloc)?;
-    let plan = plan_of(alloc, &table, payloads.as_slice())?;
-    assert_eq!(rt; plan.component.num_runtime_instances, 1);
-    assert!(rt; plan.component.exports.contains("run"));
+    let input = smallest(rt.alloc())?;
+    assert!(rt; has_one_export(&plan_of(rt.alloc(), &input)?, "run"));
     Ok(())
 }
 
-// How many options entries the plan has in which one core function is lifted under each of these core signatures.
-fn options_of(alloc: Global, table: &TypeTable, lifts: &[(u32, u32)]) -> Result<usize, Fail> {
-    let payloads = lifted(alloc, 1, "f", lifts, &[("a", 0), ("b", 1), ("c", 2)])?;
-    let plan = plan_of(alloc, table, payloads.as_slice())?;
-    Ok(plan.component.options.len())
+/// Three lifts of one core function, and how many options entries they have together.
+const LIFTS: [(&str, usize); 3] = [
+    (
+        r#"["lift",0,1,0,[]],["lift",0,1,0,[]],["lift",0,1,0,[]]"#,
+        1,
+    ),
+    (
+        r#"["lift",0,1,0,[]],["lift",0,1,1,[]],["lift",0,1,0,[]]"#,
+        2,
+    ),
+    (
+        r#"["lift",0,1,1,[]],["lift",0,1,1,[]],["lift",0,1,0,[]]"#,
+        2,
+    ),
+];
+
+// How many options entries three lifts have.
+fn options_of(alloc: Global, lifts: &str) -> Result<usize, Fail> {
+    let input = lifted(
+        alloc,
+        lifts,
+        r#"["a","func",0],["b","func",1],["c","func",2]"#,
+    )?;
+    Ok(plan_of(alloc, &input)?.component.options.len())
 }
 
 #[test]
 fn two_lifts_under_two_signatures_have_two_options_entries(rt: HostRuntime) -> Result<(), Fail> {
-    let alloc = rt.alloc();
-    let table = small_table(alloc)?;
-    let rows = [
-        ([(0, 0), (0, 0), (0, 0)], 1),
-        ([(0, 0), (0, 1), (0, 0)], 2),
-        ([(0, 1), (0, 1), (0, 0)], 2),
-    ];
-    for (lifts, entries) in rows {
-        let found = options_of(alloc, &table, &lifts)?;
-        assert_eq!(rt; found, entries);
+    for (lifts, entries) in LIFTS {
+        assert_eq!(rt; options_of(rt.alloc(), lifts)?, entries, "{lifts}");
     }
     Ok(())
 }
 
-// Pairs of each of so many types and the first core signature.
-fn each_type(alloc: Global, functions: u32) -> Result<Vec<(u32, u32)>, Fail> {
-    let mut lifts = Vec::new(alloc);
-    for ty in 0..functions {
-        lifts.push((ty, 0))?;
+// A lift of each of so many types.
+fn lifts_of(alloc: Global, count: usize) -> Result<String, AllocError> {
+    let mut lifts = String::from_str(alloc, r#"["lift",0,1,0,[]]"#)?;
+    for ty in 2..count {
+        lifts.push_str(&format!(in alloc; r#",["lift",0,{ty},0,[]]"#)?)?;
     }
     Ok(lifts)
+}
+
+// A signature of a million parameters, and lifts of many types under it.
+fn many_types(alloc: Global) -> Result<String, AllocError> {
+    let parameters = r#""i32","#.repeat(alloc, 999_999)?;
+    let signature = format!(in alloc; r#"[[{parameters}"i32"],[]]"#)?;
+    let types = format!(in alloc; "{FUNCTION},")?.repeat(alloc, 99_999)?;
+    let types = format!(in alloc; "{types}{FUNCTION}")?;
+    let lifts = lifts_of(alloc, 100_000)?;
+    text_of(alloc, &signature, &types, &lifts, r#"["run","func",0]"#)
 }
 
 // A look through the table for each lift, or a look at its signature, would take minutes.
 #[test]
 fn many_types_are_each_met_once(rt: HostRuntime) -> Result<(), Fail> {
-    let alloc = rt.alloc();
-    let table = table_of(alloc, 100_000, &[1_000_000])?;
-    let lifts = each_type(alloc, 100_000)?;
-    let payloads = lifted(alloc, 100_000, "f", lifts.as_slice(), &[("run", 0)])?;
-    let plan = plan_of(alloc, &table, payloads.as_slice())?;
-    assert_eq!(rt; plan.component.num_runtime_instances, 1);
+    let text = many_types(rt.alloc())?;
+    let input = input_of(rt.alloc(), &text)?;
+    assert!(rt; has_one_export(&plan_of(rt.alloc(), &input)?, "run"));
     Ok(())
 }

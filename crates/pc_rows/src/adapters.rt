@@ -1,6 +1,6 @@
 //! Functions that go from one component to another. None is translated yet.
 
-use crate::inputs::{NOT_BUILT, is_answered};
+use crate::inputs::{are_not_built, is_answered};
 use pc_tool::Status;
 use std::alloc::{AllocError, Global};
 use std::test::Fail;
@@ -144,13 +144,7 @@ const TWO_ADAPTERS: [&str; 20] = [
 
 /// The first so many payloads of the input with two adapters, as an input.
 fn prefix(alloc: Global, count: usize) -> Result<String, AllocError> {
-    let mut payloads = String::new(alloc);
-    for payload in TWO_ADAPTERS.iter().take(count) {
-        if !payloads.is_empty() {
-            payloads.push(',')?;
-        }
-        payloads.push_str(payload)?;
-    }
+    let payloads = TWO_ADAPTERS[..count.min(20)].join(alloc, ",")?;
     format!(in alloc;
         r#"{{"limit":100,"intrinsics":null,"types":{{"core":[[["i32"],["i32"]]],
            "types":[{{"func":{{"params":[["x","u32"]],"result":"u32","async":false}}}},{{"module":[[],[]]}},
@@ -158,30 +152,25 @@ fn prefix(alloc: Global, count: usize) -> Result<String, AllocError> {
     )
 }
 
-#[test]
-fn adapters_are_not_built(rt: HostRuntime) -> Result<(), Fail> {
-    for (name, input) in ADAPTERS {
-        let refused = is_answered(rt.alloc(), input, Status::Refused, NOT_BUILT)?;
-        assert!(rt; refused, "{name}");
-    }
-    Ok(())
+/// Whether this many payloads end too early.
+fn ends_too_early(alloc: Global, count: usize) -> Result<bool, AllocError> {
+    let input = prefix(alloc, count)?;
+    let fault = format!(in alloc; "fault malformed at payload {count} item 0\n")?;
+    is_answered(alloc, "translate", &input, Status::Refused, &fault)
 }
 
 #[test]
-fn two_adapters_are_not_built(rt: HostRuntime) -> Result<(), Fail> {
-    let input = prefix(rt.alloc(), 20)?;
-    let refused = is_answered(rt.alloc(), &input, Status::Refused, NOT_BUILT)?;
-    assert!(rt; refused);
+fn adapters_are_not_built(rt: HostRuntime) -> Result<(), Fail> {
+    are_not_built(&rt, rt.alloc(), &ADAPTERS)?;
+    let two_adapters = prefix(rt.alloc(), 20)?;
+    are_not_built(&rt, rt.alloc(), &[("two adapters", &two_adapters)])?;
     Ok(())
 }
 
 #[test]
 fn each_prefix_ends_too_early(rt: HostRuntime) -> Result<(), Fail> {
-    for count in 0..20usize {
-        let input = prefix(rt.alloc(), count)?;
-        let fault = format!(in rt.alloc(); "fault malformed at payload {count} item 0\n")?;
-        let refused = is_answered(rt.alloc(), &input, Status::Refused, &fault)?;
-        assert!(rt; refused, "{count}");
+    for count in 0..20 {
+        assert!(rt; ends_too_early(rt.alloc(), count)?, "{count}");
     }
     Ok(())
 }

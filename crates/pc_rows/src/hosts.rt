@@ -1,7 +1,6 @@
 //! What the host gives, built-in functions and intrinsics. None is translated yet.
 
-use crate::inputs::{NOT_BUILT, is_answered};
-use pc_tool::Status;
+use crate::inputs::{are_not_built, are_refused};
 use std::test::Fail;
 
 /// Imports of the root, and exports of them.
@@ -162,33 +161,18 @@ const BUILTINS: [(&str, &str); 5] = [
 ];
 
 /// An import of the intrinsics in which one has another type.
-const INTRINSIC_OF_ANOTHER_TYPE: &str = r#"{"limit":100,"intrinsics":"i","types":{"core":[],
+const INTRINSIC_OF_ANOTHER_TYPE: [(&str, &str); 1] = [(
+    r#"{"limit":100,"intrinsics":"i","types":{"core":[],
            "types":[{"func":{"params":[["a","u32"]],"result":"u8","async":false}},
            {"instance":[["u8-native-load",["func",0]]]}]},"payloads":["version",{"imports":[["i",["instance",1]]]},
-           "end"]}"#;
-
-#[test]
-fn an_intrinsic_of_another_type_is_a_fault(rt: HostRuntime) -> Result<(), Fail> {
-    let fault = "fault bad-intrinsics at payload 1 item 0\n";
-    let refused = is_answered(
-        rt.alloc(),
-        INTRINSIC_OF_ANOTHER_TYPE,
-        Status::Refused,
-        fault,
-    )?;
-    assert!(rt; refused);
-    Ok(())
-}
+           "end"]}"#,
+    "fault bad-intrinsics at payload 1 item 0\n",
+)];
 
 #[test]
 fn hosts_and_builtins_are_not_built(rt: HostRuntime) -> Result<(), Fail> {
-    for (name, input) in IMPORTS {
-        let refused = is_answered(rt.alloc(), input, Status::Refused, NOT_BUILT)?;
-        assert!(rt; refused, "{name}");
-    }
-    for (name, input) in BUILTINS {
-        let refused = is_answered(rt.alloc(), input, Status::Refused, NOT_BUILT)?;
-        assert!(rt; refused, "{name}");
-    }
+    are_refused(&rt, rt.alloc(), &INTRINSIC_OF_ANOTHER_TYPE)?;
+    are_not_built(&rt, rt.alloc(), &IMPORTS)?;
+    are_not_built(&rt, rt.alloc(), &BUILTINS)?;
     Ok(())
 }

@@ -2,6 +2,7 @@
 
 use pc_tool::{MemSink, MemSource, Status, run};
 use std::alloc::{AllocError, Global};
+use std::process::Abort;
 
 /// The smallest component that does something: it lifts one function of one core instance, and exports it.
 pub(crate) const SMALLEST: &str =
@@ -21,8 +22,38 @@ options 0 0 utf8 sync - - - -
 export \"f\" lifted export(0 func 0) options 0
 ";
 
+/// The text for an input that holds what isn't built yet. No item of it is read, so the place is the first.
+pub(crate) const NOT_BUILT: &str = "fault unsupported not-built at payload 0 item 0\n";
+
+/// How streams behave: the most bytes a call, and the call that fails.
+#[derive(Clone, Copy)]
+pub(crate) struct Ends {
+    pub(crate) read_most: usize,
+    pub(crate) read_fails: u64,
+    pub(crate) write_most: usize,
+    pub(crate) write_fails: u64,
+}
+
+/// Streams that move as much as they can, and fail at a call that is never made.
+pub(crate) const WHOLE: Ends = Ends {
+    read_most: 1000000000,
+    read_fails: u64::MAX,
+    write_most: 1000000000,
+    write_fails: u64::MAX,
+};
+
+/// What a run comes to: its status, what it writes, how many bytes are left, and the faults of source and sink.
+#[derive(Clone, Copy)]
+pub(crate) struct Ran<'a> {
+    pub(crate) status: Status,
+    pub(crate) written: &'a [u8],
+    pub(crate) left: usize,
+    pub(crate) read_faults: u64,
+    pub(crate) write_faults: u64,
+}
+
 /// Words, from a text that has a space between two.
-pub(crate) fn words(alloc: Global, text: &str) -> Result<Vec<String>, AllocError> {
+fn words(alloc: Global, text: &str) -> Result<Vec<String>, AllocError> {
     let mut words = Vec::new(alloc);
     for word in text.split(' ') {
         words.push(String::from_str(alloc, word)?)?;
@@ -30,79 +61,149 @@ pub(crate) fn words(alloc: Global, text: &str) -> Result<Vec<String>, AllocError
     Ok(words)
 }
 
-/// What a run came to: its status, what it wrote, how many bytes are left, and the faults of source and sink.
-#[derive(Debug, Drop, PartialEq)]
-pub(crate) struct Ran {
-    pub(crate) status: Status,
-    pub(crate) written: Vec<u8>,
-    pub(crate) left: usize,
-    pub(crate) read_faults: u64,
-    pub(crate) write_faults: u64,
+fn source(alloc: Global, bytes: &[u8], ends: &Ends) -> Result<MemSource, AllocError> {
+    let bytes = bytes.to_vec(alloc)?;
+    let fails = vec![in alloc; ends.read_fails]?;
+    Ok(MemSource::new(bytes, ends.read_most.max(1), fails))
 }
 
-/// How streams behave: the most bytes a call, and the call that fails.
-#[derive(Clone, Copy, Debug)]
-pub(crate) struct Ends {
-    pub(crate) read_most: usize,
-    pub(crate) read_fails: Option<u64>,
-    pub(crate) write_most: usize,
-    pub(crate) write_fails: Option<u64>,
+fn sink(alloc: Global, ends: &Ends) -> Result<MemSink, AllocError> {
+    let room = Vec::with_capacity(alloc, 4096)?;
+    let fails = vec![in alloc; ends.write_fails]?;
+    Ok(MemSink::new(room, ends.write_most.max(1), fails))
 }
 
-/// Streams that move as much as they can, and never fail.
-pub(crate) const WHOLE: Ends = Ends {
-    read_most: 1000000000,
-    read_fails: None,
-    write_most: 1000000000,
-    write_fails: None,
-};
-
-fn failing(alloc: Global, call: Option<u64>) -> Result<Vec<u64>, AllocError> {
-    let mut fails = Vec::new(alloc);
-    if let Some(n) = call {
-        fails.push(n)?;
-    }
-    Ok(fails)
+/// Whether a run of these words comes to this.
+fn runs_to(
+    alloc: Global,
+    words: &[String],
+    src: &mut MemSource,
+    out: &mut MemSink,
+    want: &Ran<'_>,
+) -> bool {
+    let status = run(alloc, words, src, out);
+    status == want.status
+        && out.kept() == want.written
+        && src.left().len() == want.left
+        && (src.faults(), out.faults()) == (want.read_faults, want.write_faults)
 }
 
-/// Runs words over bytes.
-pub(crate) fn run_over(
+/// Whether a run of words over bytes comes to this.
+pub(crate) fn comes_to(
     alloc: Global,
     text: &str,
-    bytes: Vec<u8>,
-    ends: Ends,
-) -> Result<Ran, AllocError> {
-    let mut src = MemSource::new(
-        bytes,
-        ends.read_most.max(1),
-        failing(alloc, ends.read_fails)?,
-    );
-    let room = Vec::with_capacity(alloc, 4096)?;
-    let mut out = MemSink::new(
-        room,
-        ends.write_most.max(1),
-        failing(alloc, ends.write_fails)?,
-    );
-    let status = run(alloc, &words(alloc, text)?, &mut src, &mut out);
-    Ok(Ran {
-        status,
-        written: out.kept().to_vec(alloc)?,
-        left: src.left().len(),
-        read_faults: src.faults(),
-        write_faults: out.faults(),
-    })
+    bytes: &[u8],
+    ends: &Ends,
+    want: &Ran<'_>,
+) -> Result<bool, AllocError> {
+    let words = words(alloc, text)?;
+    let mut src = source(alloc, bytes, ends)?;
+    let mut out = sink(alloc, ends)?;
+    Ok(runs_to(alloc, words.as_slice(), &mut src, &mut out, want))
 }
 
-/// The text for an input that holds what isn't built yet. No item of it is read, so the place is the first.
-pub(crate) const NOT_BUILT: &str = "fault unsupported not-built at payload 0 item 0\n";
-
-/// Whether the word `translate` ends with this status for an input, and writes this text.
+/// Whether a command ends with this status for an input that is read whole, and writes this text.
 pub(crate) fn is_answered(
     alloc: Global,
+    command: &str,
     input: &str,
     status: Status,
     text: &str,
 ) -> Result<bool, AllocError> {
-    let ran = run_over(alloc, "translate", input.as_bytes().to_vec(alloc)?, WHOLE)?;
-    Ok(ran.status == status && ran.written.as_slice() == text.as_bytes())
+    let want = Ran {
+        status,
+        written: text.as_bytes(),
+        left: 0,
+        read_faults: 0,
+        write_faults: 0,
+    };
+    comes_to(alloc, command, input.as_bytes(), &WHOLE, &want)
+}
+
+/// Checks that each input has the plan beside it.
+pub(crate) fn are_planned(
+    rt: &impl Abort,
+    alloc: Global,
+    rows: &[(&str, &str)],
+) -> Result<(), AllocError> {
+    for (input, plan) in rows {
+        assert!(rt;
+            is_answered(alloc, "translate", input, Status::Done, plan)?,
+            "{input}"
+        );
+    }
+    Ok(())
+}
+
+/// Checks that each input is refused with the text beside it.
+pub(crate) fn are_refused(
+    rt: &impl Abort,
+    alloc: Global,
+    rows: &[(&str, &str)],
+) -> Result<(), AllocError> {
+    for (input, fault) in rows {
+        assert!(rt;
+            is_answered(alloc, "translate", input, Status::Refused, fault)?,
+            "{input}"
+        );
+    }
+    Ok(())
+}
+
+/// Checks that each input is refused, since not all of it is built. Its name stands before it.
+pub(crate) fn are_not_built(
+    rt: &impl Abort,
+    alloc: Global,
+    rows: &[(&str, &str)],
+) -> Result<(), AllocError> {
+    for (name, input) in rows {
+        assert!(rt;
+            is_answered(alloc, "translate", input, Status::Refused, NOT_BUILT)?,
+            "{name}"
+        );
+    }
+    Ok(())
+}
+
+/// Whether an input with these intrinsics, entries of the type table and payloads is refused with this text.
+pub(crate) fn is_refused(
+    alloc: Global,
+    intrinsics: &str,
+    types: &str,
+    payloads: &str,
+    fault: &str,
+) -> Result<bool, AllocError> {
+    let input = format!(in alloc;
+        r#"{{"limit":100,"intrinsics":{intrinsics},"types":{{"core":[],"types":[{types}]}},"payloads":[{payloads}]}}"#
+    )?;
+    is_answered(alloc, "translate", &input, Status::Refused, fault)
+}
+
+/// Checks that payloads are refused with the text beside them. The type table has an empty instance type.
+pub(crate) fn payloads_are_refused(
+    rt: &impl Abort,
+    alloc: Global,
+    intrinsics: &str,
+    rows: &[(&str, &str)],
+) -> Result<(), AllocError> {
+    for (payloads, fault) in rows {
+        let refused = is_refused(alloc, intrinsics, r#"{"instance":[]}"#, payloads, fault)?;
+        assert!(rt; refused, "{payloads}");
+    }
+    Ok(())
+}
+
+/// Checks that entries of the type table are refused with the text beside them, before payloads that are at fault.
+pub(crate) fn entries_are_refused(
+    rt: &impl Abort,
+    alloc: Global,
+    rows: &[(&str, &str)],
+) -> Result<(), AllocError> {
+    for (types, fault) in rows {
+        assert!(rt;
+            is_refused(alloc, "null", types, r#""custom""#, fault)?,
+            "{types}"
+        );
+    }
+    Ok(())
 }

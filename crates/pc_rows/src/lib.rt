@@ -10,6 +10,10 @@ mod hosts;
 #[cfg(test)]
 mod inputs;
 #[cfg(test)]
+mod intrinsics;
+#[cfg(test)]
+mod items;
+#[cfg(test)]
 mod long;
 #[cfg(test)]
 mod nested;
@@ -19,3 +23,5 @@ mod refusals;
 mod root;
 #[cfg(test)]
 mod streams;
+#[cfg(test)]
+mod structure;

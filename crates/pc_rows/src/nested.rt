@@ -1,7 +1,6 @@
 //! Components that stand in each other. None is translated yet.
 
-use crate::inputs::{NOT_BUILT, is_answered};
-use pc_tool::Status;
+use crate::inputs::are_not_built;
 use std::test::Fail;
 
 /// Components that are instantiated, with what they are given and what they capture.
@@ -254,13 +253,7 @@ const TREES: [(&str, &str); 6] = [
 
 #[test]
 fn nested_components_are_not_built(rt: HostRuntime) -> Result<(), Fail> {
-    for (name, input) in CHILDREN {
-        let refused = is_answered(rt.alloc(), input, Status::Refused, NOT_BUILT)?;
-        assert!(rt; refused, "{name}");
-    }
-    for (name, input) in TREES {
-        let refused = is_answered(rt.alloc(), input, Status::Refused, NOT_BUILT)?;
-        assert!(rt; refused, "{name}");
-    }
+    are_not_built(&rt, rt.alloc(), &CHILDREN)?;
+    are_not_built(&rt, rt.alloc(), &TREES)?;
     Ok(())
 }

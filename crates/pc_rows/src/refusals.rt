@@ -1,6 +1,6 @@
 //! Bytes that are no input, and items that fit nothing.
 
-use crate::inputs::{NOT_BUILT, is_answered};
+use crate::inputs::{NOT_BUILT, are_refused, is_answered};
 use pc_tool::Status;
 use std::alloc::{AllocError, Global};
 use std::test::Fail;
@@ -95,30 +95,26 @@ const ROWS: [(&str, &str); 15] = [
     ),
 ];
 
-/// An input with the module above and the payloads given.
-fn input(alloc: Global, payloads: &str) -> Result<String, AllocError> {
-    format!(in alloc;
+/// Whether the input with the module above and these payloads is refused with this text.
+fn is_refused(alloc: Global, payloads: &str, fault: &str) -> Result<bool, AllocError> {
+    let input = format!(in alloc;
         r#"{{"limit":100,"intrinsics":null,"types":{{"core":[[["i32"],["i32"]]],
            "types":[{{"func":{{"params":[["x","u32"]],"result":"u32","async":false}}}},{{"module":[[],[]]}}]}},
            "payloads":["version",{MODULE},{payloads},"end"]}}"#
-    )
+    )?;
+    is_answered(alloc, "translate", &input, Status::Refused, fault)
 }
 
 #[test]
 fn bytes_that_are_no_input_are_refused(rt: HostRuntime) -> Result<(), Fail> {
-    for (bytes, fault) in NO_INPUTS {
-        let refused = is_answered(rt.alloc(), bytes, Status::Refused, fault)?;
-        assert!(rt; refused, "{bytes}");
-    }
+    are_refused(&rt, rt.alloc(), &NO_INPUTS)?;
     Ok(())
 }
 
 #[test]
 fn each_fault_has_its_place(rt: HostRuntime) -> Result<(), Fail> {
     for (payloads, fault) in ROWS {
-        let bytes = input(rt.alloc(), payloads)?;
-        let refused = is_answered(rt.alloc(), &bytes, Status::Refused, fault)?;
-        assert!(rt; refused, "{payloads}");
+        assert!(rt; is_refused(rt.alloc(), payloads, fault)?, "{payloads}");
     }
     Ok(())
 }

@@ -1,7 +1,6 @@
 //! A root component alone: inputs that are translated, faults of their reading, and inputs that are refused as a whole.
 
-use crate::inputs::{NOT_BUILT, SMALLEST, SMALLEST_PLAN, is_answered};
-use pc_tool::Status;
+use crate::inputs::{SMALLEST, SMALLEST_PLAN, are_not_built, are_planned, are_refused};
 use std::test::Fail;
 
 /// A component without content.
@@ -149,36 +148,19 @@ const REFUSED: [(&str, &str); 2] = [
 
 #[test]
 fn whole_inputs_are_answered(rt: HostRuntime) -> Result<(), Fail> {
-    for (input, plan) in PLANS {
-        let planned = is_answered(rt.alloc(), input, Status::Done, plan)?;
-        assert!(rt; planned, "{input}");
-    }
+    are_planned(&rt, rt.alloc(), &PLANS)?;
     Ok(())
 }
 
 #[test]
-fn an_item_that_is_stuck_is_a_fault(rt: HostRuntime) -> Result<(), Fail> {
-    for (input, fault) in FAULTS {
-        let refused = is_answered(rt.alloc(), input, Status::Refused, fault)?;
-        assert!(rt; refused, "{input}");
-    }
-    Ok(())
-}
-
-#[test]
-fn static_faults_have_their_place(rt: HostRuntime) -> Result<(), Fail> {
-    for (input, fault) in STATIC_FAULTS {
-        let refused = is_answered(rt.alloc(), input, Status::Refused, fault)?;
-        assert!(rt; refused, "{input}");
-    }
+fn faults_have_their_place(rt: HostRuntime) -> Result<(), Fail> {
+    are_refused(&rt, rt.alloc(), &FAULTS)?;
+    are_refused(&rt, rt.alloc(), &STATIC_FAULTS)?;
     Ok(())
 }
 
 #[test]
 fn other_items_are_not_built(rt: HostRuntime) -> Result<(), Fail> {
-    for (name, input) in REFUSED {
-        let refused = is_answered(rt.alloc(), input, Status::Refused, NOT_BUILT)?;
-        assert!(rt; refused, "{name}");
-    }
+    are_not_built(&rt, rt.alloc(), &REFUSED)?;
     Ok(())
 }

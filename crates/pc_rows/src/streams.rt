@@ -1,131 +1,188 @@
 //! Streams that move little a call, and fail at each of their calls in turn.
 
-use crate::inputs::{Ends, Ran, SMALLEST, SMALLEST_PLAN, WHOLE, run_over};
+use crate::inputs::{Ends, Ran, SMALLEST, SMALLEST_PLAN, WHOLE, comes_to};
 use pc_tool::Status;
+use std::alloc::{AllocError, Global};
 use std::test::Fail;
+
+/// What a run comes to that reads all and writes this text.
+fn done(text: &str) -> Ran<'_> {
+    Ran {
+        status: Status::Done,
+        written: text.as_bytes(),
+        left: 0,
+        read_faults: 0,
+        write_faults: 0,
+    }
+}
+
+/// Whether a run on the smallest input comes to this.
+fn smallest_comes_to(alloc: Global, ends: &Ends, want: &Ran<'_>) -> Result<bool, AllocError> {
+    comes_to(alloc, "translate", SMALLEST.as_bytes(), ends, want)
+}
+
+/// The most bytes a call of source and sink.
+const LITTLE: [(usize, usize); 4] = [(1, 1), (7, 1000), (64, 7), (1000, 1)];
 
 #[test]
 fn little_a_call_is_enough(rt: HostRuntime) -> Result<(), Fail> {
-    let alloc = rt.alloc();
-    for read_most in [1, 7, 64] {
-        for write_most in [1, 7] {
-            let ends = Ends {
-                read_most,
-                write_most,
-                ..WHOLE
-            };
-            let ran = run_over(alloc, "translate", SMALLEST.as_bytes().to_vec(alloc)?, ends)?;
-            let plan = Ran {
-                status: Status::Done,
-                written: SMALLEST_PLAN.as_bytes().to_vec(alloc)?,
-                left: 0,
-                read_faults: 0,
-                write_faults: 0,
-            };
-            assert_eq!(rt; ran, plan, "{ends:?}");
-        }
+    for (read_most, write_most) in LITTLE {
+        let ends = Ends {
+            read_most,
+            write_most,
+            ..WHOLE
+        };
+        assert!(rt;
+            smallest_comes_to(rt.alloc(), &ends, &done(SMALLEST_PLAN))?,
+            "{read_most}, {write_most}"
+        );
     }
     Ok(())
+}
+
+/// Whether a run ends with a fault where this read fails, which leaves this many bytes, and writes nothing.
+fn read_fails(alloc: Global, read_most: usize, n: u64, left: usize) -> Result<bool, AllocError> {
+    let ends = Ends {
+        read_most,
+        read_fails: n,
+        ..WHOLE
+    };
+    let fault = Ran {
+        status: Status::ReadFault,
+        written: &[],
+        left,
+        read_faults: 1,
+        write_faults: 0,
+    };
+    smallest_comes_to(alloc, &ends, &fault)
+}
+
+/// Whether each read fails in its turn. The last one finds the end.
+fn each_read_fails(alloc: Global, most: usize) -> Result<bool, AllocError> {
+    let mut left = SMALLEST.len();
+    for n in 0..1000 {
+        if !read_fails(alloc, most, n, left)? {
+            return Ok(false);
+        }
+        if left == 0 {
+            return Ok(true);
+        }
+        left = left.saturating_sub(most);
+    }
+    Ok(false)
 }
 
 #[test]
 fn a_failed_read_writes_nothing(rt: HostRuntime) -> Result<(), Fail> {
-    let alloc = rt.alloc();
-    let len = SMALLEST.len();
-    for read_most in [1usize, 7, 64] {
-        // The last read finds the end.
-        let reads = len.div_ceil(read_most.max(1)) + 1;
-        for n in 0..reads {
-            let ends = Ends {
-                read_most,
-                read_fails: Some(n as u64),
-                ..WHOLE
-            };
-            let ran = run_over(alloc, "translate", SMALLEST.as_bytes().to_vec(alloc)?, ends)?;
-            let fault = Ran {
-                status: Status::ReadFault,
-                written: Vec::new(alloc),
-                left: len.saturating_sub(n.saturating_mul(read_most)),
-                read_faults: 1,
-                write_faults: 0,
-            };
-            assert_eq!(rt; ran, fault, "{ends:?}");
-        }
+    for most in [1, 7, 64] {
+        assert!(rt; each_read_fails(rt.alloc(), most)?, "{most}");
     }
     Ok(())
+}
+
+/// Whether a run ends with a fault where this write fails, before which so many bytes were written.
+fn write_fails(alloc: Global, write_most: usize, n: u64, kept: usize) -> Result<bool, AllocError> {
+    let ends = Ends {
+        write_most,
+        write_fails: n,
+        ..WHOLE
+    };
+    let fault = Ran {
+        status: Status::WriteFault,
+        written: &SMALLEST_PLAN.as_bytes()[..kept.min(SMALLEST_PLAN.len())],
+        left: 0,
+        read_faults: 0,
+        write_faults: 1,
+    };
+    smallest_comes_to(alloc, &ends, &fault)
+}
+
+/// Whether each write fails in its turn.
+fn each_write_fails(alloc: Global, most: usize) -> Result<bool, AllocError> {
+    let mut kept = 0usize;
+    for n in 0..1000 {
+        if kept >= SMALLEST_PLAN.len() {
+            return Ok(true);
+        }
+        if !write_fails(alloc, most, n, kept)? {
+            return Ok(false);
+        }
+        kept = kept.saturating_add(most);
+    }
+    Ok(false)
 }
 
 #[test]
 fn a_failed_write_leaves_a_front(rt: HostRuntime) -> Result<(), Fail> {
-    let alloc = rt.alloc();
-    let plan = SMALLEST_PLAN.as_bytes();
-    for write_most in [1usize, 7] {
-        let writes = plan.len().div_ceil(write_most.max(1));
-        for n in 0..writes {
-            let ends = Ends {
-                write_most,
-                write_fails: Some(n as u64),
-                ..WHOLE
-            };
-            let ran = run_over(alloc, "translate", SMALLEST.as_bytes().to_vec(alloc)?, ends)?;
-            let fault = Ran {
-                status: Status::WriteFault,
-                written: plan[..n.saturating_mul(write_most).min(plan.len())].to_vec(alloc)?,
-                left: 0,
-                read_faults: 0,
-                write_faults: 1,
-            };
-            assert_eq!(rt; ran, fault, "{ends:?}");
-        }
+    for most in [1, 7] {
+        assert!(rt; each_write_fails(rt.alloc(), most)?, "{most}");
     }
     Ok(())
 }
 
-#[test]
-fn one_byte_over_the_limit_is_too_long(rt: HostRuntime) -> Result<(), Fail> {
-    let alloc = rt.alloc();
-    let ran = run_over(alloc, "translate", vec![in alloc; 32u8; 67108865]?, WHOLE)?;
-    assert_eq!(rt; ran.status, Status::TooLong);
-    assert_eq!(rt; ran.written, b"fault too-long\n".to_vec(alloc)?);
-    Ok(())
+/// What an input over the limit comes to: one byte more was read than may be.
+fn one_byte_over(alloc: Global) -> Result<bool, AllocError> {
+    let bytes = vec![in alloc; 32u8; 67108865]?;
+    let want = Ran {
+        status: Status::TooLong,
+        ..done("fault too-long\n")
+    };
+    comes_to(alloc, "translate", &bytes, &WHOLE, &want)
 }
 
 #[test]
+fn one_byte_over_the_limit_is_too_long(rt: HostRuntime) -> Result<(), Fail> {
+    assert!(rt; one_byte_over(rt.alloc())?);
+    Ok(())
+}
+
+/// Words that name no command.
+const WORDS: [&str; 8] = [
+    "",
+    "translate x",
+    "Translate",
+    "translat",
+    "--help",
+    "--version",
+    "gen 0",
+    "x translate",
+];
+
+/// What other words come to: the input is left alone.
+const UNREAD: Ran<'static> = Ran {
+    status: Status::Usage,
+    written: b"usage: plan translate | plan context | plan facts | plan gen N\n",
+    left: 1,
+    read_faults: 0,
+    write_faults: 0,
+};
+
+/// What they come to if the first write fails.
+const UNWRITTEN: Ran<'static> = Ran {
+    status: Status::WriteFault,
+    written: b"",
+    write_faults: 1,
+    ..UNREAD
+};
+
+/// Streams that fail at their first call.
+const FAILING: Ends = Ends {
+    read_fails: 0,
+    write_fails: 0,
+    ..WHOLE
+};
+
+#[test]
 fn other_words_name_no_command(rt: HostRuntime) -> Result<(), Fail> {
-    let alloc = rt.alloc();
-    let usage = b"usage: plan translate | plan context | plan facts | plan gen N\n";
-    for words in [
-        "",
-        "translate x",
-        "Translate",
-        "translat",
-        "--help",
-        "--version",
-        "gen 0",
-        "x translate",
-    ] {
-        let unread = Ran {
-            status: Status::Usage,
-            written: usage.to_vec(alloc)?,
-            left: 1,
-            read_faults: 0,
-            write_faults: 0,
-        };
-        let ran_whole = run_over(alloc, words, b"{".to_vec(alloc)?, WHOLE)?;
-        assert_eq!(rt; ran_whole, unread, "{words}");
-        let ends = Ends {
-            read_fails: Some(0),
-            write_fails: Some(0),
-            ..WHOLE
-        };
-        let unwritten = Ran {
-            status: Status::WriteFault,
-            written: Vec::new(alloc),
-            write_faults: 1,
-            ..unread
-        };
-        let ran = run_over(alloc, words, b"{".to_vec(alloc)?, ends)?;
-        assert_eq!(rt; ran, unwritten, "{words}");
+    for words in WORDS {
+        assert!(rt;
+            comes_to(rt.alloc(), words, b"{", &WHOLE, &UNREAD)?,
+            "{words}"
+        );
+        assert!(rt;
+            comes_to(rt.alloc(), words, b"{", &FAILING, &UNWRITTEN)?,
+            "{words}"
+        );
     }
     Ok(())
 }

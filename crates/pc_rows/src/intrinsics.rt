@@ -1,0 +1,187 @@
+//! What the root declares the unsafe intrinsics to be.
+
+use crate::inputs::{NOT_BUILT, is_refused, payloads_are_refused};
+use std::alloc::{AllocError, Global};
+use std::test::Fail;
+
+/// An instance type of all intrinsics, behind the types of its functions.
+const ALL: &str =
+    r#"{"func":{"params":[],"result":"u64","async":false}},{"func":{"params":[["a","u64"]],"result":"u8",
+       "async":false}},{"func":{"params":[["a","u64"],["b","u8"]],"result":null,"async":false}},
+       {"func":{"params":[["a","u64"]],"result":"u16","async":false}},{"func":{"params":[["a","u64"],["b","u16"]],
+       "result":null,"async":false}},{"func":{"params":[["a","u64"]],"result":"u32","async":false}},
+       {"func":{"params":[["a","u64"],["b","u32"]],"result":null,"async":false}},{"func":{"params":[["a","u64"]],
+       "result":"u64","async":false}},{"func":{"params":[["a","u64"],["b","u64"]],"result":null,"async":false}},
+       {"func":{"params":[["a","u64"],["b","u64"],["c","u64"]],"result":"u8","async":false}},{"func":{"params":[["a",
+       "u64"],["b","u64"],["c","u64"],["d","u8"]],"result":null,"async":false}},{"func":{"params":[["a","u64"],["b",
+       "u64"],["c","u64"]],"result":"u16","async":false}},{"func":{"params":[["a","u64"],["b","u64"],["c","u64"],
+       ["d","u16"]],"result":null,"async":false}},{"func":{"params":[["a","u64"],["b","u64"],["c","u64"]],
+       "result":"u32","async":false}},{"func":{"params":[["a","u64"],["b","u64"],["c","u64"],["d","u32"]],
+       "result":null,"async":false}},{"func":{"params":[["a","u64"],["b","u64"],["c","u64"]],"result":"u64",
+       "async":false}},{"func":{"params":[["a","u64"],["b","u64"],["c","u64"],["d","u64"]],"result":null,
+       "async":false}},{"func":{"params":[],"result":"u32","async":false}},{"func":{"params":[["a","u32"]],
+       "result":null,"async":false}},{"instance":[["store-data-address",["func",0]],["u8-native-load",["func",1]],
+       ["u8-native-store",["func",2]],["u16-native-load",["func",3]],["u16-native-store",["func",4]],
+       ["u32-native-load",["func",5]],["u32-native-store",["func",6]],["u64-native-load",["func",7]],
+       ["u64-native-store",["func",8]],["u8-checked-native-load",["func",9]],["u8-checked-native-store",["func",10]],
+       ["u16-checked-native-load",["func",11]],["u16-checked-native-store",["func",12]],["u32-checked-native-load",
+       ["func",13]],["u32-checked-native-store",["func",14]],["u64-checked-native-load",["func",15]],
+       ["u64-checked-native-store",["func",16]],["context-get-i32-0",["func",17]],["context-set-i32-0",["func",18]],
+       ["context-get-i32-1",["func",17]],["context-set-i32-1",["func",18]]]}"#;
+
+/// Entries of the type table, what the import is declared to be, and how the input is refused.
+const FUNCTIONS: [(&str, &str, &str); 10] = [
+    (ALL, r#"["instance",19]"#, NOT_BUILT),
+    (
+        r#"{"func":{"params":[["a","u64"]],"result":"u8","async":false}},{"instance":[["u8-native-load",["func",0]]]}"#,
+        r#"["instance",1]"#,
+        NOT_BUILT,
+    ),
+    (
+        r#"{"func":{"params":[["a","u64"]],"result":"u8","async":true}},{"instance":[["u8-native-load",["func",0]]]}"#,
+        r#"["instance",1]"#,
+        NOT_BUILT,
+    ),
+    (
+        r#"{"val":"u64"},{"val":0},{"func":{"params":[["a",1]],"result":"u8","async":false}},
+           {"instance":[["u8-native-load",["func",2]]]}"#,
+        r#"["instance",3]"#,
+        NOT_BUILT,
+    ),
+    (
+        r#"{"func":{"params":[["a","u32"]],"result":"u8","async":false}},{"instance":[["u8-native-load",["func",0]]]}"#,
+        r#"["instance",1]"#,
+        "fault bad-intrinsics at payload 1 item 1\n",
+    ),
+    (
+        r#"{"func":{"params":[["a","u64"]],"result":"u32","async":false}},{"instance":[["u8-native-load",["func",
+           0]]]}"#,
+        r#"["instance",1]"#,
+        "fault bad-intrinsics at payload 1 item 1\n",
+    ),
+    (
+        r#"{"func":{"params":[["a","u64"]],"result":null,"async":false}},{"instance":[["u8-native-load",["func",0]]]}"#,
+        r#"["instance",1]"#,
+        "fault bad-intrinsics at payload 1 item 1\n",
+    ),
+    (
+        r#"{"func":{"params":[],"result":"u8","async":false}},{"instance":[["u8-native-load",["func",0]]]}"#,
+        r#"["instance",1]"#,
+        "fault bad-intrinsics at payload 1 item 1\n",
+    ),
+    (
+        r#"{"func":{"params":[["a","u64"],["b","u8"]],"result":"u8","async":false}},{"instance":[["u8-native-load",
+           ["func",0]]]}"#,
+        r#"["instance",1]"#,
+        "fault bad-intrinsics at payload 1 item 1\n",
+    ),
+    (
+        r#"{"func":{"params":[["a","u64"]],"result":"u8","async":false}},{"func":{"params":[["a","u64"],["b","u8"]],
+           "result":"u8","async":false}},{"instance":[["u8-native-load",["func",0]],["u8-native-store",["func",1]]]}"#,
+        r#"["instance",2]"#,
+        "fault bad-intrinsics at payload 1 item 1\n",
+    ),
+];
+
+/// The same with what is no function of a known name.
+const OTHER: [(&str, &str, &str); 8] = [
+    (
+        r#"{"func":{"params":[],"result":null,"async":false}}"#,
+        r#"["func",0]"#,
+        "fault bad-intrinsics at payload 1 item 1\n",
+    ),
+    (
+        r#"{"instance":[]}"#,
+        r#"["instance",7]"#,
+        "fault bad-intrinsics at payload 1 item 1\n",
+    ),
+    (
+        r#"{"instance":[]}"#,
+        r#"["type",0]"#,
+        "fault bad-intrinsics at payload 1 item 1\n",
+    ),
+    (
+        r#"{"func":{"params":[],"result":null,"async":false}},{"instance":[["u7-native-load",["func",0]]]}"#,
+        r#"["instance",1]"#,
+        "fault unknown-intrinsic at payload 1 item 1\n",
+    ),
+    (
+        r#"{"func":{"params":[],"result":null,"async":false}},{"instance":[["u8-native-load",["type",0]]]}"#,
+        r#"["instance",1]"#,
+        "fault bad-intrinsics at payload 1 item 1\n",
+    ),
+    (
+        r#""resource",{"func":{"params":[],"result":null,"async":false}},{"instance":[["x",["func",1]],["r",["type",
+           0]]]}"#,
+        r#"["instance",2]"#,
+        "fault bad-intrinsics at payload 1 item 1\n",
+    ),
+    (
+        r#""resource",{"func":{"params":[],"result":null,"async":false}},{"instance":[["r",["type",0]]]},
+           {"instance":[["x",["func",1]],["y",["instance",2]]]}"#,
+        r#"["instance",3]"#,
+        "fault bad-intrinsics at payload 1 item 1\n",
+    ),
+    (
+        r#"{"func":{"params":[],"result":null,"async":false}},{"instance":[]},{"instance":[["x",["func",0]],["y",
+           ["instance",1]]]}"#,
+        r#"["instance",2]"#,
+        "fault unknown-intrinsic at payload 1 item 1\n",
+    ),
+];
+
+/// Payloads of an input that has one entry, an empty instance type.
+const IMPORTS: [(&str, &str); 4] = [
+    (
+        r#""version","component","version",{"imports":[["i",["func",0]]]},"end","end""#,
+        NOT_BUILT,
+    ),
+    (
+        r#""version",{"imports":[["a",["func",0]],["b",["func",0]]]},"end""#,
+        NOT_BUILT,
+    ),
+    (
+        r#""version",{"imports":[["i",["instance",0]],["i",["func",0]]]},"end""#,
+        "fault defined-twice at payload 1 item 1\n",
+    ),
+    (
+        r#""version",{"imports":[["i",["func",0]],["i",["func",0]]]},"end""#,
+        "fault bad-intrinsics at payload 1 item 0\n",
+    ),
+];
+
+/// Whether an input whose root imports this entity as the intrinsics is refused with this text.
+fn is_declared(alloc: Global, types: &str, entity: &str, fault: &str) -> Result<bool, AllocError> {
+    let payloads = format!(in alloc;
+        r#""version",{{"imports":[["a",["func",0]],["i",{entity}]]}},"end""#
+    )?;
+    is_refused(alloc, r#""i""#, types, &payloads, fault)
+}
+
+#[test]
+fn each_intrinsic_has_its_type(rt: HostRuntime) -> Result<(), Fail> {
+    for (types, entity, fault) in FUNCTIONS {
+        assert!(rt;
+            is_declared(rt.alloc(), types, entity, fault)?,
+            "{types} {entity}"
+        );
+    }
+    Ok(())
+}
+
+#[test]
+fn only_functions_of_known_names_are_declared(rt: HostRuntime) -> Result<(), Fail> {
+    for (types, entity, fault) in OTHER {
+        assert!(rt;
+            is_declared(rt.alloc(), types, entity, fault)?,
+            "{types} {entity}"
+        );
+    }
+    Ok(())
+}
+
+#[test]
+fn the_root_alone_imports_intrinsics_once(rt: HostRuntime) -> Result<(), Fail> {
+    payloads_are_refused(&rt, rt.alloc(), r#""i""#, &IMPORTS)?;
+    Ok(())
+}
