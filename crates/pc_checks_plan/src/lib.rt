@@ -1,0 +1,10 @@
+//! Tests of `pc_plan`, `pc_trampoline` and `pc_intern`: what the functions of a plan answer, what trampolines are made
+//! of and how they are called, and which numbers interned values have.
+#![tactic(auto)]
+
+#[cfg(test)]
+mod interned;
+#[cfg(test)]
+mod plans;
+#[cfg(test)]
+mod trampolines;

@@ -1,0 +1,2 @@
+-- the trees of export items, one by one
+pub mod TreeLemmas

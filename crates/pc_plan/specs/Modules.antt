@@ -1,0 +1,55 @@
+-- How the plan machine sees the core modules of a plan: the handed-in ones, which have no adapter records, and then the
+-- adapter modules, which have some.
+use Rattle.std.specs.Prelude.{ℕ, ◌+◌, Bool, true, false, List, [], ◌∷◌, ◌++◌, map, filter, if◌then◌else◌}
+use Rattle.pc_semantics.specs.PlanView as plan
+use Rattle.pc_types.specs.declared.module_record.ModuleRecord.{ModuleRecord}
+use Rattle.pc_types.specs.declared.type_index.TypeFuncIndex.{TypeFuncIndex}
+use Rattle.pc_types.specs.declared.types.TypeDef.TheVariants as type
+use Rattle.pc_trampoline.specs.declared.part.Mark.{Mark}
+use Rattle.pc_trampoline.specs.declared.part.Mark.TheVariants as mark
+use Rattle.pc_plan.specs.declared.module.AdapterRecord.{AdapterRecord}
+use Rattle.pc_plan.specs.declared.module.ModuleTranslation.{ModuleTranslation}
+use Rattle.pc_plan.specs.Options.{side_view}
+
+-- whether a list has items
+abbrev pub has_some : {T : Type 0} → List T → Bool
+has_some [] = false
+has_some (x ∷ xs) = true
+
+-- whether a module is one of adapters
+abbrev pub is_adapter_module : ModuleTranslation → Bool
+is_adapter_module m = has_some m.adapters
+
+-- whether a module was handed in
+abbrev pub is_handed_in : ModuleTranslation → Bool
+is_handed_in m = if has_some m.adapters then false else true
+
+-- a module of the plan, as it was handed in
+abbrev pub module_view : ModuleTranslation → ModuleRecord
+module_view m = m.module
+
+-- the modules that were handed in
+abbrev pub handed_in_view : List ModuleTranslation → List ModuleRecord
+handed_in_view modules = map module_view (filter is_handed_in modules)
+
+-- a function type as a mark
+abbrev pub function_mark : TypeFuncIndex → Mark
+function_mark ty = mark.Type_ (type.ComponentFunc ty)
+
+-- an adapter's record, in the nth module
+abbrev pub adapter_view : (n : ℕ) → AdapterRecord → plan.AdapterRecord Mark
+adapter_view n a = record {
+  core_module = n;
+  adapter = a.adapter;
+  function = a.func.0;
+  callee = a.callee;
+  lift_type = function_mark a.lift_ty;
+  lift = side_view a.lift;
+  lower_type = function_mark a.lower_ty;
+  lower = side_view a.lower;
+}
+
+-- the adapters of modules, the first of which is the nth one
+abbrev pub adapters_view : (n : ℕ) → List ModuleTranslation → List (plan.AdapterRecord Mark)
+adapters_view n [] = []
+adapters_view n (m ∷ ms) = map (adapter_view n) m.adapters ++ adapters_view (n + 1) ms
