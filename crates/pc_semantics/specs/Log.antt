@@ -3,7 +3,7 @@ use Rattle.std.specs.Prelude.{ℕ, Bool, true, false, List, map, filter, Option,
 use Rattle.std.specs.List.{filter_map}
 use Rattle.pc_types.specs.declared.parsed.WasmValType.{WasmValType}
 use Rattle.pc_types.specs.TypeTree.{Path}
-use Rattle.pc_semantics.specs.CoreValue.{CoreValue, MaybeValue, map_value, erased}
+use Rattle.pc_semantics.specs.CoreValue.{CoreValue, MaybeValue, map_value, map_maybe, erased}
 
 -- an argument of a host module: the module name and the name that its type imports, and what is given
 pub record NamedArgument (τ : Type 0) : Type 0 where
@@ -57,7 +57,7 @@ trace log = filter is_effect log
 abbrev pub instances_of : {τ : Type 0} → List (Entry τ) → List (Owned τ)
 instances_of log = filter_map owned_of log
 
--- instances with their marks mapped
+-- entries and instances with their marks mapped
 module _ {τ υ : Type 0} (f : τ → υ) where
   -- the parts of an instance likewise
   abbrev pub map_argument : NamedArgument τ → NamedArgument υ
@@ -69,6 +69,17 @@ module _ {τ υ : Type 0} (f : τ → υ) where
 
   abbrev pub map_owned : Owned τ → Owned υ
   map_owned o = record { instantiation = map_instantiation o.instantiation; component_instance = o.component_instance }
+
+  abbrev pub map_entry : Entry τ → Entry υ
+  map_entry (instantiated i c) = instantiated (map_instantiation i) c
+  map_entry (declared_resource representation destructor c) = declared_resource representation (map_maybe f destructor) c
+  map_entry (declared v) = declared (map_value f v)
+  map_entry (made v) = made (map_value f v)
+  map_entry (needed path) = needed path
+
+-- an entry with its types erased
+abbrev pub erase_entry : {τ : Type 0} → Entry τ → Entry (Unit {0})
+erase_entry e = map_entry erased e
 
 -- an instance with its types erased
 abbrev pub erase_owned : {τ : Type 0} → Owned τ → Owned (Unit {0})
