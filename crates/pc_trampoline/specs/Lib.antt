@@ -3,5 +3,9 @@ pub mod Parts
 pub mod Shape
 pub mod Transcoding
 pub mod View
--- What the functions inside promise each other.
+-- What `==` is.
 pub mod Exact
+pub mod Fields
+pub mod Made
+pub mod Readers
+pub mod Same

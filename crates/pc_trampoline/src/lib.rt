@@ -5,6 +5,7 @@
 #![tactic(auto)]
 
 mod builtin;
+mod equal;
 mod exact;
 mod helper;
 mod made;
