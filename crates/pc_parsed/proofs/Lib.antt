@@ -4,5 +4,6 @@ mod NameLemmas
 mod StructureLemmas
 mod StandLemmas
 mod PassLemmas
+mod IntrinsicLemmas
 pub mod SoundLemmas
 pub mod KindLemmas

@@ -1,7 +1,7 @@
 -- What the root may declare the unsafe intrinsics to be: an instance whose exports are functions of their names, each
 -- with its parameters and its result.
-use Rattle.std.specs.Prelude.{ℕ, Bool, true, false, List, [], ◌∷◌, ◌++◌, length, take, drop, Option, Some, None, ◌&&◌, nat_le, if◌then◌else◌, codes, slice_get, option_and_then}
-use Rattle.std.specs.List.{list_all, list_any}
+use Rattle.std.specs.Prelude.{ℕ, Bool, true, false, List, [], ◌∷◌, ◌++◌, map, Option, Some, None, ◌&&◌, if◌then◌else◌, slice_get, option_and_then}
+use Rattle.std.specs.List.{list_any, zip}
 use Rattle.std.specs.Option.{option_or}
 use Rattle.std.specs.Str.{bytes_eq}
 use Rattle.pc_entity.specs.Lists.{value_of}
@@ -14,56 +14,17 @@ use Rattle.pc_types.specs.declared.parsed.PrimType.TheVariants.{U8, U16, U32, U6
 use Rattle.pc_types.specs.declared.parsed.TypeTable.{TypeTable}
 use Rattle.pc_types.specs.declared.parsed.ValType.{ValType}
 use Rattle.pc_types.specs.declared.parsed.ValType.TheVariants as val
+use Rattle.pc_types.specs.declared.types.InterfaceType.{InterfaceType}
+use Rattle.pc_types.specs.declared.types.InterfaceType.TheVariants as interface
+use Rattle.pc_types.specs.Intrinsic.{intrinsic_names}
+use Rattle.pc_types.specs.IntrinsicType.{IntrinsicType, interface_type, intrinsic_types}
 use Rattle.pc_types.specs.Table.{is_resource, is_some_and}
 use Rattle.pc_parsed.specs.declared.fault.StaticFault.{StaticFault}
 use Rattle.pc_parsed.specs.declared.fault.StaticFault.TheVariants as fault
-use Rattle.pc_parsed.specs.declared.intrinsic.Signature.{Signature}
 
--- an intrinsic that takes so many addresses, each a u64, and then perhaps a value, and perhaps answers one
-abbrev pub takes : (addresses : ℕ) → (value answer : Option PrimType) → Signature
-takes addresses value answer = record { addresses = addresses; value = value; answer = answer }
-
--- loads and stores of host memory
-abbrev pub native_intrinsics : List (List ℕ × Signature)
-native_intrinsics =
-    (codes "u8-native-load", takes 1 None (Some U8))
-    ∷ (codes "u8-native-store", takes 1 (Some U8) None)
-    ∷ (codes "u16-native-load", takes 1 None (Some U16))
-    ∷ (codes "u16-native-store", takes 1 (Some U16) None)
-    ∷ (codes "u32-native-load", takes 1 None (Some U32))
-    ∷ (codes "u32-native-store", takes 1 (Some U32) None)
-    ∷ (codes "u64-native-load", takes 1 None (Some U64))
-    ∷ (codes "u64-native-store", takes 1 (Some U64) None)
-    ∷ []
-
--- loads and stores of host memory within bounds
-abbrev pub checked_intrinsics : List (List ℕ × Signature)
-checked_intrinsics =
-    (codes "u8-checked-native-load", takes 3 None (Some U8))
-    ∷ (codes "u8-checked-native-store", takes 3 (Some U8) None)
-    ∷ (codes "u16-checked-native-load", takes 3 None (Some U16))
-    ∷ (codes "u16-checked-native-store", takes 3 (Some U16) None)
-    ∷ (codes "u32-checked-native-load", takes 3 None (Some U32))
-    ∷ (codes "u32-checked-native-store", takes 3 (Some U32) None)
-    ∷ (codes "u64-checked-native-load", takes 3 None (Some U64))
-    ∷ (codes "u64-checked-native-store", takes 3 (Some U64) None)
-    ∷ []
-
--- the address of the host's data, and the context slots
-abbrev pub other_intrinsics : List (List ℕ × Signature)
-other_intrinsics =
-    (codes "store-data-address", takes 0 None (Some U64))
-    ∷ (codes "context-get-i32-0", takes 0 None (Some U32))
-    ∷ (codes "context-set-i32-0", takes 0 (Some U32) None)
-    ∷ (codes "context-get-i32-1", takes 0 None (Some U32))
-    ∷ (codes "context-set-i32-1", takes 0 (Some U32) None)
-    ∷ []
-
--- the signature of the intrinsic of a name, if it is one
-abbrev pub signature_of : List ℕ → Option Signature
-signature_of name =
-    option_or (value_of name native_intrinsics)
-    (option_or (value_of name checked_intrinsics) (value_of name other_intrinsics))
+-- what the intrinsic of a name takes and answers, if it is one
+abbrev pub type_of : (name : List ℕ) → Option IntrinsicType
+type_of name = value_of name (zip intrinsic_names intrinsic_types)
 
 -- Facts of the entries of a table, from those of the entries before; each entry names earlier ones alone.
 
@@ -99,49 +60,47 @@ abbrev pub resources_from : TypeTable → (earlier : List Bool) → List DeclTyp
 resources_from t earlier [] = earlier
 resources_from t earlier (e ∷ es) = resources_from t (earlier ++ has_resource t earlier e ∷ []) es
 
--- two of the integers that intrinsics take are the same
-abbrev pub same_integer : PrimType → PrimType → Bool
-same_integer U8 U8 = true
-same_integer U16 U16 = true
-same_integer U32 U32 = true
-same_integer U64 U64 = true
+-- a primitive is one of the integers that intrinsics take and answer
+abbrev pub same_integer : InterfaceType → PrimType → Bool
+same_integer interface.U8 U8 = true
+same_integer interface.U16 U16 = true
+same_integer interface.U32 U32 = true
+same_integer interface.U64 U64 = true
 same_integer _ _ = false
 
 -- values of a type are this integer; `prims` has the primitives of all entries
-abbrev pub is_integer : (prims : List (Option PrimType)) → PrimType → ValType → Bool
-is_integer prims p v = is_some_and (same_integer p) (prim_of prims v)
+abbrev pub is_integer : (prims : List (Option PrimType)) → InterfaceType → ValType → Bool
+is_integer prims i v = is_some_and (same_integer i) (prim_of prims v)
 
--- the parameters behind the addresses are the value that is taken
-abbrev pub are_value : (prims : List (Option PrimType)) → Option PrimType → List (List ℕ × ValType) → Bool
-are_value prims None [] = true
-are_value prims (Some p) (x ∷ []) = is_integer prims p x.1
-are_value prims _ _ = false
+-- the parameters are these integers, one by one
+abbrev pub are_params : (prims : List (Option PrimType)) → List InterfaceType → List (List ℕ × ValType) → Bool
+are_params prims [] [] = true
+are_params prims (i ∷ is) (x ∷ xs) = is_integer prims i x.1 && are_params prims is xs
+are_params prims _ _ = false
 
--- the parameters are the addresses and the value of a signature
-abbrev pub are_params : (prims : List (Option PrimType)) → Signature → List (List ℕ × ValType) → Bool
-are_params prims s params =
-    nat_le s.addresses (length params)
-    && list_all (λ (x : List ℕ × ValType). is_integer prims U64 x.1) (take s.addresses params)
-    && are_value prims s.value (drop s.addresses params)
-
--- the result is what a signature answers
-abbrev pub is_answer : (prims : List (Option PrimType)) → Option PrimType → Option ValType → Bool
-is_answer prims None None = true
-is_answer prims (Some p) (Some v) = is_integer prims p v
+-- the result is this integer, if there is one
+abbrev pub is_answer : (prims : List (Option PrimType)) → List InterfaceType → Option ValType → Bool
+is_answer prims [] None = true
+is_answer prims (i ∷ []) (Some v) = is_integer prims i v
 is_answer prims _ _ = false
 
--- what is wrong with a function under the name of an intrinsic
-abbrev pub signature_fault : (prims : List (Option PrimType)) → Option Signature → List (List ℕ × ValType)
-    → Option ValType
-    → Option StaticFault
-signature_fault prims None params result = Some fault.UnknownIntrinsic
-signature_fault prims (Some s) params result =
-    if are_params prims s params && is_answer prims s.answer result then None else Some fault.BadIntrinsics
+-- what is wrong with a function of an intrinsic, which takes and answers these integers
+abbrev pub types_fault : (prims : List (Option PrimType)) → (taken answered : List InterfaceType)
+    → List (List ℕ × ValType) → Option ValType → Option StaticFault
+types_fault prims taken answered params result =
+    if are_params prims taken params && is_answer prims answered result then None else Some fault.BadIntrinsics
+
+-- what is wrong with a function under the name of an intrinsic, of which this is the type
+abbrev pub type_fault : (prims : List (Option PrimType)) → Option IntrinsicType → List (List ℕ × ValType)
+    → Option ValType → Option StaticFault
+type_fault prims None params result = Some fault.UnknownIntrinsic
+type_fault prims (Some t) params result =
+    types_fault prims (map interface_type t.params) (map interface_type t.results) params result
 
 -- what is wrong with an entry as an export of the intrinsics: it is a function, of the name of one, with its type
 abbrev pub function_fault : (prims : List (Option PrimType)) → (name : List ℕ) → Option DeclType → Option StaticFault
 function_fault prims name (Some (entry.Func params result is_async)) =
-    signature_fault prims (signature_of name) params result
+    type_fault prims (type_of name) params result
 function_fault prims name _ = Some fault.BadIntrinsics
 
 -- what is wrong with an export of the intrinsics

@@ -8,7 +8,7 @@ ghost use Rattle.pc_parsed.specs.declared.item.LocalInitializer.{LocalInitialize
 use crate::built::is_func_kind;
 use crate::canon::CanonItem;
 use crate::item::LocalInitializer;
-use crate::payload::{AliasItem, ExportEntry, ExternName, InstanceItem};
+use crate::payload::{AliasItem, ExportEntry, InstanceItem};
 use pc_entity::{NoMemory, Seq, TryClone};
 use pc_types::CoreKind;
 use std::alloc::Global;
@@ -20,16 +20,6 @@ pub(crate) trait Entry {
 
     fn item(&self, alloc: Global) -> Result<Option<LocalInitializer>, NoMemory>
         ensures { IfOk result (λ i. i ≡ item self.now) };
-}
-
-impl TryClone for ExternName {
-    fn try_clone(&self, alloc: Global) -> Result<ExternName, NoMemory> {
-        Ok(ExternName {
-            name: self.name.try_clone(alloc)?,
-            implements: self.implements.try_clone(alloc)?,
-            external_id: self.external_id.try_clone(alloc)?,
-        })
-    }
 }
 
 impl Entry for InstanceItem {

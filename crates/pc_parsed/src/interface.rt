@@ -1,16 +1,16 @@
 //! What the root declares the unsafe intrinsics to be.
 
-ghost use Rattle.std.specs.Prelude.{◌≡◌, ◌&&◌, [], IfOk, length, nat_le};
-ghost use Rattle.std.specs.List.{list_all, list_any};
+ghost use Rattle.std.specs.Prelude.{◌≡◌, [], IfOk};
+ghost use Rattle.std.specs.List.{list_any};
 ghost use Rattle.std.specs.Option.{option_copied, option_map};
 ghost use Rattle.std.specs.Str.{bytes_eq};
 ghost use Rattle.pc_types.specs.Table.{is_some_and};
-ghost use Rattle.pc_parsed.specs.Interface.{are_params, are_value, entry_prim, function_fault, has_resource, import_interface_fault, instance_type_fault, interface_fault, intrinsic_exports_fault, intrinsic_fault, intrinsics_fault, is_answer, is_integer, leads_to_resource, prim_of, prims_from, resources_from, same_integer, signature_fault, unless_resource};
+ghost use Rattle.pc_types.specs.IntrinsicType.{intrinsic_type};
+ghost use Rattle.pc_parsed.specs.Interface.{are_params, entry_prim, function_fault, has_resource, import_interface_fault, instance_type_fault, interface_fault, intrinsic_exports_fault, intrinsic_fault, intrinsics_fault, is_answer, is_integer, leads_to_resource, prim_of, prims_from, resources_from, same_integer, type_fault, type_of, unless_resource};
 
 use crate::fault::StaticFault;
-use crate::intrinsic::{Signature, signature_of};
 use pc_entity::{NoMemory, Seq, Text};
-use pc_types::{DeclType, Entity, PrimType, TypeTable, ValType};
+use pc_types::{DeclType, Entity, InterfaceType, PrimType, TypeTable, UnsafeIntrinsic, ValType};
 use std::alloc::Global;
 
 fn prim_of(earlier: &[Option<PrimType>], v: ValType) -> Option<PrimType>
@@ -90,19 +90,19 @@ fn resources(alloc: Global, table: &TypeTable) -> Result<Seq<bool>, NoMemory>
     Ok(leads)
 }
 
-fn same_integer(wanted: PrimType, found: PrimType) -> bool
+fn same_integer(wanted: InterfaceType, found: PrimType) -> bool
     ensures { result ≡ same_integer wanted found }
 {
     match wanted {
-        PrimType::U8 => matches!(found, PrimType::U8),
-        PrimType::U16 => matches!(found, PrimType::U16),
-        PrimType::U32 => matches!(found, PrimType::U32),
-        PrimType::U64 => matches!(found, PrimType::U64),
+        InterfaceType::U8 => matches!(found, PrimType::U8),
+        InterfaceType::U16 => matches!(found, PrimType::U16),
+        InterfaceType::U32 => matches!(found, PrimType::U32),
+        InterfaceType::U64 => matches!(found, PrimType::U64),
         _ => false,
     }
 }
 
-fn is_integer(prims: &[Option<PrimType>], wanted: PrimType, v: ValType) -> bool
+fn is_integer(prims: &[Option<PrimType>], wanted: InterfaceType, v: ValType) -> bool
     ensures { result ≡ is_integer prims.now wanted v }
 {
     match prim_of(prims, v) {
@@ -111,61 +111,62 @@ fn is_integer(prims: &[Option<PrimType>], wanted: PrimType, v: ValType) -> bool
     }
 }
 
-fn are_addresses(prims: &[Option<PrimType>], params: &[(Text, ValType)]) -> bool
-    ensures { result ≡ list_all (λ x. is_integer prims.now PrimType.U64 x.1) params.now }
-{
-    params.iter().all(|x| is_integer(prims, PrimType::U64, x.1))
-}
-
-fn are_value(
+fn are_params(
     prims: &[Option<PrimType>],
-    value: Option<PrimType>,
+    taken: &[InterfaceType],
     params: &[(Text, ValType)],
 ) -> bool
-    ensures { result ≡ are_value prims.now value params.now }
+    ensures { result ≡ are_params prims.now taken.now params.now }
 {
-    match (value, params) {
-        (None, []) => true,
-        (Some(wanted), [param]) => is_integer(prims, wanted, param.1),
-        _ => false,
-    }
-}
-
-fn are_params(prims: &[Option<PrimType>], signature: Signature, params: &[(Text, ValType)]) -> bool
-    ensures { result ≡ are_params prims.now signature params.now }
-{
-    if signature.addresses > params.len() {
+    if taken.len() != params.len() {
         return false;
     }
-    are_addresses(prims, &params[..signature.addresses])
-        && are_value(prims, signature.value, &params[signature.addresses..])
+    for (n, param) in params.iter().enumerate() {
+        if !is_integer(prims, taken[n], param.1) {
+            return false;
+        }
+    }
+    true
 }
 
-fn is_answer(prims: &[Option<PrimType>], answer: Option<PrimType>, found: Option<ValType>) -> bool
-    ensures { result ≡ is_answer prims.now answer found }
+fn is_answer(prims: &[Option<PrimType>], answered: &[InterfaceType], found: Option<ValType>) -> bool
+    ensures { result ≡ is_answer prims.now answered.now found }
 {
-    match (answer, found) {
-        (None, None) => true,
-        (Some(wanted), Some(v)) => is_integer(prims, wanted, v),
+    match (answered, found) {
+        ([], None) => true,
+        ([wanted], Some(v)) => is_integer(prims, *wanted, v),
         _ => false,
     }
 }
 
-fn signature_fault(
+fn types_fault(
     prims: &[Option<PrimType>],
-    signature: Option<Signature>,
+    intrinsic: UnsafeIntrinsic,
     params: &[(Text, ValType)],
     answer: Option<ValType>,
 ) -> Option<StaticFault>
-    ensures { result ≡ signature_fault prims.now signature params.now answer }
+    ensures { result ≡ type_fault prims.now (intrinsic_type intrinsic) params.now answer }
 {
-    let Some(signature) = signature else {
-        return Some(StaticFault::UnknownIntrinsic);
-    };
-    if are_params(prims, signature, params) && is_answer(prims, signature.answer, answer) {
+    if are_params(prims, intrinsic.component_params(), params)
+        && is_answer(prims, intrinsic.component_results(), answer)
+    {
         None
     } else {
         Some(StaticFault::BadIntrinsics)
+    }
+}
+
+fn type_fault(
+    prims: &[Option<PrimType>],
+    name: &str,
+    params: &[(Text, ValType)],
+    answer: Option<ValType>,
+) -> Option<StaticFault>
+    ensures { result ≡ type_fault prims.now (type_of name.now) params.now answer }
+{
+    match UnsafeIntrinsic::from_str(name) {
+        Ok(intrinsic) => types_fault(prims, intrinsic, params, answer),
+        Err(_) => Some(StaticFault::UnknownIntrinsic),
     }
 }
 
@@ -177,12 +178,9 @@ fn function_fault(
     ensures { result ≡ function_fault prims.now name.now (option_copied entry.entry) }
 {
     match entry {
-        Some(DeclType::Func { params, result, .. }) => signature_fault(
-            prims,
-            signature_of(name.as_str()),
-            params.as_slice(),
-            *result,
-        ),
+        Some(DeclType::Func { params, result, .. }) => {
+            type_fault(prims, name.as_str(), params.as_slice(), *result)
+        }
         _ => Some(StaticFault::BadIntrinsics),
     }
 }
@@ -264,7 +262,8 @@ fn interface_fault(
     }
 }
 
-fn is_exposed(exposed: Option<&str>, name: &Text) -> bool
+/// Whether a name is the exposed one, under which the unsafe intrinsics may be imported.
+pub fn is_exposed(exposed: Option<&str>, name: &Text) -> bool
     ensures { result ≡ is_some_and (bytes_eq name.now) (option_map (λ x. x.now) exposed.entry) }
 {
     match exposed {

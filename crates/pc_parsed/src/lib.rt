@@ -8,9 +8,9 @@ mod built;
 pub mod canon;
 mod checks;
 mod collect;
+mod copies;
 pub mod fault;
 mod interface;
-mod intrinsic;
 pub mod item;
 mod named;
 pub mod payload;
@@ -20,6 +20,7 @@ mod translate;
 
 pub use canon::{CanonItem, CanonOption};
 pub use fault::{ItemFault, StaticFault};
+pub use interface::is_exposed;
 pub use item::{LocalInitializer, LocalProgram, Translation};
 pub use payload::{
     AliasItem, ComponentInstanceItem, Encoding, ExportEntry, ExternName, ImportItem, InstanceItem,
