@@ -27,6 +27,10 @@ fn a_list_with_a_static_fault_has_no_program(rt: HostRuntime) -> Result<(), Fail
             Error::Malformed(at(3, 1)),
         ),
         (
+            r#""version",{"canon":[["context.get",0,"i32",0],["context.set",0,"i64",0]]},"end""#,
+            Error::Unsupported(Unsupported::ContextSetType, at(1, 1)),
+        ),
+        (
             r#""version",{"canon":[["future.forward"]]},"end""#,
             Error::Unsupported(Unsupported::FutureForward, at(1, 0)),
         ),

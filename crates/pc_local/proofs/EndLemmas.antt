@@ -1,10 +1,11 @@
 -- A nested body ends, and is an item of the body around it.
-use Rattle.std.proofs.Common.{◌≡◌, ℕ, suc, ◌<◌, true, ◌&&◌, List, [], ◌∷◌, ◌++◌, length, map, Some, refl, sym, ◌∙◌, subst, arith}
+use Rattle.std.proofs.Common.{◌≡◌, ℕ, suc, ◌<◌, true, ◌&&◌, List, [], ◌∷◌, ◌++◌, length, map, Some, refl, sym, ap, ◌∙◌, subst, arith, append_assoc}
 use Rattle.std.specs.Prelude.{slice_get}
+use Rattle.std.specs.List.{AllZip}
 use Rattle.std.proofs.lemmas.List.{append-nil, same_from_push}
 use Rattle.pc_entity.specs.Lists.{Kept}
 use Rattle.pc_entity.proofs.Growing.{slice_get-append, slice_get-append_seam}
-use Rattle.pc_reading.specs.Item.{Item, a_module, a_component, component_item, exports_in}
+use Rattle.pc_reading.specs.Item.{Item, Items, a_module, a_component, bodies_in, component_item, exports_in}
 use Rattle.pc_reading.specs.Nest.{counts_in}
 use Rattle.pc_reading.specs.Section.{named_item}
 use Rattle.pc_local.specs.declared.captured.Captured.{Captured}
@@ -16,8 +17,16 @@ use Rattle.pc_local.specs.Open
 use Rattle.pc_local.specs.Open.{State}
 use Rattle.pc_local.specs.Standing
 use Rattle.pc_local.proofs.EntryLemmas.{LevelStands}
-use Rattle.pc_local.proofs.StandLemmas.{NamesKept, and_true, counts_append, exports_append, items_append, items_kept}
-use Rattle.pc_local.proofs.StateLemmas.{AroundStand, StateStands, around_kept, around_more, around_it, captures_ended, given_it, innermost, leaving_it, level_kept, names_same}
+use Rattle.pc_local.proofs.StandLemmas.{NamesKept, and_true, bodies_append, component_kept, counts_append, exports_append, items_append, items_kept, zip_kept, zip_push}
+use Rattle.pc_local.proofs.StateLemmas.{AroundStand, StateStands, bodies_at, around_kept, around_more, around_it, captures_ended, given_it, innermost, leaving_it, level_kept, names_same}
+
+-- a body stands behind those inside it, and those before
+last_body : (outside around inner : List Items) (body : Items)
+    → outside ++ (around ++ ((inner ++ body ∷ []) ++ [])) ≡ ((outside ++ around) ++ inner) ++ body ∷ []
+last_body outside around inner body =
+    ap (λ (bs : List Items). outside ++ (around ++ bs)) (append-nil (inner ++ body ∷ []))
+    ∙ sym (append_assoc outside around (inner ++ body ∷ []))
+    ∙ sym (append_assoc (outside ++ around) inner (body ∷ []))
 
 module _ (l : List Item) (ls : List (List Item)) (inside : List Item) (old new : State) (outer : Translation)
     (m c : Captured) (closes : Open.Closes old outer m c new)
@@ -77,6 +86,34 @@ module _ (l : List Item) (ls : List (List Item)) (inside : List Item) (old new :
     };
   }
 
+  -- the body that ends stands for its items
+  here_stands : Standing.ComponentStands new.ended old.body (cap.so_far inside)
+  here_stands = record {
+    names = inner;
+    stands = record {
+      items = items_kept old.ended new.ended ended_kept inner inner_kept part.items;
+      exports = exports;
+    };
+    leaving = given.leaving;
+  }
+
+  -- it is the last of the bodies that have ended
+  bodies_ended : AllZip (Standing.ComponentStands old.ended) old.ended (bodies_at (inside ∷ l ∷ ls))
+      → AllZip (Standing.ComponentStands new.ended) new.ended
+      (bodies_at ((l ++ component_item (cap.so_far inside) ∷ []) ∷ ls))
+  bodies_ended before =
+      let body = cap.so_far inside in
+      let kept =
+      zip_kept (Standing.ComponentStands old.ended) (Standing.ComponentStands new.ended)
+      (component_kept old.ended new.ended ended_kept) old.ended (bodies_at (inside ∷ l ∷ ls)) before in
+      subst (λ (bs : List Items). AllZip (Standing.ComponentStands new.ended) new.ended bs)
+      (sym (ap (λ (bs : List Items). bodies_at ls ++ bs) (bodies_append l (component_item body ∷ []))
+      ∙ last_body (bodies_at ls) (bodies_in (cap.so_far l)) (bodies_in body) body))
+      (subst (λ (ts : List Translation). AllZip (Standing.ComponentStands new.ended) ts
+      (bodies_at (inside ∷ l ∷ ls) ++ body ∷ [])) (sym closes.ended)
+      (zip_push (Standing.ComponentStands new.ended) old.ended (bodies_at (inside ∷ l ∷ ls)) old.body body kept
+      here_stands))
+
   -- the local item of the body stands for it
   nested : Standing.ItemStands new.ended (cap.level_names new.modules new.components (length ls))
       (local.ComponentStatic (record { 0 = length old.ended }) closes.vars) (component_item (cap.so_far inside))
@@ -111,8 +148,9 @@ module _ (l : List Item) (ls : List (List Item)) (inside : List Item) (old new :
 
   -- the open bodies once it has ended
   pub ended_stands : AroundStand old.ended (new.modules ++ m ∷ []) (new.components ++ c ∷ []) new.around ls
+      → AllZip (Standing.ComponentStands old.ended) old.ended (bodies_at (inside ∷ l ∷ ls))
       → StateStands ls (l ++ component_item (cap.so_far inside) ∷ []) new
-  ended_stands around =
+  ended_stands around bodies =
       let stands = outer_stands in record {
         around =
             around_kept old.ended new.ended (new.modules ++ m ∷ []) (new.components ++ c ∷ []) new.modules
@@ -124,6 +162,7 @@ module _ (l : List Item) (ls : List (List Item)) (inside : List Item) (old new :
           counts = stands.counts;
         };
         exports = stands.exports;
+        bodies = bodies_ended bodies;
       }
 
 -- the body around is the last of those around
@@ -133,14 +172,15 @@ outer_ends : (l : List Item) (ls : List (List Item)) (inside : List Item) (old n
     (cap.part old.body.initializers (new.modules ++ m ∷ []) (new.components ++ c ∷ []))
     → map named_item old.body.exports ≡ exports_in (cap.so_far inside)
     → AroundStand old.ended (new.modules ++ m ∷ []) (new.components ++ c ∷ []) old.around (l ∷ ls)
+    → AllZip (Standing.ComponentStands old.ended) old.ended (bodies_at (inside ∷ l ∷ ls))
     → StateStands ls (l ++ component_item (cap.so_far inside) ∷ []) new
-outer_ends l ls inside old new outer m c are_around closes part exports (around_more rest t is level further) =
+outer_ends l ls inside old new outer m c are_around closes part exports (around_more rest t is level further) bodies =
     let same = same_from_push rest new.around t outer (sym is ∙ are_around) in
     ended_stands l ls inside old new outer m c closes part exports
     (subst (λ (b : Translation). LevelStands old.ended
     (cap.level_names (new.modules ++ m ∷ []) (new.components ++ c ∷ []) (length ls)) (length ls) b l) same.1 level)
     (subst (λ (ts : List Translation). AroundStand old.ended (new.modules ++ m ∷ []) (new.components ++ c ∷ []) ts ls)
-    same.0 further)
+    same.0 further) bodies
 
 -- the innermost body ends inside another
 pub inner_ends : (l : List Item) (ls : List (List Item)) (inside : List Item) (old new : State) (outer : Translation)
@@ -157,3 +197,4 @@ inner_ends l ls inside old new outer m c are_around are_modules are_components c
     h.exports
     (subst (λ (x : List Captured). AroundStand old.ended x cs old.around (l ∷ ls)) are_modules
     (subst (λ (x : List Captured). AroundStand old.ended old.modules x old.around (l ∷ ls)) are_components h.around))
+    h.bodies

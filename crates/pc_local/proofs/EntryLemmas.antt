@@ -1,8 +1,13 @@
 -- The entries of sections, as local items and as items of the reading.
-use Rattle.std.proofs.Common.{◌≡◌, ℕ, Bool, true, false, List, [], ◌∷◌, map, Option, Some, None, refl, sym, ap, ◌∙◌, if◌then◌else◌}
+use Rattle.std.proofs.Common.{◌≡◌, ℕ, Bool, true, false, List, [], ◌∷◌, ◌++◌, map, Option, Some, None, refl, sym, ap, ◌∙◌, if◌then◌else◌}
+use Rattle.std.specs.Prelude.{⊤}
 use Rattle.std.specs.List.{cons_option, filter_map}
+use Rattle.std.proofs.lemmas.Option.{none-some}
+use Rattle.pc_types.specs.declared.error.Unsupported.TheVariants as unsupported
+use Rattle.pc_types.specs.declared.parsed.WasmValType.TheVariants as wasm
 use Rattle.pc_parsed.specs.declared.canon.CanonItem.{CanonItem}
 use Rattle.pc_parsed.specs.declared.canon.CanonItem.TheVariants as canon
+use Rattle.pc_parsed.specs.declared.fault.StaticFault.TheVariants as fault
 use Rattle.pc_parsed.specs.declared.payload.ComponentInstanceItem.{ComponentInstanceItem}
 use Rattle.pc_parsed.specs.declared.payload.ComponentInstanceItem.TheVariants as component_instance
 use Rattle.pc_parsed.specs.declared.payload.ExportEntry.{ExportEntry}
@@ -11,8 +16,9 @@ use Rattle.pc_parsed.specs.declared.payload.InstanceItem.{InstanceItem}
 use Rattle.pc_parsed.specs.declared.payload.InstanceItem.TheVariants as instance
 use Rattle.pc_parsed.specs.declared.payload.TypeItem.{TypeItem}
 use Rattle.pc_parsed.specs.declared.payload.TypeItem.TheVariants as type_
+use Rattle.pc_parsed.specs.ItemFaults.{canon_fault}
 use Rattle.pc_reading.specs.Canonical.{canonical_item}
-use Rattle.pc_reading.specs.Item.{Item, ExportOf, exports_in}
+use Rattle.pc_reading.specs.Item.{Item, ExportOf, bodies_in, bodies_of, exports_in}
 use Rattle.pc_reading.specs.Nest.{counts_in, counts_of, is_exposed}
 use Rattle.pc_reading.specs.Section as Section
 use Rattle.pc_reading.specs.Section.{named_item}
@@ -30,10 +36,11 @@ abbrev pub expose : (exposed : Option (List ℕ)) → Item → Item
 expose x (Item.import_item name e) = if is_exposed x name then Item.intrinsics_import else Item.import_item name e
 expose x i = i
 
--- an item that is nothing but itself wherever it stands: it imports, exports and aliases nothing
+-- an item that is nothing but itself wherever it stands: it imports, exports, nests and aliases nothing
 pub record IsInner (i : Item) : Type 0 where
   pub shown : (x : Option (List ℕ)) → expose x i ≡ i
   pub no_export : export_of i ≡ None
+  pub no_bodies : bodies_of i ≡ []
   pub counts : (depth : ℕ) → counts_of depth i ≡ true
 
 -- an entry is no item, or an inner one, on both sides
@@ -45,122 +52,157 @@ pub data Agree : Option LocalInitializer → Option Item → Type 0 where
 pub type_agrees : (e : TypeItem) → Agree (type_local e) (Section.type_item e)
 unfolding plain_item counts_in
 type_agrees (type_.Resource id r d) =
-    agree_some refl (record { shown = λ x. refl; no_export = refl; counts = λ depth. refl })
+    agree_some refl (record { shown = λ x. refl; no_export = refl; no_bodies = refl; counts = λ depth. refl })
 type_agrees type_.Other = agree_none
 
 -- instances of modules
 pub instance_agrees : (e : InstanceItem) → Agree (instance_local e) (Some (Section.instance_item e))
 unfolding plain_item counts_in
 instance_agrees (instance.Instantiate m args) =
-    agree_some refl (record { shown = λ x. refl; no_export = refl; counts = λ depth. refl })
+    agree_some refl (record { shown = λ x. refl; no_export = refl; no_bodies = refl; counts = λ depth. refl })
 instance_agrees (instance.FromExports items) =
-    agree_some refl (record { shown = λ x. refl; no_export = refl; counts = λ depth. refl })
+    agree_some refl (record { shown = λ x. refl; no_export = refl; no_bodies = refl; counts = λ depth. refl })
 
 -- instances of components
 pub component_instance_agrees : (e : ComponentInstanceItem)
     → Agree (component_instance_local e) (Some (Section.component_instance_item e))
 unfolding plain_item counts_in
 component_instance_agrees (component_instance.Instantiate c args ty) =
-    agree_some refl (record { shown = λ x. refl; no_export = refl; counts = λ depth. refl })
+    agree_some refl (record { shown = λ x. refl; no_export = refl; no_bodies = refl; counts = λ depth. refl })
 component_instance_agrees (component_instance.FromExports exports ty) =
-    agree_some refl (record { shown = λ x. refl; no_export = refl; counts = λ depth. refl })
+    agree_some refl (record { shown = λ x. refl; no_export = refl; no_bodies = refl; counts = λ depth. refl })
 
--- canonical functions
-pub canon_agrees : (e : CanonItem) → Agree (canon_local e) (canonical_item e)
+-- canonical functions that have no fault
+pub canon_agrees : (e : CanonItem) → canon_fault e ≡ None → Agree (canon_local e) (canonical_item e)
 unfolding plain_item canonical_item counts_in
-canon_agrees (canon.Lift a b c d) =
-    agree_some refl (record { shown = λ x. refl; no_export = refl; counts = λ depth. refl })
-canon_agrees (canon.Lower a b c d) =
-    agree_some refl (record { shown = λ x. refl; no_export = refl; counts = λ depth. refl })
-canon_agrees (canon.ResourceNew a b) =
-    agree_some refl (record { shown = λ x. refl; no_export = refl; counts = λ depth. refl })
-canon_agrees (canon.ResourceRep a b) =
-    agree_some refl (record { shown = λ x. refl; no_export = refl; counts = λ depth. refl })
-canon_agrees (canon.ResourceDrop a b) =
-    agree_some refl (record { shown = λ x. refl; no_export = refl; counts = λ depth. refl })
-canon_agrees (canon.BackpressureInc a) =
-    agree_some refl (record { shown = λ x. refl; no_export = refl; counts = λ depth. refl })
-canon_agrees (canon.BackpressureDec a) =
-    agree_some refl (record { shown = λ x. refl; no_export = refl; counts = λ depth. refl })
-canon_agrees (canon.TaskCancel a) =
-    agree_some refl (record { shown = λ x. refl; no_export = refl; counts = λ depth. refl })
-canon_agrees (canon.WaitableSetNew a) =
-    agree_some refl (record { shown = λ x. refl; no_export = refl; counts = λ depth. refl })
-canon_agrees (canon.WaitableSetDrop a) =
-    agree_some refl (record { shown = λ x. refl; no_export = refl; counts = λ depth. refl })
-canon_agrees (canon.WaitableJoin a) =
-    agree_some refl (record { shown = λ x. refl; no_export = refl; counts = λ depth. refl })
-canon_agrees (canon.SubtaskDrop a) =
-    agree_some refl (record { shown = λ x. refl; no_export = refl; counts = λ depth. refl })
-canon_agrees (canon.ErrorContextDrop a) =
-    agree_some refl (record { shown = λ x. refl; no_export = refl; counts = λ depth. refl })
-canon_agrees (canon.ThreadIndex a) =
-    agree_some refl (record { shown = λ x. refl; no_export = refl; counts = λ depth. refl })
-canon_agrees (canon.ThreadResumeLater a) =
-    agree_some refl (record { shown = λ x. refl; no_export = refl; counts = λ depth. refl })
-canon_agrees (canon.ThreadSuspend a) =
-    agree_some refl (record { shown = λ x. refl; no_export = refl; counts = λ depth. refl })
-canon_agrees (canon.ThreadYield a) =
-    agree_some refl (record { shown = λ x. refl; no_export = refl; counts = λ depth. refl })
-canon_agrees (canon.ThreadSuspendThenResume a) =
-    agree_some refl (record { shown = λ x. refl; no_export = refl; counts = λ depth. refl })
-canon_agrees (canon.ThreadYieldThenResume a) =
-    agree_some refl (record { shown = λ x. refl; no_export = refl; counts = λ depth. refl })
-canon_agrees (canon.ThreadSuspendThenPromote a) =
-    agree_some refl (record { shown = λ x. refl; no_export = refl; counts = λ depth. refl })
-canon_agrees (canon.ThreadYieldThenPromote a) =
-    agree_some refl (record { shown = λ x. refl; no_export = refl; counts = λ depth. refl })
-canon_agrees (canon.TaskReturn a b c) =
-    agree_some refl (record { shown = λ x. refl; no_export = refl; counts = λ depth. refl })
-canon_agrees (canon.WaitableSetWait a b) =
-    agree_some refl (record { shown = λ x. refl; no_export = refl; counts = λ depth. refl })
-canon_agrees (canon.WaitableSetPoll a b) =
-    agree_some refl (record { shown = λ x. refl; no_export = refl; counts = λ depth. refl })
-canon_agrees (canon.SubtaskCancel a b) =
-    agree_some refl (record { shown = λ x. refl; no_export = refl; counts = λ depth. refl })
-canon_agrees (canon.StreamNew a b) =
-    agree_some refl (record { shown = λ x. refl; no_export = refl; counts = λ depth. refl })
-canon_agrees (canon.StreamDropReadable a b) =
-    agree_some refl (record { shown = λ x. refl; no_export = refl; counts = λ depth. refl })
-canon_agrees (canon.StreamDropWritable a b) =
-    agree_some refl (record { shown = λ x. refl; no_export = refl; counts = λ depth. refl })
-canon_agrees (canon.FutureNew a b) =
-    agree_some refl (record { shown = λ x. refl; no_export = refl; counts = λ depth. refl })
-canon_agrees (canon.FutureDropReadable a b) =
-    agree_some refl (record { shown = λ x. refl; no_export = refl; counts = λ depth. refl })
-canon_agrees (canon.FutureDropWritable a b) =
-    agree_some refl (record { shown = λ x. refl; no_export = refl; counts = λ depth. refl })
-canon_agrees (canon.StreamRead a b c) =
-    agree_some refl (record { shown = λ x. refl; no_export = refl; counts = λ depth. refl })
-canon_agrees (canon.StreamWrite a b c) =
-    agree_some refl (record { shown = λ x. refl; no_export = refl; counts = λ depth. refl })
-canon_agrees (canon.FutureRead a b c) =
-    agree_some refl (record { shown = λ x. refl; no_export = refl; counts = λ depth. refl })
-canon_agrees (canon.FutureWrite a b c) =
-    agree_some refl (record { shown = λ x. refl; no_export = refl; counts = λ depth. refl })
-canon_agrees (canon.StreamCancelRead a b c) =
-    agree_some refl (record { shown = λ x. refl; no_export = refl; counts = λ depth. refl })
-canon_agrees (canon.StreamCancelWrite a b c) =
-    agree_some refl (record { shown = λ x. refl; no_export = refl; counts = λ depth. refl })
-canon_agrees (canon.FutureCancelRead a b c) =
-    agree_some refl (record { shown = λ x. refl; no_export = refl; counts = λ depth. refl })
-canon_agrees (canon.FutureCancelWrite a b c) =
-    agree_some refl (record { shown = λ x. refl; no_export = refl; counts = λ depth. refl })
-canon_agrees (canon.ErrorContextNew a b) =
-    agree_some refl (record { shown = λ x. refl; no_export = refl; counts = λ depth. refl })
-canon_agrees (canon.ErrorContextDebugMessage a b) =
-    agree_some refl (record { shown = λ x. refl; no_export = refl; counts = λ depth. refl })
-canon_agrees (canon.ContextGet a b c) =
-    agree_some refl (record { shown = λ x. refl; no_export = refl; counts = λ depth. refl })
-canon_agrees (canon.ContextSet a b c) =
-    agree_some refl (record { shown = λ x. refl; no_export = refl; counts = λ depth. refl })
-canon_agrees (canon.ThreadNewIndirect a b c) =
-    agree_some refl (record { shown = λ x. refl; no_export = refl; counts = λ depth. refl })
-canon_agrees canon.ThreadSpawnRef = agree_none
-canon_agrees canon.ThreadSpawnIndirect = agree_none
-canon_agrees canon.ThreadAvailableParallelism = agree_none
-canon_agrees canon.StreamForward = agree_none
-canon_agrees canon.FutureForward = agree_none
+canon_agrees (canon.Lift a b c d) sound =
+    agree_some refl (record { shown = λ x. refl; no_export = refl; no_bodies = refl; counts = λ depth. refl })
+canon_agrees (canon.Lower a b c d) sound =
+    agree_some refl (record { shown = λ x. refl; no_export = refl; no_bodies = refl; counts = λ depth. refl })
+canon_agrees (canon.ResourceNew a b) sound =
+    agree_some refl (record { shown = λ x. refl; no_export = refl; no_bodies = refl; counts = λ depth. refl })
+canon_agrees (canon.ResourceRep a b) sound =
+    agree_some refl (record { shown = λ x. refl; no_export = refl; no_bodies = refl; counts = λ depth. refl })
+canon_agrees (canon.ResourceDrop a b) sound =
+    agree_some refl (record { shown = λ x. refl; no_export = refl; no_bodies = refl; counts = λ depth. refl })
+canon_agrees (canon.BackpressureInc a) sound =
+    agree_some refl (record { shown = λ x. refl; no_export = refl; no_bodies = refl; counts = λ depth. refl })
+canon_agrees (canon.BackpressureDec a) sound =
+    agree_some refl (record { shown = λ x. refl; no_export = refl; no_bodies = refl; counts = λ depth. refl })
+canon_agrees (canon.TaskCancel a) sound =
+    agree_some refl (record { shown = λ x. refl; no_export = refl; no_bodies = refl; counts = λ depth. refl })
+canon_agrees (canon.WaitableSetNew a) sound =
+    agree_some refl (record { shown = λ x. refl; no_export = refl; no_bodies = refl; counts = λ depth. refl })
+canon_agrees (canon.WaitableSetDrop a) sound =
+    agree_some refl (record { shown = λ x. refl; no_export = refl; no_bodies = refl; counts = λ depth. refl })
+canon_agrees (canon.WaitableJoin a) sound =
+    agree_some refl (record { shown = λ x. refl; no_export = refl; no_bodies = refl; counts = λ depth. refl })
+canon_agrees (canon.SubtaskDrop a) sound =
+    agree_some refl (record { shown = λ x. refl; no_export = refl; no_bodies = refl; counts = λ depth. refl })
+canon_agrees (canon.ErrorContextDrop a) sound =
+    agree_some refl (record { shown = λ x. refl; no_export = refl; no_bodies = refl; counts = λ depth. refl })
+canon_agrees (canon.ThreadIndex a) sound =
+    agree_some refl (record { shown = λ x. refl; no_export = refl; no_bodies = refl; counts = λ depth. refl })
+canon_agrees (canon.ThreadResumeLater a) sound =
+    agree_some refl (record { shown = λ x. refl; no_export = refl; no_bodies = refl; counts = λ depth. refl })
+canon_agrees (canon.ThreadSuspend a) sound =
+    agree_some refl (record { shown = λ x. refl; no_export = refl; no_bodies = refl; counts = λ depth. refl })
+canon_agrees (canon.ThreadYield a) sound =
+    agree_some refl (record { shown = λ x. refl; no_export = refl; no_bodies = refl; counts = λ depth. refl })
+canon_agrees (canon.ThreadSuspendThenResume a) sound =
+    agree_some refl (record { shown = λ x. refl; no_export = refl; no_bodies = refl; counts = λ depth. refl })
+canon_agrees (canon.ThreadYieldThenResume a) sound =
+    agree_some refl (record { shown = λ x. refl; no_export = refl; no_bodies = refl; counts = λ depth. refl })
+canon_agrees (canon.ThreadSuspendThenPromote a) sound =
+    agree_some refl (record { shown = λ x. refl; no_export = refl; no_bodies = refl; counts = λ depth. refl })
+canon_agrees (canon.ThreadYieldThenPromote a) sound =
+    agree_some refl (record { shown = λ x. refl; no_export = refl; no_bodies = refl; counts = λ depth. refl })
+canon_agrees (canon.TaskReturn a b c) sound =
+    agree_some refl (record { shown = λ x. refl; no_export = refl; no_bodies = refl; counts = λ depth. refl })
+canon_agrees (canon.WaitableSetWait a b) sound =
+    agree_some refl (record { shown = λ x. refl; no_export = refl; no_bodies = refl; counts = λ depth. refl })
+canon_agrees (canon.WaitableSetPoll a b) sound =
+    agree_some refl (record { shown = λ x. refl; no_export = refl; no_bodies = refl; counts = λ depth. refl })
+canon_agrees (canon.SubtaskCancel a b) sound =
+    agree_some refl (record { shown = λ x. refl; no_export = refl; no_bodies = refl; counts = λ depth. refl })
+canon_agrees (canon.StreamNew a b) sound =
+    agree_some refl (record { shown = λ x. refl; no_export = refl; no_bodies = refl; counts = λ depth. refl })
+canon_agrees (canon.StreamDropReadable a b) sound =
+    agree_some refl (record { shown = λ x. refl; no_export = refl; no_bodies = refl; counts = λ depth. refl })
+canon_agrees (canon.StreamDropWritable a b) sound =
+    agree_some refl (record { shown = λ x. refl; no_export = refl; no_bodies = refl; counts = λ depth. refl })
+canon_agrees (canon.FutureNew a b) sound =
+    agree_some refl (record { shown = λ x. refl; no_export = refl; no_bodies = refl; counts = λ depth. refl })
+canon_agrees (canon.FutureDropReadable a b) sound =
+    agree_some refl (record { shown = λ x. refl; no_export = refl; no_bodies = refl; counts = λ depth. refl })
+canon_agrees (canon.FutureDropWritable a b) sound =
+    agree_some refl (record { shown = λ x. refl; no_export = refl; no_bodies = refl; counts = λ depth. refl })
+canon_agrees (canon.StreamRead a b c) sound =
+    agree_some refl (record { shown = λ x. refl; no_export = refl; no_bodies = refl; counts = λ depth. refl })
+canon_agrees (canon.StreamWrite a b c) sound =
+    agree_some refl (record { shown = λ x. refl; no_export = refl; no_bodies = refl; counts = λ depth. refl })
+canon_agrees (canon.FutureRead a b c) sound =
+    agree_some refl (record { shown = λ x. refl; no_export = refl; no_bodies = refl; counts = λ depth. refl })
+canon_agrees (canon.FutureWrite a b c) sound =
+    agree_some refl (record { shown = λ x. refl; no_export = refl; no_bodies = refl; counts = λ depth. refl })
+canon_agrees (canon.StreamCancelRead a b c) sound =
+    agree_some refl (record { shown = λ x. refl; no_export = refl; no_bodies = refl; counts = λ depth. refl })
+canon_agrees (canon.StreamCancelWrite a b c) sound =
+    agree_some refl (record { shown = λ x. refl; no_export = refl; no_bodies = refl; counts = λ depth. refl })
+canon_agrees (canon.FutureCancelRead a b c) sound =
+    agree_some refl (record { shown = λ x. refl; no_export = refl; no_bodies = refl; counts = λ depth. refl })
+canon_agrees (canon.FutureCancelWrite a b c) sound =
+    agree_some refl (record { shown = λ x. refl; no_export = refl; no_bodies = refl; counts = λ depth. refl })
+canon_agrees (canon.ErrorContextNew a b) sound =
+    agree_some refl (record { shown = λ x. refl; no_export = refl; no_bodies = refl; counts = λ depth. refl })
+canon_agrees (canon.ErrorContextDebugMessage a b) sound =
+    agree_some refl (record { shown = λ x. refl; no_export = refl; no_bodies = refl; counts = λ depth. refl })
+canon_agrees (canon.ContextGet a wasm.I32 c) sound =
+    agree_some refl (record { shown = λ x. refl; no_export = refl; no_bodies = refl; counts = λ depth. refl })
+canon_agrees (canon.ContextGet a wasm.I64 c) sound =
+    absurd (none-some (fault.Unsupported unsupported.ContextGetType) (sym sound))
+canon_agrees (canon.ContextGet a wasm.F32 c) sound =
+    absurd (none-some (fault.Unsupported unsupported.ContextGetType) (sym sound))
+canon_agrees (canon.ContextGet a wasm.F64 c) sound =
+    absurd (none-some (fault.Unsupported unsupported.ContextGetType) (sym sound))
+canon_agrees (canon.ContextGet a wasm.V128 c) sound =
+    absurd (none-some (fault.Unsupported unsupported.ContextGetType) (sym sound))
+canon_agrees (canon.ContextGet a wasm.FuncRef c) sound =
+    absurd (none-some (fault.Unsupported unsupported.ContextGetType) (sym sound))
+canon_agrees (canon.ContextGet a wasm.ExternRef c) sound =
+    absurd (none-some (fault.Unsupported unsupported.ContextGetType) (sym sound))
+canon_agrees (canon.ContextSet a wasm.I32 c) sound =
+    agree_some refl (record { shown = λ x. refl; no_export = refl; no_bodies = refl; counts = λ depth. refl })
+canon_agrees (canon.ContextSet a wasm.I64 c) sound =
+    absurd (none-some (fault.Unsupported unsupported.ContextSetType) (sym sound))
+canon_agrees (canon.ContextSet a wasm.F32 c) sound =
+    absurd (none-some (fault.Unsupported unsupported.ContextSetType) (sym sound))
+canon_agrees (canon.ContextSet a wasm.F64 c) sound =
+    absurd (none-some (fault.Unsupported unsupported.ContextSetType) (sym sound))
+canon_agrees (canon.ContextSet a wasm.V128 c) sound =
+    absurd (none-some (fault.Unsupported unsupported.ContextSetType) (sym sound))
+canon_agrees (canon.ContextSet a wasm.FuncRef c) sound =
+    absurd (none-some (fault.Unsupported unsupported.ContextSetType) (sym sound))
+canon_agrees (canon.ContextSet a wasm.ExternRef c) sound =
+    absurd (none-some (fault.Unsupported unsupported.ContextSetType) (sym sound))
+canon_agrees (canon.ThreadNewIndirect a b c) sound =
+    agree_some refl (record { shown = λ x. refl; no_export = refl; no_bodies = refl; counts = λ depth. refl })
+canon_agrees canon.ThreadSpawnRef sound = agree_none
+canon_agrees canon.ThreadSpawnIndirect sound = agree_none
+canon_agrees canon.ThreadAvailableParallelism sound = agree_none
+canon_agrees canon.StreamForward sound = agree_none
+canon_agrees canon.FutureForward sound = agree_none
+
+-- each entry of a section agrees
+abbrev pub AgreeAll : {A : Type 0} → (A → Option LocalInitializer) → (A → Option Item) → List A → Type 0
+AgreeAll f g [] = ⊤
+AgreeAll f g (e ∷ es) = Agree (f e) (g e) × AgreeAll f g es
+
+-- as it does where any entry agrees
+pub agree_all : {A : Type 0} (f : A → Option LocalInitializer) (g : A → Option Item)
+    → ((e : A) → Agree (f e) (g e)) → (es : List A) → AgreeAll f g es
+agree_all f g agree [] = tt
+agree_all f g agree (e ∷ es) = (agree e, agree_all f g agree es)
 
 -- local items stand for items that are shown in a body, export and count what they should
 pub record LevelStands (bodies : List Translation) (names : Standing.Names) (depth : ℕ) (t : Translation)
@@ -196,12 +238,12 @@ module _ (bodies : List Translation) (names : Standing.Names) (depth : ℕ) wher
   }
 
   -- the entries of a section
-  pub entries_stand : {A : Type 0} (f : A → Option LocalInitializer) (g : A → Option Item)
-      → ((e : A) → Agree (f e) (g e)) → (es : List A)
+  pub entries_stand : {A : Type 0} (f : A → Option LocalInitializer) (g : A → Option Item) (es : List A)
+      → AgreeAll f g es
       → LevelStands bodies names depth (only (filter_map f es)) (filter_map g es)
-  entries_stand f g agree [] = level_none
-  entries_stand f g agree (e ∷ es) =
-      level_cons (f e) (g e) (filter_map f es) (filter_map g es) (agree e) (entries_stand f g agree es)
+  entries_stand f g [] agree = level_none
+  entries_stand f g (e ∷ es) agree =
+      level_cons (f e) (g e) (filter_map f es) (filter_map g es) agree.0 (entries_stand f g es agree.1)
 
   -- the imports of a section, under the exposed name
   pub imports_stand : (x : Option (List ℕ)) (es : List ImportItem)
@@ -244,9 +286,9 @@ module _ (bodies : List Translation) (names : Standing.Names) (depth : ℕ) wher
 
 -- a section of inner items is shown as it is
 pub entries_shown : {A : Type 0} (x : Option (List ℕ)) (f : A → Option LocalInitializer) (g : A → Option Item)
-    → ((e : A) → Agree (f e) (g e)) → (es : List A) → map (expose x) (filter_map g es) ≡ filter_map g es
-entries_shown x f g agree [] = refl
-entries_shown x f g agree (e ∷ es) = by (f e) (g e) (agree e) (entries_shown x f g agree es)
+    (es : List A) → AgreeAll f g es → map (expose x) (filter_map g es) ≡ filter_map g es
+entries_shown x f g [] agree = refl
+entries_shown x f g (e ∷ es) agree = by (f e) (g e) agree.0 (entries_shown x f g es agree.1)
   where
     by : (o : Option LocalInitializer) (p : Option Item) → Agree o p
         → map (expose x) (filter_map g es) ≡ filter_map g es
@@ -266,3 +308,26 @@ exports_shown x (e ∷ es) = ap (λ (l : List Item). Section.export_item e ∷ l
 pub all_kept : {A B : Type 0} (f : A → B) (es : List A) → filter_map (λ (e : A). Some (f e)) es ≡ map f es
 all_kept f [] = refl
 all_kept f (e ∷ es) = ap (λ l. f e ∷ l) (all_kept f es)
+
+-- no bodies stand inside a section of inner items
+pub entries_no_bodies : {A : Type 0} (f : A → Option LocalInitializer) (g : A → Option Item) (es : List A)
+    → AgreeAll f g es → bodies_in (so_far (filter_map g es)) ≡ []
+entries_no_bodies f g [] agree = refl
+entries_no_bodies f g (e ∷ es) agree = by (f e) (g e) agree.0 (entries_no_bodies f g es agree.1)
+  where
+    by : (o : Option LocalInitializer) (p : Option Item) → Agree o p → bodies_in (so_far (filter_map g es)) ≡ []
+        → bodies_in (so_far (cons_option p (filter_map g es))) ≡ []
+    by None None agree_none h = h
+    by None (Some i) agree h = elim agree [ ]
+    by (Some l) None agree h = elim agree [ ]
+    by (Some l) (Some i) (agree_some same inner) h = (λ j. inner.no_bodies j ++ h j)
+
+-- nor inside imports
+pub imports_no_bodies : (es : List ImportItem) → bodies_in (so_far (map Section.import_item es)) ≡ []
+imports_no_bodies [] = refl
+imports_no_bodies (e ∷ es) = imports_no_bodies es
+
+-- nor inside exports
+pub exports_no_bodies : (es : List ExportEntry) → bodies_in (so_far (map Section.export_item es)) ≡ []
+exports_no_bodies [] = refl
+exports_no_bodies (e ∷ es) = exports_no_bodies es

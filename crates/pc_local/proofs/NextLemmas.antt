@@ -1,9 +1,9 @@
 -- One payload further, and the end of the list.
-use Rattle.std.proofs.Common.{◌≡◌, ℕ, suc, Bool, true, false, List, [], ◌∷◌, ◌++◌, length, map, Option, Some, None, refl, sym, ap, ◌∙◌, subst, arith, append_assoc, if◌then◌else◌, inl, inr}
+use Rattle.std.proofs.Common.{◌≡◌, ℕ, suc, ◌+◌, Bool, true, false, List, [], ◌∷◌, ◌++◌, length, map, Option, Some, None, refl, sym, ap, ◌∙◌, subst, arith, append_assoc, if◌then◌else◌, inl, inr}
 use Rattle.std.specs.Prelude.{slice_get}
 use Rattle.std.specs.Option.{option_map, option_or}
 use Rattle.pc_types.specs.Table.{table_error, table_fault}
-use Rattle.std.specs.List.{filter_map}
+use Rattle.std.specs.List.{AllZip, filter_map}
 use Rattle.std.proofs.lemmas.Bool.Decides.{eqb_tells}
 use Rattle.std.proofs.lemmas.List.{append-nil, length-append}
 use Rattle.std.proofs.lemmas.Option.{none-some, same_Some}
@@ -13,14 +13,17 @@ use Rattle.pc_types.specs.declared.error.Place.TheVariants as place
 use Rattle.pc_types.specs.declared.module_record.ModuleRecord.{ModuleRecord}
 use Rattle.pc_types.specs.declared.parsed.TypeTable.{TypeTable}
 use Rattle.pc_types.specs.declared.error.Unsupported.TheVariants as unsupported
+use Rattle.pc_parsed.specs.declared.canon.CanonItem.{CanonItem}
 use Rattle.pc_parsed.specs.declared.fault.StaticFault.TheVariants as fault
 use Rattle.pc_parsed.specs.declared.payload.AliasItem.{AliasItem}
 use Rattle.pc_parsed.specs.declared.payload.AliasItem.TheVariants as alias
+use Rattle.pc_parsed.specs.declared.payload.ComponentInstanceItem.{ComponentInstanceItem}
 use Rattle.pc_parsed.specs.declared.payload.Encoding.TheVariants as encoding
+use Rattle.pc_parsed.specs.declared.payload.InstanceItem.{InstanceItem}
 use Rattle.pc_parsed.specs.declared.payload.OuterKind.TheVariants as outer
 use Rattle.pc_parsed.specs.declared.payload.Payload.{Payload}
 use Rattle.pc_parsed.specs.declared.payload.Payload.TheVariants as payload
-use Rattle.pc_parsed.specs.ItemFaults.{alias_fault, first_item}
+use Rattle.pc_parsed.specs.ItemFaults.{alias_fault, canon_fault, first_item}
 use Rattle.pc_parsed.specs.StaticFault.{around, content_fault, end_error, payload_fault, payloads_error, static_fault}
 use Rattle.pc_parsed.specs.Structure.{is_due, open_bodies, structure_fault, version_fault, version_of}
 use Rattle.pc_reading.specs.Canonical.{canonical_item}
@@ -37,11 +40,11 @@ use Rattle.pc_local.specs.Open
 use Rattle.pc_local.specs.Open.{State}
 use Rattle.pc_local.specs.Program.{ProgramStands}
 use Rattle.pc_local.specs.Standing
-use Rattle.pc_local.proofs.EntryLemmas.{LevelStands, all_kept, canon_agrees, component_instance_agrees, instance_agrees, only, type_agrees}
-use Rattle.pc_local.proofs.PassLemmas.{Passed, Placed, aliases_shown, begin_next, end_next, exports_next, idle_next, imports_next, items_next, module_next, no_error, no_fault, plain_next, rest_cons, root_shown, section_next}
+use Rattle.pc_local.proofs.EntryLemmas.{AgreeAll, LevelStands, agree_all, all_kept, canon_agrees, component_instance_agrees, entries_no_bodies, exports_no_bodies, imports_no_bodies, instance_agrees, only, type_agrees}
+use Rattle.pc_local.proofs.PassLemmas.{Passed, Placed, aliases_shown, begin_next, end_next, exports_next, idle_next, imports_next, items_next, module_next, no_error, no_fault, none_shown, plain_next, rest_cons, root_shown, section_next}
 use Rattle.pc_local.proofs.ReadLemmas.{Stage, beginning, inside_one, ended, counts_exposing, seen, seen_version, shown}
 use Rattle.pc_local.proofs.StandLemmas.{exports_append, items_kept}
-use Rattle.pc_local.proofs.StateLemmas.{AroundStand, StateStands, around_kept, items_with_more, more_stands}
+use Rattle.pc_local.proofs.StateLemmas.{AroundStand, StateStands, around_kept, bodies_at, bodies_more, items_with_more, more_stands}
 
 -- aliases export nothing
 aliases_export : (es : List AliasItem)
@@ -53,6 +56,24 @@ aliases_export (alias.Outer outer.CoreModule c n ∷ es) = aliases_export es
 aliases_export (alias.Outer outer.Component c n ∷ es) = aliases_export es
 aliases_export (alias.Outer outer.Type_ c n ∷ es) = aliases_export es
 aliases_export (alias.Outer outer.CoreType c n ∷ es) = aliases_export es
+
+-- no bodies stand inside aliases
+aliases_no_bodies : (es : List AliasItem) → Item.bodies_in (cap.so_far (filter_map Section.alias_item es)) ≡ []
+aliases_no_bodies [] = refl
+aliases_no_bodies (alias.InstanceExport k n name ∷ es) = aliases_no_bodies es
+aliases_no_bodies (alias.CoreInstanceExport k n name ∷ es) = aliases_no_bodies es
+aliases_no_bodies (alias.Outer outer.CoreModule c n ∷ es) = aliases_no_bodies es
+aliases_no_bodies (alias.Outer outer.Component c n ∷ es) = aliases_no_bodies es
+aliases_no_bodies (alias.Outer outer.Type_ c n ∷ es) = aliases_no_bodies es
+aliases_no_bodies (alias.Outer outer.CoreType c n ∷ es) = aliases_no_bodies es
+
+-- canonical functions without a fault agree
+canons_agree : (n : ℕ) (es : List CanonItem) → first_item canon_fault n es ≡ None
+    → AgreeAll canon_local canonical_item es
+canons_agree n [] sound = tt
+canons_agree n (e ∷ es) sound =
+    let both = no_fault n (canon_fault e) (first_item canon_fault (n + 1) es) sound in
+    (canon_agrees e both.0, canons_agree (n + 1) es both.1)
 
 -- aliases in the innermost body
 alias_stands : (outside : List (List Item)) (inside : List Item) (es : List AliasItem) (s new : State)
@@ -76,6 +97,10 @@ alias_stands outside inside es s new a sound h =
           ∙ sym (append-nil (Item.exports_in (cap.so_far inside)))
           ∙ ap (λ (l : List Item.ExportOf). Item.exports_in (cap.so_far inside) ++ l) (sym (aliases_export es))
           ∙ sym (exports_append inside more);
+      bodies =
+          subst (λ (ts : List Translation). AllZip (Standing.ComponentStands ts) ts
+          (bodies_at ((inside ++ more) ∷ outside))) (sym a.ended)
+          (bodies_more outside inside more s.ended (aliases_no_bodies es) h.bodies);
     }
 
 -- a payload without a fault stands where it may
@@ -119,20 +144,28 @@ module _ (t : TypeTable) (x : Option (List ℕ)) (ps : List Payload) where
       plain_next t x ps (payload.ComponentTypeSection es) rest passed s outside inside sound reads modules opened stands
       (filter_map Section.type_item es) (only (filter_map type_local es)) new
       (go ∙ sym (items_with_more s (filter_map type_local es))) refl (λ r. refl) refl refl
-      (section_next t x ps type_local Section.type_item type_agrees es outside s)
+      (entries_no_bodies type_local Section.type_item es (agree_all type_local Section.type_item type_agrees es))
+      (section_next t x ps type_local Section.type_item es (agree_all type_local Section.type_item type_agrees es)
+      outside s)
   inside_next (payload.ComponentImportSection es) rest passed s new outside inside here sound reads modules opened due
       stands go =
       plain_next t x ps (payload.ComponentImportSection es) rest passed s outside inside sound reads modules opened
       stands (map Section.import_item es) (only (map (import_local (Open.exposed_in s.around x)) es)) new
       (go ∙ sym (items_with_more s (map (import_local (Open.exposed_in s.around x)) es))) refl (λ r. refl) refl refl
+      (imports_no_bodies es)
       (imports_next t x ps es outside s.ended s.modules s.components s.around
       (cap.level_names s.modules s.components (length outside)) (length outside) stands.around)
   inside_next (payload.ComponentCanonicalSection es) rest passed s new outside inside here sound reads modules opened
       due stands go =
-      plain_next t x ps (payload.ComponentCanonicalSection es) rest passed s outside inside sound reads modules opened
+      let p = payload.ComponentCanonicalSection es in
+      let content = (no_fault 0 (structure_fault (open_bodies passed) (is_due passed) p)
+      (content_fault t x (around passed) p) here).1 in
+      let agree = canons_agree 0 es content in
+      plain_next t x ps p rest passed s outside inside sound reads modules opened
       stands (filter_map canonical_item es) (only (filter_map canon_local es)) new
       (go ∙ sym (items_with_more s (filter_map canon_local es))) refl (λ r. refl) refl refl
-      (section_next t x ps canon_local canonical_item canon_agrees es outside s)
+      (entries_no_bodies canon_local canonical_item es agree)
+      (section_next t x ps canon_local canonical_item es agree outside s)
   inside_next (payload.ModuleSection r ty) rest passed s new outside inside here sound reads modules opened due stands
       go =
       let p = payload.ModuleSection r ty in
@@ -143,7 +176,7 @@ module _ (t : TypeTable) (x : Option (List ℕ)) (ps : List Payload) where
       let w =
       subst (λ (m : State). StateStands outside (inside ++ shown x outside item) m) (items_with_more s ls)
       (more_stands outside inside (shown x outside item) s (only ls)
-      (module_next t x ps n ty outside s.ended names (length outside)) stands) in
+      (module_next t x ps n ty outside s.ended names (length outside)) (none_shown t x ps outside item refl) stands) in
       subst (λ (m : State). Passed t x ps rest m) (sym go)
       (items_next t x ps p rest passed s outside inside sound reads modules opened stands item
       (record s {
@@ -151,32 +184,41 @@ module _ (t : TypeTable) (x : Option (List ℕ)) (ps : List Payload) where
         records = s.records ++ r ∷ [];
       }) refl (λ q. refl) (sym (length-append s.records (r ∷ [])))
       (sym (append_assoc s.records (r ∷ []) (modules_of rest)))
-      (record { around = w.around; part = w.part; exports = w.exports }))
+      (record { around = w.around; part = w.part; exports = w.exports; bodies = w.bodies }))
   inside_next (payload.InstanceSection es) rest passed s new outside inside here sound reads modules opened due stands
       go =
       let names = cap.level_names s.modules s.components (length outside) in
+      let item = λ (e : InstanceItem). Some (Section.instance_item e) in
+      let agree = agree_all instance_local item instance_agrees es in
       plain_next t x ps (payload.InstanceSection es) rest passed s outside inside sound reads modules opened stands
       (map Section.instance_item es) (only (filter_map instance_local es)) new
       (go ∙ sym (items_with_more s (filter_map instance_local es))) refl (λ r. refl) refl refl
+      (subst (λ (items : List Item). Item.bodies_in (cap.so_far items) ≡ []) (all_kept Section.instance_item es)
+      (entries_no_bodies instance_local item es agree))
       (subst (λ (items : List Item). LevelStands s.ended names (length outside)
       (only (filter_map instance_local es)) (shown x outside items)) (all_kept Section.instance_item es)
-      (section_next t x ps instance_local (λ e. Some (Section.instance_item e)) instance_agrees es outside s))
+      (section_next t x ps instance_local item es agree outside s))
   inside_next (payload.ComponentInstanceSection es) rest passed s new outside inside here sound reads modules opened due
       stands go =
       let names = cap.level_names s.modules s.components (length outside) in
+      let item = λ (e : ComponentInstanceItem). Some (Section.component_instance_item e) in
+      let agree = agree_all component_instance_local item component_instance_agrees es in
       plain_next t x ps (payload.ComponentInstanceSection es) rest passed s outside inside sound reads modules opened
       stands (map Section.component_instance_item es) (only (filter_map component_instance_local es)) new
       (go ∙ sym (items_with_more s (filter_map component_instance_local es))) refl (λ r. refl) refl refl
+      (subst (λ (items : List Item). Item.bodies_in (cap.so_far items) ≡ [])
+      (all_kept Section.component_instance_item es)
+      (entries_no_bodies component_instance_local item es agree))
       (subst (λ (items : List Item). LevelStands s.ended names (length outside)
       (only (filter_map component_instance_local es)) (shown x outside items))
       (all_kept Section.component_instance_item es)
-      (section_next t x ps component_instance_local (λ e. Some (Section.component_instance_item e))
-      component_instance_agrees es outside s))
+      (section_next t x ps component_instance_local item es agree outside s))
   inside_next (payload.ComponentExportSection es) rest passed s new outside inside here sound reads modules opened due
       stands go =
       plain_next t x ps (payload.ComponentExportSection es) rest passed s outside inside sound reads modules opened
       stands (map Section.export_item es)
       (record { initializers = map export_local es; exports = map export_entry es }) new go refl (λ r. refl) refl refl
+      (exports_no_bodies es)
       (exports_next t x ps es outside s.ended (cap.level_names s.modules s.components (length outside))
       (length outside))
   inside_next (payload.ComponentAliasSection es) rest passed s new outside inside here sound reads modules opened due
@@ -322,6 +364,7 @@ module _ (t : TypeTable) (x : Option (List ℕ)) (ps : List Payload) where
           stands.part.items;
       exports = stands.exports;
     };
+    components = stands.bodies;
     modules = sym (append-nil s.records) ∙ modules;
   }
 

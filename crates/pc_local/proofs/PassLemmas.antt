@@ -19,12 +19,12 @@ use Rattle.pc_parsed.specs.declared.payload.Payload.TheVariants as payload
 use Rattle.pc_parsed.specs.ItemFaults.{fault_or}
 use Rattle.pc_parsed.specs.StaticFault.{around, error_or, fault_error, payloads_error}
 use Rattle.pc_parsed.specs.Structure.{is_due, is_opening, nesting, open_behind, open_bodies, stays}
-use Rattle.pc_reading.specs.Item.{Item, Items, before, component_item}
+use Rattle.pc_reading.specs.Item.{Item, Items, bodies_in, component_item}
 use Rattle.pc_reading.specs.Item as Item
 use Rattle.pc_reading.specs.Nest as Nest
-use Rattle.pc_reading.specs.Nest.{Rest, after_items, after_payload, counts_in, exposing, nested, rest_of, root_of, whole}
+use Rattle.pc_reading.specs.Nest.{Rest, after_items, after_payload, counts_in, exposing, rest_of, whole}
 use Rattle.pc_reading.specs.Section as Section
-use Rattle.pc_reading.specs.Section.{items_of, modules_after, modules_of}
+use Rattle.pc_reading.specs.Section.{modules_after, modules_of}
 use Rattle.pc_local.specs.declared.captured.Captured.{Captured}
 use Rattle.pc_local.specs.declared.item.LocalInitializer.{LocalInitializer}
 use Rattle.pc_local.specs.declared.item.LocalInitializer.TheVariants as local
@@ -36,8 +36,8 @@ use Rattle.pc_local.specs.Open.{State}
 use Rattle.pc_local.specs.Plain.{plain_item}
 use Rattle.pc_local.specs.Standing
 use Rattle.pc_local.proofs.EndLemmas.{inner_ends}
-use Rattle.pc_local.proofs.EntryLemmas.{Agree, LevelStands, entries_shown, entries_stand, exports_shown, exports_stand, expose, imports_stand, only}
-use Rattle.pc_local.proofs.ReadLemmas.{Stage, beginning, inside_one, ended, seen, seen_begun, seen_closed, seen_ended, seen_items, shown}
+use Rattle.pc_local.proofs.EntryLemmas.{AgreeAll, LevelStands, entries_shown, entries_stand, exports_shown, exports_stand, expose, imports_stand, only}
+use Rattle.pc_local.proofs.ReadLemmas.{Stage, beginning, inside_one, ended, bodies_shown, seen, seen_begun, seen_closed, seen_ended, seen_items, shown}
 use Rattle.pc_local.proofs.StateLemmas.{AroundStand, StateStands, around_more, around_none, begun_stands, more_stands, with_more}
 
 -- where no error comes first, there is none here and none later
@@ -129,20 +129,27 @@ module _ (t : TypeTable) (x : Option (List ℕ)) (ps : List Payload) where
         counts = refl;
       };
       exports = refl;
+      bodies = tt;
     };
   }
 
   -- the entries of a section, whatever their type
-  pub section_next : {A : Type 0} (f : A → Option LocalInitializer) (g : A → Option Item)
-      → ((e : A) → Agree (f e) (g e)) → (es : List A) (outside : List (List Item)) (s : State)
+  pub section_next : {A : Type 0} (f : A → Option LocalInitializer) (g : A → Option Item) (es : List A)
+      → AgreeAll f g es → (outside : List (List Item)) (s : State)
       → LevelStands s.ended (cap.level_names s.modules s.components (length outside)) (length outside)
       (only (filter_map f es)) (shown x outside (filter_map g es))
-  section_next f g agree es [] s =
+  section_next f g es agree [] s =
       subst (λ (l : List Item). LevelStands s.ended (cap.level_names s.modules s.components 0) 0
-      (only (filter_map f es)) l) (sym (entries_shown x f g agree es))
-      (entries_stand s.ended (cap.level_names s.modules s.components 0) 0 f g agree es)
-  section_next f g agree es (l ∷ ls) s =
-      entries_stand s.ended (cap.level_names s.modules s.components (length (l ∷ ls))) (length (l ∷ ls)) f g agree es
+      (only (filter_map f es)) l) (sym (entries_shown x f g es agree))
+      (entries_stand s.ended (cap.level_names s.modules s.components 0) 0 f g es agree)
+  section_next f g es agree (l ∷ ls) s =
+      entries_stand s.ended (cap.level_names s.modules s.components (length (l ∷ ls))) (length (l ∷ ls)) f g es agree
+
+  -- items have no bodies inside them as they are shown, if they have none
+  pub none_shown : (outside : List (List Item)) (items : List Item) → bodies_in (cap.so_far items) ≡ []
+      → bodies_in (cap.so_far (shown x outside items)) ≡ []
+  none_shown [] items none = bodies_shown x items ∙ none
+  none_shown (l ∷ ls) items none = none
 
   -- no items are shown as none
   shown_none : (outside : List (List Item)) → shown x outside [] ≡ []
@@ -258,13 +265,14 @@ module _ (t : TypeTable) (x : Option (List ℕ)) (ps : List Payload) where
     pub plain_next : (items : List Item) (d : Translation) (new : State) → new ≡ with_more s d → nesting p ≡ stays
         → ((r : Rest) → after_payload (length s.records) p r ≡ after_items items r)
         → modules_after (length s.records) p ≡ length s.records → modules_of (p ∷ rest) ≡ modules_of rest
+        → bodies_in (cap.so_far items) ≡ []
         → LevelStands s.ended (cap.level_names s.modules s.components (length outside)) (length outside) d
         (shown x outside items)
         → Passed t x ps rest new
-    plain_next items d new is stay step count more level =
+    plain_next items d new is stay step count more none level =
         subst (λ (n : State). Passed t x ps rest n) (sym is)
         (items_next items (with_more s d) stay step count (ap (λ (rs : List ModuleRecord). s.records ++ rs) more)
-        (more_stands outside inside (shown x outside items) s d level stands))
+        (more_stands outside inside (shown x outside items) s d level (none_shown outside items none) stands))
 
     -- no items
     pub idle_next : (new : State) → new ≡ s → nesting p ≡ stays

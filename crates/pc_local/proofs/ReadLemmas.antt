@@ -1,7 +1,7 @@
 -- What is read of a list, from what has been gone through and what is left.
 use Rattle.std.proofs.Common.{◌≡◌, ℕ, Bool, true, false, ◌&&◌, List, [], ◌∷◌, ◌++◌, map, Option, Some, None, refl, sym, ap, ◌∙◌, if◌then◌else◌}
 use Rattle.pc_parsed.specs.declared.payload.Encoding.TheVariants as encoding
-use Rattle.pc_reading.specs.Item.{Item, Items, and_item, before, component_item, no_items}
+use Rattle.pc_reading.specs.Item.{Item, Items, and_item, before, bodies_in, bodies_of, component_item, no_items}
 use Rattle.pc_reading.specs.Nest as Nest
 use Rattle.pc_reading.specs.Nest.{Rest, after_component, after_end, after_items, after_version, counts_in, counts_of, exposing, is_exposed}
 use Rattle.pc_local.proofs.EntryLemmas.{expose}
@@ -78,6 +78,39 @@ module _ (x : Option (List ℕ)) where
   counts_exposing depth (and_item i is) =
       ap (counts_in depth) (exposing_cons i is)
       ∙ (λ j. counts_shown depth i j && counts_exposing depth is j)
+
+  -- bodies are the same inside an item as it is shown
+  bodies_exposed : (i : Item) → bodies_of (expose x i) ≡ bodies_of i
+  bodies_exposed (Item.import_item a b) = by (is_exposed x a)
+    where
+      by : (t : Bool) → bodies_of (if t then Item.intrinsics_import else Item.import_item a b) ≡ []
+      by true = refl
+      by false = refl
+  bodies_exposed Item.intrinsics_import = refl
+  bodies_exposed (Item.resource_item a b c) = refl
+  bodies_exposed (Item.lift_item a b c d) = refl
+  bodies_exposed (Item.lower_item a b c d) = refl
+  bodies_exposed (Item.builtin_item a b c) = refl
+  bodies_exposed (Item.waitable_item a b c) = refl
+  bodies_exposed (Item.task_return_item a b c) = refl
+  bodies_exposed (Item.error_context_item a b c) = refl
+  bodies_exposed (Item.context_item a b c) = refl
+  bodies_exposed (Item.new_thread_item a b c) = refl
+  bodies_exposed (Item.module_item a b) = refl
+  bodies_exposed (Item.instantiate_module_item a b) = refl
+  bodies_exposed (Item.core_exports_item a) = refl
+  bodies_exposed (Item.component_item a) = refl
+  bodies_exposed (Item.instantiate_component_item a b c) = refl
+  bodies_exposed (Item.component_exports_item a b) = refl
+  bodies_exposed (Item.core_alias_item a b c) = refl
+  bodies_exposed (Item.alias_item a b c) = refl
+  bodies_exposed (Item.outer_item a b c) = refl
+  bodies_exposed (Item.export_item a) = refl
+
+  -- and inside items as they are shown
+  pub bodies_shown : (is : List Item) → bodies_in (before (map (expose x) is) no_items) ≡ bodies_in (before is no_items)
+  bodies_shown [] = refl
+  bodies_shown (i ∷ is) = (λ j. bodies_exposed i j ++ bodies_shown is j)
 
   -- items in front are shown one by one
   exposing_before : (items : List Item) (is : Items)

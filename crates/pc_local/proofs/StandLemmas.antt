@@ -1,8 +1,8 @@
 -- Bodies that grow at their end, and bodies of a program that grows.
-use Rattle.std.proofs.Common.{◌≡◌, ℕ, Bool, true, false, ◌&&◌, Option, None, List, [], ◌∷◌, ◌++◌, Some, refl, sym, ap, ◌∙◌}
-use Rattle.std.specs.List.{cons_option}
+use Rattle.std.proofs.Common.{◌≡◌, ℕ, Bool, true, false, ◌&&◌, Option, None, List, [], ◌∷◌, ◌++◌, Some, refl, sym, ap, ◌∙◌, append_assoc}
+use Rattle.std.specs.List.{AllZip, cons_option}
 use Rattle.pc_entity.specs.Lists.{Kept}
-use Rattle.pc_reading.specs.Item.{Item, Items, ExportOf, and_item, before, exports_in}
+use Rattle.pc_reading.specs.Item.{Item, Items, ExportOf, and_item, before, bodies_in, bodies_of, exports_in}
 use Rattle.pc_reading.specs.Nest.{counts_in, counts_of}
 use Rattle.pc_local.specs.declared.item.ClosedOverVars.{ClosedOverVars}
 use Rattle.pc_local.specs.declared.item.LocalInitializer.{LocalInitializer}
@@ -54,6 +54,39 @@ module _ (bodies longer : List Translation) (grown : Kept bodies longer) where
     items_kept more kept Standing.stand_none = Standing.stand_none
     items_kept more kept (Standing.stand_more i is) =
         Standing.stand_more (item_kept more kept i) (items_kept more kept is)
+
+  -- a component stands where the bodies have grown
+  pub component_kept : (t : Translation) (body : Items) → Standing.ComponentStands bodies t body
+      → Standing.ComponentStands longer t body
+  component_kept t body h = record {
+    names = h.names;
+    stands = record { items = items_kept h.names (same_names h.names) h.stands.items; exports = h.stands.exports };
+    leaving = h.leaving;
+  }
+
+-- two lists that go together, with one more each
+pub zip_push : {A B : Type 0} (R : A → B → Type 0) (xs : List A) (ys : List B) (x : A) (y : B) → AllZip R xs ys
+    → R x y → AllZip R (xs ++ x ∷ []) (ys ++ y ∷ [])
+zip_push R [] [] x y h r = (r, tt)
+zip_push R [] (b ∷ ys) x y h r = absurd h
+zip_push R (a ∷ xs) [] x y h r = absurd h
+zip_push R (a ∷ xs) (b ∷ ys) x y h r = (h.0, zip_push R xs ys x y h.1 r)
+
+-- two lists that go together in one way and so in another
+pub zip_kept : {A B : Type 0} (R S : A → B → Type 0) → ((a : A) (b : B) → R a b → S a b) → (xs : List A) (ys : List B)
+    → AllZip R xs ys → AllZip S xs ys
+zip_kept R S kept [] [] h = tt
+zip_kept R S kept [] (b ∷ ys) h = absurd h
+zip_kept R S kept (a ∷ xs) [] h = absurd h
+zip_kept R S kept (a ∷ xs) (b ∷ ys) h = (kept a b h.0, zip_kept R S kept xs ys h.1)
+
+-- the bodies inside items after items
+pub bodies_append : (xs ys : List Item)
+    → bodies_in (so_far (xs ++ ys)) ≡ bodies_in (so_far xs) ++ bodies_in (so_far ys)
+bodies_append [] ys = refl
+bodies_append (x ∷ xs) ys =
+    ap (λ (l : List Items). bodies_of x ++ l) (bodies_append xs ys)
+    ∙ sym (append_assoc (bodies_of x) (bodies_in (so_far xs)) (bodies_in (so_far ys)))
 
 -- items that stand before others, put together
 pub before_append : (xs ys : List Item) (is : Items) → before (xs ++ ys) is ≡ before xs (before ys is)

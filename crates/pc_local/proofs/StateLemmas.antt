@@ -1,12 +1,13 @@
 -- The open bodies stand for the levels of items so far, payload by payload.
 use Rattle.std.proofs.Common.{◌≡◌, ◌⊎◌, ℕ, suc, ◌<◌, ◌≤◌, ◌+◌, List, [], ◌∷◌, ◌++◌, length, map, Some, refl, sym, ap, ◌∙◌, subst, inl, inr, arith}
 use Rattle.std.specs.Prelude.{slice_get}
+use Rattle.std.specs.List.{AllZip}
 use Rattle.std.proofs.lemmas.List.{append-nil, length-append}
 use Rattle.std.proofs.lemmas.Option.{none-some}
 use Rattle.pc_entity.specs.Lists.{Kept}
 use Rattle.pc_parsed.specs.declared.payload.ExternName.{ExternName}
 use Rattle.pc_parsed.specs.declared.payload.ItemKind.{ItemKind}
-use Rattle.pc_reading.specs.Item.{Item, ExportOf, Lent, a_module, a_component, component_item, exports_in}
+use Rattle.pc_reading.specs.Item.{Item, Items, ExportOf, Lent, a_module, a_component, bodies_in, component_item, exports_in}
 use Rattle.pc_reading.specs.Nest.{counts_in}
 use Rattle.pc_reading.specs.Section.{named_item}
 use Rattle.pc_local.specs.declared.captured.Captured.{Captured}
@@ -21,7 +22,7 @@ use Rattle.pc_local.proofs.CaptureLemmas.{gives_same, has_same}
 use Rattle.pc_local.proofs.EntryLemmas.{LevelStands, only}
 use Rattle.pc_local.proofs.PartLemmas.{captures_more, items_below, items_here, leaves_more, leaves_right, part_more}
 use Rattle.pc_local.proofs.PlaceLemmas.{at_before, at_more, at_past, at_push, compared}
-use Rattle.pc_local.proofs.StandLemmas.{NamesKept, exports_append, items_kept}
+use Rattle.pc_local.proofs.StandLemmas.{NamesKept, bodies_append, exports_append, items_kept}
 
 -- the bodies around the innermost one stand for the levels around it
 pub data AroundStand (bodies : List Translation) (ms cs : List Captured) : List Translation → List (List Item)
@@ -32,11 +33,17 @@ pub data AroundStand (bodies : List Translation) (ms cs : List Captured) : List 
       → LevelStands bodies (cap.level_names ms cs (length ls)) (length ls) t l
       → AroundStand bodies ms cs rest ls → AroundStand bodies ms cs around (l ∷ ls)
 
--- the open bodies stand for the items so far
+-- the bodies that have ended inside the levels so far, in their order; the levels are given from the innermost out
+abbrev pub bodies_at : List (List Item) → List Items
+bodies_at [] = []
+bodies_at (l ∷ ls) = bodies_at ls ++ bodies_in (cap.so_far l)
+
+-- the open bodies stand for the items so far, and those that have ended for the bodies inside them
 pub record StateStands (outside : List (List Item)) (inside : List Item) (s : State) : Type 0 where
   pub around : AroundStand s.ended s.modules s.components s.around outside
   pub part : cap.PartStands s.ended outside inside (cap.part s.body.initializers s.modules s.components)
   pub exports : map named_item s.body.exports ≡ exports_in (cap.so_far inside)
+  pub bodies : AllZip (Standing.ComponentStands s.ended) s.ended (bodies_at (inside ∷ outside))
 
 -- a level stands where the bodies and the names have grown
 pub level_kept : (bodies longer : List Translation) (names more : Standing.Names) (depth : ℕ) (t : Translation)
@@ -85,11 +92,23 @@ map_append : (xs ys : List (ExternName × ItemKind × ℕ))
 map_append [] ys = refl
 map_append (x ∷ xs) ys = ap (λ (l : List ExportOf). named_item x ∷ l) (map_append xs ys)
 
+-- where more items have no bodies inside them, the bodies so far are the same
+pub bodies_more : (outside : List (List Item)) (inside more : List Item) (ended : List Translation)
+    → bodies_in (cap.so_far more) ≡ []
+    → AllZip (Standing.ComponentStands ended) ended (bodies_at (inside ∷ outside))
+    → AllZip (Standing.ComponentStands ended) ended (bodies_at ((inside ++ more) ∷ outside))
+bodies_more outside inside more ended none h =
+    subst (λ (bs : List Items). AllZip (Standing.ComponentStands ended) ended (bodies_at outside ++ bs))
+    (sym (bodies_append inside more ∙ ap (λ (bs : List Items). bodies_in (cap.so_far inside) ++ bs) none
+    ∙ append-nil (bodies_in (cap.so_far inside))))
+    h
+
 -- items that stand in the innermost body are more of it
 pub more_stands : (outside : List (List Item)) (inside more : List Item) (s : State) (d : Translation)
     → LevelStands s.ended (cap.level_names s.modules s.components (length outside)) (length outside) d more
+    → bodies_in (cap.so_far more) ≡ []
     → StateStands outside inside s → StateStands outside (inside ++ more) (with_more s d)
-more_stands outside inside more s d level h = record {
+more_stands outside inside more s d level none h = record {
   around = h.around;
   part =
       part_more s.ended outside inside more (cap.part s.body.initializers s.modules s.components)
@@ -101,6 +120,7 @@ more_stands outside inside more s d level h = record {
       map_append s.body.exports d.exports
       ∙ (λ j. h.exports j ++ level.exports j)
       ∙ sym (exports_append inside more);
+  bodies = bodies_more outside inside more s.ended none h.bodies;
 }
 
 -- items that export nothing
@@ -166,6 +186,9 @@ begun_stands outside inside s h =
         counts = refl;
       };
       exports = refl;
+      bodies =
+          subst (λ (bs : List Items). AllZip (Standing.ComponentStands s.ended) s.ended bs)
+          (sym (append-nil (bodies_at (inside ∷ outside)))) h.bodies;
     }
 
 -- no name stands among none

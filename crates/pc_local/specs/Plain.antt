@@ -1,5 +1,8 @@
 -- Local items that say the same as items of the reading whatever is around them: one equation a row.
 use Rattle.std.specs.Prelude.{Option, Some, None, map}
+use Rattle.pc_types.specs.declared.parsed.WasmValType.TheVariants.{I32}
+use Rattle.pc_parsed.specs.declared.canon.CanonItem.{CanonItem}
+use Rattle.pc_parsed.specs.declared.canon.CanonItem.TheVariants as canon
 use Rattle.pc_reading.specs.Canonical.{canonical_item}
 use Rattle.pc_reading.specs.Item
 use Rattle.pc_reading.specs.Section.{argument_of, named_item}
@@ -23,10 +26,11 @@ abbrev pub if_error_context : Option Item.Item → Option Item.Item
 if_error_context (Some (Item.error_context_item k s opts)) = Some (Item.error_context_item k s opts)
 if_error_context _ = None
 
--- an item, if it reads or writes a context slot
-abbrev pub if_context : Option Item.Item → Option Item.Item
-if_context (Some (Item.context_item access s slot)) = Some (Item.context_item access s slot)
-if_context _ = None
+-- the item of a canonical function, if it reads or writes a context slot; the only type of one is `i32`
+abbrev pub context_of : CanonItem → Option Item.Item
+context_of (canon.ContextGet s I32 slot) = Some (Item.context_item Item.getting s slot)
+context_of (canon.ContextSet s I32 slot) = Some (Item.context_item Item.setting s slot)
+context_of _ = None
 
 -- the item of the reading that a local item is, if that hangs on nothing around it
 unfoldable pub plain_item : LocalInitializer → Option Item.Item
@@ -39,7 +43,7 @@ plain_item (local.Builtin c) = if_builtin (canonical_item c)
 plain_item (local.WaitableSet c) = if_waitable (canonical_item c)
 plain_item (local.TaskReturn signature result opts) = Some (Item.task_return_item signature result opts)
 plain_item (local.ErrorContext c) = if_error_context (canonical_item c)
-plain_item (local.Context c) = if_context (canonical_item c)
+plain_item (local.Context c) = context_of c
 plain_item (local.ThreadNewIndirect signature start table) = Some (Item.new_thread_item signature start table)
 plain_item (local.ModuleStatic index ty) = Some (Item.module_item index.0 ty)
 plain_item (local.ModuleInstantiate m args) = Some (Item.instantiate_module_item m args)

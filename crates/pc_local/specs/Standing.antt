@@ -104,3 +104,9 @@ mutual
 pub record BodyStands (bodies : List Translation) (names : Names) (t : Translation) (body : Items) : Type 0 where
   pub items : ItemsStand bodies names t.initializers body
   pub exports : map named_item t.exports ≡ exports_in body
+
+-- a component of a program stands for a nested body, with names for what it captures, which is no more than it needs
+pub record ComponentStands (bodies : List Translation) (t : Translation) (body : Items) : Type 0 where
+  pub names : Names
+  pub stands : BodyStands bodies names t body
+  pub leaving : OnlyLeaving names body

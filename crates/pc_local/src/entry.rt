@@ -3,15 +3,13 @@
 ghost use Rattle.std.specs.Prelude.{◌≡◌, ◌++◌, ◌∷◌, [], Option, map, IfOk, OnOk};
 ghost use Rattle.std.specs.List.{cons_option, filter_map};
 ghost use Rattle.std.specs.Option.{option_map};
-ghost use Rattle.pc_reading.specs.Nest.{is_exposed};
 ghost use Rattle.pc_local.specs.Entries.{canon_local, component_instance_local, export_entry, export_local, import_local, instance_local, type_local};
 ghost use Rattle.pc_local.specs.declared.item.LocalInitializer.{LocalInitializer};
 
-use crate::copies::Copied;
 use crate::item::{LocalInitializer, Translation};
 use pc_entity::{NoMemory, Seq, TryClone};
 use pc_parsed::{
-    CanonItem, ComponentInstanceItem, ExportEntry, ExternName, ImportItem, InstanceItem, TypeItem,
+    CanonItem, ComponentInstanceItem, ExportEntry, ImportItem, InstanceItem, TypeItem, is_exposed,
 };
 use std::alloc::Global;
 
@@ -68,7 +66,7 @@ impl Entry for ComponentInstanceItem {
                 args,
                 ty,
             } => {
-                let args = args.copied(alloc)?;
+                let args = args.try_clone(alloc)?;
                 Ok(Some(LocalInitializer::ComponentInstantiate {
                     component: *component,
                     args,
@@ -76,7 +74,7 @@ impl Entry for ComponentInstanceItem {
                 }))
             }
             ComponentInstanceItem::FromExports { exports, ty } => {
-                let exports = exports.copied(alloc)?;
+                let exports = exports.try_clone(alloc)?;
                 Ok(Some(LocalInitializer::ComponentSynthetic { exports, ty: *ty }))
             }
         }
@@ -89,7 +87,7 @@ impl Entry for CanonItem {
     fn item(&self, alloc: Global) -> Result<Option<LocalInitializer>, NoMemory> {
         match self {
             CanonItem::Lift(func, ty, core, opts) => {
-                let opts = opts.copied(alloc)?;
+                let opts = opts.try_clone(alloc)?;
                 Ok(Some(LocalInitializer::Lift {
                     func: *func,
                     ty: *ty,
@@ -98,7 +96,7 @@ impl Entry for CanonItem {
                 }))
             }
             CanonItem::Lower(func, ty, core, opts) => {
-                let opts = opts.copied(alloc)?;
+                let opts = opts.try_clone(alloc)?;
                 Ok(Some(LocalInitializer::Lower {
                     func: *func,
                     ty: *ty,
@@ -107,7 +105,7 @@ impl Entry for CanonItem {
                 }))
             }
             CanonItem::TaskReturn(core, result, opts) => {
-                let opts = opts.copied(alloc)?;
+                let opts = opts.try_clone(alloc)?;
                 Ok(Some(LocalInitializer::TaskReturn {
                     core: *core,
                     result: *result,
@@ -115,15 +113,15 @@ impl Entry for CanonItem {
                 }))
             }
             CanonItem::WaitableSetWait(..) | CanonItem::WaitableSetPoll(..) => Ok(Some(
-                LocalInitializer::WaitableSet(self.copied(alloc)?),
+                LocalInitializer::WaitableSet(self.try_clone(alloc)?),
             )),
             CanonItem::ErrorContextNew(..)
             | CanonItem::ErrorContextDebugMessage(..)
-            | CanonItem::ErrorContextDrop(..) => Ok(Some(LocalInitializer::ErrorContext(self.copied(
-                alloc,
-            )?))),
+            | CanonItem::ErrorContextDrop(..) => Ok(Some(LocalInitializer::ErrorContext(
+                self.try_clone(alloc)?,
+            ))),
             CanonItem::ContextGet(..) | CanonItem::ContextSet(..) => Ok(Some(
-                LocalInitializer::Context(self.copied(alloc)?),
+                LocalInitializer::Context(self.try_clone(alloc)?),
             )),
             CanonItem::ThreadNewIndirect(core, start, table) => {
                 Ok(Some(LocalInitializer::ThreadNewIndirect {
@@ -138,7 +136,7 @@ impl Entry for CanonItem {
             | CanonItem::ThreadAvailableParallelism
             | CanonItem::StreamForward
             | CanonItem::FutureForward => Ok(None),
-            _ => Ok(Some(LocalInitializer::Builtin(self.copied(alloc)?))),
+            _ => Ok(Some(LocalInitializer::Builtin(self.try_clone(alloc)?))),
         }
     }
 }
@@ -169,15 +167,6 @@ pub(crate) fn push_all<T: Entry>(
     Ok(())
 }
 
-fn is_exposed(exposed: Option<&str>, name: &ExternName) -> bool
-    ensures { result ≡ is_exposed (option_map (λ x. x.now) exposed.entry) name.now }
-{
-    match exposed {
-        Some(exposed) => name.name.as_str() == exposed,
-        None => false,
-    }
-}
-
 /// The item of an import. That of the exposed name is the import of the unsafe intrinsics.
 fn import(
     alloc: Global,
@@ -186,7 +175,7 @@ fn import(
 ) -> Result<LocalInitializer, NoMemory>
     ensures { IfOk result (λ i. i ≡ import_local (option_map (λ x. x.now) exposed.entry) entry.now) }
 {
-    if is_exposed(exposed, &entry.name) {
+    if is_exposed(exposed, &entry.name.name) {
         return Ok(LocalInitializer::IntrinsicsImport);
     }
     let name = entry.name.try_clone(alloc)?;

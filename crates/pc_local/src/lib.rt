@@ -5,7 +5,6 @@
 
 mod capture;
 pub mod captured;
-mod copies;
 mod entry;
 pub mod item;
 mod open;
