@@ -113,6 +113,34 @@ plain_at (q ∷ ps) zero p within is h =
 plain_at (q ∷ ps) (suc i) p within is h =
     plain_at ps i p (omega (arith, within)) is (and_true (is_plain_param q) (list_all is_plain_param ps) h).1
 
+-- one more plain parameter changes nothing
+pub plain_next : (ps : List (List ℕ × ValType)) (i : ℕ) (p : List ℕ × ValType) → i < length ps → p ≡ get_or ps i p
+    → (a b c : Types) → (list_all is_plain_param ps ≡ true → b ≡ a) → (is_plain_val p.1 ≡ true → c ≡ b)
+    → list_all is_plain_param ps ≡ true → c ≡ a
+plain_next ps i p within is a b c before here h = here (plain_at ps i p within is h) ∙ before h
+
+module _ (params : List (List ℕ × ValType)) (returns : Option ValType) (plain : are_plain params returns ≡ true)
+    (a b : Types) (first : list_all is_plain_param params ≡ true → AddsFuncs 0 1 a b) where
+  -- the tuple of the parameters of a plain function
+  pub adds_params : AddsFuncs 1 2 a b
+  adds_params = adds_more 0 1 1 2 (omega arith) (omega arith) a b (first (plain_params params returns plain))
+
+  module _ (c : Types) (second : is_none_or is_plain_val returns ≡ true → AddsFuncs 0 1 b c) where
+    -- its two tuples
+    adds_tuples : AddsFuncs 0 2 a c
+    adds_tuples =
+        adds_trans 0 1 0 1 a b c (first (plain_params params returns plain))
+        (second (plain_returns params returns plain))
+
+    -- at most what the function itself adds
+    pub adds_results : AddsFuncs 1 2 a c
+    adds_results = adds_more 0 2 1 2 (omega arith) (omega arith) a c adds_tuples
+
+    -- the function type and its two tuples
+    pub adds_func : (d : Types) (value : TypeFunc) → d ≡ record c { funcs = d.funcs } → IsPut c.funcs d.funcs value
+        → AddsFuncs 1 2 a d
+    adds_func d value rest put = adds_trans 0 2 1 0 a c d adds_tuples (one_func c d value rest put)
+
 -- a plain value type names no entry
 val_alone : (v : ValType) → is_plain_val v ≡ true → val_parts v ≡ []
 val_alone (val.Prim p) h = refl
@@ -203,3 +231,11 @@ module _ (t : TypeTable) (sound : table_fault t ≡ None) (done : List (Option T
   adds_few plain i within a b adds =
       let once = plain_once plain in
       adds_more i (i + i) 1 2 (omega (arith, once, within)) (omega (arith, once, within)) a b adds
+
+  -- so one more round adds as few
+  pub adds_last : is_some_and is_plain_func (slice_get t.types n) ≡ true → (i : ℕ) → i < length order
+      → (a b c : Types) → AddsFuncs i (i + i) a b
+      → (is_some_and is_plain_func (slice_get t.types (get_or order i 0)) ≡ true → AddsFuncs 1 2 b c)
+      → AddsFuncs 1 2 a c
+  adds_last plain i within a b c so_far here =
+      adds_few plain (i + 1) (omega (arith, within)) a c (adds_step plain i within a b c so_far here)

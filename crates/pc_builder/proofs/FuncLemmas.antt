@@ -11,6 +11,7 @@ use Rattle.pc_types.specs.declared.types.InterfaceType.{InterfaceType}
 use Rattle.pc_types.specs.declared.types.TypeDef.{TypeDef}
 use Rattle.pc_types.specs.declared.types.TypeKind.TheVariants.{Tuple}
 use Rattle.pc_interned.specs.Types.{Types, Grows, HasNumber, IsBuilder}
+use Rattle.pc_interned.proofs.Growth.{grows_trans}
 use Rattle.pc_builder.specs.Entries.{FuncIs, ParamsAre, ResultsAre, ReturnsAre}
 use Rattle.pc_builder.specs.Parts.{ValIs}
 use Rattle.pc_builder.proofs.OneNumber.{one_params, one_returns}
@@ -28,8 +29,19 @@ module _ (old new : Types) (g : Grows old new) (done : List (Option TypeDef)) wh
       → ResultsAre new done returns i
   results_grow returns i h = (h.0, g.tuples i.0 h.0 h.1, returns_grow old new g done returns h.0.types h.2)
 
+  -- the number of a tuple of the types that the parameters had is theirs
+  pub params_are : (params : List (List ℕ × ValType)) (ws : List InterfaceType)
+      → AllZip (λ (p : List ℕ × ValType) (w : InterfaceType). ValIs old done p.1 w) params ws
+      → (i : TypeTupleIndex) → slice_get new.tuples i.0 ≡ Some (record { types = ws }) → ParamsAre new done params i
+  params_are params ws are i at = (record { types = ws }, at, params_are_grow old new g done params ws are)
+
+  -- the same of what is returned
+  pub results_are : (returns : Option ValType) (ws : List InterfaceType) → ReturnsAre old done returns ws
+      → (i : TypeTupleIndex) → slice_get new.tuples i.0 ≡ Some (record { types = ws }) → ResultsAre new done returns i
+  results_are returns ws are i at = (record { types = ws }, at, returns_grow old new g done returns ws are)
+
 -- a function type over its two tuples
-pub func_is : (b : Types) (done : List (Option TypeDef)) (params : List (List ℕ × ValType)) (returns : Option ValType)
+func_is : (b : Types) (done : List (Option TypeDef)) (params : List (List ℕ × ValType)) (returns : Option ValType)
     (is_async : Bool) (names : List (List ℕ)) (p r : TypeTupleIndex) (i : TypeFuncIndex)
     → slice_get b.funcs i.0 ≡ Some (record { param_names = names; params = p; results = r; async_ = is_async })
     → names ≡ names_of params → ParamsAre b done params p → ResultsAre b done returns r
@@ -52,7 +64,7 @@ module _ (b : Types) (is : IsBuilder b) (done : List (Option TypeDef)) where
       (i.0, h.1 ∙ ap (λ x. Some (record { types = x })) (one_returns b is.distinct done returns h.0.types ws h.2 are))
 
   -- the type of both
-  pub func_there : (params : List (List ℕ × ValType)) (returns : Option ValType) (is_async : Bool) (i : TypeFuncIndex)
+  func_there : (params : List (List ℕ × ValType)) (returns : Option ValType) (is_async : Bool) (i : TypeFuncIndex)
       → FuncIs b done params returns is_async i
       → (names : List (List ℕ)) (p r : TypeTupleIndex) → names ≡ names_of params
       → ParamsAre b done params p → ResultsAre b done returns r
@@ -72,3 +84,27 @@ module _ (b : Types) (is : IsBuilder b) (done : List (Option TypeDef)) where
               async_ = func.7 k;
             })),
       )
+
+-- A function type whose tuples were put in two steps, and which is put in a third.
+module _ (first second last : Types) (to_second : Grows first second) (to_last : Grows second last)
+    (done : List (Option TypeDef)) (params : List (List ℕ × ValType)) (returns : Option ValType) (is_async : Bool)
+    (names : List (List ℕ)) (p r : TypeTupleIndex) (named : names ≡ names_of params)
+    (ps : ParamsAre first done params p) (rs : ResultsAre second done returns r) where
+  -- the tuple of the parameters is there to the end
+  params_stay : ParamsAre last done params p
+  params_stay = params_grow first last (grows_trans first second last to_second to_last) done params p ps
+
+  -- it is the type of the entry
+  pub func_made : (i : TypeFuncIndex)
+      → slice_get last.funcs i.0 ≡ Some (record { param_names = names; params = p; results = r; async_ = is_async })
+      → FuncIs last done params returns is_async i
+  func_made i at =
+      func_is last done params returns is_async names p r i at named params_stay
+      (results_grow second last to_last done returns r rs)
+
+  -- a builder that has the type of the entry has it
+  pub made_there : IsBuilder last → ((i : TypeFuncIndex) × FuncIs last done params returns is_async i)
+      → HasNumber last.funcs (record { param_names = names; params = p; results = r; async_ = is_async })
+  made_there is q =
+      func_there last is done params returns is_async q.0 q.1 names p r named params_stay
+      (results_grow second last to_last done returns r rs)

@@ -1,5 +1,5 @@
 -- The types of entries are held.
-use Rattle.std.proofs.Common.{◌≡◌, List, [], ◌∷◌, Option}
+use Rattle.std.proofs.Common.{◌≡◌, ℕ, List, [], ◌∷◌, Option}
 use Rattle.std.proofs.Common.{None, Some, refl, sym, subst, arith}
 use Rattle.std.specs.Prelude.{MatchOption}
 use Rattle.std.specs.List.{All, AllZip}
@@ -20,9 +20,16 @@ use Rattle.pc_interned.specs.Types.{Types, Grows}
 use Rattle.pc_interned.specs.Held.{IsHeld, MayBeHeld}
 use Rattle.pc_interned.specs.Primitive.{plain_type}
 use Rattle.pc_interned.proofs.HeldLemmas.{held_grows, plain_held, value_held}
-use Rattle.pc_builder.specs.Parts.{AreHeld, PrimIs, ValIs, MaybeIs, IsErrorContext}
+use Rattle.pc_builder.specs.Parts.{AreHeld, PrimIs, ValIs, MaybeIs, FieldIs, CaseIs, IsErrorContext}
 use Rattle.pc_builder.specs.Converted.{AreConverted}
 use Rattle.pc_builder.specs.Entries.{ReturnsAre}
+
+-- what holds of each item of the second list, where a relation to one of the first gives it
+all_by_zip : {A B : Type 0} (R : A → B → Type 0) (P : B → Type 0) → ((x : A) (y : B) → R x y → P y)
+    → (xs : List A) (ys : List B) → AllZip R xs ys → All P ys
+all_by_zip R P one xs [] h = λ k d below. absurd (omega (arith, below))
+all_by_zip R P one [] (y ∷ ys) h = absurd h
+all_by_zip R P one (x ∷ xs) (y ∷ ys) h = All-cons P y ys (one x y h.0) (all_by_zip R P one xs ys h.1)
 
 -- the done value types stay held
 pub are_held_grow : (old new : Types) → Grows old new → (done : List (Option TypeDef)) → AreHeld old done
@@ -54,19 +61,37 @@ module _ (b : Types) where
     maybe_held None (Some w) h = absurd h
     maybe_held (Some v) (Some w) h = val_held v w h
 
+    -- those of a list
+    pub vals_held : (vs : List ValType) (ws : List InterfaceType) → AllZip (ValIs b done) vs ws → All (IsHeld b) ws
+    vals_held vs ws are = all_by_zip (ValIs b done) (IsHeld b) val_held vs ws are
+
+    -- those of parameters
+    pub params_held : (ps : List (List ℕ × ValType)) (ws : List InterfaceType)
+        → AllZip (λ (p : List ℕ × ValType) (w : InterfaceType). ValIs b done p.1 w) ps ws → All (IsHeld b) ws
+    params_held ps ws are =
+        all_by_zip (λ (p : List ℕ × ValType) (w : InterfaceType). ValIs b done p.1 w) (IsHeld b)
+        (λ p w h. val_held p.1 w h) ps ws are
+
+    -- those of fields
+    pub fields_held : (fs : List (List ℕ × ValType)) (gs : List (List ℕ × InterfaceType))
+        → AllZip (FieldIs b done) fs gs → All (λ (g : List ℕ × InterfaceType). IsHeld b g.1) gs
+    fields_held fs gs are =
+        all_by_zip (FieldIs b done) (λ (g : List ℕ × InterfaceType). IsHeld b g.1) (λ f g h. val_held f.1 g.1 h.1) fs gs
+        are
+
+    -- those of cases
+    pub cases_held : (cs : List (List ℕ × Option ValType)) (gs : List (List ℕ × Option InterfaceType))
+        → AllZip (CaseIs b done) cs gs → All (λ (g : List ℕ × Option InterfaceType). MayBeHeld b g.1) gs
+    cases_held cs gs are =
+        all_by_zip (CaseIs b done) (λ (g : List ℕ × Option InterfaceType). MayBeHeld b g.1)
+        (λ f g h. maybe_held f.1 g.1 h.1) cs gs are
+
   -- the converted value types are held
   pub converted_held : (t : TypeTable) (done : List (Option TypeDef)) → AreConverted b t done → AreHeld b done
   converted_held t done are n w found =
       let who = (λ (r : ResourceIndex). declared 0) in
       let x = are.entries n (def.Interface w) found who in
       value_held b who w x.0 x.2
-
--- what holds of each item of the second list, where a relation to one of the first gives it
-pub all_by_zip : {A B : Type 0} (R : A → B → Type 0) (P : B → Type 0) → ((x : A) (y : B) → R x y → P y)
-    → (xs : List A) (ys : List B) → AllZip R xs ys → All P ys
-all_by_zip R P one xs [] h = λ k d below. absurd (omega (arith, below))
-all_by_zip R P one [] (y ∷ ys) h = absurd h
-all_by_zip R P one (x ∷ xs) (y ∷ ys) h = All-cons P y ys (one x y h.0) (all_by_zip R P one xs ys h.1)
 
 -- the type that is returned, if there is one, is held
 pub returns_held : (b : Types) (done : List (Option TypeDef)) → AreHeld b done

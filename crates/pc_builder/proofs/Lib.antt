@@ -15,5 +15,6 @@ mod RefusalLemmas
 mod SoundLemmas
 mod ReadyLemmas
 mod FuncLemmas
+mod ThereLemmas
 mod FewLemmas
 mod HeldLemmas

@@ -13,6 +13,7 @@ use Rattle.pc_types.specs.declared.types.InterfaceType.TheVariants as ty
 use Rattle.pc_types.specs.declared.types.TypeDef.{TypeDef}
 use Rattle.pc_interned.specs.Types.{Types, Grows}
 use Rattle.pc_interned.specs.Primitive.{plain_type}
+use Rattle.pc_interned.proofs.Growth.{grows_trans}
 use Rattle.pc_interned.proofs.ZipLemmas.{all_zip_more}
 use Rattle.pc_builder.specs.Parts.{IsErrorContext, PrimIs, ValIs, MaybeIs, FieldIs, CaseIs}
 use Rattle.pc_types.specs.declared.parsed.CoreEntity.{CoreEntity}
@@ -63,6 +64,22 @@ module _ (old new : Types) (g : Grows old new) where
       → CaseIs old done f g → CaseIs new done f g
   case_grows done f g h = (h.0, maybe_grows done f.1 g.1 h.1)
 
+  -- the types of a list
+  pub vals_grow : (done : List (Option TypeDef)) (vs : List ValType) (ws : List InterfaceType)
+      → AllZip (ValIs old done) vs ws → AllZip (ValIs new done) vs ws
+  vals_grow done vs ws are = all_zip_more (ValIs old done) (ValIs new done) (val_grows done) vs ws are
+
+  -- the fields of a record
+  pub fields_grow : (done : List (Option TypeDef)) (fs : List (List ℕ × ValType)) (gs : List (List ℕ × InterfaceType))
+      → AllZip (FieldIs old done) fs gs → AllZip (FieldIs new done) fs gs
+  fields_grow done fs gs are = all_zip_more (FieldIs old done) (FieldIs new done) (field_grows done) fs gs are
+
+  -- the cases of a variant
+  pub cases_grow : (done : List (Option TypeDef)) (cs : List (List ℕ × Option ValType))
+      (gs : List (List ℕ × Option InterfaceType))
+      → AllZip (CaseIs old done) cs gs → AllZip (CaseIs new done) cs gs
+  cases_grow done cs gs are = all_zip_more (CaseIs old done) (CaseIs new done) (case_grows done) cs gs are
+
   -- the type that is returned
   pub returns_grow : (done : List (Option TypeDef)) (v : Option ValType) (ws : List InterfaceType)
       → ReturnsAre old done v ws → ReturnsAre new done v ws
@@ -92,6 +109,25 @@ module _ (old new : Types) (g : Grows old new) where
   -- a module's export
   pub export_is_grows : (t : TypeTable) (e f : List ℕ × CoreEntity) → ExportIs old t e f → ExportIs new t e f
   export_is_grows t e f h = (h.0, core_is_grows t e.1 f.1 h.1)
+
+  -- the imports of a module
+  pub imports_grow : (t : TypeTable) (is js : List (List ℕ × List ℕ × CoreEntity)) → AllZip (ImportIs old t) is js
+      → AllZip (ImportIs new t) is js
+  imports_grow t is js are = all_zip_more (ImportIs old t) (ImportIs new t) (import_is_grows t) is js are
+
+  -- the exports of a module
+  pub exports_grow : (t : TypeTable) (es fs : List (List ℕ × CoreEntity)) → AllZip (ExportIs old t) es fs
+      → AllZip (ExportIs new t) es fs
+  exports_grow t es fs are = all_zip_more (ExportIs old t) (ExportIs new t) (export_is_grows t) es fs are
+
+-- two value types that may be left out, the second of which was converted later
+pub both_grow : (first second last : Types) → Grows first second → Grows second last → (done : List (Option TypeDef))
+    → (v x : Option ValType) (w y : Option InterfaceType) → MaybeIs first done v w → MaybeIs second done x y
+    → MaybeIs last done v w × MaybeIs last done x y
+both_grow first second last g h done v x w y before after = (
+  maybe_grows first last (grows_trans first second last g h) done v w before,
+  maybe_grows second last h done x y after,
+)
 
 -- a weaker fact of what was answered
 pub if_ok_more : {A E : Type 0} (P Q : A → Type 0) → ((x : A) → P x → Q x) → (r : Result A E) → IfOk r P → IfOk r Q

@@ -197,6 +197,14 @@ module _ (t : TypeTable) (sound : table_fault t ≡ None) where
         ];
   }
 
+  -- the same of the lists that a step reads and leaves
+  pub put_more : (b : Types) (done front new : List (Option TypeDef)) (k : ℕ) (e : DeclType) (d : TypeDef)
+      → slice_get t.types k ≡ Some e → AreConverted b t done → front ≡ take k done → EntryIs b front t k e d
+      → new ≡ slice_set done k (Some d) → AreConverted b t new
+  put_more b done front new k e d at are before is put =
+      subst (AreConverted b t) (sym put)
+      (one_more b done k e d at are (subst (λ f. EntryIs b f t k e d) before is))
+
   -- what the next of the needed entries names is done
   pub parts_done : (before done : List (Option TypeDef)) (n : ℕ) (order : List ℕ) → AreNeeded t before n order
       → (i : ℕ) → i < length order
@@ -223,6 +231,17 @@ done_next old new order i within kept so_far last =
     subst (Each (IsDone new)) (sym (take-next order i (get_or order i 0) (slice_get-get_or order i 0 within)))
     (each_append (IsDone new) (take i order) (get_or order i 0 ∷ [])
     (each_more (IsDone old) (IsDone new) kept (take i order) so_far) (last, tt))
+
+-- what is wanted of the entry that a table has is wanted of the entry that a step reads
+pub entry_wanted : (b : Types) (t : TypeTable) (done front : List (Option TypeDef)) (k : ℕ) (e : DeclType)
+    → front ≡ take k done → slice_get t.types k ≡ Some e
+    → ((f : DeclType) × (slice_get t.types k ≡ Some f) × (d : TypeDef) × EntryIs b (take k done) t k f d)
+    → (d : TypeDef) × EntryIs b front t k e d
+entry_wanted b t done front k e before at q = (
+  q.2,
+  subst (λ f. EntryIs b f t k e q.2) (sym before)
+      (subst (λ f. EntryIs b (take k done) t k f q.2) (same_Some q.0 e (sym q.1 ∙ at)) q.3),
+)
 
 -- all are done where the list is gone through
 done_all : (done : List (Option TypeDef)) (order : List ℕ) (i : ℕ) → length order ≤ i

@@ -28,9 +28,7 @@ ghost use Rattle.pc_builder.specs.Trees.{IsEntity, IsEntry, IsValue};
 ghost use Rattle.pc_builder.specs.Converted.{AreConverted};
 ghost use Rattle.pc_builder.specs.Needed.{entity_parts};
 
-use crate::steps::{
-    defined_at, entry_type, entry_with, func_at, func_with, instance_at, module_at, signature_at,
-};
+use crate::steps::{entry_type, entry_with, signature_at};
 use crate::value::{error_contexts, primitive};
 use crate::{ComponentTypesBuilder, Converted};
 use pc_entity::{ModuleInternedTypeIndex, Seq};
@@ -100,11 +98,11 @@ impl ComponentTypesBuilder {
             × IsTooFullFor self.new (λ b. (i : TypeFuncIndex) × IsEntry b table.now n (def.ComponentFunc i)) }
         ensures few { is_some_and is_plain_func (slice_get table.now.types n) ≡ true → AddsFuncs 1 2 self.old self.new }
     {
-        if Entity::Func(n).is_sound(table.types.as_slice()) {
-            Ok(func_at(&mut self.interned, table, n)?)
-        } else {
-            Err(TypeError::BadNumber)
+        if !Entity::Func(n).is_sound(table.types.as_slice()) {
+            return Err(TypeError::BadNumber);
         }
+        let mut converted = Converted::new(self.interned.alloc(), table)?;
+        self.convert_func_with(table, n, &mut converted)
     }
 
     /// The number of the function type that is entry `n` of the table, for a caller that keeps what was converted: what
@@ -128,10 +126,12 @@ impl ComponentTypesBuilder {
             × IsTooFullFor self.new (λ b. (i : TypeFuncIndex) × IsEntry b table.now n (def.ComponentFunc i)) }
         ensures few { is_some_and is_plain_func (slice_get table.now.types n) ≡ true → AddsFuncs 1 2 self.old self.new }
     {
-        if Entity::Func(n).is_sound(table.types.as_slice()) {
-            Ok(func_with(&mut self.interned, table, n, converted)?)
-        } else {
-            Err(TypeError::BadNumber)
+        if !Entity::Func(n).is_sound(table.types.as_slice()) {
+            return Err(TypeError::BadNumber);
+        }
+        match entry_with(&mut self.interned, table, n, converted)? {
+            TypeDef::ComponentFunc(i) => Ok(i),
+            _ => unreachable!(),
         }
     }
 
@@ -151,10 +151,12 @@ impl ComponentTypesBuilder {
             → IsTooFullFor self.new
             (λ b. (i : TypeComponentInstanceIndex) × IsEntry b table.now n (def.ComponentInstance i)) }
     {
-        if Entity::Instance(n).is_sound(table.types.as_slice()) {
-            Ok(instance_at(&mut self.interned, table, n)?)
-        } else {
-            Err(TypeError::BadNumber)
+        if !Entity::Instance(n).is_sound(table.types.as_slice()) {
+            return Err(TypeError::BadNumber);
+        }
+        match entry_type(&mut self.interned, table, n)? {
+            TypeDef::ComponentInstance(i) => Ok(i),
+            _ => unreachable!(),
         }
     }
 
@@ -173,10 +175,12 @@ impl ComponentTypesBuilder {
         ensures full { result ≡ Err TypeError.TooMany
             → IsTooFullFor self.new (λ b. (i : TypeModuleIndex) × IsEntry b table.now n (def.Module i)) }
     {
-        if Entity::Module(n).is_sound(table.types.as_slice()) {
-            Ok(module_at(&mut self.interned, table, n)?)
-        } else {
-            Err(TypeError::BadNumber)
+        if !Entity::Module(n).is_sound(table.types.as_slice()) {
+            return Err(TypeError::BadNumber);
+        }
+        match entry_type(&mut self.interned, table, n)? {
+            TypeDef::Module(i) => Ok(i),
+            _ => unreachable!(),
         }
     }
 
@@ -305,10 +309,12 @@ impl ComponentTypesBuilder {
         ensures full { result ≡ Err TypeError.TooMany
             → IsTooFullFor self.new (λ b. (w : InterfaceType) × IsEntry b table.now n (def.Interface w)) }
     {
-        if is_defined_at(table, n) {
-            Ok(defined_at(&mut self.interned, table, n)?)
-        } else {
-            Err(TypeError::BadNumber)
+        if !is_defined_at(table, n) {
+            return Err(TypeError::BadNumber);
+        }
+        match entry_type(&mut self.interned, table, n)? {
+            TypeDef::Interface(w) => Ok(w),
+            _ => unreachable!(),
         }
     }
 }

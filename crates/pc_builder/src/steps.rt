@@ -7,14 +7,8 @@ ghost use Rattle.std.specs.Prelude.{◌≡◌, ◌<◌, ℕ, true, None, Some, E
 ghost use Rattle.std.specs.Prelude.{slice_get};
 ghost use Rattle.pc_types.specs.declared.parsed.CoreFuncSig.{CoreFuncSig};
 ghost use Rattle.pc_types.specs.declared.parsed.DeclType.{DeclType};
-ghost use Rattle.pc_types.specs.declared.type_index.TypeComponentInstanceIndex.{TypeComponentInstanceIndex};
-ghost use Rattle.pc_types.specs.declared.type_index.TypeFuncIndex.{TypeFuncIndex};
-ghost use Rattle.pc_types.specs.declared.type_index.TypeModuleIndex.{TypeModuleIndex};
-ghost use Rattle.pc_types.specs.declared.types.InterfaceType.{InterfaceType};
 ghost use Rattle.pc_types.specs.declared.types.TypeDef.{TypeDef};
-ghost use Rattle.pc_types.specs.declared.types.TypeDef.TheVariants as def;
-ghost use Rattle.pc_types.specs.Table.{is_defined_type, is_func, is_instance, is_module, is_some_and};
-ghost use Rattle.pc_types.specs.Table.{table_fault};
+ghost use Rattle.pc_types.specs.Table.{is_some_and, table_fault};
 ghost use Rattle.pc_interned.specs.Types.{Grows, HasNumber, IsTooFullFor};
 ghost use Rattle.pc_builder.specs.Few.{AddsFuncs, AddsSignature, is_plain_func};
 ghost use Rattle.pc_builder.specs.Trees.{IsEntry};
@@ -34,10 +28,7 @@ use crate::extern_type::{component_entry, instance_entry, module_entry, resource
 use crate::parts::{entry_at, needed};
 use pc_entity::{ModuleInternedTypeIndex, TryClone};
 use pc_interned::{InternedTypes, NoPlace};
-use pc_types::{
-    DeclType, InterfaceType, TypeComponentInstanceIndex, TypeDef, TypeFuncIndex, TypeModuleIndex,
-    TypeTable,
-};
+use pc_types::{DeclType, TypeDef, TypeTable};
 
 // The number of core signature `n`, which is there.
 pub(crate) fn signature_at(
@@ -57,103 +48,6 @@ pub(crate) fn signature_at(
     let signature = &table.core_funcs.as_slice()[n as usize];
     let signature = signature.try_clone(interned.alloc())?;
     interned.put_signature(signature)
-}
-
-pub(crate) fn func_at(
-    interned: &mut InternedTypes,
-    table: &TypeTable,
-    n: u32,
-) -> Result<TypeFuncIndex, NoPlace>
-    requires sound { table_fault table.now ≡ None }
-    requires kind { is_some_and is_func (slice_get table.now.types n) ≡ true }
-    ensures tree { IfOk result (λ i. IsEntry interned.new table.now n (def.ComponentFunc i)) }
-    ensures held { IfOk result (λ i. i.0 < length interned.new.funcs) }
-    ensures grows { Grows interned.old interned.new }
-    ensures full { result ≡ Err NoPlace.TooMany → IsTooFullFor interned.new
-        (λ b. (i : TypeFuncIndex) × IsEntry b table.now n (def.ComponentFunc i)) }
-    ensures few { is_some_and is_plain_func (slice_get table.now.types n) ≡ true
-        → AddsFuncs 1 2 interned.old interned.new }
-{
-    let mut converted = Converted::new(interned.alloc(), table)?;
-    func_with(interned, table, n, &mut converted)
-}
-
-pub(crate) fn func_with(
-    interned: &mut InternedTypes,
-    table: &TypeTable,
-    n: u32,
-    converted: &mut Converted,
-) -> Result<TypeFuncIndex, NoPlace>
-    requires sound { table_fault table.now ≡ None }
-    requires kind { is_some_and is_func (slice_get table.now.types n) ≡ true }
-    requires converted { AreConverted interned.old table.now converted.old }
-    ensures converted { AreConverted interned.new table.now converted.new }
-    ensures tree { IfOk result (λ i. IsEntry interned.new table.now n (def.ComponentFunc i)) }
-    ensures held { IfOk result (λ i. i.0 < length interned.new.funcs) }
-    ensures grows { Grows interned.old interned.new }
-    ensures full { result ≡ Err NoPlace.TooMany → IsTooFullFor interned.new
-        (λ b. (i : TypeFuncIndex) × IsEntry b table.now n (def.ComponentFunc i)) }
-    ensures few { is_some_and is_plain_func (slice_get table.now.types n) ≡ true
-        → AddsFuncs 1 2 interned.old interned.new }
-{
-    match entry_with(interned, table, n, converted)? {
-        TypeDef::ComponentFunc(i) => Ok(i),
-        _ => unreachable!(),
-    }
-}
-
-pub(crate) fn instance_at(
-    interned: &mut InternedTypes,
-    table: &TypeTable,
-    n: u32,
-) -> Result<TypeComponentInstanceIndex, NoPlace>
-    requires sound { table_fault table.now ≡ None }
-    requires kind { is_some_and is_instance (slice_get table.now.types n) ≡ true }
-    ensures tree { IfOk result (λ i. IsEntry interned.new table.now n (def.ComponentInstance i)) }
-    ensures grows { Grows interned.old interned.new }
-    ensures full { result ≡ Err NoPlace.TooMany → IsTooFullFor interned.new
-        (λ b. (i : TypeComponentInstanceIndex) × IsEntry b table.now n (def.ComponentInstance i)) }
-{
-    match entry_type(interned, table, n)? {
-        TypeDef::ComponentInstance(i) => Ok(i),
-        _ => unreachable!(),
-    }
-}
-
-pub(crate) fn module_at(
-    interned: &mut InternedTypes,
-    table: &TypeTable,
-    n: u32,
-) -> Result<TypeModuleIndex, NoPlace>
-    requires sound { table_fault table.now ≡ None }
-    requires kind { is_some_and is_module (slice_get table.now.types n) ≡ true }
-    ensures tree { IfOk result (λ i. IsEntry interned.new table.now n (def.Module i)) }
-    ensures grows { Grows interned.old interned.new }
-    ensures full { result ≡ Err NoPlace.TooMany → IsTooFullFor interned.new
-        (λ b. (i : TypeModuleIndex) × IsEntry b table.now n (def.Module i)) }
-{
-    match entry_type(interned, table, n)? {
-        TypeDef::Module(i) => Ok(i),
-        _ => unreachable!(),
-    }
-}
-
-pub(crate) fn defined_at(
-    interned: &mut InternedTypes,
-    table: &TypeTable,
-    n: u32,
-) -> Result<InterfaceType, NoPlace>
-    requires sound { table_fault table.now ≡ None }
-    requires kind { is_some_and is_defined_type (slice_get table.now.types n) ≡ true }
-    ensures tree { IfOk result (λ w. IsEntry interned.new table.now n (def.Interface w)) }
-    ensures grows { Grows interned.old interned.new }
-    ensures full { result ≡ Err NoPlace.TooMany → IsTooFullFor interned.new
-        (λ b. (w : InterfaceType) × IsEntry b table.now n (def.Interface w)) }
-{
-    match entry_type(interned, table, n)? {
-        TypeDef::Interface(w) => Ok(w),
-        _ => unreachable!(),
-    }
 }
 
 // Entry `n`, which is there, with all that it leads to.

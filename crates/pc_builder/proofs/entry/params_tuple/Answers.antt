@@ -1,11 +1,9 @@
-use Rattle.pc_interned.specs.Held.{IsHeld}
 use Rattle.pc_interned.proofs.ErrorLemmas.{passed_on}
 use Rattle.pc_interned.proofs.Growth.{grows_trans, too_full}
 use Rattle.pc_builder.specs.Entries.{ParamsAre}
-use Rattle.pc_builder.specs.Parts.{ValIs}
 use Rattle.pc_builder.proofs.FewLemmas.{adds_none, one_tuple}
-use Rattle.pc_builder.proofs.FuncLemmas.{params_there}
-use Rattle.pc_builder.proofs.HeldLemmas.{all_by_zip, are_held_grow, val_held}
+use Rattle.pc_builder.proofs.FuncLemmas.{params_are, params_there}
+use Rattle.pc_builder.proofs.HeldLemmas.{are_held_grow, params_held}
 use Rattle.pc_builder.proofs.PartLemmas.{if_ok_more, params_are_grow}
 use Rattle.pc_builder.proofs.entry.params_tuple.Goals as goal
 
@@ -14,24 +12,14 @@ put_tuple-requires c =
     let b = c.param_types.new.interned in
     let done = c.args.done.now in
     let held = are_held_grow c.args.interned.now b c.param_types.ensures.grows done c.requires.held in
-    record {
-      parts =
-          all_by_zip (λ p w. ValIs b done p.1 w) (IsHeld b) (λ p w. val_held b done held p.1 w) c.args.params.now
-          c.in_ok-types.types c.in_ok-types.ensures.are;
-    }
+    record { parts = params_held b done held c.args.params.now c.in_ok-types.types c.in_ok-types.ensures.are }
 
 pub returns-clause-are : goal.returns-clause-are
 returns-clause-are c =
-    let done = c.args.done.now in
     let last = c.put_tuple.new.self in
-    let part = c.in_ok-types in
-    if_ok_more _ (λ i. ParamsAre last done c.args.params.now i)
-    (λ i h. (
-      record { types = part.types },
-      h,
-      params_are_grow c.param_types.new.interned last c.put_tuple.ensures.grows done c.args.params.now part.types
-          part.ensures.are,
-    ))
+    if_ok_more _ (λ i. ParamsAre last c.args.done.now c.args.params.now i)
+    (params_are _ last c.put_tuple.ensures.grows c.args.done.now c.args.params.now c.in_ok-types.types
+    c.in_ok-types.ensures.are)
     c.put_tuple.result c.put_tuple.ensures.held
 
 pub returns-clause-grows : goal.returns-clause-grows

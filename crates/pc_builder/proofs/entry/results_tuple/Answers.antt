@@ -2,7 +2,7 @@ use Rattle.pc_interned.proofs.ErrorLemmas.{passed_on}
 use Rattle.pc_interned.proofs.Growth.{grows_trans, too_full}
 use Rattle.pc_builder.specs.Entries.{ResultsAre}
 use Rattle.pc_builder.proofs.FewLemmas.{adds_none, one_tuple}
-use Rattle.pc_builder.proofs.FuncLemmas.{results_there}
+use Rattle.pc_builder.proofs.FuncLemmas.{results_are, results_there}
 use Rattle.pc_builder.proofs.HeldLemmas.{are_held_grow, returns_held}
 use Rattle.pc_builder.proofs.PartLemmas.{if_ok_more, returns_grow}
 use Rattle.pc_builder.proofs.entry.results_tuple.Goals as goal
@@ -16,16 +16,10 @@ put_tuple-requires c =
 
 pub returns-clause-are : goal.returns-clause-are
 returns-clause-are c =
-    let done = c.args.done.now in
     let last = c.put_tuple.new.self in
-    let part = c.in_ok-types in
-    if_ok_more _ (λ i. ResultsAre last done c.args.returns i)
-    (λ i h. (
-      record { types = part.types },
-      h,
-      returns_grow c.return_types.new.interned last c.put_tuple.ensures.grows done c.args.returns part.types
-          part.ensures.are,
-    ))
+    if_ok_more _ (λ i. ResultsAre last c.args.done.now c.args.returns i)
+    (results_are _ last c.put_tuple.ensures.grows c.args.done.now c.args.returns c.in_ok-types.types
+    c.in_ok-types.ensures.are)
     c.put_tuple.result c.put_tuple.ensures.held
 
 pub returns-clause-grows : goal.returns-clause-grows

@@ -7,9 +7,7 @@ use Rattle.pc_builder.proofs.SoundLemmas.{names_earlier}
 use Rattle.pc_builder.proofs.parts.needed.Goals as goal
 
 pub entry_at-requires : goal.entry_at-requires
-entry_at-requires c =
-    taken_there c.args.table.now c.args.done.now c.args.n c.loop-k.opened.keys (reverse c.loop-k.order.items)
-    c.pop_last.new.self.keys c.in-Some.k c.loop-k.invariant c.in-Some.ensures.removal
+entry_at-requires c = taken_there _ _ _ _ _ _ _ c.loop-k.invariant c.in-Some.ensures.removal
 
 pub loop-k-init : goal.loop-k-init
 loop-k-init c =
@@ -25,26 +23,21 @@ loop-k-init c =
 
 pub loop-k-preserved : goal.loop-k-preserved
 loop-k-preserved c =
-    let l = c.loop-k in
-    let t = c.args.table.now in
     let k = c.in-Some.k in
     let now = c.in_ok-open_entries.ensures in
-    subst (λ back. Going t c.args.done.now c.args.n c.open_entries.new.opened.keys back)
-    (sym (ap reverse c.in_ok-push.ensures.items ∙ reverse-append l.order.items (k ∷ [])))
-    (taken_met t c.args.done.now c.args.n l.opened.keys (reverse l.order.items) c.pop_last.new.self.keys k l.invariant
-    c.in-Some.ensures.removal c.entry_at.result.now _ _ c.in-Some.ensures.all_below c.entry_at.ensures
-    (names_earlier t k c.requires.sound _ c.entry_at.ensures) (c.as_slice.ensures.value ∙ c.in_ok-named.ensures)
+    subst (λ back. Going c.args.table.now c.args.done.now c.args.n c.open_entries.new.opened.keys back)
+    (sym (ap reverse c.in_ok-push.ensures.items ∙ reverse-append c.loop-k.order.items (k ∷ [])))
+    (taken_met _ _ _ _ _ _ _ c.loop-k.invariant c.in-Some.ensures.removal _ _ _ c.in-Some.ensures.all_below
+    c.entry_at.ensures (names_earlier c.args.table.now k c.requires.sound _ c.entry_at.ensures)
+    (c.as_slice.ensures.value ∙ c.in_ok-named.ensures)
     (record { kept = now.kept; met = now.met; only = now.only })).0
 
 pub loop-k-smaller : goal.loop-k-smaller
 loop-k-smaller c =
-    let l = c.loop-k in
-    let t = c.args.table.now in
-    let k = c.in-Some.k in
     let now = c.in_ok-open_entries.ensures in
-    (taken_met t c.args.done.now c.args.n l.opened.keys (reverse l.order.items) c.pop_last.new.self.keys k l.invariant
-    c.in-Some.ensures.removal c.entry_at.result.now _ _ c.in-Some.ensures.all_below c.entry_at.ensures
-    (names_earlier t k c.requires.sound _ c.entry_at.ensures) (c.as_slice.ensures.value ∙ c.in_ok-named.ensures)
+    (taken_met _ _ _ _ _ _ _ c.loop-k.invariant c.in-Some.ensures.removal _ _ _ c.in-Some.ensures.all_below
+    c.entry_at.ensures (names_earlier c.args.table.now c.in-Some.k c.requires.sound _ c.entry_at.ensures)
+    (c.as_slice.ensures.value ∙ c.in_ok-named.ensures)
     (record { kept = now.kept; met = now.met; only = now.only })).1
 
 pub returns : goal.returns
