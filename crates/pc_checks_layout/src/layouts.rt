@@ -1,15 +1,16 @@
 //! Where the arrays of a context begin, and how many bytes a context takes. The numbers are summed up by hand.
 
-use crate::plans::{full_plan, plan_of};
+use crate::plans::{called_plan, full_plan, plan_of};
 use pc_entity::{
-    LoweredIndex, ResourceIndex, RuntimeCallbackIndex, RuntimeComponentInstanceIndex,
-    RuntimeMemoryIndex, RuntimePostReturnIndex, RuntimeReallocIndex, RuntimeTableIndex,
-    TrampolineIndex,
+    LoweredIndex, ModuleInternedTypeIndex, PackedOption, ResourceIndex, RuntimeCallbackIndex,
+    RuntimeComponentInstanceIndex, RuntimeMemoryIndex, RuntimePostReturnIndex, RuntimeReallocIndex,
+    RuntimeTableIndex, TrampolineIndex,
 };
 use pc_info::Component;
 use pc_offsets::{
     PtrSize, PtrWidth, VMCOMPONENT_MAGIC, VMComponentOffsets, VmctxArray, VmctxIndex,
 };
+use pc_types::UnsafeIntrinsic;
 use std::alloc::{AllocError, Global};
 use std::test::Fail;
 
@@ -70,19 +71,22 @@ fn entry<I: VmctxIndex>(array: &VmctxArray<I>, index: I) -> Option<u32> {
     }
 }
 
-/// The first entries of the arrays up to the memories, where there are any.
+/// Entries of the arrays up to the memories, where there are any.
 fn front(width: PtrWidth, plan: &Component) -> Option<[Option<u32>; 5]> {
     let offsets = VMComponentOffsets::new(width, plan)?;
     Some([
         entry(&offsets.may_leave(), RuntimeComponentInstanceIndex(0)),
-        entry(&offsets.trampoline_func_refs(), TrampolineIndex(0)),
-        entry(&offsets.intrinsic_func_refs(), 0),
+        entry(&offsets.trampoline_func_refs(), TrampolineIndex(1)),
+        entry(
+            &offsets.intrinsic_func_refs(),
+            UnsafeIntrinsic::U16NativeLoad,
+        ),
         entry(&offsets.lowerings(), LoweredIndex(1)),
         entry(&offsets.memories(), RuntimeMemoryIndex(0)),
     ])
 }
 
-/// The first entries of the arrays from the tables on, where there are any.
+/// Entries of the arrays from the tables on, where there are any.
 fn back(width: PtrWidth, plan: &Component) -> Option<[Option<u32>; 5]> {
     let offsets = VMComponentOffsets::new(width, plan)?;
     Some([
@@ -105,6 +109,48 @@ fn arrays_follow_each_other(rt: HostRuntime) {
     assert_eq!(rt; back(PtrWidth::Four, &plan), Some(back_four));
     let back_eight = [Some(88), Some(104), Some(112), Some(120), Some(136)];
     assert_eq!(rt; back(PtrWidth::Eight, &plan), Some(back_eight));
+}
+
+#[test]
+fn arrays_follow_trampolines_and_intrinsics(rt: HostRuntime) -> Result<(), Fail> {
+    let plan = called_plan(rt.alloc())?;
+    let front_four = [Some(16), Some(48), Some(112), Some(136), Some(144)];
+    assert_eq!(rt; front(PtrWidth::Four, &plan), Some(front_four));
+    let front_eight = [Some(32), Some(80), Some(208), Some(256), Some(272)];
+    assert_eq!(rt; front(PtrWidth::Eight, &plan), Some(front_eight));
+    let back_four = [Some(148), Some(156), Some(160), Some(164), Some(172)];
+    assert_eq!(rt; back(PtrWidth::Four, &plan), Some(back_four));
+    let back_eight = [Some(280), Some(296), Some(304), Some(312), Some(328)];
+    assert_eq!(rt; back(PtrWidth::Eight, &plan), Some(back_eight));
+    assert_eq!(rt;
+        VMComponentOffsets::size_for(PtrWidth::Four, &plan),
+        Some(176)
+    );
+    assert_eq!(rt;
+        VMComponentOffsets::size_for(PtrWidth::Eight, &plan),
+        Some(336)
+    );
+    Ok(())
+}
+
+/// How many intrinsics have room in the context of a plan.
+fn intrinsics(plan: &Component) -> Option<u32> {
+    let offsets = VMComponentOffsets::new(PtrWidth::Four, plan)?;
+    Some(offsets.intrinsic_func_refs().count())
+}
+
+#[test]
+fn intrinsics_have_room_up_to_the_last_that_is_used(rt: HostRuntime) {
+    let used = PackedOption::Some(ModuleInternedTypeIndex(0));
+    let mut plan = Component::new(rt.alloc());
+    assert_eq!(rt; intrinsics(&plan), Some(0));
+    plan.unsafe_intrinsics[0] = used;
+    assert_eq!(rt; intrinsics(&plan), Some(1));
+    plan.unsafe_intrinsics[20] = used;
+    assert_eq!(rt; intrinsics(&plan), Some(21));
+    plan.unsafe_intrinsics[20] = PackedOption::None;
+    plan.unsafe_intrinsics[3] = used;
+    assert_eq!(rt; intrinsics(&plan), Some(4));
 }
 
 /// Where the second lowered function has its callee and its data.

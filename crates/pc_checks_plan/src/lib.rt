@@ -1,4 +1,4 @@
-//! Tests of `pc_plan`, `pc_trampoline` and `pc_intern`: what the functions of a plan answer, what trampolines are made
+//! Tests of `pc_info`, `pc_trampoline` and `pc_intern`: what the functions of a plan answer, what trampolines are made
 //! of and how they are called, and which numbers interned values have.
 #![tactic(auto)]
 

@@ -7,11 +7,11 @@ use pc_entity::{
     ModuleInternedTypeIndex, NoMemory, PrimaryMap, ResourceIndex, RuntimeComponentInstanceIndex,
     RuntimeImportIndex, RuntimeInstanceIndex, RuntimeMemoryIndex, TableIndex, TagIndex, Text,
 };
-use pc_names::{NameError, NameMap, NameMapNoIntern};
-use pc_plan::{
+use pc_info::{
     CanonicalOptions, CanonicalOptionsDataModel, Component, CoreDef, CoreExport, Export,
     ExportItem, LinearMemoryOptions,
 };
+use pc_names::{NameError, NameMap, NameMapNoIntern};
 use pc_types::{
     ComponentExternData, InterfaceType, StringEncoding, TypeComponentInstanceIndex, TypeDef,
 };

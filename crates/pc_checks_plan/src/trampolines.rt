@@ -2,9 +2,10 @@
 //! of wasmtime.
 
 use pc_entity::{
-    LoweredIndex, NoMemory, OptionsIndex, RuntimeComponentInstanceIndex, RuntimeMemoryIndex,
+    Interner, LoweredIndex, NoMemory, OptionsIndex, RuntimeComponentInstanceIndex,
+    RuntimeMemoryIndex,
 };
-use pc_plan::{FixedEncoding, Trampoline, Transcode, Trap};
+use pc_info::{FixedEncoding, Trampoline, Transcode, Trap};
 use pc_types::{TypeFuncIndex, TypeResourceTableIndex, TypeStreamTableIndex};
 use std::alloc::Global;
 use std::test::Fail;
@@ -76,12 +77,9 @@ fn symbols_of_helpers(rt: HostRuntime) -> Result<(), Fail> {
     Ok(())
 }
 
-/// Whether what a trampoline is made of makes one that is made of the same.
+/// Whether what a trampoline is made of makes that trampoline.
 fn comes_back(trampoline: Trampoline) -> bool {
-    match Trampoline::from_parts(trampoline.parts()) {
-        Some(same) => same.parts() == trampoline.parts(),
-        None => false,
-    }
+    Trampoline::from_parts(trampoline.parts()) == Some(trampoline)
 }
 
 #[test]
@@ -89,6 +87,32 @@ fn a_trampoline_is_put_together_again(rt: HostRuntime) {
     assert!(rt; comes_back(lower_import()));
     assert!(rt; comes_back(stream_cancel_read()));
     assert!(rt; comes_back(transcoder()));
+}
+
+/// Adds a trampoline, where there is a number for it.
+fn add(trampolines: &mut Interner<Trampoline>, value: Trampoline) -> Result<(), NoMemory> {
+    if trampolines.len() < 1000 {
+        trampolines.push(value)?;
+    }
+    Ok(())
+}
+
+/// Three trampolines of which two are equal.
+fn three(alloc: Global) -> Result<Interner<Trampoline>, NoMemory> {
+    let mut trampolines = Interner::new(alloc);
+    add(&mut trampolines, Trampoline::Trap(Trap(1)))?;
+    add(&mut trampolines, resource_drop())?;
+    add(&mut trampolines, Trampoline::Trap(Trap(1)))?;
+    Ok(trampolines)
+}
+
+#[test]
+fn equal_trampolines_share_a_number(rt: HostRuntime) -> Result<(), Fail> {
+    let trampolines = three(rt.alloc())?;
+    assert_eq!(rt; trampolines.len(), 2);
+    assert!(rt; trampolines.get(0).copied() == Some(Trampoline::Trap(Trap(1))));
+    assert!(rt; trampolines.get(1).copied() == Some(resource_drop()));
+    Ok(())
 }
 
 #[test]

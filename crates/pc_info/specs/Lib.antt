@@ -1,2 +1,8 @@
--- What the public contracts of the crates above rest on.
+-- What the public contracts rest on, in reading order.
+pub mod Mapped
+pub mod Component
+pub mod Definitions
+pub mod Options
+pub mod Modules
+pub mod Exports
 pub mod View

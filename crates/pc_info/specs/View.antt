@@ -1,89 +1,59 @@
--- How the plan machine sees a plan: its marks are numbers of the types builder.
-use Rattle.std.specs.Prelude.{ℕ, Bool, List, [], length, map, Option, option_map, nat_lt, slice_get}
-use Rattle.std.specs.List.{filter_map, list_all}
-use Rattle.pc_numbers.specs.declared.entity_index.EntityIndex.{EntityIndex}
-use Rattle.pc_numbers.specs.declared.runtime.ExportIndex.{ExportIndex}
-use Rattle.pc_numbers.specs.declared.runtime.RuntimeComponentInstanceIndex.{RuntimeComponentInstanceIndex}
-use Rattle.pc_types.specs.declared.module_record.ModuleRecord.{ModuleRecord}
-use Rattle.pc_types.specs.declared.types.ComponentExternData.{ComponentExternData}
-use Rattle.pc_types.specs.declared.types.TypeKind.{TypeKind}
-use Rattle.pc_types.specs.declared.types.TypeKind.TheVariants as kind
-use Rattle.pc_semantics.specs.CoreValue.{ExportedItem, by_index, by_name}
+-- How the plan machine sees a plan.
+use Rattle.std.specs.Prelude.{ℕ, ◌+◌, List, [], ◌∷◌, length, map, filter, Option, option_map, slice_get, unwrap_or}
+use Rattle.pc_entity.specs.PackedOption.{as_option}
+use Rattle.pc_entity.specs.declared.packed_option.PackedOption.{PackedOption}
+use Rattle.pc_numbers.specs.declared.module_entity.ModuleInternedTypeIndex.{ModuleInternedTypeIndex}
+use Rattle.pc_numbers.specs.declared.runtime.ImportIndex.{ImportIndex}
+use Rattle.pc_numbers.specs.declared.runtime.RuntimeImportIndex.{RuntimeImportIndex}
 use Rattle.pc_semantics.specs.PlanView as plan
+use Rattle.pc_types.specs.declared.types.ComponentExtern.{ComponentExtern}
+use Rattle.pc_types.specs.declared.types.TypeDef.{TypeDef}
+use Rattle.pc_types.specs.declared.types.TypeDef.TheVariants as type
+use Rattle.pc_trampoline.specs.declared.part.Mark.{Mark}
+use Rattle.pc_trampoline.specs.declared.part.Mark.TheVariants as mark
+use Rattle.pc_trampoline.specs.View.{PlanTrampoline, entry_view}
 use Rattle.pc_info.specs.declared.component.Component.{Component}
 use Rattle.pc_info.specs.declared.component.ComponentTranslation.{ComponentTranslation}
-use Rattle.pc_info.specs.declared.component.ModuleTranslation.{ModuleTranslation}
-use Rattle.pc_info.specs.declared.core_def.CoreDef.{CoreDef}
-use Rattle.pc_info.specs.declared.core_def.CoreDef.TheVariants as def
-use Rattle.pc_info.specs.declared.core_def.ExportItem.{ExportItem}
-use Rattle.pc_info.specs.declared.core_def.ExportItem.TheVariants as item
-use Rattle.pc_info.specs.declared.export.Export.{Export}
-use Rattle.pc_info.specs.declared.export.Export.TheVariants as export
-use Rattle.pc_info.specs.declared.initializer.GlobalInitializer.{GlobalInitializer}
-use Rattle.pc_info.specs.declared.initializer.GlobalInitializer.TheVariants as init
-use Rattle.pc_info.specs.declared.initializer.InstantiateModule.{InstantiateModule}
-use Rattle.pc_info.specs.declared.initializer.InstantiateModule.TheVariants as source
-use Rattle.pc_info.specs.declared.options.CanonicalOptions.{CanonicalOptions}
-use Rattle.pc_info.specs.declared.options.CanonicalOptionsDataModel.{CanonicalOptionsDataModel}
-use Rattle.pc_info.specs.declared.options.CanonicalOptionsDataModel.TheVariants as model
+use Rattle.pc_info.specs.declared.module.ModuleTranslation.{ModuleTranslation}
+use Rattle.pc_info.specs.Definitions.{initializer_view}
+use Rattle.pc_info.specs.Exports.{exports_view}
+use Rattle.pc_info.specs.Modules.{adapters_view, handed_in_view, is_adapter_module}
+use Rattle.pc_info.specs.Options.{options_view}
 
--- a type or a core signature in a plan: a number of one of the builder's lists
-pub record TypeNumber : Type 0 where
-  pub kind : TypeKind
-  pub number : ℕ
+-- the kind of an import, from its type: every type that is no function, instance or module is one of the last kind
+abbrev pub import_kind : TypeDef → plan.ImportKind
+import_kind (type.ComponentFunc n) = plan.function_kind
+import_kind (type.ComponentInstance n) = plan.instance_kind
+import_kind (type.Module n) = plan.module_kind
+import_kind ty = plan.type_kind
 
--- a function type, by its number
-abbrev pub func_type : ℕ → TypeNumber
-func_type n = record { kind = kind.Func; number = n }
-
--- a core signature, by its number
-abbrev pub signature : ℕ → TypeNumber
-signature n = record { kind = kind.Signature; number = n }
-
--- an item of a core instance: by its entity, or by its name
-abbrev pub item_view : ExportItem EntityIndex → ExportedItem
-item_view (item.Index e) = by_index e
-item_view (item.Name name) = by_name name
-
--- a definition: an item of a core instance that was made before
-abbrev pub def_view : CoreDef → plan.Definition
-def_view (def.Export e) = plan.export e.instance.0 (item_view e.item)
-
--- a module of the plan with its arguments, and the component instance that it is made for
-abbrev pub source_view : InstantiateModule → Option RuntimeComponentInstanceIndex → plan.Initializer
-source_view (source.Static m args) c =
-    plan.instantiate_static m.0 (map def_view args) (option_map (λ (i : RuntimeComponentInstanceIndex). i.0) c)
-
--- a step
-abbrev pub initializer_view : GlobalInitializer → plan.Initializer
-initializer_view (init.InstantiateModule m c) = source_view m c
-
--- where values lie: in the heap, or in a memory with a realloc
-abbrev pub model_view : CanonicalOptionsDataModel → plan.ModelEntry
-model_view model.Gc = plan.gc
-model_view (model.LinearMemory o) = plan.linear (option_map (λ m. m.0) o.memory) (option_map (λ r. r.0) o.realloc)
-
--- the options of a lifted function
-abbrev pub options_view : CanonicalOptions → plan.PlanOptions TypeNumber
-options_view o = record {
-  component_instance = o.instance.0;
-  encoding = o.string_encoding;
-  is_async = o.async_;
-  signature = signature o.core_type.0;
-  callback = option_map (λ c. c.0) o.callback;
-  post_return = option_map (λ p. p.0) o.post_return;
-  model = model_view o.data_model;
+-- an import of the root
+abbrev pub import_type_view : List ℕ × ComponentExtern → plan.ImportType Mark
+import_type_view i = record {
+  name = i.0;
+  kind = import_kind i.1.ty;
+  import_type = mark.Type_ i.1.ty;
+  extern_data = i.1.data_;
 }
 
--- an item of the exports
-abbrev pub export_view : Export → plan.PlanExport TypeNumber
-export_view (export.LiftedFunction ty func options) = plan.lifted (func_type ty.0) (def_view func) options.0
+-- a host item that the plan uses
+abbrev pub import_view : ImportIndex × List (List ℕ) → plan.RuntimeImport
+import_view i = record { import_type = i.0.0; names = i.1 }
 
--- a named export, where its item is held (`has_items` says that each is)
-abbrev pub named_view : List Export → List ℕ × (ExportIndex × ComponentExternData)
-    → Option (plan.NamedExport TypeNumber)
-named_view items e =
-    option_map (λ x. record { name = e.0; extern_data = e.1.1; item = export_view x }) (slice_get items e.1.0.0)
+-- the signature of an intrinsic, if the plan uses it
+abbrev pub intrinsic_view : PackedOption ModuleInternedTypeIndex → Option Mark
+intrinsic_view signature = option_map mark.Signature (as_option signature)
+
+-- a number that no list of the builder has, for the signature of a trampoline that has none
+abbrev pub no_signature : ModuleInternedTypeIndex
+no_signature = record { 0 = 4294967295 }
+
+-- trampolines, the first of which is the nth one, with the signatures under their numbers
+abbrev pub trampolines_view : (n : ℕ) → List ModuleInternedTypeIndex → List PlanTrampoline
+    → List (plan.TrampolineEntry Mark)
+trampolines_view n signatures [] = []
+trampolines_view n signatures (t ∷ ts) =
+    entry_view (unwrap_or (slice_get signatures n) no_signature) t ∷ trampolines_view (n + 1) signatures ts
 
 -- how many entries of each kind a run makes
 abbrev pub counts_view : Component → plan.Counts
@@ -102,29 +72,19 @@ counts_view c = record {
   error_context_tables = c.num_error_context_tables;
 }
 
--- a module of the plan, as it was handed in
-abbrev pub module_view : ModuleTranslation → ModuleRecord
-module_view m = m.module
-
--- a plan with its modules, all of which were handed in
-abbrev pub view : ComponentTranslation → List ModuleTranslation → plan.PlanView TypeNumber
+-- a plan with its modules
+abbrev pub view : ComponentTranslation → List ModuleTranslation → plan.PlanView Mark
 view t modules = record {
-  handed_in = map module_view modules;
-  adapter_modules = 0;
-  adapters = [];
-  import_types = [];
-  imports = [];
-  imported_resources = [];
+  handed_in = handed_in_view modules;
+  adapter_modules = length (filter is_adapter_module modules);
+  adapters = adapters_view 0 modules;
+  import_types = map import_type_view t.component.import_types;
+  imports = map import_view t.component.imports;
+  imported_resources = map (λ (r : RuntimeImportIndex). r.0) t.component.imported_resources;
   initializers = map initializer_view t.component.initializers;
   options = map options_view t.component.options;
-  trampolines = [];
-  intrinsics = [];
-  exports = filter_map (named_view t.component.export_items) t.component.exports;
+  trampolines = trampolines_view 0 t.component.trampolines t.trampolines;
+  intrinsics = map intrinsic_view t.component.unsafe_intrinsics;
+  exports = exports_view t.component;
   counts = counts_view t.component;
 }
-
--- whether each name of the exports has an item
-abbrev pub has_items : ComponentTranslation → Bool
-has_items t =
-    list_all (λ (e : List ℕ × (ExportIndex × ComponentExternData)). nat_lt e.1.0.0 (length t.component.export_items))
-    t.component.exports

@@ -2,17 +2,25 @@
 //!
 //! A runtime runs the initializers from front to back and then has the exports. `specs/View.antt` says how a plan is
 //! seen by the machine of `pc_semantics`, which gives it its meaning.
-//! It stands on `pc_types`, and on `pc_semantics` for the words of the view.
+//! It stands on `pc_types`, on `pc_names` for the names of exports, and on `pc_semantics` for the words of the view.
 #![tactic(auto)]
 
 pub mod component;
 pub mod core_def;
 pub mod export;
 pub mod initializer;
+pub mod module;
 pub mod options;
+pub mod trampoline;
 
-pub use component::{Component, ComponentTranslation, ModuleTranslation};
+pub use component::{Component, ComponentTranslation};
 pub use core_def::{CoreDef, CoreExport, ExportItem};
 pub use export::Export;
-pub use initializer::{GlobalInitializer, InstantiateModule};
+pub use initializer::{
+    ExtractCallback, ExtractMemory, ExtractPostReturn, ExtractRealloc, ExtractTable,
+    GlobalInitializer, InstantiateModule, Resource,
+};
+pub use module::{AdapterRecord, ModuleTranslation, SideRecord};
 pub use options::{CanonicalOptions, CanonicalOptionsDataModel, LinearMemoryOptions};
+pub use pc_trampoline::{FixedEncoding, Mark, Transcode, Trap};
+pub use trampoline::Trampoline;

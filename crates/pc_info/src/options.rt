@@ -1,6 +1,8 @@
 //! The options of lifted and lowered functions.
 
+ghost use Rattle.std.specs.Prelude.{◌≡◌};
 ghost use Rattle.std.proofs.Common.{rules};
+ghost use Rattle.pc_info.specs.Options.{memory_of};
 
 use pc_entity::{
     ExactEq, RuntimeCallbackIndex, RuntimeComponentInstanceIndex, RuntimeMemoryIndex,
@@ -43,6 +45,18 @@ pub struct LinearMemoryOptions {
     pub memory: Option<RuntimeMemoryIndex>,
     /// None where no value needs new room.
     pub realloc: Option<RuntimeReallocIndex>,
+}
+
+impl CanonicalOptions {
+    /// The slot of the memory that values lie in. There is none where they lie in the managed heap.
+    pub fn memory(&self) -> Option<RuntimeMemoryIndex>
+        ensures { result ≡ memory_of self.now.data_model }
+    {
+        match self.data_model {
+            CanonicalOptionsDataModel::Gc {} => None,
+            CanonicalOptionsDataModel::LinearMemory(options) => options.memory,
+        }
+    }
 }
 
 impl ExactEq for LinearMemoryOptions {

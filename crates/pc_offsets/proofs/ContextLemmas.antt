@@ -1,11 +1,12 @@
 -- The fields of a context have alignments, and its size is told where it fits.
-use Rattle.std.proofs.Common.{◌≡◌, ◌⊎◌, inl, inr, ℕ, ◌<◌, ◌≤◌, Some, None, refl, subst, ap, sym, ◌∙◌, arith}
+use Rattle.std.proofs.Common.{◌≡◌, ◌⊎◌, inl, inr, ℕ, ◌<◌, ◌≤◌, length, Some, None, refl, subst, ap, sym, ◌∙◌, arith}
 use Rattle.std.specs.Prelude.{nat_le, if◌then◌else◌}
 use Rattle.std.proofs.lemmas.Bool.{le-leb, lt-leb}
 use Rattle.pc_info.specs.declared.component.Component.{Component}
-use Rattle.pc_offsets.specs.Context.{Entries, IsLaidOut, context, context_size, entries_for, entries_of, layout_of}
+use Rattle.pc_offsets.specs.Context.{Entries, IsLaidOut, context, context_size, entries_for, entries_of, layout_of, used_end}
 use Rattle.pc_offsets.specs.declared.offsets.VMComponentOffsets.{VMComponentOffsets}
 use Rattle.pc_offsets.specs.Layout.{AreAligned, size_of}
+use Rattle.pc_offsets.proofs.LayoutLemmas.{past_by_field}
 
 -- a pointer takes bytes
 positive : (p : ℕ) → (p ≡ 4) ⊎ (p ≡ 8) → 0 < p
@@ -17,6 +18,20 @@ pub context_aligned : (p : ℕ) (e : Entries) → (p ≡ 4) ⊎ (p ≡ 8) → Ar
 context_aligned p e width =
     let pos = positive p width in
     (omega arith, (pos, (omega arith, (pos, (pos, (pos, (pos, (pos, (pos, (pos, (pos, (pos, tt))))))))))))
+
+-- trampolines and intrinsics that were counted are those of the plan
+pub counted : (p : ℕ) (c : Component) (trampolines intrinsics : ℕ) → trampolines ≡ length c.trampolines
+    → intrinsics ≡ used_end c.unsafe_intrinsics
+    → context p (record (entries_of c) { trampolines = trampolines; intrinsics = intrinsics })
+    ≡ context p (entries_of c)
+counted p c trampolines intrinsics one two = rw (one, two) refl
+
+-- so many trampolines make a context pass the greatest `u32`
+pub past_by_trampolines : (p : ℕ) (e : Entries) → (p ≡ 4) ⊎ (p ≡ 8) → 4294967295 < e.trampolines
+    → 4294967295 < size_of (context p e)
+past_by_trampolines p e width past =
+    let bytes = positive p width in
+    past_by_field (context p e) (context_aligned p e width) 3 _ _ refl refl (omega (arith, bytes)) 4294967295 past
 
 -- a number that fits is told, and another isn't
 told : (s n : ℕ) → n ≡ s → n ≤ 4294967295 → Some n ≡ (if nat_le s 4294967295 then Some s else None)

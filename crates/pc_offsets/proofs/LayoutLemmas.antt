@@ -5,7 +5,7 @@ use Rattle.std.specs.Prelude.{slice_get}
 use Rattle.std.proofs.lemmas.Nat.{div-add-mod'}
 use Rattle.std.proofs.lemmas.List.{append_assoc, append-nil, drop_all, take_more_set}
 use Rattle.std.proofs.lemmas.Option.{none-some, same_Some, slice_get-get_or}
-use Rattle.std.proofs.Math.Nat.{mod-lt, div-mul-le_self}
+use Rattle.std.proofs.Math.Nat.{mod-lt, div-mul-le_self, le-mul_of_pos_right}
 use Rattle.std.proofs.Math.Seq.{take-length}
 use Rattle.pc_offsets.specs.declared.layout.Field.{Field}
 use Rattle.pc_offsets.specs.Layout.{aligned, start_of, end_of, offsets, offsets_from, end_from, size_of, AreAligned, AreApart, IsFieldAt, IsKept}
@@ -43,6 +43,15 @@ ends_within place (g ∷ fs) al zero start f begins is =
     subst (λ (x : Field). start + x.count * x.size ≤ end_from place (g ∷ fs)) same
     (subst (λ (x : ℕ). x + g.count * g.size ≤ end_from place (g ∷ fs)) at (sum_after (end_of place g) fs al.1))
 ends_within place (g ∷ fs) al (suc n) start f begins is = ends_within (end_of place g) fs al.1 n start f begins is
+
+-- a field with more entries than a place has makes its layout end past the place
+pub past_by_field : (fs : List Field) → AreAligned fs → (n start : ℕ) (f : Field)
+    → slice_get (offsets fs) n ≡ Some start → slice_get fs n ≡ Some f
+    → 0 < f.size → (most : ℕ) → most < f.count → most < size_of fs
+past_by_field fs al n start f begins is pos most past =
+    let inside = ends_within 0 fs al n start f begins is in
+    let bytes = le-mul_of_pos_right f.count pos in
+    omega (arith, inside, bytes, past)
 
 -- there is an offset for each field
 pub length-offsets : (place : ℕ) (fs : List Field) → length (offsets_from place fs) ≡ length fs

@@ -2,3 +2,5 @@
 pub mod LayoutLemmas
 -- the fields of a context
 pub mod ContextLemmas
+-- the intrinsics that are used
+pub mod UsedLemmas

@@ -1,5 +1,8 @@
 -- The layout of the context of a plan.
-use Rattle.std.specs.Prelude.{ℕ, ◌*◌, nat_le, List, [], ◌∷◌, Option, Some, None, if◌then◌else◌}
+use Rattle.std.specs.Prelude.{ℕ, ◌+◌, ◌*◌, nat_le, zero, suc, List, [], ◌∷◌, length, Option, Some, None, if◌then◌else◌}
+use Rattle.pc_entity.specs.declared.packed_option.PackedOption.{PackedOption}
+use Rattle.pc_entity.specs.declared.packed_option.PackedOption.TheVariants as packed
+use Rattle.pc_numbers.specs.declared.module_entity.ModuleInternedTypeIndex.{ModuleInternedTypeIndex}
 use Rattle.pc_info.specs.declared.component.Component.{Component}
 use Rattle.pc_offsets.specs.declared.layout.Field.{Field}
 use Rattle.pc_offsets.specs.declared.offsets.VMComponentOffsets.{VMComponentOffsets}
@@ -19,12 +22,23 @@ pub record Entries : Type 0 where
   pub post_returns : ℕ
   pub resources : ℕ
 
--- those that a plan needs; of trampolines and intrinsics no plan has any yet
+-- a number that isn't zero, plus one
+abbrev pub one_behind : ℕ → ℕ
+one_behind zero = zero
+one_behind (suc n) = suc (suc n)
+
+-- the greatest number of an intrinsic with a signature here, plus one; zero where none has one
+abbrev pub used_end : List (PackedOption ModuleInternedTypeIndex) → ℕ
+used_end [] = 0
+used_end (packed.None ∷ signatures) = one_behind (used_end signatures)
+used_end (packed.Some signature ∷ signatures) = 1 + used_end signatures
+
+-- those that a plan needs
 abbrev pub entries_of : Component → Entries
 entries_of c = record {
   component_instances = c.num_runtime_component_instances;
-  trampolines = 0;
-  intrinsics = 0;
+  trampolines = length c.trampolines;
+  intrinsics = used_end c.unsafe_intrinsics;
   lowerings = c.num_lowerings;
   memories = c.num_runtime_memories;
   tables = c.num_runtime_tables;

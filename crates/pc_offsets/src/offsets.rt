@@ -1,18 +1,20 @@
 //! The offsets of the arrays in the context of a plan.
 
-ghost use Rattle.std.specs.Prelude.{◌≡◌, ◌<◌, ◌+◌, ◌*◌, ◌↔◌, None, IfSome};
+ghost use Rattle.std.specs.Prelude.{◌≡◌, ◌<◌, ◌+◌, ◌*◌, ◌↔◌, None, IfSome, length};
 ghost use Rattle.pc_offsets.specs.Context.{IsLaidOut, context, context_size, entries_for, entries_of, field, layout_of};
+ghost use Rattle.pc_offsets.specs.Context.{used_end};
 ghost use Rattle.pc_offsets.specs.Layout.{AreApart, IsFieldAt, IsInEntry, size_of};
 ghost use Rattle.pc_offsets.specs.declared.offsets.TheConstants.{MAY_LEAVE, TRAMPOLINES, INTRINSICS, LOWERINGS, MEMORIES, TABLES, REALLOCS, CALLBACKS, POST_RETURNS, DESTRUCTORS};
 
 use crate::layout::{FIELDS, Field, lay_out};
 use crate::{PtrSize, VmctxArray, VmctxIndex};
 use pc_entity::{
-    LoweredIndex, ResourceIndex, RuntimeCallbackIndex, RuntimeComponentInstanceIndex,
-    RuntimeMemoryIndex, RuntimePostReturnIndex, RuntimeReallocIndex, RuntimeTableIndex,
-    TrampolineIndex,
+    LoweredIndex, ModuleInternedTypeIndex, PackedOption, ResourceIndex, RuntimeCallbackIndex,
+    RuntimeComponentInstanceIndex, RuntimeMemoryIndex, RuntimePostReturnIndex, RuntimeReallocIndex,
+    RuntimeTableIndex, TrampolineIndex,
 };
 use pc_info::Component;
+use pc_types::UnsafeIntrinsic;
 
 // The places of the arrays among the fields.
 const MAY_LEAVE: usize = 2;
@@ -34,6 +36,9 @@ const CALLBACKS: usize = 9;
 const POST_RETURNS: usize = 10;
 
 const DESTRUCTORS: usize = 11;
+
+/// How many unsafe intrinsics there are.
+const ALL_INTRINSICS: usize = 21;
 
 /// The offsets of the arrays in a context, for the counts and the size of a pointer that stand beside them.
 #[derive(Clone, Copy)]
@@ -64,6 +69,31 @@ pub struct VMComponentOffsets<P> {
     size: u32,
 }
 
+/// How many trampolines a plan has; nothing where that is past the greatest `u32`.
+fn trampolines_of(component: &Component) -> Option<u32>
+    ensures held { IfSome result (λ n. n ≡ length component.now.trampolines) }
+    ensures past { result ≡ None → 4294967295 < length component.now.trampolines }
+{
+    match u32::try_from(component.trampolines.len()) {
+        Ok(count) => Some(count),
+        Err(_) => None,
+    }
+}
+
+/// The greatest number of an intrinsic that is used, plus one, or zero.
+fn used_intrinsics(signatures: &[PackedOption<ModuleInternedTypeIndex>; ALL_INTRINSICS]) -> u32
+    ensures { result ≡ used_end signatures.now }
+{
+    let mut end = 0;
+    for n in 0..ALL_INTRINSICS {
+        match signatures[n] {
+            PackedOption::None => {}
+            PackedOption::Some(_) => end = n as u32 + 1,
+        }
+    }
+    end
+}
+
 /// A field of a context.
 fn field(count: u32, size: u8, align: u8) -> Field
     ensures { result ≡ field count size align }
@@ -82,6 +112,7 @@ impl<P: PtrSize> VMComponentOffsets<P> {
         // The fields are aligned, apart from each other, and in order.
         ensures apart { IfSome result (λ o. AreApart 0 (layout_of P.bytes o) o.starts) }
     {
+        let num_trampolines = trampolines_of(component)?;
         let starts = [0; FIELDS];
         let mut offsets = VMComponentOffsets {
             ptr,
@@ -92,8 +123,8 @@ impl<P: PtrSize> VMComponentOffsets<P> {
             num_runtime_callbacks: component.num_runtime_callbacks,
             num_runtime_post_returns: component.num_runtime_post_returns,
             num_runtime_component_instances: component.num_runtime_component_instances,
-            num_trampolines: 0,
-            num_unsafe_intrinsics: 0,
+            num_trampolines,
+            num_unsafe_intrinsics: used_intrinsics(&component.unsafe_intrinsics),
             num_resources: component.num_resources,
             starts,
             size: 0,
@@ -162,8 +193,8 @@ impl<P: PtrSize> VMComponentOffsets<P> {
         self.array(TRAMPOLINES)
     }
 
-    /// The function reference of each unsafe intrinsic, by its number.
-    pub fn intrinsic_func_refs(&self) -> VmctxArray<u32>
+    /// The function reference of each unsafe intrinsic up to the last that is used.
+    pub fn intrinsic_func_refs(&self) -> VmctxArray<UnsafeIntrinsic>
         requires laid_out { IsLaidOut P.bytes self.now }
         ensures { IsFieldAt (layout_of P.bytes self.now) INTRINSICS result.start result.count result.size }
     {

@@ -1,12 +1,14 @@
 //! An array of a context, and the numbers that its entries have.
 
 ghost use Rattle.std.specs.Prelude.{◌≡◌, ◌<◌, ◌≤◌, ◌+◌, ◌*◌, ℕ};
+ghost use Rattle.pc_types.specs.IntrinsicType.{intrinsic_place};
 
 use pc_entity::{
     EntityRef, LoweredIndex, ResourceIndex, RuntimeCallbackIndex, RuntimeComponentInstanceIndex,
     RuntimeMemoryIndex, RuntimePostReturnIndex, RuntimeReallocIndex, RuntimeTableIndex,
     TrampolineIndex,
 };
+use pc_types::UnsafeIntrinsic;
 use std::marker::PhantomData;
 
 /// The number of an entry of an array.
@@ -35,12 +37,11 @@ impl VmctxIndex for TrampolineIndex {
     }
 }
 
-/// The number of an unsafe intrinsic.
-impl VmctxIndex for u32 {
-    ghost place = { λ k. k };
+impl VmctxIndex for UnsafeIntrinsic {
+    ghost place = { intrinsic_place };
 
     fn position(self) -> u32 {
-        self
+        self.index()
     }
 }
 

@@ -8,11 +8,11 @@ use Rattle.pc_types.specs.declared.types.TypeDef.TheVariants as type
 use Rattle.pc_semantics.specs.PlanView as plan
 use Rattle.pc_trampoline.specs.declared.part.Mark.{Mark}
 use Rattle.pc_trampoline.specs.declared.part.Mark.TheVariants as mark
-use Rattle.pc_plan.specs.declared.component.Component.{Component}
-use Rattle.pc_plan.specs.declared.export.Export.{Export}
-use Rattle.pc_plan.specs.declared.export.Export.TheVariants as export
-use Rattle.pc_plan.specs.Definitions.{def_view}
-use Rattle.pc_plan.specs.Modules.{function_mark}
+use Rattle.pc_info.specs.declared.component.Component.{Component}
+use Rattle.pc_info.specs.declared.export.Export.{Export}
+use Rattle.pc_info.specs.declared.export.Export.TheVariants as export
+use Rattle.pc_info.specs.Definitions.{def_view}
+use Rattle.pc_info.specs.Modules.{function_mark}
 
 -- a name of an export map, with the number of its item and its extern data
 abbrev pub Entry : Type 0

@@ -7,8 +7,8 @@ use Rattle.std.proofs.lemmas.Option.{none-some, same_Some}
 use Rattle.pc_entity.proofs.Growing.{slice_get-append_seam}
 use Rattle.pc_semantics.specs.PlanView as plan
 use Rattle.pc_trampoline.specs.declared.part.Mark.{Mark}
-use Rattle.pc_plan.specs.declared.export.Export.{Export}
-use Rattle.pc_plan.specs.Exports.{export_view, trees_from, trees_of}
+use Rattle.pc_info.specs.declared.export.Export.{Export}
+use Rattle.pc_info.specs.Exports.{export_view, trees_from, trees_of}
 
 -- the trees that stood there stand in front of those that were made
 record Grown (trees : List (plan.PlanExport Mark)) (items : List Export) : Type 0 where

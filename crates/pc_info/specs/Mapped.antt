@@ -1,8 +1,8 @@
 -- Items of core instances whose entities are mapped.
 use Rattle.std.specs.Prelude.{◌≡◌, List, ℕ}
-use Rattle.pc_plan.specs.declared.core_def.CoreExport.{CoreExport}
-use Rattle.pc_plan.specs.declared.core_def.ExportItem.{ExportItem}
-use Rattle.pc_plan.specs.declared.core_def.ExportItem.TheVariants as item
+use Rattle.pc_info.specs.declared.core_def.CoreExport.{CoreExport}
+use Rattle.pc_info.specs.declared.core_def.ExportItem.{ExportItem}
+use Rattle.pc_info.specs.declared.core_def.ExportItem.TheVariants as item
 
 -- a fact of the entity of an item, where it has one
 abbrev pub ForIndex : {T : Type 0} → ExportItem T → (T → Type 0) → Type 0

@@ -7,17 +7,17 @@ use Rattle.pc_numbers.specs.declared.runtime.RuntimeComponentInstanceIndex.{Runt
 use Rattle.pc_semantics.specs.CoreValue.{ExportedItem, by_index, by_name}
 use Rattle.pc_semantics.specs.PlanView as plan
 use Rattle.pc_types.specs.IntrinsicType.{intrinsic_place}
-use Rattle.pc_plan.specs.declared.core_def.CoreDef.{CoreDef}
-use Rattle.pc_plan.specs.declared.core_def.CoreDef.TheVariants as def
-use Rattle.pc_plan.specs.declared.core_def.CoreExport.{CoreExport}
-use Rattle.pc_plan.specs.declared.core_def.ExportItem.{ExportItem}
-use Rattle.pc_plan.specs.declared.core_def.ExportItem.TheVariants as item
-use Rattle.pc_plan.specs.declared.initializer.GlobalInitializer.{GlobalInitializer}
-use Rattle.pc_plan.specs.declared.initializer.GlobalInitializer.TheVariants as init
-use Rattle.pc_plan.specs.declared.initializer.InstantiateModule.{InstantiateModule}
-use Rattle.pc_plan.specs.declared.initializer.InstantiateModule.TheVariants as source
-use Rattle.pc_plan.specs.declared.initializer.Resource.{Resource}
-use Rattle.pc_plan.specs.Mapped.{map_export}
+use Rattle.pc_info.specs.declared.core_def.CoreDef.{CoreDef}
+use Rattle.pc_info.specs.declared.core_def.CoreDef.TheVariants as def
+use Rattle.pc_info.specs.declared.core_def.CoreExport.{CoreExport}
+use Rattle.pc_info.specs.declared.core_def.ExportItem.{ExportItem}
+use Rattle.pc_info.specs.declared.core_def.ExportItem.TheVariants as item
+use Rattle.pc_info.specs.declared.initializer.GlobalInitializer.{GlobalInitializer}
+use Rattle.pc_info.specs.declared.initializer.GlobalInitializer.TheVariants as init
+use Rattle.pc_info.specs.declared.initializer.InstantiateModule.{InstantiateModule}
+use Rattle.pc_info.specs.declared.initializer.InstantiateModule.TheVariants as source
+use Rattle.pc_info.specs.declared.initializer.Resource.{Resource}
+use Rattle.pc_info.specs.Mapped.{map_export}
 
 -- an item of a core instance: by its entity, or by its name
 abbrev pub item_view : ExportItem EntityIndex → ExportedItem

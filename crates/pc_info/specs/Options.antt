@@ -4,10 +4,10 @@ use Rattle.pc_numbers.specs.declared.runtime.RuntimeMemoryIndex.{RuntimeMemoryIn
 use Rattle.pc_semantics.specs.PlanView as plan
 use Rattle.pc_trampoline.specs.declared.part.Mark.{Mark}
 use Rattle.pc_trampoline.specs.declared.part.Mark.TheVariants as mark
-use Rattle.pc_plan.specs.declared.module.SideRecord.{SideRecord}
-use Rattle.pc_plan.specs.declared.options.CanonicalOptions.{CanonicalOptions}
-use Rattle.pc_plan.specs.declared.options.CanonicalOptionsDataModel.{CanonicalOptionsDataModel}
-use Rattle.pc_plan.specs.declared.options.CanonicalOptionsDataModel.TheVariants as model
+use Rattle.pc_info.specs.declared.module.SideRecord.{SideRecord}
+use Rattle.pc_info.specs.declared.options.CanonicalOptions.{CanonicalOptions}
+use Rattle.pc_info.specs.declared.options.CanonicalOptionsDataModel.{CanonicalOptionsDataModel}
+use Rattle.pc_info.specs.declared.options.CanonicalOptionsDataModel.TheVariants as model
 
 -- the slot of the memory that values lie in: none where they lie in the heap
 abbrev pub memory_of : CanonicalOptionsDataModel → Option RuntimeMemoryIndex

@@ -4,7 +4,7 @@ use Rattle.pc_entity.specs.declared.packed_option.PackedOption.TheVariants as pa
 use Rattle.pc_names.specs.Contents.{no_names}
 use Rattle.pc_numbers.specs.declared.runtime.DefinedResourceIndex.{DefinedResourceIndex}
 use Rattle.pc_numbers.specs.declared.runtime.ResourceIndex.{ResourceIndex}
-use Rattle.pc_plan.specs.declared.component.Component.{Component}
+use Rattle.pc_info.specs.declared.component.Component.{Component}
 
 -- a plan without imports, steps and exports
 abbrev pub empty_component : Component

@@ -7,9 +7,9 @@ use Rattle.pc_types.specs.declared.type_index.TypeFuncIndex.{TypeFuncIndex}
 use Rattle.pc_types.specs.declared.types.TypeDef.TheVariants as type
 use Rattle.pc_trampoline.specs.declared.part.Mark.{Mark}
 use Rattle.pc_trampoline.specs.declared.part.Mark.TheVariants as mark
-use Rattle.pc_plan.specs.declared.module.AdapterRecord.{AdapterRecord}
-use Rattle.pc_plan.specs.declared.module.ModuleTranslation.{ModuleTranslation}
-use Rattle.pc_plan.specs.Options.{side_view}
+use Rattle.pc_info.specs.declared.module.AdapterRecord.{AdapterRecord}
+use Rattle.pc_info.specs.declared.module.ModuleTranslation.{ModuleTranslation}
+use Rattle.pc_info.specs.Options.{side_view}
 
 -- whether a list has items
 abbrev pub has_some : {T : Type 0} → List T → Bool

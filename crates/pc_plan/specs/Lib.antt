@@ -1,8 +1,0 @@
--- What the public contracts rest on, in reading order.
-pub mod Mapped
-pub mod Component
-pub mod Definitions
-pub mod Options
-pub mod Modules
-pub mod Exports
-pub mod View
