@@ -5,8 +5,22 @@
 #[cfg(test)]
 mod copies;
 #[cfg(test)]
+mod exports;
+#[cfg(test)]
 mod faults;
+#[cfg(test)]
+mod held;
+#[cfg(test)]
+mod imports;
+#[cfg(test)]
+mod modules;
 #[cfg(test)]
 mod options;
 #[cfg(test)]
 mod plans;
+#[cfg(test)]
+mod settings;
+#[cfg(test)]
+mod steps;
+#[cfg(test)]
+mod trampolines;

@@ -1,22 +1,11 @@
 //! The text of how many bytes the context of a plan takes.
 
 ghost use Rattle.std.specs.Prelude.{◌≡◌, ◌++◌, IfOk, OnOk};
-ghost use Rattle.pc_semantics.specs.Text.{maybe_number};
 ghost use Rattle.pc_text.specs.ContextText.{context_text, size_line};
 
-use crate::piece::{put, put_number};
+use crate::piece::{put, put_maybe_number};
 use pc_entity::NoMemory;
 use std::alloc::Global;
-
-/// A number after a space, or a dash where there is none.
-fn put_maybe_number(out: &mut Vec<u8>, n: Option<u32>) -> Result<(), NoMemory>
-    ensures { OnOk result (out.new.items ≡ out.old.items ++ maybe_number n) }
-{
-    match n {
-        None => put(out, " -"),
-        Some(n) => put_number(out, u64::from(n)),
-    }
-}
 
 /// A line that begins with this head and ends with a size.
 fn put_size(out: &mut Vec<u8>, head: &str, size: Option<u32>) -> Result<(), NoMemory>

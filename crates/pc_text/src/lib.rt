@@ -4,15 +4,21 @@
 //! view that `pc_info` gives of one; the other texts are defined here.
 #![tactic(auto)]
 
+mod adapter;
+mod argument;
 mod context;
 mod definition;
 mod export;
+mod extern_data;
 mod fault;
 mod fixed;
+mod import;
 mod initializer;
+mod intrinsic;
 mod options;
 mod piece;
 mod plan;
+mod trampoline;
 
 pub use context::context_text;
 pub use fault::fault_text;

@@ -2,14 +2,15 @@
 
 ghost use Rattle.std.specs.Prelude.{◌≡◌, ◌++◌, map, OnOk};
 ghost use Rattle.pc_semantics.specs.Text.{async_flag, encoding_name, model, numbered, options_line, plan_options};
-ghost use Rattle.pc_info.specs.View.{model_view, options_view};
+ghost use Rattle.pc_info.specs.Options.{model_view, options_view};
 
 use crate::piece::{put, put_key, put_maybe_key, put_number};
 use pc_entity::NoMemory;
 use pc_info::{CanonicalOptions, CanonicalOptionsDataModel};
 use pc_types::StringEncoding;
 
-fn encoding_word(encoding: StringEncoding) -> &'static str
+/// The word for a string encoding.
+pub(crate) fn encoding_word(encoding: StringEncoding) -> &'static str
     ensures { result.now ≡ encoding_name encoding }
 {
     match encoding {
@@ -19,7 +20,8 @@ fn encoding_word(encoding: StringEncoding) -> &'static str
     }
 }
 
-fn async_word(is_async: bool) -> &'static str
+/// The word for async or not, after a space.
+pub(crate) fn async_word(is_async: bool) -> &'static str
     ensures { result.now ≡ async_flag is_async }
 {
     if is_async { " async" } else { " sync" }

@@ -32,6 +32,16 @@ pub(crate) fn put_number(out: &mut Vec<u8>, n: u64) -> Result<(), NoMemory>
     put_decimal(out, n)
 }
 
+/// A number after a space, or a dash where there is none.
+pub(crate) fn put_maybe_number(out: &mut Vec<u8>, n: Option<u32>) -> Result<(), NoMemory>
+    ensures { OnOk result (out.new.items ≡ out.old.items ++ maybe_number n) }
+{
+    match n {
+        None => put(out, " -"),
+        Some(n) => put_number(out, u64::from(n)),
+    }
+}
+
 /// Each number after a space.
 pub(crate) fn put_numbers(out: &mut Vec<u8>, numbers: &[u64]) -> Result<(), NoMemory>
     ensures { OnOk result (out.new.items ≡ out.old.items ++ flat_map number numbers.now) }

@@ -1,7 +1,7 @@
 use Rattle.std.proofs.Common.{◌≡◌, ◌++◌, map, drop}
 use Rattle.std.specs.List.{flat_map}
 use Rattle.pc_semantics.specs.Text.{initializer_line}
-use Rattle.pc_info.specs.View.{initializer_view}
+use Rattle.pc_info.specs.Definitions.{initializer_view}
 use Rattle.pc_text.proofs.initializer.put_initializers.Given as goal
 
 abbrev pub invariant-loop-step : goal.invariant-loop-step

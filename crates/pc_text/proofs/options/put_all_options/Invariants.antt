@@ -1,6 +1,6 @@
 use Rattle.std.proofs.Common.{◌≡◌, ◌++◌, map, drop}
 use Rattle.pc_semantics.specs.Text.{numbered, options_line}
-use Rattle.pc_info.specs.View.{options_view}
+use Rattle.pc_info.specs.Options.{options_view}
 use Rattle.pc_text.proofs.options.put_all_options.Given as goal
 
 abbrev pub invariant-loop-n : goal.invariant-loop-n

@@ -1,0 +1,60 @@
+//! The trampolines and the intrinsics of the plan that is printed.
+
+use pc_entity::{
+    ComponentTypeIndex, LoweredIndex, ModuleInternedTypeIndex, NoMemory, OptionsIndex,
+    PackedOption, PrimaryMap, RuntimeComponentInstanceIndex, RuntimeMemoryIndex,
+    RuntimePostReturnIndex, RuntimeTableIndex, TrampolineIndex,
+};
+use pc_info::{FixedEncoding, Trampoline, Transcode, Trap};
+use pc_types::{TypeFuncIndex, TypeResourceTableIndex, TypeStreamTableIndex};
+use std::alloc::Global;
+
+const ALL: [Trampoline; 7] = [
+    Trampoline::LowerImport {
+        index: LoweredIndex(3),
+        lower_ty: TypeFuncIndex(0),
+        options: OptionsIndex(4),
+    },
+    Trampoline::ResourceDrop {
+        instance: RuntimeComponentInstanceIndex(6),
+        ty: TypeResourceTableIndex(5),
+    },
+    Trampoline::StreamCancelRead {
+        instance: RuntimeComponentInstanceIndex(7),
+        ty: TypeStreamTableIndex(0),
+        async_: true,
+    },
+    Trampoline::ThreadNewIndirect {
+        instance: RuntimeComponentInstanceIndex(8),
+        start_func_ty_idx: ComponentTypeIndex(9),
+        start_func_table_idx: RuntimeTableIndex(10),
+    },
+    Trampoline::Transcoder {
+        op: Transcode::Copy(FixedEncoding::Utf16),
+        from: RuntimeMemoryIndex(11),
+        from64: false,
+        to: RuntimeMemoryIndex(12),
+        to64: true,
+    },
+    Trampoline::StartCall {
+        callback: None,
+        post_return: Some(RuntimePostReturnIndex(13)),
+    },
+    Trampoline::Trap(Trap(1)),
+];
+
+/// Trampolines of each shape.
+pub(crate) fn trampolines(
+    alloc: Global,
+) -> Result<PrimaryMap<TrampolineIndex, Trampoline>, NoMemory> {
+    let all = Vec::from_slice(alloc, &ALL)?;
+    Ok(PrimaryMap::from_vec(all))
+}
+
+/// The signatures of two intrinsics, the second of which is the last of all.
+pub(crate) fn intrinsics() -> [PackedOption<ModuleInternedTypeIndex>; 21] {
+    let mut signatures = [PackedOption::None; 21];
+    signatures[1] = PackedOption::Some(ModuleInternedTypeIndex(0));
+    signatures[20] = PackedOption::Some(ModuleInternedTypeIndex(0));
+    signatures
+}
