@@ -3,6 +3,7 @@
 use crate::inputs::{FUNCTION, input_of, lifted, smallest, text_of};
 use pc_form::Input;
 use pc_info::ComponentTranslation;
+use pc_names::NameMapNoIntern;
 use pc_translate::plan_payloads;
 use pc_types::Error;
 use std::alloc::{AllocError, Global};
@@ -14,15 +15,20 @@ fn plan_of(alloc: Global, input: &Input) -> Result<ComponentTranslation, Error> 
     Ok(plan_payloads(alloc, &input.tunables, &input.table, None, payloads)?.0)
 }
 
-// Whether there is one core instance, and an export of this name.
-fn has_one_export(plan: &ComponentTranslation, name: &str) -> bool {
-    plan.component.num_runtime_instances == 1 && plan.component.exports.contains(name)
+// Whether there is one core instance, and an export is found under this name.
+fn has_one_export(alloc: Global, input: &Input, name: &str) -> Result<bool, Error> {
+    let component = plan_of(alloc, input)?.component;
+    let is_found = component
+        .exports
+        .get(name, &NameMapNoIntern::new(alloc))?
+        .is_some();
+    Ok(component.num_runtime_instances == 1 && is_found)
 }
 
 #[test]
 fn a_lifted_function_is_planned(rt: HostRuntime) -> Result<(), Fail> {
     let input = smallest(rt.alloc())?;
-    assert!(rt; has_one_export(&plan_of(rt.alloc(), &input)?, "run"));
+    assert!(rt; has_one_export(rt.alloc(), &input, "run")?);
     Ok(())
 }
 
@@ -84,6 +90,6 @@ fn many_types(alloc: Global) -> Result<String, AllocError> {
 fn many_types_are_each_met_once(rt: HostRuntime) -> Result<(), Fail> {
     let text = many_types(rt.alloc())?;
     let input = input_of(rt.alloc(), &text)?;
-    assert!(rt; has_one_export(&plan_of(rt.alloc(), &input)?, "run"));
+    assert!(rt; has_one_export(rt.alloc(), &input, "run")?);
     Ok(())
 }

@@ -5,8 +5,9 @@ use Rattle.std.specs.declared.alloc.Global.{Global}
 use Rattle.pc_types.specs.declared.error.Error.{Error}
 use Rattle.pc_types.specs.declared.error.Error.TheVariants as error
 use Rattle.pc_info.specs.declared.component.ComponentTranslation.{ComponentTranslation}
-use Rattle.pc_info.specs.declared.component.ModuleTranslation.{ModuleTranslation}
-use Rattle.pc_info.specs.View.{has_items, view}
+use Rattle.pc_info.specs.declared.module.ModuleTranslation.{ModuleTranslation}
+use Rattle.pc_info.specs.Exports.{has_items}
+use Rattle.pc_info.specs.View.{view}
 use Rattle.pc_semantics.specs.Text.{plan_text}
 use Rattle.pc_offsets.specs.Context.{context_size}
 use Rattle.pc_text.specs.ContextText.{context_text}
@@ -47,7 +48,7 @@ errs input exposed ps same all (Err e) h =
 
 -- each export of a plan has its item
 pub has_items_for : (input : Input) (plan : ComponentTranslation) (modules : List ModuleTranslation)
-    → IsPlanFor input plan modules → has_items plan ≡ true
+    → IsPlanFor input plan modules → has_items plan.component ≡ true
 unfolding IsPlanOf
 has_items_for input plan modules is = is.2.held
 

@@ -10,7 +10,7 @@ use Rattle.pc_form.specs.Rules.{plain}
 use Rattle.pc_form.specs.Tree.{◌>>=◌}
 use Rattle.pc_tool.specs.Headline.{Decodes, IsNotJson, IsBadForm, IsPlanFor, IsTextOf, HasFault, IsRefused}
 use Rattle.pc_info.specs.declared.component.ComponentTranslation.{ComponentTranslation}
-use Rattle.pc_info.specs.declared.component.ModuleTranslation.{ModuleTranslation}
+use Rattle.pc_info.specs.declared.module.ModuleTranslation.{ModuleTranslation}
 use Rattle.pc_translate.specs.Translation.{IsPlanOf}
 use Rattle.pc_tool.specs.declared.words.Command.{Command}
 use Rattle.pc_tool.specs.Run.{Tells}

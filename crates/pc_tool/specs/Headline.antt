@@ -7,7 +7,7 @@ use Rattle.pc_types.specs.declared.error.Error.TheVariants as error
 use Rattle.pc_types.specs.declared.error.Place.{Place}
 use Rattle.pc_semantics.specs.Text.{plan_text}
 use Rattle.pc_info.specs.declared.component.ComponentTranslation.{ComponentTranslation}
-use Rattle.pc_info.specs.declared.component.ModuleTranslation.{ModuleTranslation}
+use Rattle.pc_info.specs.declared.module.ModuleTranslation.{ModuleTranslation}
 use Rattle.pc_info.specs.View.{view}
 use Rattle.pc_offsets.specs.Context.{context_size}
 use Rattle.pc_text.specs.ContextText.{context_text}

@@ -3,7 +3,7 @@ use Rattle.std.proofs.Common.{◌≡◌, ℕ, ◌+◌, List, [], ◌∷◌, Resu
 use Rattle.std.specs.Prelude.{nat_lt}
 use Rattle.std.specs.List.{list_all}
 use Rattle.pc_builder.specs.Types.{Types}
-use Rattle.pc_info.specs.View.{TypeNumber}
+use Rattle.pc_trampoline.specs.declared.part.Mark.{Mark}
 use Rattle.pc_parsed.specs.declared.fault.ItemFault.{ItemFault}
 use Rattle.pc_parsed.specs.declared.item.LocalInitializer.{LocalInitializer}
 use Rattle.pc_parsed.specs.ItemRows.{read_item}
@@ -19,17 +19,17 @@ use Rattle.pc_types.specs.declared.parsed.TypeTable.{TypeTable}
 use Rattle.pc_types.specs.Record.{is_sound}
 
 -- where the reading of a moment ends at a frame that stands for it
-pub record Ends (types : Types) (p : plan.PlanView TypeNumber) (f : Frame) (o : Outcome scope.Moment) : Type 0 where
+pub record Ends (types : Types) (p : plan.PlanView Mark) (f : Frame) (o : Outcome scope.Moment) : Type 0 where
   pub now : scope.Moment
   pub is_done : o ≡ done now
   pub stands : Standing.StandsFor types p f now
 
 -- a whole list that is built and one that is read end alike
-abbrev pub AgreeAll : Types → plan.PlanView TypeNumber → Result Frame (ItemFault × ℕ) → Outcome scope.Moment → Type 0
+abbrev pub AgreeAll : Types → plan.PlanView Mark → Result Frame (ItemFault × ℕ) → Outcome scope.Moment → Type 0
 AgreeAll types p (Ok f) o = Ends types p f o
 AgreeAll types p (Err e) o = o ≡ fault e.0 (place.Reading 0 e.1)
 
-module _ (types : Types) (t : TypeTable) (p : plan.PlanView TypeNumber)
+module _ (types : Types) (t : TypeTable) (p : plan.PlanView Mark)
     (sound : list_all (is_sound t) p.handed_in ≡ true)
     (trees : HasTrees t) (counted : nat_lt 0 p.counts.component_instances ≡ true) where
   pub items_agree : (n : ℕ) (is : List LocalInitializer) (f : Frame) (now : scope.Moment)

@@ -1,5 +1,5 @@
 -- Why a translation is refused, from what its steps answer.
-use Rattle.std.proofs.Common.{◌≡◌, ℕ, ◌≤◌, ◌<◌, List, length, map, ◌∙◌, Bool, ◌&&◌, Option, Some, None, Result, Ok, Err, true, false, refl, sym, ap, subst, arith, ◌⊎◌, inl, inr}
+use Rattle.std.proofs.Common.{◌≡◌, ℕ, ◌≤◌, ◌<◌, List, [], length, map, ◌∙◌, Bool, ◌&&◌, Option, Some, None, Result, Ok, Err, true, false, refl, sym, ap, subst, arith, ◌⊎◌, inl, inr}
 use Rattle.std.specs.Prelude.{nat_lt, is_none, sum_by, IfErr}
 use Rattle.std.specs.Result.{IsErrAnd}
 use Rattle.std.specs.List.{list_all}
@@ -8,8 +8,8 @@ use Rattle.std.proofs.lemmas.Bool.{ltb-true}
 use Rattle.pc_builder.specs.Types.{Types}
 use Rattle.pc_entity.proofs.Elements.{and_true, true_and}
 use Rattle.pc_info.specs.declared.component.Component.{Component}
-use Rattle.pc_info.specs.declared.component.ModuleTranslation.{ModuleTranslation}
-use Rattle.pc_info.specs.View.{module_view}
+use Rattle.pc_info.specs.declared.component.ComponentTranslation.{ComponentTranslation}
+use Rattle.pc_info.specs.declared.module.ModuleTranslation.{ModuleTranslation}
 use Rattle.pc_parsed.specs.declared.fault.ItemFault.{ItemFault}
 use Rattle.pc_parsed.specs.declared.fault.ItemFault.TheVariants.{Invalid, BadType}
 use Rattle.pc_parsed.specs.declared.item.LocalInitializer.{LocalInitializer}
@@ -20,13 +20,13 @@ use Rattle.pc_parsed.specs.Program.{is_numbered, is_translatable, item_count, no
 use Rattle.pc_parsed.specs.StaticFault.{static_fault}
 use Rattle.pc_parsed.proofs.KindLemmas.{IsStatic, refused_by, static_kind}
 use Rattle.pc_translate.proofs.GainLemmas.{frame_few}
-use Rattle.pc_translate.proofs.TranslatesLemmas.{parts, frame_names, translated, faulted}
+use Rattle.pc_translate.proofs.TranslatesLemmas.{parts, translated, faulted}
 use Rattle.pc_translate.specs.Building
 use Rattle.pc_translate.proofs.WholeLemmas.{lift_lacks, stuck_whole}
 use Rattle.pc_translate.specs.Places.{SomeLacksPlace}
 use Rattle.pc_translate.specs.declared.frame.Frame.{Frame}
 use Rattle.pc_translate.specs.Held.{FrameHeld}
-use Rattle.pc_translate.specs.Planning.{IsPlanOf, export_name}
+use Rattle.pc_translate.specs.Planning.{IsPlanOf, as_handed_in}
 use Rattle.pc_bridge.proofs.SizeLemmas.{sizes_alike}
 use Rattle.pc_translate.specs.Gained.{AddsTypes, items_in}
 use Rattle.pc_translate.specs.Translation.{Translates, HasCause, can_translate}
@@ -35,7 +35,6 @@ use Rattle.pc_types.specs.declared.error.Error.TheVariants as error
 use Rattle.pc_types.specs.declared.error.Place.TheVariants as place
 use Rattle.pc_types.specs.declared.module_record.ModuleRecord.{ModuleRecord}
 use Rattle.pc_types.specs.declared.parsed.TypeTable.{TypeTable}
-use Rattle.pc_types.specs.Names.{distinct_names}
 use Rattle.pc_types.specs.Table.{table_fault}
 
 -- how many items a list has that can be numbered
@@ -74,12 +73,6 @@ module _ (t : TypeTable) (exposed : Option (List ℕ)) (limit : ℕ) (ps : List 
       → AddsTypes (sum_by items_in ps) old new
   adds_for old new h = subst (λ (n : ℕ). AddsTypes n old new) as_many h
 
-  -- the names that the frame exports are distinct
-  pub names_distinct : (types : Types) (f : Frame)
-      → Building.Reads types t program.modules program.root.initializers (Ok f)
-      → distinct_names (map export_name f.exports) ≡ true
-  names_distinct types f b = frame_names types t ps f (parts t exposed ps ok) (of_payloads types (Ok f) b)
-
   pub few_exports : (types : Types) (f : Frame)
       → Building.Reads types t program.modules program.root.initializers (Ok f)
       → length program.root.initializers ≤ sum_by item_count ps → is_numbered t ps ≡ true
@@ -97,14 +90,16 @@ module _ (t : TypeTable) (exposed : Option (List ℕ)) (limit : ℕ) (ps : List 
       let own = (frame_few types t program.modules program.root.initializers f b).1 in
       omega (arith, room, own, few)
 
-  pub translates : (types : Types) (f : Frame) (c : Component) (mts : List ModuleTranslation)
+  pub translates : (types : Types) (f : Frame) (c : Component) (plan : ComponentTranslation)
+      (mts : List ModuleTranslation) → plan ≡ record { component = c; trampolines = [] }
       → is_numbered t ps ≡ true → nat_lt 0 limit ≡ true
       → Building.Reads types t program.modules program.root.initializers (Ok f) → FrameHeld types f
-      → IsPlanOf f types c → map module_view mts ≡ program.modules
-      → Translates t exposed limit ps types (record { component = c }) mts
-  translates types f c mts numbered begins b frame_held is_plan same =
-      translated t exposed limit ps types f c mts numbered begins ok (parts t exposed ps ok)
-      (of_payloads types (Ok f) b) frame_held is_plan (same ∙ is_program.modules)
+      → IsPlanOf f types c → mts ≡ map as_handed_in program.modules
+      → Translates t exposed limit ps types plan mts
+  translates types f c plan mts is_it numbered begins b frame_held is_plan same =
+      subst (λ (x : ComponentTranslation). Translates t exposed limit ps types x mts) (sym is_it)
+      (translated t exposed limit ps types f c mts numbered begins ok (parts t exposed ps ok)
+      (of_payloads types (Ok f) b) frame_held is_plan (same ∙ ap (map as_handed_in) is_program.modules))
 
   -- the cause of a fault at an item
   fault_cause : (types : Types) (k : ItemFault) (n : ℕ) → is_numbered t ps ≡ true → nat_lt 0 limit ≡ true

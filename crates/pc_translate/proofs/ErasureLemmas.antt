@@ -1,13 +1,14 @@
 -- What is the same with types is the same without them.
-use Rattle.std.proofs.Common.{◌≡◌, List, [], ◌∷◌, map, refl, sym, ap, ◌∙◌}
+use Rattle.std.proofs.Common.{◌≡◌, List, [], ◌∷◌, map, Some, refl, sym, ap, ◌∙◌}
+use Rattle.std.specs.Prelude.{option_map}
 use Rattle.pc_builder.specs.Types.{Types}
-use Rattle.pc_info.specs.View.{TypeNumber}
+use Rattle.pc_trampoline.specs.declared.part.Mark.{Mark}
 use Rattle.pc_reading.specs.Reading.{Reading}
 use Rattle.pc_semantics.specs.CoreValue as value
 use Rattle.pc_semantics.specs.CoreValue.{CoreValue, Options, DataModel, MaybeValue, Parts, Part, map_value, map_options, map_model, map_maybe, map_parts, map_part, erased}
 use Rattle.pc_semantics.specs.ExportNode as node
 use Rattle.pc_semantics.specs.ExportNode.{ExportNode, ExportNodes, NamedNode, map_node, map_nodes, map_named, erase_named}
-use Rattle.pc_semantics.specs.Log.{Instantiation, NamedArgument, Owned, erase_owned, map_argument, map_instantiation, map_owned, of_host, of_static}
+use Rattle.pc_semantics.specs.Log.{Entry, Instantiation, NamedArgument, Owned, declared, declared_resource, erase_entry, erase_owned, instantiated, made, map_argument, map_entry, map_instantiation, map_owned, needed, of_host, of_static}
 use Rattle.pc_semantics.specs.PlanView.{PlanView}
 use Rattle.pc_translate.specs.Translation.{DoesAs}
 use Rattle.pc_translate.specs.Typed.{TypedAs, number_of, whole_of}
@@ -84,6 +85,21 @@ module _ {τ υ : Type 0} (f : τ → υ) where
       let b = owned_erased os in
       λ i. record { instantiation = a i; component_instance = o.component_instance } ∷ b i
 
+  -- entries whose types are mapped are the same without types
+  entries_erased : (es : List (Entry τ)) → map erase_entry (map (map_entry f) es) ≡ map erase_entry es
+  entries_erased [] = refl
+  entries_erased (e ∷ es) = let rest = entries_erased es in by e rest
+    where
+      by : (x : Entry τ) → map erase_entry (map (map_entry f) es) ≡ map erase_entry es
+          → map erase_entry (map (map_entry f) (x ∷ es)) ≡ map erase_entry (x ∷ es)
+      by (instantiated i c) rest = let a = instantiation_erased i in λ j. instantiated (a j) c ∷ rest j
+      by (declared_resource representation destructor c) rest =
+          let a = maybe_erased destructor in
+          λ j. declared_resource representation (a j) c ∷ rest j
+      by (declared v) rest = let a = value_erased v in λ j. declared (a j) ∷ rest j
+      by (made v) rest = let a = value_erased v in λ j. made (a j) ∷ rest j
+      by (needed path) rest = λ j. needed path ∷ rest j
+
   mutual
     node_erased : (n : ExportNode τ) → map_node erased (map_node f n) ≡ map_node erased n
     node_erased (node.lifted ty v o) = let a = value_erased v in let b =
@@ -109,18 +125,17 @@ module _ {τ υ : Type 0} (f : τ → υ) where
       λ i. record { name = n.name; extern_data = n.extern_data; node = a i } ∷ b i
 
 -- a plan that does what a reading says with types does so without them
-pub does_as : (types : Types) (p : PlanView TypeNumber) (r : Reading) → TypedAs types p r → DoesAs p r
+pub does_as : (types : Types) (p : PlanView Mark) (r : Reading) → TypedAs types p r → DoesAs p r
 does_as types p r h = record {
-  never_stuck = record {
-    last = h.last;
-    nodes = map (map_named (number_of types)) h.exports;
-    runs = h.runs;
-    ends = h.ends;
-  };
+  never_stuck = h.never_stuck;
   same =
       ap (map erase_owned) h.makes ∙ owned_erased (number_of types) h.instances
       ∙ sym (owned_erased (whole_of types) h.instances) ∙ ap (map erase_owned) h.same_instances;
+  traced =
+      ap (option_map (map erase_entry)) h.traced
+      ∙ ap Some (entries_erased (number_of types) h.entries
+      ∙ sym (entries_erased (whole_of types) h.entries) ∙ ap (map erase_entry) h.same_trace);
   exports =
-      named_erased (number_of types) h.exports
+      ap (map erase_named) h.ends ∙ named_erased (number_of types) h.exports
       ∙ sym (named_erased (whole_of types) h.exports) ∙ ap (map erase_named) h.same_exports;
 }

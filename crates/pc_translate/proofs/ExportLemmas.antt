@@ -12,7 +12,7 @@ use Rattle.pc_entity.specs.Lists.{value_of}
 use Rattle.pc_entity.proofs.Elements.{and_true, all_at}
 use Rattle.pc_info.specs.declared.core_def.CoreDef.TheVariants as def
 use Rattle.pc_info.specs.declared.core_def.ExportItem.TheVariants as item
-use Rattle.pc_info.specs.View.{TypeNumber}
+use Rattle.pc_trampoline.specs.declared.part.Mark.{Mark}
 use Rattle.pc_parsed.specs.ItemRows.{export_value, of_kind}
 use Rattle.pc_parsed.specs.Scope as scope
 use Rattle.pc_semantics.specs.CoreValue.{exported, by_index}
@@ -58,7 +58,7 @@ of_kind_same k (Some e') e h = by (same_kind (index_kind e') k) h
     by false q = absurd (none-some e q)
 
 -- a core instance that is one of the log has a component instance
-pub owned_is : (types : Types) (p : plan.PlanView TypeNumber) (x : RuntimeInstance TypeNumber) (o : Owned scope.Mark)
+pub owned_is : (types : Types) (p : plan.PlanView Mark) (x : RuntimeInstance Mark) (o : Owned scope.Mark)
     → Standing.OwnedStands types p x o → Standing.is_owned x ≡ true
 owned_is types p x o h = by x.component_instance h.is_it
   where
@@ -67,7 +67,7 @@ owned_is types p x o h = by x.component_instance h.is_it
     by (Some c) q = refl
 
 -- so of the first r core instances r have one
-pub owned_count : (types : Types) (p : plan.PlanView TypeNumber) (made : List (RuntimeInstance TypeNumber))
+pub owned_count : (types : Types) (p : plan.PlanView Mark) (made : List (RuntimeInstance Mark))
     (os : List (Owned scope.Mark))
     → AllZip (Standing.OwnedStands types p) made os → (r : ℕ) → r ≤ length made
     → count_by Standing.is_owned (take r made) ≡ r
@@ -79,12 +79,12 @@ owned_count types p (x ∷ made) (o ∷ os) h (suc r) le =
     let is_one = owned_is types p x o h.0 in
     let rest = owned_count types p made os h.1 r within in
     let sum : 1 + r ≡ suc r = omega arith in
-    sum_by-cons (λ (y : RuntimeInstance TypeNumber). cond (Standing.is_owned y) 1 0) x (take r made)
+    sum_by-cons (λ (y : RuntimeInstance Mark). cond (Standing.is_owned y) 1 0) x (take r made)
     ∙ (λ i. cond (is_one i) 1 0 + rest i) ∙ sum
 
-module _ (types : Types) (t : TypeTable) (p : plan.PlanView TypeNumber)
+module _ (types : Types) (t : TypeTable) (p : plan.PlanView Mark)
     (sound : list_all (is_sound t) p.handed_in ≡ true)
-    (made : List (RuntimeInstance TypeNumber)) (os : List (Owned scope.Mark))
+    (made : List (RuntimeInstance Mark)) (os : List (Owned scope.Mark))
     (log : AllZip (Standing.OwnedStands types p) made os) where
   -- an entity of a core instance resolves to itself
   resolves_entity : (ci : CoreInstance) (w : scope.CoreInstance) (s : Standing.InstanceStands made ci w)
@@ -117,6 +117,8 @@ module _ (types : Types) (t : TypeTable) (p : plan.PlanView TypeNumber)
           (sound_exports t r (all_at (is_sound t) p.handed_in ci.core_module.0 r sound held))
           (of_kind_same k (export_of r name) e q) in
           both (record {
+            export = record { instance = ci.instance; item = item.Index e };
+            is_it = refl;
             value = exported ci.instance.0 (by_index e);
             resolves = resolves_entity ci w s r e held has;
             same = refl;

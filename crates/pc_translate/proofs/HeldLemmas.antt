@@ -23,7 +23,7 @@ use Rattle.pc_translate.specs.declared.frame.LiftedFunction.{LiftedFunction}
 use Rattle.pc_translate.specs.declared.frame.NamedFunction.{NamedFunction}
 use Rattle.pc_translate.specs.Held.{FrameHeld, IsHeldFunction}
 use Rattle.pc_translate.specs.Planning.{IsPlanOf, IsExportOf, plain_entry}
-use Rattle.pc_translate.specs.Translation.{HasOptions, IsHeldExport, NamesHeld}
+use Rattle.pc_translate.specs.Lists.{HasOptions, IsHeldExport, NamesHeld}
 use Rattle.pc_types.specs.declared.module_record.ModuleRecord.{ModuleRecord}
 use Rattle.pc_types.specs.declared.parsed.CoreKind.TheVariants as core
 use Rattle.pc_types.specs.declared.parsed.TypeTable.{TypeTable}
@@ -155,6 +155,7 @@ export_of_held types options signatures x (export.LiftedFunction ty func o) same
   rw (same, length-map signatures plain_entry)
       (slice_get_within signatures o.0 x.function.core_type is.2),
 )
+export_of_held types options signatures x e same h is = absurd is
 
 -- what stands under a number in a list that is made entry by entry
 entry_behind : (signatures : List ModuleInternedTypeIndex) (n : ℕ) (o : CanonicalOptions)
@@ -170,8 +171,13 @@ signature_is : (signatures : List ModuleInternedTypeIndex) (x : NamedFunction) (
     → IsExportOf signatures x e → HasOptions k e → slice_get signatures k ≡ Some s → x.function.core_type ≡ s
 signature_is signatures x (export.LiftedFunction ty func o) k s is has at =
     same_Some x.function.core_type s (sym is.2 ∙ ap (slice_get signatures) has ∙ at)
+signature_is signatures x e k s is has at = absurd is
 
 module _ (types : Types) (f : Frame) (c : Component) (h : FrameHeld types f) (p : IsPlanOf f types c) where
+  -- an options entry for each signature
+  listed : c.options ≡ map plain_entry p.signatures
+  listed = ap (λ (d : Component). d.options) p.is_it
+
   -- the function behind an export
   function_behind : (n : ℕ) (e : Export) → slice_get c.export_items n ≡ Some e
       → (x : NamedFunction) × (slice_get f.exports n ≡ Some x) × IsExportOf p.signatures x e
@@ -201,11 +207,11 @@ module _ (types : Types) (f : Frame) (c : Component) (h : FrameHeld types f) (p 
   plan_names = record {
     exports = λ n e at.
         let x = function_behind n e at in
-        export_of_held types c.options p.signatures x.0 e p.options (h.exports n x.0 x.1) x.2;
-    signatures = λ n o at. signature_held n o (ap (λ (os : List CanonicalOptions). slice_get os n) (sym p.options)
+        export_of_held types c.options p.signatures x.0 e listed (h.exports n x.0 x.1) x.2;
+    signatures = λ n o at. signature_held n o (ap (λ (os : List CanonicalOptions). slice_get os n) (sym listed)
         ∙ at);
     used = λ n lt.
-        let within : n < length p.signatures = rw (← length-map p.signatures plain_entry, ← p.options) lt in
+        let within : n < length p.signatures = rw (← length-map p.signatures plain_entry, ← listed) lt in
         let s = item_at p.signatures n within in
         p.exported.used n s.0 s.1;
   }

@@ -10,12 +10,16 @@ use Rattle.pc_builder.specs.Trees.{HasTree, identities}
 use Rattle.pc_builder.specs.Types.{Types}
 use Rattle.pc_numbers.specs.declared.component_entity.StaticModuleIndex.{StaticModuleIndex}
 use Rattle.pc_entity.specs.Lists.{map_all, value_of}
+use Rattle.pc_entity.proofs.Elements.{and_true, true_and}
 use Rattle.pc_entity.proofs.Growing.{slice_get-append_seam}
 use Rattle.pc_entity.proofs.MapAll.{length-map_all}
 use Rattle.pc_info.specs.declared.core_def.CoreDef.{CoreDef}
 use Rattle.pc_info.specs.declared.initializer.GlobalInitializer.TheVariants as init
 use Rattle.pc_info.specs.declared.initializer.InstantiateModule.TheVariants as source
-use Rattle.pc_info.specs.View.{TypeNumber, def_view, func_type, initializer_view, signature}
+use Rattle.pc_trampoline.specs.declared.part.Mark.{Mark}
+use Rattle.pc_trampoline.specs.declared.part.Mark.TheVariants as mark
+use Rattle.pc_info.specs.Definitions.{def_view, initializer_view}
+use Rattle.pc_info.specs.Modules.{function_mark}
 use Rattle.pc_parsed.specs.declared.fault.ItemFault.{ItemFault}
 use Rattle.pc_parsed.specs.declared.fault.ItemFault.TheVariants.{Invalid, BadType}
 use Rattle.pc_parsed.specs.declared.item.LocalInitializer.{LocalInitializer}
@@ -25,7 +29,8 @@ use Rattle.pc_parsed.specs.ItemRows.{found, has_entry, argument, arguments, add_
 use Rattle.pc_parsed.specs.Scope as scope
 use Rattle.pc_semantics.specs.CoreValue.{CoreValue, map_value}
 use Rattle.pc_semantics.specs.Machine.{RuntimeInstance, start}
-use Rattle.pc_semantics.specs.Log.{Owned, of_static, instantiated, instances_of, owned_of}
+use Rattle.pc_semantics.specs.Log.{Entry, Instantiation, Owned, of_static, instantiated, instances_of, owned_of}
+use Rattle.pc_semantics.specs.Trace.{instance_entry}
 use Rattle.pc_semantics.specs.PlanView as plan
 use Rattle.pc_translate.proofs.ExportLemmas.{export_means}
 use Rattle.pc_translate.proofs.RunGrowthLemmas as growing
@@ -54,8 +59,26 @@ pub record HasTrees (t : TypeTable) : Type 0 where
       → (tree : TypeTree) × (tree_of [] 0 t n ≡ Some tree)
   pub alike : (known : List (ℕ × Identity)) (c n : ℕ) → tree_of known c t n ≡ tree_of [] 0 t n
 
+-- a list of which all pass, one further
+all_push : {A : Type 0} (test : A → Bool) (xs : List A) (x : A) → list_all test xs ≡ true → test x ≡ true
+    → list_all test (xs ++ x ∷ []) ≡ true
+all_push test [] x h t = rw t refl
+all_push test (y ∷ xs) x h t =
+    let both = and_true (test y) (list_all test xs) h in
+    true_and (test y) (list_all test (xs ++ x ∷ [])) both.0 (all_push test xs x both.1 t)
+
+-- a log of core instances alone, one further
+only_push : (log : List (Entry scope.Mark)) (i : Instantiation scope.Mark) (c : ℕ)
+    → log ≡ map instance_entry (instances_of log)
+    → log ++ instantiated i c ∷ [] ≡ map instance_entry (instances_of (log ++ instantiated i c ∷ []))
+only_push log i c h =
+    let o : Owned scope.Mark = record { instantiation = i; component_instance = c } in
+    (λ j. h j ++ instantiated i c ∷ [])
+    ∙ sym (map_push instance_entry (instances_of log) o)
+    ∙ ap (map instance_entry) (sym (filter_map-append owned_of log (instantiated i c ∷ [])))
+
 -- a frame that is built and a moment that is read end alike
-pub data Agrees (types : Types) (p : plan.PlanView TypeNumber) : Result Frame ItemFault → Result scope.Moment ItemFault
+pub data Agrees (types : Types) (p : plan.PlanView Mark) : Result Frame ItemFault → Result scope.Moment ItemFault
     → Type 0 where
   stuck : {k : ItemFault} → Agrees types p (Err k) (Err k)
   goes : {f : Frame} {now : scope.Moment} → Standing.StandsFor types p f now → Agrees types p (Ok f) (Ok now)
@@ -67,7 +90,7 @@ past (x ∷ xs) zero e = absurd (none-some x (sym e))
 past (x ∷ xs) (suc i) e = let le = past xs i e in omega arith
 
 -- after look-ups that mean each other
-found_agrees : {A B : Type 0} (types : Types) (p : plan.PlanView TypeNumber) (R : A → B → Type 0) (k : ItemFault)
+found_agrees : {A B : Type 0} (types : Types) (p : plan.PlanView Mark) (R : A → B → Type 0) (k : ItemFault)
     (go : A → Result Frame ItemFault) (go' : B → Result scope.Moment ItemFault)
     → ((x : A) (y : B) → R x y → Agrees types p (go x) (go' y)) → (o : Option A) (w : Option B) → Means R o w
     → Agrees types p (found k o go) (found k w go')
@@ -76,7 +99,7 @@ found_agrees types p R k go go' next None (Some y) m = elim m [ ]
 found_agrees types p R k go go' next (Some x) None m = elim m [ ]
 found_agrees types p R k go go' next (Some x) (Some y) (both r) = next x y r
 
-module _ (types : Types) (t : TypeTable) (p : plan.PlanView TypeNumber)
+module _ (types : Types) (t : TypeTable) (p : plan.PlanView Mark)
     (sound : list_all (is_sound t) p.handed_in ≡ true)
     (trees : HasTrees t) (counted : nat_lt 0 p.counts.component_instances ≡ true) where
   module_agrees : (f : Frame) (now : scope.Moment) → Standing.StandsFor types p f now → (m ty : ℕ)
@@ -96,7 +119,9 @@ module _ (types : Types) (t : TypeTable) (p : plan.PlanView TypeNumber)
             made = s.made;
             runs = s.runs;
             numbered = s.numbered;
+            plain = s.plain;
             log = s.log;
+            only = s.only;
             core_funcs = s.core_funcs;
             modules = zip_push Standing.ModuleStands f.modules now.scope.modules (record { 0 = m })
                 (scope.static m tree.0) s.modules refl;
@@ -116,7 +141,9 @@ module _ (types : Types) (t : TypeTable) (p : plan.PlanView TypeNumber)
         made = s.made;
         runs = s.runs;
         numbered = s.numbered;
+        plain = s.plain;
         log = s.log;
+        only = s.only;
         core_funcs = zip_push (Standing.DefStands types p s.made) f.core_funcs now.scope.core_funcs d v s.core_funcs r;
         modules = s.modules;
         core_instances = s.core_instances;
@@ -139,7 +166,9 @@ module _ (types : Types) (t : TypeTable) (p : plan.PlanView TypeNumber)
         made = s.made;
         runs = s.runs;
         numbered = s.numbered;
+        plain = s.plain;
         log = s.log;
+        only = s.only;
         core_funcs = s.core_funcs;
         modules = s.modules;
         core_instances = s.core_instances;
@@ -229,11 +258,11 @@ module _ (types : Types) (t : TypeTable) (p : plan.PlanView TypeNumber)
       let res = resolved types p s.made ds vs a.each in
       let values_same = res.same in
       let root = s.root in
-      let numbers : List (CoreValue TypeNumber) = map (map_value (number_of types)) res.values in
+      let numbers : List (CoreValue Mark) = map (map_value (number_of types)) res.values in
       let long : length numbers ≡ length a.core_module.imports =
       length-map res.values (map_value (number_of types)) ∙ sym (length-map res.values (map_value (whole_of types)))
       ∙ ap length values_same ∙ a.long in
-      let x : RuntimeInstance TypeNumber = record {
+      let x : RuntimeInstance Mark = record {
         instantiation = of_static m.0 numbers;
         component_instance = Some 0;
       } in
@@ -256,6 +285,9 @@ module _ (types : Types) (t : TypeTable) (p : plan.PlanView TypeNumber)
             (makes p s.made m.0 a.core_module ds numbers a.held res.resolve_all long counted));
         numbered = length-append f.initializers _ ∙ ap (λ (n : ℕ). n + 1) s.numbered
             ∙ sym (length-append s.made (x ∷ []));
+        plain = all_push Standing.makes_one f.initializers
+            (init.InstantiateModule (source.Static m ds) (Some (record { 0 = 0 }))) s.plain refl;
+        only = only_push now.world.log (of_static m.0 vs) now.scope.component_instance s.only;
         log = subst (λ (os : List (Owned scope.Mark)). AllZip (Standing.OwnedStands types p) (s.made ++ x ∷ []) os)
             (sym (filter_map-append owned_of now.world.log
             (instantiated (of_static m.0 vs) now.scope.component_instance ∷ [])))
@@ -313,23 +345,20 @@ module _ (types : Types) (t : TypeTable) (p : plan.PlanView TypeNumber)
 
   -- the type of a lift stands under its number
   lift_typed : (n k ty core : ℕ) (tree : TypeTree) → AreOfLift types t ty core n k → tree_of [] 0 t ty ≡ Some tree
-      → Holds types (func_type n) (scope.of_type tree)
-  lift_typed n k ty core tree are tree_is = (
-    refl,
-    λ who.
-        let e = are.entry who in
-        subst (HasTree types who (def.ComponentFunc (record { 0 = n })))
-        (same_Some e.0 tree (sym e.1 ∙ trees.alike (identities who types.resources.known) types.resources.current.0 ty
-        ∙ tree_is)) e.2,
-  )
+      → Holds types (function_mark (record { 0 = n })) (scope.of_type tree)
+  lift_typed n k ty core tree are tree_is = λ who.
+      let e = are.entry who in
+      subst (HasTree types who (def.ComponentFunc (record { 0 = n })))
+      (same_Some e.0 tree (sym e.1 ∙ trees.alike (identities who types.resources.known) types.resources.current.0 ty
+      ∙ tree_is)) e.2
 
   -- and so does its signature
   lift_signed : (n k ty core : ℕ) (sig : CoreFuncSig) → AreOfLift types t ty core n k
       → slice_get t.core_funcs core ≡ Some sig
-      → Holds types (signature k) (scope.of_signature sig)
+      → Holds types (mark.Signature (record { 0 = k })) (scope.of_signature sig)
   lift_signed n k ty core sig are sig_is =
       let s = are.signature in
-      (refl, s.2 ∙ sym s.1 ∙ sig_is)
+      s.2 ∙ sym s.1 ∙ sig_is
 
   lift_agrees : (n k : ℕ) (f : Frame) (now : scope.Moment) → Standing.StandsFor types p f now → (func ty core : ℕ)
       → NumbersLift types t ty core n k
@@ -340,8 +369,8 @@ module _ (types : Types) (t : TypeTable) (p : plan.PlanView TypeNumber)
       x d = record { ty = record { 0 = n }; func = d; core_type = record { 0 = k } }
 
       -- the function that is lifted stands for the one that is read
-      lifted_stands : (tree : TypeTree) (sig : CoreFuncSig) → Holds types (func_type n) (scope.of_type tree)
-          → Holds types (signature k) (scope.of_signature sig)
+      lifted_stands : (tree : TypeTree) (sig : CoreFuncSig) → Holds types (function_mark (record { 0 = n })) (scope.of_type tree)
+          → Holds types (mark.Signature (record { 0 = k })) (scope.of_signature sig)
           → (d : CoreDef) (v : CoreValue scope.Mark) → Standing.DefStands types p s.made d v
           → Agrees types p (Ok (Building.with_func f (x d)))
           (Ok (add_func now (scope.lifted tree v (plain_options now.scope.component_instance sig))))
@@ -352,7 +381,9 @@ module _ (types : Types) (t : TypeTable) (p : plan.PlanView TypeNumber)
             made = s.made;
             runs = s.runs;
             numbered = s.numbered;
+            plain = s.plain;
             log = s.log;
+            only = s.only;
             core_funcs = s.core_funcs;
             modules = s.modules;
             core_instances = s.core_instances;

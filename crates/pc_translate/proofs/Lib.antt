@@ -8,6 +8,7 @@ mod ErasureLemmas
 mod ItemLemmas
 mod BodyLemmas
 mod PlanLemmas
+mod CountLemmas
 mod TreeLemmas
 mod HeldLemmas
 mod NumberLemmas

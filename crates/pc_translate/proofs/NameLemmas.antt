@@ -1,10 +1,11 @@
 -- Names that are exported once.
-use Rattle.std.proofs.Common.{◌≡◌, ℕ, ◌+◌, ◌≤◌, zero, suc, List, [], ◌∷◌, ◌++◌, length, map, take, drop, None, Some, Bool, true, false, refl, sym, ap, ◌∙◌, subst, arith, zero-add, ◌⊎◌, inl, inr, ◌||◌, not, true≢false}
-use Rattle.std.specs.Prelude.{slice_get}
+use Rattle.std.proofs.Common.{◌≡◌, ℕ, ◌+◌, ◌≤◌, zero, suc, List, [], ◌∷◌, ◌++◌, length, map, None, Some, Bool, true, false, refl, sym, ap, ◌∙◌, subst, arith, zero-add, ◌⊎◌, inl, inr, ◌||◌, not, true≢false, cond, append_assoc, append-nil}
+use Rattle.std.specs.Prelude.{slice_get, if◌then◌else◌}
+use Rattle.std.specs.Map.{lookup}
 use Rattle.std.specs.List.{AllZip, list_any}
 use Rattle.std.specs.Str.{bytes_eq}
 use Rattle.std.proofs.lemmas.Slice.Eq.{bytes_eq-Decides}
-use Rattle.std.proofs.lemmas.List.{length-append, map-append, take-append-drop}
+use Rattle.std.proofs.lemmas.List.{length-append, map-append}
 use Rattle.std.proofs.lemmas.Option.{none-some, same_Some}
 use Rattle.pc_entity.specs.Lists.{AreDistinct, value_of, Kept}
 use Rattle.pc_entity.proofs.Elements.{and_true}
@@ -12,10 +13,15 @@ use Rattle.pc_entity.proofs.Growing.{kept_refl, append_kept, slice_get-append, s
 use Rattle.pc_info.specs.declared.export.Export.{Export}
 use Rattle.pc_info.specs.declared.export.Export.TheVariants as export
 use Rattle.pc_numbers.specs.declared.module_entity.ModuleInternedTypeIndex.{ModuleInternedTypeIndex}
+use Rattle.pc_names.proofs.CallerLemmas.{definitions-plain, definitions_of-new}
+use Rattle.pc_names.proofs.LastValueLemmas.{lookup-definitions_of}
+use Rattle.pc_names.proofs.StandingLemmas.{StandsFor-nothing}
+use Rattle.pc_names.specs.Contents.{Contents, no_names}
+use Rattle.pc_names.specs.Inserted.{definitions_of, last_value}
 use Rattle.pc_translate.proofs.MeansLemmas.{zip_push, zip_weaker, zip_length}
 use Rattle.pc_translate.specs.declared.frame.NamedFunction.{NamedFunction}
 use Rattle.pc_translate.specs.declared.plan.Exported.{Exported}
-use Rattle.pc_translate.specs.Planning.{AddsExport, Exports, IsExportOf, entries_from, export_name}
+use Rattle.pc_translate.specs.Planning.{AddsExport, Exports, IsExportOf, Names, Target, entries_from, export_name}
 use Rattle.pc_parsed.specs.Reading.{extern_data}
 use Rattle.pc_types.specs.Names.{distinct_names}
 
@@ -58,14 +64,6 @@ absent n (y ∷ before) rest x h =
     (map-append export_name before (x ∷ rest)) (not_true _ both.0)) in
     rw (differ (export_name y) (export_name x) differs) (absent (n + 1) before rest x both.1)
 
-pub absent_at : (xs : List NamedFunction) (i : ℕ) (x : NamedFunction) → drop i xs ≡ x ∷ drop (i + 1) xs
-    → distinct_names (map export_name xs) ≡ true
-    → value_of (export_name x) (entries_from 0 (take i xs)) ≡ None
-absent_at xs i x at h =
-    absent 0 (take i xs) (drop (i + 1) xs) x
-    (subst (λ (ys : List NamedFunction). distinct_names (map export_name (take i xs ++ ys)) ≡ true) at
-    (subst (λ (ys : List NamedFunction). distinct_names (map export_name ys) ≡ true) (sym (take-append-drop i xs)) h))
-
 -- the entries of one more function
 entries_push : (n : ℕ) (xs : List NamedFunction) (x : NamedFunction)
     → entries_from n (xs ++ x ∷ []) ≡ entries_from n xs
@@ -79,11 +77,57 @@ entries_push n (y ∷ xs) x =
     ∙ (λ i. (export_name y, (record { 0 = n }, extern_data y.name))
     ∷ (entries_from (n + 1) xs ++ (export_name x, (record { 0 = e i }, extern_data x.name)) ∷ []))
 
+-- a look-up of the first entry under a name
+first_value : {V : Type 0} (name : List ℕ) (es : List (List ℕ × V)) → value_of name es ≡ None
+    → lookup (bytes_eq name) es ≡ None
+first_value name [] h = refl
+first_value {V} name (e ∷ es) h = by (bytes_eq name e.0) h (first_value name es)
+  where
+    by : (b : Bool) → (if b then Some e.1 else value_of name es) ≡ None
+        → (value_of name es ≡ None → lookup (bytes_eq name) es ≡ None)
+        → cond b (Some e.1) (lookup (bytes_eq name) es) ≡ None
+    by true k rest = absurd (none-some e.1 (sym k))
+    by false k rest = rest k
+
+-- names that stand once are defined as they stand, from some of them on
+defined_from : (before rest : List NamedFunction) → distinct_names (map export_name (before ++ rest)) ≡ true
+    → definitions_of (entries_from 0 before) ≡ entries_from 0 before
+    → definitions_of (entries_from 0 (before ++ rest)) ≡ entries_from 0 (before ++ rest)
+defined_from before [] distinct h =
+    subst (λ (xs : List NamedFunction). definitions_of (entries_from 0 xs) ≡ entries_from 0 xs)
+    (sym (append-nil before)) h
+defined_from before (x ∷ rest) distinct h =
+    let es = entries_from 0 before in
+    let target : Target = (record { 0 = 0 + length before }, extern_data x.name) in
+    let push = entries_push 0 before x in
+    let new : last_value es (export_name x) ≡ None =
+    sym (lookup-definitions_of es (export_name x)) ∙ ap (lookup (bytes_eq (export_name x))) h
+    ∙ first_value (export_name x) es (absent 0 before rest x distinct) in
+    let one : definitions_of (entries_from 0 (before ++ x ∷ [])) ≡ entries_from 0 (before ++ x ∷ []) =
+    ap definitions_of push ∙ definitions_of-new es (export_name x) target new
+    ∙ ap (λ (ds : List (List ℕ × Target)). ds ++ (export_name x, target) ∷ []) h ∙ sym push in
+    let same : (before ++ x ∷ []) ++ rest ≡ before ++ x ∷ rest = append_assoc before (x ∷ []) rest in
+    subst (λ (xs : List NamedFunction). definitions_of (entries_from 0 xs) ≡ entries_from 0 xs) same
+    (defined_from (before ++ x ∷ []) rest
+    (subst (λ (xs : List NamedFunction). distinct_names (map export_name xs) ≡ true) (sym same) distinct) one)
+
+-- what an export map has that stands for the entries of functions whose names are distinct
+pub names_are : (names : Contents (List ℕ) Target) (xs : List NamedFunction)
+    → distinct_names (map export_name xs) ≡ true → Names names (entries_from 0 xs)
+    → names.definitions ≡ entries_from 0 xs
+names_are names xs distinct stands =
+    definitions-plain names (entries_from 0 xs) stands ∙ defined_from [] xs distinct refl
+
+-- an export map without names
+pub no_names_yet : Names no_names []
+no_names_yet = StandsFor-nothing (λ text key. key ≡ text)
+
 -- an item stays that of its function while signatures keep their numbers
 export_kept : (old new : List ModuleInternedTypeIndex) → Kept old new → (x : NamedFunction) (e : Export)
     → IsExportOf old x e → IsExportOf new x e
 export_kept old new kept x (export.LiftedFunction ty func options) h =
     (h.0, h.1, kept options.0 x.function.core_type h.2)
+export_kept old new kept x e h = absurd h
 
 -- how far functions have been exported
 pub record ExportedSoFar (xs : List NamedFunction) (e : Exported) : Type 0 where
@@ -97,21 +141,13 @@ exported_next xs x old new s a =
     let count = zip_length (IsExportOf old.signatures) xs old.items s.exports.each in
     let few = s.few in
     let one_more = a.few in
+    let number : length old.items ≡ 0 + length xs = sym count ∙ sym (zero-add (length xs)) in
+    let longer = ap (λ (n : ℕ). entries_from 0 xs ++ (x.name.name, (record { 0 = n }, extern_data x.name)) ∷ [])
+    number in
     record {
       exports = record {
-        names = a.names ∙ (λ i. s.exports.names i ++ (x.name.name, (record { 0 = sym count i }, extern_data x.name))
-            ∷ [])
-            ∙ (λ i. entries_from 0 xs ++ (
-              x.name.name,
-              (
-                record {
-                  0 = sym
-                      (zero-add (length xs)) i;
-                },
-                extern_data x.name,
-              ),
-            ) ∷ [])
-            ∙ sym (entries_push 0 xs x);
+        names = subst (Names new.names) (longer ∙ sym (entries_push 0 xs x))
+            (a.names (entries_from 0 xs) s.exports.names);
         each = subst (λ (items : List Export). AllZip (IsExportOf new.signatures) (xs ++ x ∷ []) items) (sym a.items)
             (zip_push (IsExportOf new.signatures) xs old.items x a.item
             (zip_weaker (IsExportOf old.signatures) (IsExportOf new.signatures)

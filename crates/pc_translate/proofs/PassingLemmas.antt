@@ -1,6 +1,6 @@
 -- What a `?` passes up.
 use Rattle.std.proofs.Common.{◌≡◌, Err, Ok, ap, sym, subst, refl, ◌∙◌}
-use Rattle.std.specs.Prelude.{Result}
+use Rattle.std.specs.Prelude.{OnOk, Result}
 use Rattle.std.specs.Result.{IsErrAnd}
 use Rattle.std.proofs.lemmas.Result.{err_from_is_err_and}
 use Rattle.pc_parsed.specs.declared.fault.ItemFault.{ItemFault}
@@ -55,3 +55,16 @@ module _ {T : Type 0} (r : Result T ReadError) (e : TypeError) (is : IsErrAnd r 
 
   pub full_made : r ≡ Err read_error.TooMany → e ≡ type_error.TooMany
   full_made h = of_full e (made read_error.TooMany h)
+
+-- what holds once a call succeeded holds of a result that is there
+pub ok_has : {T E : Type 0} (r : Result T E) (x : T) (P : Type 0) → r ≡ Ok x → P → OnOk r P
+ok_has r x P e p = subst (λ s. OnOk s P) (sym e) p
+
+-- and is owed by no error
+pub err_has : {T E : Type 0} (r : Result T E) (x : E) (P : Type 0) → r ≡ Err x → OnOk r P
+err_has r x P e = subst (λ s. OnOk s P) (sym e) tt
+
+-- what follows from it holds as well
+pub ok_then : {T E : Type 0} (r : Result T E) (P Q : Type 0) → (P → Q) → OnOk r P → OnOk r Q
+ok_then (Ok x) P Q next h = next h
+ok_then (Err e) P Q next h = tt

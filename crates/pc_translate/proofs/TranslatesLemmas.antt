@@ -1,5 +1,6 @@
 -- The whole translation: the plan of the frame that was read does what the nested reading says.
-use Rattle.std.specs.Prelude.{slice_get}
+use Rattle.std.specs.Prelude.{count_by, slice_get}
+use Rattle.std.proofs.lemmas.List.{length-map}
 use Rattle.std.proofs.lemmas.Option.{none-some, same_Some}
 use Rattle.pc_builder.specs.Types.{Types}
 use Rattle.pc_entity.specs.Lists.{AreDistinct}
@@ -11,32 +12,42 @@ use Rattle.std.specs.List.{AllZip, filter_map, cons_option, flat_map, list_all}
 use Rattle.std.proofs.lemmas.Bool.{lt-ltb}
 use Rattle.pc_entity.proofs.Elements.{and_true, true_and}
 use Rattle.pc_info.specs.declared.component.Component.{Component}
-use Rattle.pc_info.specs.declared.component.ModuleTranslation.{ModuleTranslation}
-use Rattle.pc_info.specs.View.{TypeNumber, module_view, view, initializer_view, options_view, named_view}
-use Rattle.pc_numbers.specs.declared.runtime.ExportIndex.{ExportIndex}
+use Rattle.pc_info.specs.declared.component.ComponentTranslation.{ComponentTranslation}
+use Rattle.pc_info.specs.declared.export.Export.{Export}
+use Rattle.pc_info.specs.declared.export.Export.TheVariants as export
+use Rattle.pc_info.specs.declared.module.ModuleTranslation.{ModuleTranslation}
+use Rattle.pc_trampoline.specs.declared.part.Mark.{Mark}
+use Rattle.pc_info.specs.Definitions.{initializer_view}
+use Rattle.pc_info.specs.Exports as exports
+use Rattle.pc_info.specs.Exports.{Entry, are_behind_their_parts, named_view, names_below, trees_of}
+use Rattle.pc_info.specs.View.{counts_view, view}
+use Rattle.pc_names.specs.Contents.{Contents}
 use Rattle.pc_parsed.specs.Built.{is_built_entry, is_built_payload}
 use Rattle.pc_parsed.specs.declared.fault.ItemFault.{ItemFault}
 use Rattle.pc_parsed.specs.declared.payload.Payload.{Payload}
 use Rattle.pc_parsed.specs.declared.payload.Payload.TheVariants as payload
 use Rattle.pc_parsed.specs.Nest.{body_items, module_of, modules_of}
 use Rattle.pc_parsed.specs.Program.{is_numbered, is_translatable}
-use Rattle.pc_parsed.specs.Reading.{Outcome, reading, done, fault, and_then, read_items, result_at}
+use Rattle.pc_parsed.specs.Reading.{Outcome, reading, done, export_node, fault, and_then, read_items, result_at}
 use Rattle.pc_parsed.specs.Scope as scope
 use Rattle.pc_parsed.specs.SoundList.{is_sound_payload}
 use Rattle.pc_parsed.specs.StaticFault.{exported_names}
 use Rattle.pc_parsed.proofs.SoundLemmas.{sound_list}
 use Rattle.pc_parsed.specs.Nest.{is_body}
-use Rattle.pc_semantics.specs.ExportNode.{map_named}
-use Rattle.pc_semantics.specs.Log.{Owned, instances_of, map_owned}
+use Rattle.pc_semantics.specs.Counts.{declares_resource, fills, lowers_import}
+use Rattle.pc_semantics.specs.ExportNode.{NamedNode, map_named}
+use Rattle.pc_semantics.specs.Log.{Owned, instances_of, map_owned, trace}
 use Rattle.pc_entity.specs.Lists.{map_all}
-use Rattle.pc_info.specs.declared.initializer.GlobalInitializer.{GlobalInitializer}
-use Rattle.pc_semantics.specs.Machine.{RuntimeInstance, named_node, owned_of, run_from, start}
+use Rattle.pc_semantics.specs.Machine.{RuntimeInstance, export_nodes, named_node, owned_of, run_from, start}
+use Rattle.pc_semantics.specs.Trace.{instance_entry, trace_from}
 use Rattle.pc_semantics.specs.PlanView as plan
+use Rattle.pc_translate.proofs.CountLemmas.{all_handed_in, all_made, entries_mapped, no_adapters, none_counted, none_pass, none_signed, nothing_else, own_trace}
 use Rattle.pc_translate.proofs.GainLemmas.{all_names, list_names}
-use Rattle.pc_translate.proofs.PlanLemmas.{all_nodes, runs_within}
+use Rattle.pc_translate.proofs.PlanLemmas.{Runs, all_nodes, runs_within}
 use Rattle.pc_translate.proofs.ErasureLemmas.{does_as}
 use Rattle.pc_translate.proofs.HeldLemmas.{plan_names}
 use Rattle.pc_translate.proofs.MeansLemmas.{zip_length}
+use Rattle.pc_translate.proofs.NameLemmas.{names_are}
 use Rattle.pc_translate.proofs.BodyLemmas.{Ends, items_agree}
 use Rattle.pc_translate.proofs.Standing
 use Rattle.pc_translate.proofs.TreeLemmas.{has_trees}
@@ -44,16 +55,18 @@ use Rattle.pc_translate.specs.Building
 use Rattle.pc_translate.specs.declared.frame.Frame.{Frame}
 use Rattle.pc_translate.specs.declared.frame.NamedFunction.{NamedFunction}
 use Rattle.pc_translate.specs.Held.{FrameHeld}
-use Rattle.pc_translate.specs.Planning.{IsPlanOf, IsExportOf, entries_from, export_name, plain_entry}
+use Rattle.pc_translate.specs.Planning.{Exports, IsPlanOf, IsExportOf, Names, Target, as_handed_in, entries_from, export_name, plain_entry, plan_with}
 use Rattle.pc_bridge.specs.Whole.{whole_reading}
 use Rattle.pc_bridge.proofs.BodyLemmas.{modules_alike}
 use Rattle.pc_translate.proofs.WholeLemmas.{done_whole}
-use Rattle.pc_translate.specs.Translation.{Translates}
+use Rattle.pc_translate.specs.Asked.{AsksHost, Declares, IsImport, is_made, resource_owner}
+use Rattle.pc_translate.specs.Translation.{Translates, counts_of}
+use Rattle.pc_reading.specs.Reading.{Reading}
+use Rattle.pc_reading.specs.World.{HostImport}
 use Rattle.pc_translate.specs.Typed.{Numbered, TypedAs, number_of, whole_of}
 use Rattle.pc_types.specs.declared.error.Place.TheVariants as place
 use Rattle.pc_types.specs.declared.module_record.ModuleRecord.{ModuleRecord}
 use Rattle.pc_types.specs.declared.parsed.TypeTable.{TypeTable}
-use Rattle.pc_types.specs.declared.types.ComponentExternData.{ComponentExternData}
 use Rattle.pc_types.specs.Names.{distinct_names}
 use Rattle.pc_types.specs.Record.{is_sound}
 use Rattle.pc_types.specs.Table.{table_fault}
@@ -63,12 +76,14 @@ abbrev first : scope.Moment
 first = record { scope = scope.fresh 0; world = record { log = []; begun = 1 } }
 
 -- the empty frame stands for it
-first_stands : (types : Types) (p : plan.PlanView TypeNumber) → Standing.StandsFor types p Building.empty_frame first
+first_stands : (types : Types) (p : plan.PlanView Mark) → Standing.StandsFor types p Building.empty_frame first
 first_stands types p = record {
   made = [];
   runs = refl;
   numbered = refl;
+  plain = refl;
   log = tt;
+  only = refl;
   core_funcs = tt;
   modules = tt;
   core_instances = tt;
@@ -80,7 +95,7 @@ first_stands types p = record {
 }
 
 -- a view that has these modules, for runs that end at a fault
-abbrev some_view : List ModuleRecord → plan.PlanView TypeNumber
+abbrev some_view : List ModuleRecord → plan.PlanView Mark
 some_view ms = record {
   handed_in = ms;
   adapter_modules = 0;
@@ -175,14 +190,14 @@ frame_names types t ps f q b =
     subst (λ (names : List (List ℕ)). distinct_names names ≡ true) (sym same) q.names
 
 -- the core instances of a run, without those of adapter modules, with their types
-record Instances (types : Types) (made : List (RuntimeInstance TypeNumber))
+record Instances (types : Types) (made : List (RuntimeInstance Mark))
     (os : List (Owned scope.Mark)) : Type 0 where
   instances : List (Owned (Numbered types))
   makes : filter_map owned_of made ≡ map (map_owned (number_of types)) instances
   same : map (map_owned (whole_of types)) instances ≡ os
 
 -- they are those of the log
-owned_same : (types : Types) (p : plan.PlanView TypeNumber) (made : List (RuntimeInstance TypeNumber))
+owned_same : (types : Types) (p : plan.PlanView Mark) (made : List (RuntimeInstance Mark))
     (os : List (Owned scope.Mark))
     → AllZip (Standing.OwnedStands types p) made os → Instances types made os
 owned_same types p [] [] h = record { instances = []; makes = refl; same = refl }
@@ -202,7 +217,7 @@ owned_same types p (x ∷ made) (o ∷ os) h =
 
 -- each entry of an export map names an item
 held_from : (n k : ℕ) (xs : List NamedFunction) → n + length xs ≤ k
-    → list_all (λ (e : List ℕ × (ExportIndex × ComponentExternData)). nat_lt e.1.0.0 k) (entries_from n xs) ≡ true
+    → names_below k (entries_from n xs) ≡ true
 held_from n k [] le = refl
 held_from n k (x ∷ xs) le =
     let lt : n < k = omega arith in
@@ -215,17 +230,26 @@ length_entries n [] = refl
 length_entries n (x ∷ xs) = ap suc (length_entries (n + 1) xs)
 
 -- the entry at a place names the item at that place
-entry_number : (n i : ℕ) (xs : List NamedFunction) (e : List ℕ × (ExportIndex × ComponentExternData))
-    → slice_get (entries_from n xs) i ≡ Some e
-    → e.1.0.0 ≡ n + i
-entry_number n i [] e h = absurd (none-some e h)
-entry_number n zero (x ∷ xs) e h =
+number_at : (n i : ℕ) (xs : List NamedFunction) (e : Entry) → slice_get (entries_from n xs) i ≡ Some e
+    → exports.number_of e ≡ n + i
+number_at n i [] e h = absurd (none-some e h)
+number_at n zero (x ∷ xs) e h =
     let same : n ≡ n + 0 = omega arith in
-    ap (λ (w : List ℕ × (ExportIndex × ComponentExternData)). w.1.0.0) (sym (same_Some _ e h)) ∙ same
-entry_number n (suc i) (x ∷ xs) e h =
-    let later = entry_number (n + 1) i xs e h in
+    ap exports.number_of (sym (same_Some _ e h)) ∙ same
+number_at n (suc i) (x ∷ xs) e h =
+    let later = number_at (n + 1) i xs e h in
     let same : n + 1 + i ≡ n + suc i = omega arith in
     later ∙ same
+
+-- functions have no parts
+no_parts : (signatures : List ModuleInternedTypeIndex) (n : ℕ) (xs : List NamedFunction) (items : List Export)
+    → AllZip (IsExportOf signatures) xs items → are_behind_their_parts n items ≡ true
+no_parts signatures n [] [] h = refl
+no_parts signatures n [] (e ∷ items) h = absurd h
+no_parts signatures n (x ∷ xs) [] h = absurd h
+no_parts signatures n (x ∷ xs) (export.LiftedFunction ty func options ∷ items) h =
+    no_parts signatures (n + 1) xs items h.1
+no_parts signatures n (x ∷ xs) (e ∷ items) h = absurd h.0
 
 -- options entries of different signatures differ
 distinct_entries : (signatures : List ModuleInternedTypeIndex) → AreDistinct signatures
@@ -250,87 +274,185 @@ reading_is : (t : TypeTable) (exposed : Option (List ℕ)) (limit : ℕ) (ps : L
     → reading t exposed limit ps ≡ and_then o (λ now. done (result_at now))
 reading_is t exposed limit ps o begins h = rw (begins, h) refl
 
--- a frame that was read to the end, and its plan
+-- a frame that was read to the end, and its plan, with what the plan exports
+record Planned (types : Types) (f : Frame) (p : plan.PlanView Mark) (now : scope.Moment) : Type 0 where
+  stands : Standing.StandsFor types p f now
+  run : Runs p (run_from p (λ r. true) p.initializers start) (trace_from p (λ r. true) p.initializers start) []
+      stands.made
+  nodes : List (NamedNode (Numbered types))
+  ends : export_nodes p (Standing.after stands.made) ≡ Some (map (map_named (number_of types)) nodes)
+  same : map (map_named (whole_of types)) nodes ≡ map export_node now.scope.exports
+
+-- so it does what was read, with types
+typed_as : (types : Types) (f : Frame) (p : plan.PlanView Mark) (now : scope.Moment) → Planned types f p now
+    → TypedAs types p (whole_reading (result_at now))
+typed_as types f p now h =
+    let made = h.stands.made in
+    let log = now.world.log in
+    let own = owned_same types p made (instances_of log) h.stands.log in
+    record {
+      never_stuck = record {
+        last = Standing.after made;
+        nodes = map (map_named (number_of types)) h.nodes;
+        runs = h.run.runs;
+        ends = h.ends;
+      };
+      instances = own.instances;
+      entries = map instance_entry own.instances;
+      exports = h.nodes;
+      makes = own.makes;
+      traced = h.run.traced ∙ ap Some (sym h.run.whole ∙ ap (map instance_entry) own.makes
+          ∙ sym (entries_mapped (number_of types) own.instances));
+      ends = refl;
+      same_instances = own.same;
+      same_trace = entries_mapped (whole_of types) own.instances ∙ ap (map instance_entry) own.same
+          ∙ sym (own_trace (instances_of log)) ∙ ap trace (sym h.stands.only);
+      same_exports = h.same;
+    }
+
+module _ (types : Types) (ms : List ModuleRecord) (f : Frame) (names : Contents (List ℕ) Target) (items : List Export)
+    (os : List CanonicalOptions) where
+  -- the plan, with its modules
+  abbrev whole_plan : ComponentTranslation
+  whole_plan = record { component = plan_with f types names items os; trampolines = [] }
+
+  abbrev whole_view : plan.PlanView Mark
+  whole_view = view whole_plan (map as_handed_in ms)
+
+  -- its counts
+  counts_are : (r : Reading) → r.begun ≡ 1 → list_all Standing.makes_one f.initializers ≡ true
+      → counts_view whole_plan.component ≡ counts_of whole_view r types
+  counts_are r begun plain =
+      let made = all_made f.initializers plain in
+      let lowered = none_pass lowers_import (λ m args c. refl) f.initializers plain in
+      let memories = none_pass (fills plan.memory) (λ m args c. refl) f.initializers plain in
+      let tables = none_pass (fills plan.table) (λ m args c. refl) f.initializers plain in
+      let reallocs = none_pass (fills plan.realloc) (λ m args c. refl) f.initializers plain in
+      let callbacks = none_pass (fills plan.callback) (λ m args c. refl) f.initializers plain in
+      let post_returns = none_pass (fills plan.post_return) (λ m args c. refl) f.initializers plain in
+      let resources = zero-add (count_by declares_resource (map initializer_view f.initializers))
+      ∙ none_pass declares_resource (λ m args c. refl) f.initializers plain in
+      λ i. record {
+        runtime_instances = sym made i;
+        component_instances = sym begun i;
+        lowerings = sym lowered i;
+        memories = sym memories i;
+        tables = sym tables i;
+        reallocs = sym reallocs i;
+        callbacks = sym callbacks i;
+        post_returns = sym post_returns i;
+        resources = sym resources i;
+        future_tables = length types.future_tables;
+        stream_tables = length types.stream_tables;
+        error_context_tables = length types.error_context_tables;
+      }
+
+  -- it asks nothing of the host
+  asks_host : (r : Reading) → r.imports ≡ [] → r.imported_resources ≡ [] → AsksHost types whole_view r
+  asks_host r imports resources = record {
+    import_types = subst (λ (hs : List HostImport). AllZip (IsImport types) [] hs) (sym imports) tt;
+    used = λ n i at. absurd (none-some i at);
+    once = λ n m i at. absurd (none-some i at);
+    resources = ap (map Some) (sym resources);
+  }
+
+  -- and nothing is declared
+  declares : (r : Reading) → r.log ≡ map instance_entry (instances_of r.log)
+      → Declares whole_plan (map as_handed_in ms) r
+  declares r only = record {
+    trampolines = omega arith;
+    signatures = refl;
+    resources = sym (ap (filter_map resource_owner) only
+        ∙ nothing_else resource_owner (λ o. refl) (instances_of r.log));
+    adapters = ap length (no_adapters 0 ms)
+        ∙ sym (ap (count_by is_made) only ∙ none_counted is_made (λ o. refl) (instances_of r.log));
+  }
+
+-- the plan of a frame that was read to the end, part by part
+plan_translates : (t : TypeTable) (exposed : Option (List ℕ)) (limit : ℕ) (ps : List Payload) (types : Types)
+    (f : Frame) (names : Contents (List ℕ) Target) (items : List Export) (signatures : List ModuleInternedTypeIndex)
+    → is_numbered t ps ≡ true → nat_lt 0 limit ≡ true → is_translatable t exposed ps ≡ true → Parts t ps
+    → Building.BuildsAll types t (modules_of ps) 0 (body_items ps) Building.empty_frame (Ok f) → FrameHeld types f
+    → AreDistinct signatures → Exports f.exports names items signatures
+    → Translates t exposed limit ps types (whole_plan types (modules_of ps) f names items (map plain_entry signatures))
+    (map as_handed_in (modules_of ps))
+plan_translates t exposed limit ps types f names items signatures numbered begins ok q b frame_held distinct exported =
+    let ms = modules_of ps in
+    let os = map plain_entry signatures in
+    let p : plan.PlanView Mark = whole_view types ms f names items os in
+    let handed : p.handed_in ≡ ms = all_handed_in ms in
+    let sound : list_all (is_sound t) p.handed_in ≡ true = rw handed q.modules in
+    let b' = subst (λ (xs : List ModuleRecord). Building.BuildsAll types t xs 0 (body_items ps) Building.empty_frame
+    (Ok f)) (sym handed) b in
+    let e : Ends types p f (read_items t p.handed_in 0 (body_items ps) first) =
+    items_agree types t p sound (has_trees t q.table q.entries) refl 0 (body_items ps) Building.empty_frame first
+    (first_stands types p) (Ok f) b' in
+    let is_done : read_items t ms 0 (body_items ps) first ≡ done e.now =
+    subst (λ (xs : List ModuleRecord). read_items t xs 0 (body_items ps) first ≡ done e.now) handed e.is_done in
+    let made = e.stands.made in
+    let log = e.now.world.log in
+    let r : Reading = whole_reading (result_at e.now) in
+    let few : length f.initializers ≤ p.counts.runtime_instances = omega arith in
+    let ns = all_nodes types p made signatures refl refl items f.exports e.now.scope.exports exported.each e.stands.exports in
+    let entries : names.definitions ≡ entries_from 0 f.exports =
+    names_are names f.exports (frame_names types t ps f q b) exported.names in
+    let count = zip_length (IsExportOf signatures) f.exports items exported.each in
+    let typed = typed_as types f p e.now (record {
+      stands = e.stands;
+      run = runs_within p f.initializers made e.stands.plain e.stands.runs few;
+      nodes = ns.nodes;
+      ends = subst (λ (es : List Entry). map_all (named_node p (Standing.after made))
+          (filter_map (named_view (trees_of items)) es) ≡ Some (map (map_named (number_of types)) ns.nodes))
+          (sym entries) ns.resolve;
+      same = ns.same;
+    }) in
+    record {
+      numbered = numbered;
+      able = rw (begins, ok) refl;
+      result = r;
+      outcome = done_whole t exposed limit ps ok (result_at e.now)
+          (reading_is t exposed limit ps (done e.now) begins is_done);
+      does = does_as types p r typed;
+      typed = typed;
+      handed_in = handed ∙ sym (modules_alike ps);
+      counts = counts_are types ms f names items os r e.stands.begun e.stands.plain;
+      plain = e.stands.numbered ∙ zip_length (Standing.OwnedStands types p) made (instances_of log) e.stands.log
+          ∙ sym (length-map (instances_of log) instance_entry)
+          ∙ ap length (sym (own_trace (instances_of log)) ∙ ap trace (sym e.stands.only));
+      asked = asks_host types ms f names items os r refl refl;
+      declared = declares types ms f names items os r e.stands.only;
+      signed = λ n m at. absurd (none_signed 21 n m at);
+      shared = distinct_entries signatures distinct;
+      names = plan_names types f (plan_with f types names items os) frame_held (record {
+        signatures = signatures;
+        distinct = distinct;
+        exported = exported;
+        is_it = refl;
+      });
+      items = record {
+        as_many = sym count ∙ sym (ap length entries ∙ length_entries 0 f.exports);
+        in_order = λ n x at. number_at 0 n f.exports x
+            (ap (λ (es : List Entry). slice_get es n) (sym entries) ∙ at) ∙ zero-add n;
+      };
+      held = true_and (names_below (length items) names.definitions) (are_behind_their_parts 0 items) (rw entries (held_from 0 (length items) f.exports
+          (rw (zero-add (length f.exports), count) (omega arith)))) (no_parts signatures 0 f.exports items exported.each);
+      finds = subst (Names names) (sym entries) exported.names;
+    }
+
+-- the plan of a frame that was read to the end
 pub translated : (t : TypeTable) (exposed : Option (List ℕ)) (limit : ℕ) (ps : List Payload) (types : Types)
     (f : Frame) (c : Component) (mts : List ModuleTranslation)
     → is_numbered t ps ≡ true → nat_lt 0 limit ≡ true → is_translatable t exposed ps ≡ true → Parts t ps
     → Building.BuildsAll types t (modules_of ps) 0 (body_items ps) Building.empty_frame (Ok f) → FrameHeld types f
-    → IsPlanOf f types c → map module_view mts ≡ modules_of ps
-    → Translates t exposed limit ps types (record { component = c }) mts
-translated t exposed limit ps types f c mts numbered begins ok q b frame_held is_plan same_modules =
-    let p : plan.PlanView TypeNumber = view (record { component = c }) mts in
-    let counted : nat_lt 0 p.counts.component_instances ≡ true =
-    rw (ap (λ (k : plan.Counts). k.component_instances) is_plan.counts) refl in
-    let sound : list_all (is_sound t) p.handed_in ≡ true = rw same_modules q.modules in
-    let b' = subst (λ (ms : List ModuleRecord). Building.BuildsAll types t ms 0 (body_items ps) Building.empty_frame
-    (Ok f)) (sym same_modules) b in
-    let e : Ends types p f (read_items t p.handed_in 0 (body_items ps) first) =
-    items_agree types t p sound (has_trees t q.table q.entries) counted 0 (body_items ps) Building.empty_frame first
-    (first_stands types p) (Ok f) b' in
-    let is_done : read_items t (modules_of ps) 0 (body_items ps) first ≡ done e.now =
-    subst (λ (ms : List ModuleRecord). read_items t ms 0 (body_items ps) first ≡ done e.now) same_modules e.is_done in
-    let made = e.stands.made in
-    let few : length f.initializers ≤ p.counts.runtime_instances =
-    rw (ap (λ (k : plan.Counts). k.runtime_instances) is_plan.counts) (omega arith) in
-    let listed : p.options ≡ map options_view (map plain_entry is_plan.signatures) =
-    ap (map options_view) is_plan.options in
-    let ns = all_nodes types p made is_plan.signatures counted listed c.export_items f.exports e.now.scope.exports is_plan.exported.each e.stands.exports in
-    let count = zip_length (IsExportOf is_plan.signatures) f.exports c.export_items is_plan.exported.each in
-    let steps : length f.initializers ≡ length (instances_of e.now.world.log) =
-    e.stands.numbered ∙ zip_length (Standing.OwnedStands types p) made (instances_of e.now.world.log) e.stands.log in
-    let begun : 1 ≡ e.now.world.begun = sym e.stands.begun in
-    let names = is_plan.exported.names in
-    let own = owned_same types p made (instances_of e.now.world.log) e.stands.log in
-    let typed : TypedAs types p (whole_reading (result_at e.now)) = record {
-      last = Standing.after made;
-      instances = own.instances;
-      exports = ns.nodes;
-      runs = subst (λ (is : List GlobalInitializer). run_from p (λ r. true) (map initializer_view is) start ≡ Some
-          (Standing.after made)) (sym is_plan.initializers)
-          (runs_within p f.initializers made e.stands.runs few);
-      makes = own.makes;
-      ends = subst (λ (es : List (List ℕ × (ExportIndex × ComponentExternData))).
-          map_all (named_node p (Standing.after made)) (filter_map (named_view c.export_items) es) ≡ Some
-          (map (map_named (number_of types)) ns.nodes))
-          (sym is_plan.exported.names) ns.resolve;
-      same_instances = own.same;
-      same_exports = ns.same;
-    } in
-    record {
-      numbered = numbered;
-      able = rw (begins, ok) refl;
-      result = whole_reading (result_at e.now);
-      outcome = done_whole t exposed limit ps ok (result_at e.now)
-          (reading_is t exposed limit ps (done e.now) begins is_done);
-      does = does_as types p (whole_reading (result_at e.now)) typed;
-      typed = typed;
-      handed_in = same_modules ∙ sym (modules_alike ps);
-      counts = is_plan.counts ∙ (λ i. record {
-        runtime_instances = steps i;
-        component_instances = begun i;
-        lowerings = 0;
-        memories = 0;
-        tables = 0;
-        reallocs = 0;
-        callbacks = 0;
-        post_returns = 0;
-        resources = 0;
-        future_tables = length types.future_tables;
-        stream_tables = length types.stream_tables;
-        error_context_tables = length types.error_context_tables;
-      });
-      shared = subst (λ (os : List CanonicalOptions). AreDistinct os) (sym is_plan.options)
-          (distinct_entries is_plan.signatures is_plan.distinct);
-      names = plan_names types f c frame_held is_plan;
-      items = record {
-        as_many = sym count ∙ sym (ap length names ∙ length_entries 0 f.exports);
-        in_order = λ n x at. entry_number 0 n f.exports x
-            (ap (λ (es : List (List ℕ × (ExportIndex × ComponentExternData))). slice_get es n) (sym names) ∙ at)
-            ∙ zero-add n;
-      };
-      held = rw is_plan.exported.names (held_from 0 (length c.export_items) f.exports
-          (rw (zero-add (length f.exports), count) (omega arith)));
-    }
+    → IsPlanOf f types c → mts ≡ map as_handed_in (modules_of ps)
+    → Translates t exposed limit ps types (record { component = c; trampolines = [] }) mts
+translated t exposed limit ps types f c mts numbered begins ok q b frame_held is_plan modules =
+    subst (λ (xs : List ModuleTranslation). Translates t exposed limit ps types
+    (record { component = c; trampolines = [] }) xs) (sym modules)
+    (subst (λ (d : Component). Translates t exposed limit ps types (record { component = d; trampolines = [] })
+    (map as_handed_in (modules_of ps))) (sym is_plan.is_it)
+    (plan_translates t exposed limit ps types f c.exports c.export_items is_plan.signatures numbered begins ok q b
+    frame_held is_plan.distinct is_plan.exported))
 
 -- a frame that ended at a fault
 pub faulted : (types : Types) (t : TypeTable) (exposed : Option (List ℕ)) (limit : ℕ) (ps : List Payload)

@@ -1,6 +1,8 @@
 -- What the public contracts rest on.
 pub mod Gained
 pub mod Typed
+pub mod Asked
+pub mod Lists
 pub mod Translation
 -- What the functions inside promise each other.
 pub mod Places

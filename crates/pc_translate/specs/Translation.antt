@@ -1,30 +1,30 @@
 -- The theorem: the plan that a translation answers does what the nested reading of the payloads says.
-use Rattle.std.specs.Prelude.{◌≡◌, ◌<◌, ℕ, Bool, true, false, List, map, length, nat_lt, slice_get, Option, Some, None, ◌&&◌, ◌⊎◌}
+use Rattle.std.specs.Prelude.{◌≡◌, ℕ, true, false, Bool, List, map, length, nat_lt, option_map, Option, Some, None, ◌&&◌, ◌⊎◌}
 use Rattle.pc_builder.specs.Types.{Types}
 use Rattle.pc_entity.specs.Lists.{AreDistinct}
-use Rattle.pc_numbers.specs.declared.runtime.ExportIndex.{ExportIndex}
-use Rattle.pc_types.specs.declared.types.ComponentExternData.{ComponentExternData}
 use Rattle.pc_types.specs.declared.error.Error.{Error}
 use Rattle.pc_types.specs.declared.error.Error.TheVariants as error
 use Rattle.pc_types.specs.declared.parsed.TypeTable.{TypeTable}
+use Rattle.pc_semantics.specs.Counts.{own_counts}
 use Rattle.pc_semantics.specs.ExportNode.{erase_named}
-use Rattle.pc_semantics.specs.Log.{instances_of, erase_owned}
+use Rattle.pc_semantics.specs.Log.{instances_of, erase_entry, erase_owned, trace}
 use Rattle.pc_semantics.specs.Machine.{NeverStuck, owned_instances}
 use Rattle.pc_semantics.specs.PlanView.{PlanView, Counts}
-use Rattle.pc_info.specs.declared.component.Component.{Component}
+use Rattle.pc_semantics.specs.Trace.{run_trace}
 use Rattle.pc_info.specs.declared.component.ComponentTranslation.{ComponentTranslation}
-use Rattle.pc_info.specs.declared.component.ModuleTranslation.{ModuleTranslation}
-use Rattle.pc_info.specs.declared.export.Export.{Export}
-use Rattle.pc_info.specs.declared.export.Export.TheVariants as export
-use Rattle.pc_info.specs.declared.options.CanonicalOptions.{CanonicalOptions}
-use Rattle.pc_info.specs.View.{view, has_items, module_view, counts_view}
+use Rattle.pc_info.specs.declared.module.ModuleTranslation.{ModuleTranslation}
+use Rattle.pc_info.specs.Exports.{has_items}
+use Rattle.pc_info.specs.Modules.{handed_in_view}
+use Rattle.pc_info.specs.View.{view, counts_view}
 use Rattle.pc_parsed.specs.declared.payload.Payload.{Payload}
 use Rattle.pc_parsed.specs.Program.{is_numbered, is_translatable, not_built}
 use Rattle.pc_parsed.specs.StaticFault.{static_fault}
 use Rattle.pc_reading.specs.Outcome.{Outcome, done, fault, invalid, bad_type}
 use Rattle.pc_reading.specs.Reading.{Reading, reading}
 use Rattle.pc_reading.specs.Section.{modules_of}
+use Rattle.pc_translate.specs.Asked.{AreSigned, AsksHost, Declares}
 use Rattle.pc_translate.specs.Gained.{AreGained, SomeLiftLacksPlace}
+use Rattle.pc_translate.specs.Lists.{FindsExports, NamesHeld, NumbersItems}
 use Rattle.pc_translate.specs.Typed.{TypedAs}
 
 -- what payloads mean; no total is counted yet
@@ -32,56 +32,23 @@ unfoldable pub meaning : TypeTable → (exposed : Option (List ℕ)) → (limit 
 meaning t exposed limit ps = reading t exposed limit None ps
 
 -- a plan never gets stuck and does what a reading says: run from nothing, it makes the same core instances of the
--- same modules, in the same order, for the same component instances, with the same arguments, and it ends with the
--- same exports; adapter modules aside and types erased
+-- same modules, in the same order, for the same component instances, with the same arguments, and the same resources
+-- among them, and it ends with the same exports; adapter modules aside and types erased
 pub record DoesAs {τ : Type 0} (plan : PlanView τ) (r : Reading) : Type 0 where
   pub never_stuck : NeverStuck plan
   pub same : map erase_owned (owned_instances never_stuck.last) ≡ map erase_owned (instances_of r.log)
+  pub traced : option_map (map erase_entry) (run_trace plan) ≡ Some (map erase_entry (trace r.log))
   pub exports : map erase_named never_stuck.nodes ≡ map erase_named r.nodes
 
 -- whether payloads can be translated: a limit that lets the root begin, kinds that are built, and no static fault
 abbrev pub can_translate : TypeTable → (exposed : Option (List ℕ)) → (limit : ℕ) → List Payload → Bool
 can_translate t exposed limit ps = nat_lt 0 limit && is_translatable t exposed ps
 
--- the counts of a plan for a reading, where the types builder holds these types afterwards: how many steps or entries
--- of each kind there are, and how many tables of futures, streams and error contexts the builder holds
-abbrev pub counts_of : Reading → Types → Counts
-counts_of r types = record {
-  runtime_instances = length (instances_of r.log);
-  component_instances = r.begun;
-  lowerings = 0;
-  memories = 0;
-  tables = 0;
-  reallocs = 0;
-  callbacks = 0;
-  post_returns = 0;
-  resources = 0;
-  future_tables = length types.future_tables;
-  stream_tables = length types.stream_tables;
-  error_context_tables = length types.error_context_tables;
-}
-
--- each export of a plan has the item at its place, and no item stands beside these
-pub record NumbersItems (c : Component) : Type 0 where
-  pub as_many : length c.export_items ≡ length c.exports
-  pub in_order : (n : ℕ) (e : List ℕ × (ExportIndex × ComponentExternData)) → slice_get c.exports n ≡ Some e
-      → e.1.0.0 ≡ n
-
--- an exported function has a type that the builder holds, and an options entry
-abbrev pub IsHeldExport : Types → List CanonicalOptions → Export → Type 0
-IsHeldExport types options (export.LiftedFunction ty func o) = (ty.0 < length types.funcs) × (o.0 < length options)
-
--- an export has the options of this number
-abbrev pub HasOptions : ℕ → Export → Type 0
-HasOptions n (export.LiftedFunction ty func o) = o.0 ≡ n
-
--- what an export names is there, and an options entry is there for an export
-pub record NamesHeld (c : Component) (types : Types) : Type 0 where
-  pub exports : (n : ℕ) (e : Export) → slice_get c.export_items n ≡ Some e → IsHeldExport types c.options e
-  pub signatures : (n : ℕ) (o : CanonicalOptions) → slice_get c.options n ≡ Some o
-      → o.core_type.0 < length types.signatures
-  pub used : (n : ℕ) → n < length c.options
-      → (k : ℕ) × (e : Export) × (slice_get c.export_items k ≡ Some e) × HasOptions n e
+-- the counts of a plan for a reading, where the types builder holds these types afterwards: how many steps of each kind
+-- there are, how many component instances began, and how many tables of futures, streams and error contexts there are
+abbrev pub counts_of : {τ : Type 0} → PlanView τ → Reading → Types → Counts
+counts_of plan r types = own_counts plan r.begun (length types.future_tables) (length types.stream_tables)
+    (length types.error_context_tables)
 
 -- a plan and its modules are what a translation of payloads is to answer, where the types builder holds these types
 -- afterwards
@@ -96,17 +63,25 @@ pub record Translates (t : TypeTable) (exposed : Option (List ℕ)) (limit : ℕ
   pub does : DoesAs (view plan modules) result
   -- and so it does with its types: under each number the builder holds what the reading has there
   pub typed : TypedAs types (view plan modules) result
-  -- the modules are those of the payloads, in order
-  pub handed_in : map module_view modules ≡ modules_of ps
+  -- the modules that were handed in are those of the payloads, in order
+  pub handed_in : handed_in_view modules ≡ modules_of ps
   -- the plan counts what it has
-  pub counts : counts_view plan.component ≡ counts_of result types
+  pub counts : counts_view plan.component ≡ counts_of (view plan modules) result types
+  -- each step is one of the trace, so no slot is filled
+  pub plain : length plan.component.initializers ≡ length (trace result.log)
+  -- nothing is asked of the host, declared or signed but what the reading asks for, declares and signs
+  pub asked : AsksHost types (view plan modules) result
+  pub declared : Declares plan modules result
+  pub signed : AreSigned types (view plan modules) result.intrinsics
   -- lifts with equal options share an options entry
   pub shared : AreDistinct plan.component.options
   -- types, signatures and options are there, and each options entry is used
   pub names : NamesHeld plan.component types
   -- each export of the plan has its item
   pub items : NumbersItems plan.component
-  pub held : has_items plan ≡ true
+  pub held : has_items plan.component ≡ true
+  -- and is found under its name
+  pub finds : FindsExports plan.component
 
 -- an error is the first static fault of an input
 abbrev pub IsFirstFault : TypeTable → (exposed : Option (List ℕ)) → List Payload → Error → Type 0

@@ -1,28 +1,43 @@
 //! From a frame to a plan: the exports with their options, and the counts.
 
-ghost use Rattle.std.specs.Prelude.{◌≡◌, ◌<◌, ◌≤◌, ◌+◌, ◌++◌, ◌∷◌, [], None, true, length, map, IfOk, OnOk};
-ghost use Rattle.pc_entity.specs.Lists.{value_of};
-ghost use Rattle.pc_types.specs.Names.{distinct_names};
-ghost use Rattle.pc_translate.specs.Planning.{AddsExport, Exports, IsPlanOf, export_name, plain_entry};
+ghost use Rattle.std.specs.Prelude.{◌≡◌, ◌<◌, ◌≤◌, ◌+◌, length, map, IfOk, OnOk};
+ghost use Rattle.pc_translate.specs.Planning.{AddsExport, AddsName, Exports, IsPlanOf, plain_entry};
 
 use crate::frame::{Frame, NamedFunction};
 use pc_builder::ComponentTypesBuilder;
 use pc_entity::{
-    ExportIndex, Interner, NoMemory, OptionsIndex, PrimaryMap, RuntimeComponentInstanceIndex,
-    TextMap, TryClone,
+    ExportIndex, Interner, NoMemory, OptionsIndex, PrimaryMap, RuntimeComponentInstanceIndex, Text,
+    TryClone,
 };
 use pc_info::{
     CanonicalOptions, CanonicalOptionsDataModel, Component, Export, LinearMemoryOptions,
 };
+use pc_names::{NameMap, NameMapNoIntern};
 use pc_types::{ComponentExternData, ModuleInternedTypeIndex, StringEncoding, TypeKind};
 use std::alloc::Global;
 
 /// What a plan exports, with the signatures that its options entries have: the entry of a signature has its number.
 #[derive(Drop)]
 pub(crate) struct Exported {
-    pub names: TextMap<(ExportIndex, ComponentExternData)>,
+    pub names: NameMap<Text, (ExportIndex, ComponentExternData)>,
     pub items: PrimaryMap<ExportIndex, Export>,
     pub signatures: Interner<ModuleInternedTypeIndex>,
+}
+
+/// Exports an item under a name that has none yet, so that nothing but memory can be wanting.
+fn push_name(
+    alloc: Global,
+    names: &mut NameMap<Text, (ExportIndex, ComponentExternData)>,
+    name: &str,
+    target: (ExportIndex, ComponentExternData),
+) -> Result<(), NoMemory>
+    ensures { OnOk result (AddsName names.old names.new name.now target) }
+{
+    let mut keys = NameMapNoIntern::new(alloc);
+    match names.insert(name, &mut keys, false, target) {
+        Ok(_) => Ok(()),
+        Err(_) => Err(NoMemory),
+    }
 }
 
 /// Exports one more function.
@@ -31,14 +46,12 @@ fn push_export(
     exported: &mut Exported,
     named: &NamedFunction,
 ) -> Result<(), NoMemory>
-    requires absent { value_of named.now.name.name exported.old.names ≡ None }
     requires signatures { length exported.old.signatures < 4294967295 }
     requires items { length exported.old.items < 4294967295 }
     ensures ok { OnOk result (AddsExport exported.old exported.new named.now) }
 {
     let function = &named.function;
     let func = function.func.try_clone(alloc)?;
-    let name = named.name.name.try_clone(alloc)?;
     let implements = named.name.implements.try_clone(alloc)?;
     let external_id = named.name.external_id.try_clone(alloc)?;
     let options = OptionsIndex(exported.signatures.push(function.core_type)?);
@@ -52,18 +65,21 @@ fn push_export(
         implements,
         external_id,
     };
-    exported.names.push(name, (index, data))?;
-    Ok(())
+    push_name(
+        alloc,
+        &mut exported.names,
+        named.name.name.as_str(),
+        (index, data),
+    )
 }
 
 /// The exports of these functions, in order.
 fn export_all(alloc: Global, functions: &[NamedFunction]) -> Result<Exported, NoMemory>
-    requires distinct { distinct_names (map export_name functions.now) ≡ true }
     requires few { length functions.now < 4294967295 }
     ensures { IfOk result (λ e. Exports functions.now e.names e.items e.signatures) }
 {
     let mut exported = Exported {
-        names: TextMap::new(alloc),
+        names: NameMap::new(alloc),
         items: PrimaryMap::new(alloc),
         signatures: Interner::new(alloc),
     };
@@ -111,7 +127,6 @@ pub(crate) fn plan_of(
     types: &ComponentTypesBuilder,
     frame: Frame,
 ) -> Result<Component, NoMemory>
-    requires distinct { distinct_names (map export_name frame.exports) ≡ true }
     requires few_exports { length frame.exports < 4294967295 }
     requires few_steps { length frame.initializers < 4294967296 }
     ensures { IfOk result (λ c. IsPlanOf frame types.now c) }
@@ -119,22 +134,15 @@ pub(crate) fn plan_of(
     let exported = export_all(alloc, frame.exports.as_slice())?;
     let options = entries(alloc, exported.signatures.as_slice())?;
     let num_runtime_instances = frame.initializers.len() as u32;
-    Ok(Component {
-        exports: exported.names,
-        export_items: exported.items,
-        initializers: frame.initializers,
-        num_runtime_instances,
-        num_runtime_component_instances: 1,
-        num_lowerings: 0,
-        num_runtime_memories: 0,
-        num_runtime_tables: 0,
-        num_runtime_reallocs: 0,
-        num_runtime_callbacks: 0,
-        num_runtime_post_returns: 0,
-        num_resources: 0,
-        num_future_tables: types.held(TypeKind::FutureTable),
-        num_stream_tables: types.held(TypeKind::StreamTable),
-        num_error_context_tables: types.held(TypeKind::ErrorContextTable),
-        options,
-    })
+    let mut component = Component::new(alloc);
+    component.exports = exported.names;
+    component.export_items = exported.items;
+    component.initializers = frame.initializers;
+    component.num_runtime_instances = num_runtime_instances;
+    component.num_runtime_component_instances = 1;
+    component.num_future_tables = types.held(TypeKind::FutureTable);
+    component.num_stream_tables = types.held(TypeKind::StreamTable);
+    component.num_error_context_tables = types.held(TypeKind::ErrorContextTable);
+    component.options = options;
+    Ok(component)
 }

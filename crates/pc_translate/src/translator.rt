@@ -1,17 +1,17 @@
 //! The top call over payloads.
 
-ghost use Rattle.std.specs.Prelude.{◌≡◌, false, map, sum_by, None, Some, Err, is_some, IfErr, IfOk, OnOk};
+ghost use Rattle.std.specs.Prelude.{◌≡◌, [], false, map, sum_by, None, Some, Err, is_some, IfErr, IfOk, OnOk};
 ghost use Rattle.std.specs.Option.{option_map};
 ghost use Rattle.pc_builder.specs.Types.{KeepsTypes, no_types};
-ghost use Rattle.pc_info.specs.View.{module_view};
 ghost use Rattle.pc_translate.specs.Gained.{AddsTypes, items_in};
+ghost use Rattle.pc_translate.specs.Planning.{as_handed_in};
 ghost use Rattle.pc_translate.specs.Translation.{HasCause, IsPlanOf, IsRefusalOf, Translates};
 
 use crate::plan::plan_of;
 use crate::reader::read_program;
 use pc_builder::ComponentTypesBuilder;
-use pc_entity::{NoMemory, PrimaryMap, StaticModuleIndex};
-use pc_info::{ComponentTranslation, ModuleTranslation};
+use pc_entity::{NoMemory, PrimaryMap, Seq, StaticModuleIndex};
+use pc_info::{Component, ComponentTranslation, ModuleTranslation};
 use pc_parsed::{Payload, Tunables, is_numbered, not_built, translate_payloads};
 use pc_types::{Error, ModuleRecord, TypeTable};
 use std::alloc::Global;
@@ -27,13 +27,24 @@ fn translations(
     alloc: Global,
     modules: PrimaryMap<StaticModuleIndex, ModuleRecord>,
 ) -> Result<PrimaryMap<StaticModuleIndex, ModuleTranslation>, NoMemory>
-    ensures { IfOk result (λ ms. map module_view ms ≡ modules) }
+    ensures { IfOk result (λ ms. ms ≡ map as_handed_in modules) }
 {
     let mut translations = Vec::with_capacity(alloc, modules.len())?;
     for module in modules.into_vec() {
-        translations.push(ModuleTranslation { module })?;
+        let adapters = Seq::new(alloc);
+        translations.push(ModuleTranslation { module, adapters })?;
     }
     Ok(PrimaryMap::from_vec(translations))
+}
+
+/// A plan without trampolines.
+fn without_trampolines(alloc: Global, component: Component) -> ComponentTranslation
+    ensures { result ≡ record { component = component; trampolines = [] } }
+{
+    ComponentTranslation {
+        component,
+        trampolines: PrimaryMap::new(alloc),
+    }
 }
 
 /// The plan that payloads are translated to, and its core modules: those of the payloads, in order.
@@ -73,7 +84,7 @@ pub fn translate(
     let frame = read_program(alloc, types, table, &program)?;
     let component = plan_of(alloc, types, frame)?;
     let modules = translations(alloc, program.modules)?;
-    Ok((ComponentTranslation { component }, modules))
+    Ok((without_trampolines(alloc, component), modules))
 }
 
 /// What `translate` answers with a builder that holds no types, for callers that don't ask for those of the plan.

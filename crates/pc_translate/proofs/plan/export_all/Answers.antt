@@ -1,22 +1,11 @@
-use Rattle.std.proofs.Common.{◌≡◌, ◌<◌, ◌≤◌, ◌+◌, ◌++◌, ◌∷◌, [], length, take, drop, suc, sym, subst, ◌∙◌, add-one, drop-cons, arith, List}
+use Rattle.std.proofs.Common.{◌≡◌, ◌<◌, ◌≤◌, ◌+◌, ◌++◌, ◌∷◌, [], length, take, sym, subst, ◌∙◌, arith, List}
 use Rattle.std.proofs.lemmas.Grind.{take_at_read}
 use Rattle.std.proofs.lemmas.List.{length-take-le}
 use Rattle.pc_translate.proofs.MeansLemmas.{zip_length}
-use Rattle.pc_translate.proofs.NameLemmas.{ExportedSoFar, absent_at, exported_next}
+use Rattle.pc_translate.proofs.NameLemmas.{ExportedSoFar, exported_next}
 use Rattle.pc_translate.specs.declared.frame.NamedFunction.{NamedFunction}
 use Rattle.pc_translate.specs.Planning.{IsExportOf}
 use Rattle.pc_translate.proofs.plan.export_all.Goals as goal
-
-pub push_export-requires-clause-absent : goal.push_export-requires-clause-absent
-push_export-requires-clause-absent c =
-    let i = c.loop-named.named-index in
-    let xs = c.args.functions.now in
-    let x = c.named-item.result in
-    let is_it = c.named-item.is in
-    let within : i < length xs = omega arith in
-    let at : drop i xs ≡ x ∷ drop (i + 1) xs = rw add-one
-    (drop-cons xs i x within ∙ (λ j. sym is_it j ∷ drop (suc i) xs)) in
-    rw c.loop-named.invariant.exports.names (absent_at xs i x at c.requires.distinct)
 
 pub push_export-requires-clause-signatures : goal.push_export-requires-clause-signatures
 push_export-requires-clause-signatures c =

@@ -22,12 +22,6 @@ returns-in_err-frame-clause-refused c =
     (rules, c.if-not-is_numbered.false, c.is_numbered.ensures)) begins c.in_err-frame.ensures.reads
     (λ many. c.in_err-frame.ensures.full (λ j. Err (many j))))
 
-pub plan_of-requires-clause-distinct : goal.plan_of-requires-clause-distinct
-plan_of-requires-clause-distinct c =
-    let exposed = option_map {T = Bor (List ℕ)} (λ name. name.now) c.args.exposed in
-    CauseLemmas.names_distinct c.args.table.now exposed c.args.tunables.now.max_component_instances c.args.payloads.now c.in_ok-program.program
-    c.in_ok-program.ensures.program c.in_ok-program.ensures.translatable c.read_program.new.types c.in_ok-frame.frame c.in_ok-frame.ensures.reads
-
 pub plan_of-requires-clause-few_exports : goal.plan_of-requires-clause-few_exports
 plan_of-requires-clause-few_exports c =
     let exposed = option_map {T = Bor (List ℕ)} (λ name. name.now) c.args.exposed in
@@ -48,8 +42,8 @@ returns-clause-translated c =
     let limit = c.args.tunables.now.max_component_instances in
     let begins : nat_lt 0 limit ≡ true = lt-ltb 0 limit (omega (arith, c.if-tunables-eq0.false)) in
     CauseLemmas.translates c.args.table.now exposed limit c.args.payloads.now c.in_ok-program.program c.in_ok-program.ensures.program
-    c.in_ok-program.ensures.translatable c.read_program.new.types c.in_ok-frame.frame c.in_ok-component.component c.in_ok-modules.modules
-    (grind (rules, c.if-not-is_numbered.false, c.is_numbered.ensures)) begins c.in_ok-frame.ensures.reads
+    c.in_ok-program.ensures.translatable c.read_program.new.types c.in_ok-frame.frame c.in_ok-component.component c.without_trampolines.result c.in_ok-modules.modules
+    c.without_trampolines.ensures (grind (rules, c.if-not-is_numbered.false, c.is_numbered.ensures)) begins c.in_ok-frame.ensures.reads
     c.in_ok-frame.ensures.held c.in_ok-component.ensures c.in_ok-modules.ensures
 
 pub returns-in_err-program-clause-refused : goal.returns-in_err-program-clause-refused

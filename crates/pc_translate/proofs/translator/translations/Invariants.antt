@@ -1,6 +1,6 @@
 use Rattle.std.proofs.Common.{◌≡◌, map}
-use Rattle.pc_info.specs.View.{module_view}
+use Rattle.pc_translate.specs.Planning.{as_handed_in}
 use Rattle.pc_translate.proofs.translator.translations.Given as goal
 
 abbrev pub invariant-loop-module : goal.invariant-loop-module
-invariant-loop-module l = map module_view l.translations.items ≡ l.yielded
+invariant-loop-module l = l.translations.items ≡ map as_handed_in l.yielded
