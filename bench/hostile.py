@@ -246,6 +246,48 @@ def open_components(room):
     return document(PLAIN_TYPES, ['"version"'] + list(repeated(lambda n: '"component","version"', room)))
 
 
+LEVELS = 1000
+
+
+def nested(inside, depth):
+    """A component in which others nest so deep, with what stands in the innermost."""
+    return ['"version"', ",".join(['"component","version"'] * depth), inside, ",".join(['"end"'] * depth), '"end"']
+
+
+def aliases(piece, room):
+    return listed('{"aliases":[', piece, "]}", room)
+
+
+def aliases_across_levels(room):
+    """One module of the root, named over and over from a thousand levels further in."""
+    room -= LEVELS * len('"component","version","end",')
+    return document(PLAIN_TYPES, nested(aliases(lambda n: '{"outer":["core-module",%d,0]}' % LEVELS, room), LEVELS))
+
+
+def things_across_levels(room):
+    """Many modules of the root, each named once from ten levels further in."""
+    return document(PLAIN_TYPES, nested(aliases(lambda n: '{"outer":["core-module",10,%d]}' % n, room - 1000), 10))
+
+
+def aliases_at_each_level(room):
+    """Components within components, and in each an alias of one module of the root."""
+    depth = room // len('"component","version",{"aliases":[{"outer":["core-module",1000000,0]}]},"end",')
+    levels = ",".join('"component","version",{"aliases":[{"outer":["core-module",%d,0]}]}' % (n + 1) for n in range(depth))
+    return document(PLAIN_TYPES, ['"version"', levels, ",".join(['"end"'] * depth), '"end"'])
+
+
+def names_in_a_bag(room):
+    """One core instance of very many items, each under a name of its own."""
+    return document(PLAIN_TYPES, BASE + [listed('{"instances":[{"exports":[', lambda n: '["name-%d","func",0]' % n, "]}]}", room), '"end"'])
+
+
+def names_of_arguments(room):
+    """One instance of a component with very many arguments."""
+    types = '{"core":[[[],[]]],"types":[{"module":[[],[]]},{"instance":[]}]}'
+    return document(types, ['"version"', '"component","version","end"', listed(
+        '{"component-instances":[{"instantiate":[0,[', lambda n: '["name-%d","func",0]' % n, "],1]}]}", room), '"end"'])
+
+
 def many_ends(room):
     """Ends of what never began."""
     return document(PLAIN_TYPES, ['"version"'] + list(repeated(lambda n: '"end"', room)))
@@ -263,7 +305,8 @@ FAMILIES = {
     wide_module: 0, wide_imports: 0, many_arguments: 0, long_signature: 0, long_function_type: 0, many_functions: 0,
     shared_parameters: 0, long_name: 0, long_escapes: 0, names_that_share_a_front: 0, deep_json: 1, deepest_json: 1, wide_json: 1,
     widest_record: 1, many_entries: 1, doubling_tuples: 1, entry_names_itself: 1, nested_components: 1, components_in_a_row: 1,
-    open_components: 1, many_ends: 1, not_utf8: 1,
+    open_components: 1, aliases_across_levels: 1, things_across_levels: 1, aliases_at_each_level: 1, names_in_a_bag: 1,
+    names_of_arguments: 1, many_ends: 1, not_utf8: 1,
 }
 
 
