@@ -1,0 +1,16 @@
+-- What the public contracts rest on, in reading order.
+pub mod Mapped
+pub mod Empty
+pub mod Pushed
+pub mod Numbers
+pub mod Lists
+pub mod Means
+pub mod Nodes
+pub mod Effects
+pub mod Grows
+pub mod Names
+pub mod Held
+pub mod Ordered
+-- `==` is equality of values.
+pub mod Exact
+pub mod ExactOptions

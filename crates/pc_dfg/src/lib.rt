@@ -1,0 +1,35 @@
+//! The graph of a component: what it defines, in lists whose entries name each other by number, with its side effects
+//! in order.
+//!
+//! A graph stands between the reading of a component and its plan. Nothing in it says when a slot is filled or an
+//! options entry is made, so later passes may add to it; only instances and resources have an order, by the list of
+//! side effects. It stands on `pc_intern` for its lists and on `pc_info` for what a core instance's item is known by.
+#![tactic(auto)]
+
+pub mod adapter;
+pub mod core_def;
+pub mod dfg;
+pub mod export;
+pub mod instance;
+pub mod instantiations;
+pub mod laws;
+mod listed;
+pub mod options;
+mod push;
+mod push_error;
+pub mod trampoline;
+
+pub use adapter::{Adapter, AdapterOptions, DataModel};
+pub use core_def::{CoreDef, CoreExport};
+pub use dfg::ComponentDfg;
+pub use export::Export;
+pub use instance::{Instance, Resource, SideEffect};
+pub use instantiations::AbstractInstantiations;
+pub use options::{CanonicalOptions, CanonicalOptionsDataModel, FutureInfo, StreamInfo};
+pub use pc_info::ExportItem;
+pub use pc_intern::{
+    AdapterId, AdapterModuleId, CallbackId, InstanceId, Intern, InternIter, MemoryId, OptionsId,
+    PostReturnId, ReallocId, TableId,
+};
+pub use push_error::PushError;
+pub use trampoline::Trampoline;
