@@ -2,8 +2,7 @@
 
 ghost use Rattle.std.specs.Prelude.{◌<◌, length};
 
-use crate::entries::table_of_each_kind;
-use crate::support::{holds, is_number, is_sound};
+use crate::support::{holds, is_number};
 use pc_builder::ComponentTypesBuilder;
 use pc_entity::ModuleInternedTypeIndex;
 use pc_facts::TypeFacts;
@@ -12,28 +11,16 @@ use pc_types::{
     TypeComponentLocalErrorContextTableIndex, TypeEnumIndex, TypeFlagsIndex, TypeFuncIndex,
     TypeFutureTableIndex, TypeKind, TypeListIndex, TypeModuleIndex, TypeOptionIndex,
     TypeRecordIndex, TypeResourceTable, TypeResourceTableIndex, TypeResultIndex,
-    TypeStreamTableIndex, TypeTable, TypeTupleIndex, TypeVariantIndex,
+    TypeStreamTableIndex, TypeTupleIndex, TypeVariantIndex,
 };
-use std::alloc::Global;
 use std::process::Abort;
-use std::test::*;
 
-#[test]
-fn each_kind_is_read(rt: HostRuntime) -> Result<(), Fail> {
-    let table = table_of_each_kind(rt.alloc())?;
-    let mut types = ComponentTypesBuilder::new(rt.alloc());
-    converts(&rt, rt.alloc(), &mut types, &table);
-    reads_values(&rt, &types);
-    reads_tables(&rt, &types);
-    reads_externs(&rt, &types);
-    reads_func(&rt, &types);
-    Ok(())
-}
-
-fn converts(rt: &impl Abort, alloc: Global, types: &mut ComponentTypesBuilder, table: &TypeTable) {
-    assert!(rt; is_sound(alloc, table));
-    let found = types.convert_type(table, 17);
-    holds(rt, "component", found.is_ok());
+/// That each reader finds the types of a table with an entry of each kind.
+pub fn reads_each(rt: &impl Abort, types: &ComponentTypesBuilder) {
+    reads_values(rt, types);
+    reads_tables(rt, types);
+    reads_externs(rt, types);
+    reads_func(rt, types);
 }
 
 fn reads_values(rt: &impl Abort, types: &ComponentTypesBuilder) {

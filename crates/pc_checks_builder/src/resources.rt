@@ -11,18 +11,13 @@ use std::process::Abort;
 use std::test::*;
 
 #[test]
-fn a_registered_resource_is_found(rt: HostRuntime) -> Result<(), Fail> {
+fn a_registered_resource_is_found(rt: HostRuntime) {
     let mut resources = ResourcesBuilder::new(rt.alloc());
-    register_one(&mut resources)?;
-    let copy = resources.try_clone(rt.alloc())?;
-    finds_one(&rt, &copy);
-    Ok(())
-}
-
-fn register_one(resources: &mut ResourcesBuilder) -> Result<(), Fail> {
-    resources.register_resource(3, ResourceIndex(7))?;
+    let known = resources.register_resource(3, ResourceIndex(7));
+    holds(&rt, "resource", known.is_ok());
     resources.set_current_instance(RuntimeComponentInstanceIndex(2));
-    Ok(())
+    let copy = resources.try_clone(rt.alloc()).expect(&rt, "no memory");
+    finds_one(&rt, &copy);
 }
 
 fn finds_one(rt: &impl Abort, resources: &ResourcesBuilder) {
@@ -36,11 +31,11 @@ fn finds_one(rt: &impl Abort, resources: &ResourcesBuilder) {
 }
 
 #[test]
-fn types_without_a_table_are_numbered(rt: HostRuntime) -> Result<(), Fail> {
+fn types_without_a_table_are_numbered(rt: HostRuntime) {
     let mut types = ComponentTypesBuilder::new(rt.alloc());
     numbers_error_contexts(&rt, &mut types);
     numbers_tuples(&rt, rt.alloc(), &mut types);
-    numbers_handles(&rt, &mut types)
+    numbers_handles(&rt, &mut types);
 }
 
 fn numbers_error_contexts(rt: &impl Abort, types: &mut ComponentTypesBuilder) {
@@ -57,21 +52,13 @@ fn numbers_tuples(rt: &impl Abort, alloc: Global, types: &mut ComponentTypesBuil
     holds(rt, "tuple", found == Ok(TypeTupleIndex(0)));
 }
 
-fn numbers_handles(rt: &impl Abort, types: &mut ComponentTypesBuilder) -> Result<(), Fail> {
-    types
-        .resources_mut()
-        .register_resource(9, ResourceIndex(0))?;
-    holds(
-        rt,
-        "resource",
-        types.resources().lookup(9) == Some(ResourceIndex(0)),
-    );
-    holds(
-        rt,
-        "handles",
-        types.resource_id(9) == Ok(TypeResourceTableIndex(0)),
-    );
-    Ok(())
+fn numbers_handles(rt: &impl Abort, types: &mut ComponentTypesBuilder) {
+    let known = types.resources_mut().register_resource(9, ResourceIndex(0));
+    holds(rt, "resource", known.is_ok());
+    let found = types.resources().lookup(9);
+    holds(rt, "resource", found == Some(ResourceIndex(0)));
+    let handles = types.resource_id(9);
+    holds(rt, "handles", handles == Ok(TypeResourceTableIndex(0)));
 }
 
 #[test]

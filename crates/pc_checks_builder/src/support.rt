@@ -8,7 +8,8 @@ use std::alloc::Global;
 use std::process::Abort;
 use std::test::*;
 
-// That a number is as it has to be. All numbers are compared here, since each `assert_eq` is proved anew where it stands.
+// That a number is as it has to be. All numbers are compared here, since each `assert_eq` is proved anew where it
+// stands.
 pub fn is_number(rt: &impl Abort, what: &str, found: usize, want: usize) {
     assert_eq!(rt; found, want, "{what}");
 }

@@ -1,30 +1,20 @@
-//! The graphs that are tested.
+//! The graphs that are tested, and what they list.
 
 ghost use Rattle.std.specs.Prelude.{◌≡◌, ◌<◌, ℕ, Some, slice_get, IfOk};
+ghost use Rattle.std.specs.List.{All};
+ghost use Rattle.pc_entity.specs.Lists.{AreDistinct};
+ghost use Rattle.pc_graph.specs.Digraph.{Digraph};
 
 use pc_entity::{FuncIndex, NoMemory};
 use pc_graph::{EntityGraph, Graph, GraphError};
 use std::alloc::Global;
 use std::test::*;
 
-/// Nodes 1 and 2 reach each other, and so do 3, 4 and 5; node 0 has an edge to itself.
-pub const CHAIN: [(u32, u32); 8] = [
-    (0, 0),
-    (0, 1),
-    (1, 2),
-    (1, 3),
-    (2, 1),
-    (3, 5),
-    (4, 3),
-    (5, 4),
-];
-
 /// How many nodes a large graph has.
 pub const MANY: u32 = 200000;
 
 /// The numbers below `count`.
-pub fn numbers(alloc: Global, count: u32) -> Result<Vec<FuncIndex>, NoMemory>
-    requires { count < 4294967295 }
+fn numbers(alloc: Global, count: u32) -> Result<Vec<FuncIndex>, NoMemory>
     ensures { IfOk result (λ list. (i : ℕ) (n : FuncIndex) → slice_get list.items i ≡ Some n → (n.0 ≡ i)
         × (i < count)) }
 {
@@ -41,14 +31,14 @@ pub enum Edges<'a> {
     /// These, each node's in their order.
     Listed(&'a [(u32, u32)]),
 
-    /// A path through many nodes.
-    Path,
+    /// One from each of many nodes into the next, and this from the last.
+    Long(Option<u32>),
 
-    /// A cycle through many nodes.
-    Cycle,
-
-    /// Two edges from each other node into node 0.
+    /// Two from each other node into node 0.
     Star,
+
+    /// None, but node 2 is refused.
+    Refused,
 }
 
 impl Edges<'_> {
@@ -59,13 +49,45 @@ impl Edges<'_> {
                 Some((from, to)) if *from == node => Some(*to),
                 _ => None,
             },
-            Edges::Path if number == 0 && node < MANY - 1 => Some(node + 1),
-            Edges::Cycle if number == 0 && node < MANY - 1 => Some(node + 1),
-            Edges::Cycle if number == 0 => Some(0),
+            Edges::Long(_) if number > 0 => None,
+            Edges::Long(last) => {
+                if node < MANY - 1 {
+                    Some(node + 1)
+                } else {
+                    last
+                }
+            }
             Edges::Star if number < 2 && node > 0 => Some(0),
             _ => None,
         }
     }
+
+    /// Appends where the edges of a node lead, of which there are at most eight.
+    fn push_targets(self, node: u32, into: &mut Vec<FuncIndex>) -> Result<(), u32> {
+        if matches!(self, Edges::Refused) && node == 2 {
+            return Err(7);
+        }
+        for number in 0..8 {
+            if let Some(to) = self.target(node, number) {
+                if into.push(FuncIndex(to)).is_err() {
+                    return Err(0);
+                }
+            }
+        }
+        Ok(())
+    }
+}
+
+/// The graph of these nodes with these edges.
+fn made(
+    alloc: Global,
+    nodes: &[FuncIndex],
+    edges: Edges<'_>,
+) -> Result<EntityGraph<FuncIndex>, GraphError<u32>>
+    requires distinct { AreDistinct nodes.now }
+    requires small { All (λ n. n.0 < 4294967295) nodes.now }
+{
+    EntityGraph::new(alloc, nodes, |node, into| edges.push_targets(node.0, into))
 }
 
 /// The graph of the nodes below `count` with these edges.
@@ -73,53 +95,41 @@ pub fn graph_of(
     alloc: Global,
     count: u32,
     edges: Edges<'_>,
-) -> Result<EntityGraph<FuncIndex>, GraphError<NoMemory>>
-    requires { count < 4294967295 }
-{
+) -> Result<EntityGraph<FuncIndex>, GraphError<u32>> {
     let nodes = numbers(alloc, count)?;
-    EntityGraph::new(alloc, nodes.as_slice(), |node, into| {
-        for number in 0..8 {
-            if let Some(to) = edges.target(node.0, number) {
-                into.push(FuncIndex(to))?;
-            }
-        }
-        Ok(())
-    })
+    made(alloc, nodes.as_slice(), edges)
 }
 
 #[test]
 fn a_refused_node_is_told(rt: HostRuntime) -> Result<(), Fail> {
-    let nodes = numbers(rt.alloc(), 5)?;
-    let made = EntityGraph::new(rt.alloc(), nodes.as_slice(), |node, _into| {
-        if node.0 == 2 { Err(7u32) } else { Ok(()) }
-    });
-    assert!(rt; matches!(made, Err(GraphError::Successors(7))));
+    let refused = graph_of(rt.alloc(), 5, Edges::Refused);
+    assert!(rt; matches!(refused, Err(GraphError::Successors(7))));
     Ok(())
 }
 
-/// How many successors a node has.
-fn degree(alloc: Global, graph: &EntityGraph<FuncIndex>, node: u32) -> Result<usize, NoMemory> {
-    let mut found = Vec::new(alloc);
-    graph.by_ref().successors(FuncIndex(node), &mut found)?;
-    Ok(found.len())
+/// The nodes of a graph, and behind them the successors of one.
+pub fn listed<G: Graph<FuncIndex>>(
+    alloc: Global,
+    graph: &G,
+    node: u32,
+) -> Result<Vec<FuncIndex>, NoMemory>
+    requires { (d : Digraph FuncIndex) × G.Shows graph.now d }
+{
+    let mut listed = Vec::new(alloc);
+    graph.nodes(&mut listed)?;
+    graph.successors(FuncIndex(node), &mut listed)?;
+    Ok(listed)
 }
 
-/// The nodes 3 and 1, with as many successors as half of their number.
-fn two_nodes(alloc: Global) -> Result<EntityGraph<FuncIndex>, GraphError<NoMemory>> {
-    EntityGraph::new(alloc, &[FuncIndex(3), FuncIndex(1)], |node, into| {
-        into.push(FuncIndex(node.0 / 2))?;
-        Ok(())
-    })
-}
+/// How many nodes a graph and one of its nodes list: there are four, and half of each given number follows it.
+const LENGTHS: [(u32, usize); 6] = [(0, 4), (1, 5), (2, 4), (3, 5), (4, 4), (4294967295, 4)];
 
 #[test]
 fn a_number_that_was_not_given_has_no_successors(rt: HostRuntime) -> Result<(), Fail> {
-    let graph = two_nodes(rt.alloc())?;
-    let mut listed = Vec::new(rt.alloc());
-    graph.nodes(&mut listed)?;
-    assert_eq!(rt; listed.len(), 4);
-    for (node, want) in [(0, 0), (1, 1), (2, 0), (3, 1), (4, 0), (4294967295, 0)] {
-        assert_eq!(rt; degree(rt.alloc(), &graph, node)?, want, "at {node}");
+    let edges = Edges::Listed(&[(3, 1), (1, 0)]);
+    let graph = made(rt.alloc(), &[FuncIndex(3), FuncIndex(1)], edges)?;
+    for (node, length) in &LENGTHS {
+        assert!(rt; listed(rt.alloc(), &graph, *node)?.len() == *length);
     }
     Ok(())
 }

@@ -7,14 +7,8 @@
 #[cfg(test)]
 mod components;
 #[cfg(test)]
-mod evaporation;
-#[cfg(test)]
-mod filtered;
-#[cfg(test)]
 mod graphs;
 #[cfg(test)]
 mod names;
 #[cfg(test)]
 mod traversal;
-#[cfg(test)]
-mod versions;

@@ -1,19 +1,11 @@
 //! Copies of definitions.
 
+use crate::support::holds;
 use pc_entity::{
     EntityIndex, FuncIndex, MemoryIndex, NoMemory, RuntimeInstanceIndex, Text, TryClone,
 };
 use pc_info::{CoreDef, CoreExport, ExportItem};
 use std::alloc::Global;
-use std::test::Fail;
-
-/// An export that is known by its name.
-fn named(alloc: Global) -> Result<CoreDef, NoMemory> {
-    Ok(CoreDef::Export(CoreExport {
-        instance: RuntimeInstanceIndex(7),
-        item: ExportItem::Name(Text::copy_of(alloc, "a b")?),
-    }))
-}
 
 /// An export that is known by its entity.
 const NUMBERED: CoreExport<EntityIndex> = CoreExport {
@@ -27,27 +19,27 @@ const MEMORY: CoreExport<MemoryIndex> = CoreExport {
     item: ExportItem::Index(MemoryIndex(2)),
 };
 
-#[test]
-fn a_definition_by_name_is_copied(rt: HostRuntime) -> Result<(), Fail> {
-    let source = named(rt.alloc())?;
-    let copy = source.try_clone(rt.alloc())?;
-    assert!(rt; copy == source);
-    assert!(rt; copy != CoreDef::Export(NUMBERED));
-    Ok(())
+/// Whether the copy of a value is equal to it.
+fn is_copied<T: TryClone + PartialEq + Drop>(alloc: Global, source: &T) -> bool {
+    match source.try_clone(alloc) {
+        Ok(copy) => copy == *source,
+        Err(_) => false,
+    }
+}
+
+/// Whether an export that is known by its name is copied, and isn't the one that is known by its entity.
+fn is_copied_by_name(alloc: Global) -> Result<bool, NoMemory> {
+    let source = CoreDef::Export(CoreExport {
+        instance: RuntimeInstanceIndex(7),
+        item: ExportItem::Name(Text::copy_of(alloc, "a b")?),
+    });
+    Ok(is_copied(alloc, &source) && source != CoreDef::Export(NUMBERED))
 }
 
 #[test]
-fn an_export_of_any_kind_is_copied(rt: HostRuntime) -> Result<(), Fail> {
-    let copy = NUMBERED.try_clone(rt.alloc())?;
-    assert_eq!(rt; copy.instance.0, 4294967295);
-    assert!(rt; matches!(&copy.item, ExportItem::Index(EntityIndex::Function(f)) if f.0 == 3));
-    Ok(())
-}
-
-#[test]
-fn an_export_of_one_kind_is_copied(rt: HostRuntime) -> Result<(), Fail> {
-    let copy = MEMORY.try_clone(rt.alloc())?;
-    assert_eq!(rt; copy.instance.0, 1);
-    assert!(rt; matches!(&copy.item, ExportItem::Index(memory) if memory.0 == 2));
-    Ok(())
+fn definitions_are_copied(rt: HostRuntime) {
+    let by_name = is_copied_by_name(rt.alloc()).unwrap_or(false);
+    holds(&rt, "by name", by_name);
+    holds(&rt, "by entity", is_copied(rt.alloc(), &NUMBERED));
+    holds(&rt, "of one kind", is_copied(rt.alloc(), &MEMORY));
 }

@@ -1,32 +1,54 @@
 //! The exports of the plans that are printed.
 
+use crate::parts::Part;
 use crate::settings::extern_data;
 use pc_entity::{
-    EntityIndex, ExportIndex, FuncIndex, NoMemory, OptionsIndex, PrimaryMap, RuntimeImportIndex,
+    EntityIndex, ExportIndex, FuncIndex, NoMemory, OptionsIndex, RuntimeImportIndex,
     RuntimeInstanceIndex, StaticModuleIndex, Text,
 };
-use pc_info::{Component, CoreDef, CoreExport, Export, ExportItem};
-use pc_names::{NameError, NameMap, NameMapNoIntern};
+use pc_info::{CoreDef, CoreExport, Export, ExportItem};
+use pc_names::{NameMap, NameMapNoIntern};
 use pc_types::{
     ComponentExternData, InterfaceType, TypeComponentInstanceIndex, TypeDef, TypeFuncIndex,
     TypeModuleIndex,
 };
 use std::alloc::Global;
 
+/// A name with the number of its item, its interface and its id, which are none where they are empty.
+pub(crate) type Name = (&'static str, u32, [&'static str; 2]);
+
 type Names = NameMap<Text, (ExportIndex, ComponentExternData)>;
 
-/// Adds a name with the number of its item, its interface and its id, which are none where they are empty.
-fn name(
-    alloc: Global,
-    names: &mut Names,
-    name: &str,
-    item: u32,
-    [implements, id]: [&str; 2],
-) -> Result<(), NameError> {
-    let data = extern_data(alloc, implements, id)?;
+/// The names of the smallest plan.
+pub(crate) const ONE: [Name; 1] = [("f", 0, ["", ""])];
+
+/// The names of the plan with each kind of line.
+pub(crate) const ALL: [Name; 3] = [
+    ("\"\\\n", 4, ["a:b/c", "d"]),
+    ("i", 3, ["", ""]),
+    ("m", 5, ["", ""]),
+];
+
+const INNER: [Name; 1] = [("k", 0, ["", ""])];
+
+const OUTER: [Name; 2] = [("j", 1, ["", "h"]), ("l", 2, ["", ""])];
+
+fn add_name(alloc: Global, names: &mut Names, name: &Name) -> Result<(), NoMemory> {
+    let data_ = extern_data(alloc, name.2)?;
     let mut texts = NameMapNoIntern::new(alloc);
-    names.insert(name, &mut texts, false, (ExportIndex(item), data))?;
-    Ok(())
+    match names.insert(name.0, &mut texts, false, (ExportIndex(name.1), data_)) {
+        Ok(_) => Ok(()),
+        Err(_) => Err(NoMemory),
+    }
+}
+
+/// These names.
+pub(crate) fn names_of(alloc: Global, all: &[Name]) -> Result<Names, NoMemory> {
+    let mut names = NameMap::new(alloc);
+    for name in all.iter() {
+        add_name(alloc, &mut names, name)?;
+    }
+    Ok(names)
 }
 
 /// A function of core instance 0, lifted.
@@ -41,36 +63,10 @@ fn function(number: u32) -> Export {
     }
 }
 
-/// One lifted function.
-fn one_item(alloc: Global) -> Result<PrimaryMap<ExportIndex, Export>, NoMemory> {
-    let items = vec![in alloc; function(0)]?;
-    Ok(PrimaryMap::from_vec(items))
-}
-
-/// Exports one lifted function.
-pub(crate) fn lifted(alloc: Global, plan: &mut Component) -> Result<(), NameError> {
-    plan.export_items = one_item(alloc)?;
-    name(alloc, &mut plan.exports, "f", 0, [""; 2])
-}
-
-/// An instance with a type in it, which is item 0.
-fn inner(alloc: Global) -> Result<Export, NameError> {
-    let mut exports = NameMap::new(alloc);
-    name(alloc, &mut exports, "k", 0, [""; 2])?;
+fn instance(alloc: Global, number: u32, names: &[Name]) -> Result<Export, NoMemory> {
     Ok(Export::Instance {
-        ty: TypeComponentInstanceIndex(0),
-        exports,
-    })
-}
-
-/// An instance with items 1 and 2 in it.
-fn outer(alloc: Global) -> Result<Export, NameError> {
-    let mut exports = NameMap::new(alloc);
-    name(alloc, &mut exports, "j", 1, ["", "h"])?;
-    name(alloc, &mut exports, "l", 2, [""; 2])?;
-    Ok(Export::Instance {
-        ty: TypeComponentInstanceIndex(1),
-        exports,
+        ty: TypeComponentInstanceIndex(number),
+        exports: names_of(alloc, names)?,
     })
 }
 
@@ -86,21 +82,17 @@ const IMPORTED: Export = Export::ModuleImport {
     import: RuntimeImportIndex(2),
 };
 
-/// An item of each kind, two of which are instances.
-fn items(
-    alloc: Global,
-    inner: Export,
-    outer: Export,
-) -> Result<PrimaryMap<ExportIndex, Export>, NoMemory> {
-    let all = vec![in alloc; TYPE, inner, STATIC, outer, function(10), IMPORTED]?;
-    Ok(PrimaryMap::from_vec(all))
-}
-
-/// Exports an item of each kind.
-pub(crate) fn add_exports(alloc: Global, plan: &mut Component) -> Result<(), NameError> {
-    plan.export_items = items(alloc, inner(alloc)?, outer(alloc)?)?;
-    let names = &mut plan.exports;
-    name(alloc, names, "\"\\\n", 4, ["a:b/c", "d"])?;
-    name(alloc, names, "i", 3, [""; 2])?;
-    name(alloc, names, "m", 5, [""; 2])
+/// An item of each kind, two of which are instances, and the only item of the smallest plan.
+impl Part for Export {
+    fn part(alloc: Global, number: u32) -> Result<Export, NoMemory> {
+        match number {
+            0 => Ok(TYPE),
+            1 => instance(alloc, 0, &INNER),
+            2 => Ok(STATIC),
+            3 => instance(alloc, 1, &OUTER),
+            4 => Ok(function(10)),
+            5 => Ok(IMPORTED),
+            _ => Ok(function(0)),
+        }
+    }
 }

@@ -1,35 +1,10 @@
 //! The modules of the plans that are printed.
 
-use pc_entity::{
-    FuncIndex, ModuleInternedTypeIndex, NoMemory, PrimaryMap, RuntimeComponentInstanceIndex, Seq,
-    StaticModuleIndex,
-};
+use crate::parts::Part;
+use pc_entity::{FuncIndex, ModuleInternedTypeIndex, NoMemory, RuntimeComponentInstanceIndex, Seq};
 use pc_info::{AdapterRecord, ModuleTranslation, SideRecord};
 use pc_types::{ModuleRecord, StringEncoding, TypeFuncIndex};
 use std::alloc::Global;
-
-fn module(alloc: Global, adapters: Vec<AdapterRecord>) -> ModuleTranslation {
-    ModuleTranslation {
-        module: ModuleRecord {
-            imports: Seq::new(alloc),
-            funcs: Seq::new(alloc),
-            tables: 0,
-            memories: Seq::new(alloc),
-            globals: 0,
-            tags: 0,
-            exports: Seq::new(alloc),
-        },
-        adapters: Seq::from_vec(adapters),
-    }
-}
-
-/// One module that was handed in.
-pub(crate) fn handed_in(
-    alloc: Global,
-) -> Result<PrimaryMap<StaticModuleIndex, ModuleTranslation>, NoMemory> {
-    let all = vec![in alloc; module(alloc, Vec::new(alloc))]?;
-    Ok(PrimaryMap::from_vec(all))
-}
 
 /// Values lie in linear memory.
 const LIFT: SideRecord = SideRecord {
@@ -69,13 +44,29 @@ fn adapter(number: u32, func: u32, callee: u32) -> AdapterRecord {
     }
 }
 
+fn translation(alloc: Global, adapters: &[AdapterRecord]) -> Result<ModuleTranslation, NoMemory> {
+    let adapters = Vec::from_slice(alloc, adapters)?;
+    Ok(ModuleTranslation {
+        module: ModuleRecord {
+            imports: Seq::new(alloc),
+            funcs: Seq::new(alloc),
+            tables: 0,
+            memories: Seq::new(alloc),
+            globals: 0,
+            tags: 0,
+            exports: Seq::new(alloc),
+        },
+        adapters: Seq::from_vec(adapters),
+    })
+}
+
 /// A module that was handed in, and two of adapters, whose numbers don't follow the order of the modules.
-pub(crate) fn with_adapters(
-    alloc: Global,
-) -> Result<PrimaryMap<StaticModuleIndex, ModuleTranslation>, NoMemory> {
-    let two = vec![in alloc; adapter(2, 10, 11), adapter(1, 12, 13)]?;
-    let one = vec![in alloc; adapter(0, 14, 15)]?;
-    let none = module(alloc, Vec::new(alloc));
-    let all = vec![in alloc; none, module(alloc, two), module(alloc, one)]?;
-    Ok(PrimaryMap::from_vec(all))
+impl Part for ModuleTranslation {
+    fn part(alloc: Global, number: u32) -> Result<ModuleTranslation, NoMemory> {
+        match number {
+            0 => translation(alloc, &[]),
+            1 => translation(alloc, &[adapter(2, 10, 11), adapter(1, 12, 13)]),
+            _ => translation(alloc, &[adapter(0, 14, 15)]),
+        }
+    }
 }

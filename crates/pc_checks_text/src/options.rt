@@ -1,5 +1,6 @@
 //! Options that are equal, and options that differ in one field.
 
+use crate::support::holds;
 use pc_entity::{
     ExactEq, RuntimeCallbackIndex, RuntimeComponentInstanceIndex, RuntimeMemoryIndex,
     RuntimePostReturnIndex, RuntimeReallocIndex,
@@ -55,25 +56,26 @@ const OTHERS: [CanonicalOptions; 7] = [
     },
 ];
 
+/// The slots without a realloc.
+const WITHOUT: LinearMemoryOptions = LinearMemoryOptions {
+    realloc: None,
+    ..SLOTS
+};
+
 #[test]
 fn options_are_equal_where_each_field_is(rt: HostRuntime) {
-    assert!(rt; OPTIONS == OPTIONS);
-    for (n, other) in OTHERS.iter().enumerate() {
-        assert!(rt; OPTIONS != *other, "at {n}");
+    holds(&rt, "itself", OPTIONS == OPTIONS);
+    for other in OTHERS.iter() {
+        holds(&rt, "one field differs", OPTIONS != *other);
     }
 }
 
 #[test]
 fn models_are_the_same_by_memory_and_realloc(rt: HostRuntime) {
-    let without = LinearMemoryOptions {
-        realloc: None,
-        ..SLOTS
-    };
-    assert!(rt; SLOTS.is_same(&SLOTS) && !SLOTS.is_same(&without));
-    assert!(rt; OPTIONS.data_model.is_same(&OPTIONS.data_model));
-    assert!(rt;
-        !OPTIONS
-            .data_model
-            .is_same(&CanonicalOptionsDataModel::Gc {})
-    );
+    holds(&rt, "itself", SLOTS.is_same(&SLOTS));
+    holds(&rt, "no realloc", !SLOTS.is_same(&WITHOUT));
+    let model = OPTIONS.data_model;
+    holds(&rt, "the same model", model.is_same(&model));
+    let heap = CanonicalOptionsDataModel::Gc {};
+    holds(&rt, "the heap", !model.is_same(&heap));
 }

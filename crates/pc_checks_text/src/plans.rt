@@ -1,18 +1,17 @@
 //! The texts of two plans, after the format of the texts.
 
-use crate::exports::{add_exports, lifted};
+use crate::exports::{ALL, Name, ONE, names_of};
 use crate::held::has_items;
 use crate::imports::add_imports;
-use crate::modules::{handed_in, with_adapters};
-use crate::settings::{one_entry, two_options};
-use crate::steps::{first_step, steps};
-use crate::trampolines::{intrinsics, trampolines};
-use pc_entity::{NoMemory, PrimaryMap, StaticModuleIndex};
-use pc_info::{Component, ComponentTranslation, ModuleTranslation};
-use pc_names::NameError;
+use crate::parts::{copied, entries, parts};
+use crate::settings::{BOTH, PLAIN};
+use crate::support::holds;
+use crate::trampolines::{TRAMPOLINES, intrinsics};
+use pc_entity::{NoMemory, PrimaryMap, Seq, StaticModuleIndex};
+use pc_info::{CanonicalOptions, Component, ComponentTranslation, ModuleTranslation};
 use pc_text::plan_text;
 use std::alloc::Global;
-use std::test::Fail;
+use std::ops::Range;
 
 /// The text of a plan with one module and one lifted export.
 const SMALLEST: &str = "plan 1
@@ -82,26 +81,37 @@ fn says(
     Ok(text.as_slice() == want.as_bytes())
 }
 
+/// Fills a plan with steps, options, and exports by their items and names.
+fn fill(
+    alloc: Global,
+    plan: &mut Component,
+    steps: Range<u32>,
+    options: &[CanonicalOptions],
+    items: Range<u32>,
+    names: &[Name],
+) -> Result<(), NoMemory> {
+    plan.initializers = Seq::from_vec(parts(alloc, steps)?);
+    plan.options = copied(alloc, options)?;
+    plan.export_items = entries(alloc, items)?;
+    plan.exports = names_of(alloc, names)?;
+    Ok(())
+}
+
 /// The smallest plan that does something.
-fn smallest(alloc: Global) -> Result<Component, NameError> {
+fn smallest(alloc: Global) -> Result<Component, NoMemory> {
     let mut plan = Component::new(alloc);
     plan.num_runtime_instances = 1;
     plan.num_runtime_component_instances = 1;
-    plan.initializers = first_step(alloc)?;
-    plan.options = one_entry(alloc)?;
-    lifted(alloc, &mut plan)?;
+    fill(alloc, &mut plan, 10..11, &[PLAIN], 6..7, &ONE)?;
     Ok(plan)
 }
 
-#[test]
-fn one_module_and_one_lifted_export(rt: HostRuntime) -> Result<(), Fail> {
-    let alloc = rt.alloc();
+fn says_smallest(alloc: Global) -> Result<bool, NoMemory> {
     let t = ComponentTranslation {
         component: smallest(alloc)?,
         trampolines: PrimaryMap::new(alloc),
     };
-    assert!(rt; says(alloc, &t, &handed_in(alloc)?, SMALLEST)?);
-    Ok(())
+    says(alloc, &t, &entries(alloc, 0..1)?, SMALLEST)
 }
 
 /// Gives each count a number of its own.
@@ -121,24 +131,27 @@ fn set_counts(plan: &mut Component) {
 }
 
 /// A plan with each kind of line.
-fn every_line(alloc: Global) -> Result<Component, NameError> {
+fn every_line(alloc: Global) -> Result<Component, NoMemory> {
     let mut plan = Component::new(alloc);
     set_counts(&mut plan);
-    add_imports(alloc, &mut plan)?;
-    plan.initializers = steps(alloc)?;
-    plan.options = two_options(alloc)?;
     plan.unsafe_intrinsics = intrinsics();
-    add_exports(alloc, &mut plan)?;
+    add_imports(alloc, &mut plan)?;
+    fill(alloc, &mut plan, 0..10, &BOTH, 0..6, &ALL)?;
     Ok(plan)
 }
 
-#[test]
-fn each_kind_of_line(rt: HostRuntime) -> Result<(), Fail> {
-    let alloc = rt.alloc();
+fn says_every_line(alloc: Global) -> Result<bool, NoMemory> {
     let t = ComponentTranslation {
         component: every_line(alloc)?,
-        trampolines: trampolines(alloc)?,
+        trampolines: copied(alloc, &TRAMPOLINES)?,
     };
-    assert!(rt; says(alloc, &t, &with_adapters(alloc)?, EVERY_LINE)?);
-    Ok(())
+    says(alloc, &t, &entries(alloc, 0..3)?, EVERY_LINE)
+}
+
+#[test]
+fn plans_are_printed(rt: HostRuntime) {
+    let smallest = says_smallest(rt.alloc()).unwrap_or(false);
+    holds(&rt, "one module and one lifted export", smallest);
+    let every_line = says_every_line(rt.alloc()).unwrap_or(false);
+    holds(&rt, "each kind of line", every_line);
 }

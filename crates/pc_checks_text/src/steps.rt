@@ -1,5 +1,6 @@
 //! The steps of the plans that are printed.
 
+use crate::parts::{Part, named, parts};
 use pc_entity::{
     DefinedResourceIndex, EntityIndex, FuncIndex, GlobalIndex, LoweredIndex, MemoryIndex, NoMemory,
     RuntimeCallbackIndex, RuntimeComponentInstanceIndex, RuntimeImportIndex, RuntimeInstanceIndex,
@@ -13,14 +14,6 @@ use pc_info::{
 use pc_types::{UnsafeIntrinsic, WasmValType};
 use std::alloc::Global;
 
-/// A module that was handed in, with no arguments.
-pub(crate) fn first_step(alloc: Global) -> Result<Seq<GlobalInitializer>, NoMemory> {
-    let module = InstantiateModule::Static(StaticModuleIndex(0), Seq::new(alloc));
-    let instance = Some(RuntimeComponentInstanceIndex(0));
-    let steps = vec![in alloc; GlobalInitializer::InstantiateModule(module, instance)]?;
-    Ok(Seq::from_vec(steps))
-}
-
 fn entity(instance: u32, entity: EntityIndex) -> CoreDef {
     CoreDef::Export(CoreExport {
         instance: RuntimeInstanceIndex(instance),
@@ -29,140 +22,142 @@ fn entity(instance: u32, entity: EntityIndex) -> CoreDef {
 }
 
 /// An item that is known by its name.
-fn named<T>(alloc: Global, instance: u32, name: &str) -> Result<CoreExport<T>, NoMemory> {
+fn by_name<T>(alloc: Global, instance: u32, name: &str) -> Result<CoreExport<T>, NoMemory> {
     Ok(CoreExport {
         instance: RuntimeInstanceIndex(instance),
         item: ExportItem::Name(Text::copy_of(alloc, name)?),
     })
 }
 
-fn flags(number: u32) -> CoreDef {
-    CoreDef::InstanceFlags(RuntimeComponentInstanceIndex(number))
+/// The definitions that take no memory.
+fn plain_def(number: u32) -> CoreDef {
+    match number {
+        0 => entity(0, EntityIndex::Table(TableIndex(1))),
+        1 => entity(1, EntityIndex::Memory(MemoryIndex(2))),
+        2 => entity(2, EntityIndex::Global(GlobalIndex(3))),
+        3 => entity(3, EntityIndex::Tag(TagIndex(4))),
+        5 => CoreDef::InstanceFlags(RuntimeComponentInstanceIndex(5)),
+        7 => CoreDef::UnsafeIntrinsic(UnsafeIntrinsic::U8NativeLoad),
+        9 => CoreDef::InstanceFlags(RuntimeComponentInstanceIndex(9)),
+        _ => CoreDef::Trampoline(TrampolineIndex(number)),
+    }
 }
 
-fn trampoline(number: u32) -> CoreDef {
-    CoreDef::Trampoline(TrampolineIndex(number))
+/// The first eight are an argument of each kind, one of which has a name with all that is escaped. Of the next three
+/// each has its number in it.
+impl Part for CoreDef {
+    fn part(alloc: Global, number: u32) -> Result<CoreDef, NoMemory> {
+        match number {
+            4 => Ok(CoreDef::Export(by_name(alloc, 4294967295, "a\"b\\c\nd")?)),
+            _ => Ok(plain_def(number)),
+        }
+    }
 }
 
-/// An argument of each kind; the name has all that is escaped.
-fn arguments(alloc: Global) -> Result<Seq<CoreDef>, NoMemory> {
-    let name = named(alloc, 4294967295, "a\"b\\c\nd")?;
-    let args = vec![in alloc;
-        entity(0, EntityIndex::Table(TableIndex(1))),
-        entity(1, EntityIndex::Memory(MemoryIndex(2))),
-        entity(2, EntityIndex::Global(GlobalIndex(3))),
-        entity(3, EntityIndex::Tag(TagIndex(4))),
-        CoreDef::Export(name),
-        flags(5),
-        trampoline(6),
-        CoreDef::UnsafeIntrinsic(UnsafeIntrinsic::U8NativeLoad),
-    ]?;
-    Ok(Seq::from_vec(args))
+/// The arguments of each module name.
+impl Part for TextMap<CoreDef> {
+    fn part(alloc: Global, number: u32) -> Result<TextMap<CoreDef>, NoMemory> {
+        match number {
+            0 => Ok(TextMap::new(alloc)),
+            1 => named(alloc, &[("a", 8), ("b", 9)]),
+            _ => named(alloc, &[("c", 10)]),
+        }
+    }
 }
 
-/// Adds an argument under a name.
-fn argument(
-    alloc: Global,
-    args: &mut TextMap<CoreDef>,
-    name: &str,
-    def: CoreDef,
-) -> Result<(), NoMemory> {
-    args.insert(Text::copy_of(alloc, name)?, def)?;
-    Ok(())
+/// A module that was handed in, with an argument of each kind.
+fn handed_in(alloc: Global) -> Result<GlobalInitializer, NoMemory> {
+    let arguments = Seq::from_vec(parts(alloc, 0..8)?);
+    let source = InstantiateModule::Static(StaticModuleIndex(7), arguments);
+    Ok(GlobalInitializer::InstantiateModule(source, None))
 }
 
-/// Adds the arguments of a module name.
-fn group(
-    alloc: Global,
-    groups: &mut TextMap<TextMap<CoreDef>>,
-    name: &str,
-    args: TextMap<CoreDef>,
-) -> Result<(), NoMemory> {
-    groups.insert(Text::copy_of(alloc, name)?, args)?;
-    Ok(())
-}
-
-/// Three arguments, two of which have one module name; a third module name has none.
-fn named_arguments(alloc: Global) -> Result<TextMap<TextMap<CoreDef>>, NoMemory> {
-    let mut first = TextMap::new(alloc);
-    argument(alloc, &mut first, "a", trampoline(8))?;
-    argument(alloc, &mut first, "b", flags(9))?;
-    let mut last = TextMap::new(alloc);
-    argument(alloc, &mut last, "c", trampoline(10))?;
-    let mut groups = TextMap::new(alloc);
-    group(alloc, &mut groups, "none", TextMap::new(alloc))?;
-    group(alloc, &mut groups, "m", first)?;
-    group(alloc, &mut groups, "n", last)?;
-    Ok(groups)
-}
-
-/// Adds a module of each source, and a lowering.
-fn add_modules(alloc: Global, steps: &mut Vec<GlobalInitializer>) -> Result<(), NoMemory> {
-    let handed_in = InstantiateModule::Static(StaticModuleIndex(7), arguments(alloc)?);
-    steps.push(GlobalInitializer::InstantiateModule(handed_in, None))?;
-    let imported = InstantiateModule::Import(RuntimeImportIndex(1), named_arguments(alloc)?);
+/// A module of the host with three arguments, two of which have one module name; a third module name has none.
+fn imported(alloc: Global) -> Result<GlobalInitializer, NoMemory> {
+    let arguments = named(alloc, &[("none", 0), ("m", 1), ("n", 2)])?;
+    let source = InstantiateModule::Import(RuntimeImportIndex(1), arguments);
     let instance = Some(RuntimeComponentInstanceIndex(2));
-    steps.push(GlobalInitializer::InstantiateModule(imported, instance))?;
-    steps.push(GlobalInitializer::LowerImport {
-        index: LoweredIndex(0),
-        import: RuntimeImportIndex(1),
-    })?;
-    Ok(())
+    Ok(GlobalInitializer::InstantiateModule(source, instance))
 }
+
+/// A module that was handed in, with no arguments.
+fn without_arguments(alloc: Global) -> GlobalInitializer {
+    let source = InstantiateModule::Static(StaticModuleIndex(0), Seq::new(alloc));
+    let instance = Some(RuntimeComponentInstanceIndex(0));
+    GlobalInitializer::InstantiateModule(source, instance)
+}
+
+fn post_return(alloc: Global) -> Result<GlobalInitializer, NoMemory> {
+    Ok(GlobalInitializer::ExtractPostReturn(ExtractPostReturn {
+        index: RuntimePostReturnIndex(10),
+        def: CoreDef::Export(by_name(alloc, 11, "p")?),
+    }))
+}
+
+fn table(alloc: Global) -> Result<GlobalInitializer, NoMemory> {
+    Ok(GlobalInitializer::ExtractTable(ExtractTable {
+        index: RuntimeTableIndex(12),
+        export: by_name(alloc, 13, "t")?,
+    }))
+}
+
+const LOWERED: GlobalInitializer = GlobalInitializer::LowerImport {
+    index: LoweredIndex(0),
+    import: RuntimeImportIndex(1),
+};
 
 /// A memory, known by its number.
-const MEMORY: ExtractMemory = ExtractMemory {
+const MEMORY: GlobalInitializer = GlobalInitializer::ExtractMemory(ExtractMemory {
     index: RuntimeMemoryIndex(2),
     export: CoreExport {
         instance: RuntimeInstanceIndex(3),
         item: ExportItem::Index(MemoryIndex(4)),
     },
-};
+});
 
-/// Adds a slot of each kind.
-fn add_slots(alloc: Global, steps: &mut Vec<GlobalInitializer>) -> Result<(), NoMemory> {
-    steps.push(GlobalInitializer::ExtractMemory(MEMORY))?;
-    steps.push(GlobalInitializer::ExtractRealloc(ExtractRealloc {
-        index: RuntimeReallocIndex(5),
-        def: entity(6, EntityIndex::Function(FuncIndex(7))),
-    }))?;
-    steps.push(GlobalInitializer::ExtractCallback(ExtractCallback {
-        index: RuntimeCallbackIndex(8),
-        def: trampoline(9),
-    }))?;
-    steps.push(GlobalInitializer::ExtractPostReturn(ExtractPostReturn {
-        index: RuntimePostReturnIndex(10),
-        def: CoreDef::Export(named(alloc, 11, "p")?),
-    }))?;
-    steps.push(GlobalInitializer::ExtractTable(ExtractTable {
-        index: RuntimeTableIndex(12),
-        export: named(alloc, 13, "t")?,
-    }))?;
-    Ok(())
-}
+const REALLOC: GlobalInitializer = GlobalInitializer::ExtractRealloc(ExtractRealloc {
+    index: RuntimeReallocIndex(5),
+    def: CoreDef::Export(CoreExport {
+        instance: RuntimeInstanceIndex(6),
+        item: ExportItem::Index(EntityIndex::Function(FuncIndex(7))),
+    }),
+});
 
-/// Adds a resource without a destructor, and one with one.
-fn add_resources(steps: &mut Vec<GlobalInitializer>) -> Result<(), NoMemory> {
-    steps.push(GlobalInitializer::Resource(Resource {
-        index: DefinedResourceIndex(14),
-        rep: WasmValType::I32,
-        dtor: None,
-        instance: RuntimeComponentInstanceIndex(15),
-    }))?;
-    steps.push(GlobalInitializer::Resource(Resource {
-        index: DefinedResourceIndex(16),
-        rep: WasmValType::ExternRef,
-        dtor: Some(trampoline(17)),
-        instance: RuntimeComponentInstanceIndex(18),
-    }))?;
-    Ok(())
-}
+const CALLBACK: GlobalInitializer = GlobalInitializer::ExtractCallback(ExtractCallback {
+    index: RuntimeCallbackIndex(8),
+    def: CoreDef::Trampoline(TrampolineIndex(9)),
+});
 
-/// A step of each kind.
-pub(crate) fn steps(alloc: Global) -> Result<Seq<GlobalInitializer>, NoMemory> {
-    let mut all = Vec::new(alloc);
-    add_modules(alloc, &mut all)?;
-    add_slots(alloc, &mut all)?;
-    add_resources(&mut all)?;
-    Ok(Seq::from_vec(all))
+/// A resource without a destructor.
+const PLAIN_RESOURCE: GlobalInitializer = GlobalInitializer::Resource(Resource {
+    index: DefinedResourceIndex(14),
+    rep: WasmValType::I32,
+    dtor: None,
+    instance: RuntimeComponentInstanceIndex(15),
+});
+
+const RESOURCE: GlobalInitializer = GlobalInitializer::Resource(Resource {
+    index: DefinedResourceIndex(16),
+    rep: WasmValType::ExternRef,
+    dtor: Some(CoreDef::Trampoline(TrampolineIndex(17))),
+    instance: RuntimeComponentInstanceIndex(18),
+});
+
+/// A step of each kind, and the only step of the smallest plan.
+impl Part for GlobalInitializer {
+    fn part(alloc: Global, number: u32) -> Result<GlobalInitializer, NoMemory> {
+        match number {
+            0 => handed_in(alloc),
+            1 => imported(alloc),
+            2 => Ok(LOWERED),
+            3 => Ok(MEMORY),
+            4 => Ok(REALLOC),
+            5 => Ok(CALLBACK),
+            6 => post_return(alloc),
+            7 => table(alloc),
+            8 => Ok(PLAIN_RESOURCE),
+            9 => Ok(RESOURCE),
+            _ => Ok(without_arguments(alloc)),
+        }
+    }
 }

@@ -1,15 +1,14 @@
 //! The trampolines and the intrinsics of the plan that is printed.
 
 use pc_entity::{
-    ComponentTypeIndex, LoweredIndex, ModuleInternedTypeIndex, NoMemory, OptionsIndex,
-    PackedOption, PrimaryMap, RuntimeComponentInstanceIndex, RuntimeMemoryIndex,
-    RuntimePostReturnIndex, RuntimeTableIndex, TrampolineIndex,
+    ComponentTypeIndex, LoweredIndex, ModuleInternedTypeIndex, OptionsIndex, PackedOption,
+    RuntimeComponentInstanceIndex, RuntimeMemoryIndex, RuntimePostReturnIndex, RuntimeTableIndex,
 };
 use pc_info::{FixedEncoding, Trampoline, Transcode, Trap};
 use pc_types::{TypeFuncIndex, TypeResourceTableIndex, TypeStreamTableIndex};
-use std::alloc::Global;
 
-const ALL: [Trampoline; 7] = [
+/// Trampolines of each shape.
+pub(crate) const TRAMPOLINES: [Trampoline; 7] = [
     Trampoline::LowerImport {
         index: LoweredIndex(3),
         lower_ty: TypeFuncIndex(0),
@@ -42,14 +41,6 @@ const ALL: [Trampoline; 7] = [
     },
     Trampoline::Trap(Trap(1)),
 ];
-
-/// Trampolines of each shape.
-pub(crate) fn trampolines(
-    alloc: Global,
-) -> Result<PrimaryMap<TrampolineIndex, Trampoline>, NoMemory> {
-    let all = Vec::from_slice(alloc, &ALL)?;
-    Ok(PrimaryMap::from_vec(all))
-}
 
 /// The signatures of two intrinsics, the second of which is the last of all.
 pub(crate) fn intrinsics() -> [PackedOption<ModuleInternedTypeIndex>; 21] {

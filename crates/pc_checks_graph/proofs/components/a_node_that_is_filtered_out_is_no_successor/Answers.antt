@@ -2,7 +2,7 @@ use Rattle.std.proofs.Common.{◌∙◌, not, nat_eq, ap, refl, rules, of_calls}
 use Rattle.pc_numbers.specs.declared.module_entity.FuncIndex.{FuncIndex}
 use Rattle.pc_graph.specs.Digraph.{Digraph, filtered}
 use Rattle.pc_graph.specs.Listed.{listed}
-use Rattle.pc_checks_graph.proofs.filtered.a_node_that_is_filtered_out_is_no_successor.Goals as goal
+use Rattle.pc_checks_graph.proofs.components.a_node_that_is_filtered_out_is_no_successor.Goals as goal
 
 pub filter_nodes-filtered-requires-clause-one_answer :
     goal.filter_nodes-filtered-requires-clause-one_answer
