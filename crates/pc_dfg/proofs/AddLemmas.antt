@@ -53,10 +53,11 @@ module _ {A : Type 0} where
   pub one_more : (P : ℕ → A → Type 0) (xs ys : List A) (x : A) → ys ≡ xs ++ x ∷ [] → P (length xs) x → Adds P xs ys
   one_more P xs ys x is p = record {
     extends = appended x is;
-    entries = λ n y at. elim (get_appended xs x n y (subst (λ l. slice_get l n ≡ Some y) is at)) as (λ _. (slice_get xs n ≡ Some y) ⊎ ((length xs ≤ n) × P n y)) [
-      | inl old ↦ inl old
-      | inr new ↦ inr (omega (arith, new.0), subst (λ m. P m y) new.0 (subst (P (length xs)) new.1 p))
-    ];
+    entries = λ n y at. elim (get_appended xs x n y (subst (λ l. slice_get l n
+        ≡ Some y) is at)) as (λ _. (slice_get xs n ≡ Some y) ⊎ ((length xs ≤ n) × P n y)) [
+          | inl old ↦ inl old
+          | inr new ↦ inr (omega (arith, new.0), subst (λ m. P m y) new.0 (subst (P (length xs)) new.1 p))
+        ];
   }
 
   -- or one entry more, if it changed

@@ -59,22 +59,26 @@ quiet g h added o effects instances resources =
     (subst (λ es. CountTo (length h.resources) (filter_map declared_by es)) (sym effects)
     (subst (λ rs. CountTo (length rs) (filter_map declared_by g.side_effects)) (sym resources) o.resources))
 
-import_type_adds : (P : EntryFact) (g : ComponentDfg) (ys : List (List ℕ × ComponentExtern)) (x : List ℕ × ComponentExtern)
-    → Changes g.import_types ys x → P list.import_types (length g.import_types) x → AllAdd P g (record g { import_types = ys })
+import_type_adds : (P : EntryFact) (g : ComponentDfg) (ys : List (List ℕ × ComponentExtern)) (x : List ℕ
+    × ComponentExtern)
+    → Changes g.import_types ys x → P list.import_types (length g.import_types) x
+    → AllAdd P g (record g { import_types = ys })
 unfolding slots_of
 import_type_adds P g ys x change p list.import_types = one_changed (P list.import_types) g.import_types ys x change p
 import_type_adds P g ys x change p (list.slots plan.memory) = nothing
 import_type_adds P g ys x change p l = nothing
 
 -- one entry of `import_types`
-pub import_type_grows : (g : ComponentDfg) (ys : List (List ℕ × ComponentExtern)) (x : List ℕ × ComponentExtern) → Changes g.import_types ys x
+pub import_type_grows : (g : ComponentDfg) (ys : List (List ℕ × ComponentExtern)) (x : List ℕ × ComponentExtern)
+    → Changes g.import_types ys x
     → Grows g (record g { import_types = ys })
 import_type_grows g ys x change = record {
   lists = λ l. (import_type_adds (λ l n x. Unit {0}) g ys x change tt l).extends;
   component_instances = omega arith;
 }
 
-pub import_type_ordered : (g : ComponentDfg) (ys : List (List ℕ × ComponentExtern)) (x : List ℕ × ComponentExtern) → Changes g.import_types ys x
+pub import_type_ordered : (g : ComponentDfg) (ys : List (List ℕ × ComponentExtern)) (x : List ℕ × ComponentExtern)
+    → Changes g.import_types ys x
     → Unit {0} → IsOrdered g → IsOrdered (record g { import_types = ys })
 unfolding HoldsEntry
 import_type_ordered g ys x change held o =
@@ -85,7 +89,8 @@ import_type_ordered g ys x change held o =
     } in
     quiet g h added o refl refl refl
 
-import_adds : (P : EntryFact) (g : ComponentDfg) (ys : List (ImportIndex × List (List ℕ))) (x : ImportIndex × List (List ℕ))
+import_adds : (P : EntryFact) (g : ComponentDfg) (ys : List (ImportIndex × List (List ℕ))) (x : ImportIndex
+    × List (List ℕ))
     → Changes g.imports ys x → P list.imports (length g.imports) x → AllAdd P g (record g { imports = ys })
 unfolding slots_of
 import_adds P g ys x change p list.imports = one_changed (P list.imports) g.imports ys x change p
@@ -93,14 +98,16 @@ import_adds P g ys x change p (list.slots plan.memory) = nothing
 import_adds P g ys x change p l = nothing
 
 -- one entry of `imports`
-pub import_grows : (g : ComponentDfg) (ys : List (ImportIndex × List (List ℕ))) (x : ImportIndex × List (List ℕ)) → Changes g.imports ys x
+pub import_grows : (g : ComponentDfg) (ys : List (ImportIndex × List (List ℕ))) (x : ImportIndex × List (List ℕ))
+    → Changes g.imports ys x
     → Grows g (record g { imports = ys })
 import_grows g ys x change = record {
   lists = λ l. (import_adds (λ l n x. Unit {0}) g ys x change tt l).extends;
   component_instances = omega arith;
 }
 
-pub import_ordered : (g : ComponentDfg) (ys : List (ImportIndex × List (List ℕ))) (x : ImportIndex × List (List ℕ)) → Changes g.imports ys x
+pub import_ordered : (g : ComponentDfg) (ys : List (ImportIndex × List (List ℕ))) (x : ImportIndex × List (List ℕ))
+    → Changes g.imports ys x
     → x.0.0 < length g.import_types → IsOrdered g → IsOrdered (record g { imports = ys })
 unfolding HoldsEntry
 import_ordered g ys x change held o =
@@ -112,21 +119,25 @@ import_ordered g ys x change held o =
     quiet g h added o refl refl refl
 
 imported_resource_adds : (P : EntryFact) (g : ComponentDfg) (ys : List RuntimeImportIndex) (x : RuntimeImportIndex)
-    → Changes g.imported_resources ys x → P list.imported_resources (length g.imported_resources) x → AllAdd P g (record g { imported_resources = ys })
+    → Changes g.imported_resources ys x → P list.imported_resources (length g.imported_resources) x
+    → AllAdd P g (record g { imported_resources = ys })
 unfolding slots_of
-imported_resource_adds P g ys x change p list.imported_resources = one_changed (P list.imported_resources) g.imported_resources ys x change p
+imported_resource_adds P g ys x change p list.imported_resources = one_changed
+    (P list.imported_resources) g.imported_resources ys x change p
 imported_resource_adds P g ys x change p (list.slots plan.memory) = nothing
 imported_resource_adds P g ys x change p l = nothing
 
 -- one entry of `imported_resources`
-pub imported_resource_grows : (g : ComponentDfg) (ys : List RuntimeImportIndex) (x : RuntimeImportIndex) → Changes g.imported_resources ys x
+pub imported_resource_grows : (g : ComponentDfg) (ys : List RuntimeImportIndex) (x : RuntimeImportIndex)
+    → Changes g.imported_resources ys x
     → Grows g (record g { imported_resources = ys })
 imported_resource_grows g ys x change = record {
   lists = λ l. (imported_resource_adds (λ l n x. Unit {0}) g ys x change tt l).extends;
   component_instances = omega arith;
 }
 
-pub imported_resource_ordered : (g : ComponentDfg) (ys : List RuntimeImportIndex) (x : RuntimeImportIndex) → Changes g.imported_resources ys x
+pub imported_resource_ordered : (g : ComponentDfg) (ys : List RuntimeImportIndex) (x : RuntimeImportIndex)
+    → Changes g.imported_resources ys x
     → x.0 < length g.imports → IsOrdered g → IsOrdered (record g { imported_resources = ys })
 unfolding HoldsEntry
 imported_resource_ordered g ys x change held o =
@@ -138,20 +149,24 @@ imported_resource_ordered g ys x change held o =
     quiet g h added o refl refl refl
 
 memory_adds : (P : EntryFact) (g : ComponentDfg) (ys : List (CoreExport MemoryIndex)) (x : CoreExport MemoryIndex)
-    → Changes g.memories ys x → P (list.slots plan.memory) (length (map memory_def g.memories)) (memory_def x) → AllAdd P g (record g { memories = ys })
+    → Changes g.memories ys x → P (list.slots plan.memory) (length (map memory_def g.memories)) (memory_def x)
+    → AllAdd P g (record g { memories = ys })
 unfolding slots_of
-memory_adds P g ys x change p (list.slots plan.memory) = one_changed (P (list.slots plan.memory)) (map memory_def g.memories) (map memory_def ys) (memory_def x) (changes_mapped memory_def g.memories ys x change) p
+memory_adds P g ys x change p (list.slots plan.memory) = one_changed (P (list.slots plan.memory))
+    (map memory_def g.memories) (map memory_def ys) (memory_def x) (changes_mapped memory_def g.memories ys x change) p
 memory_adds P g ys x change p l = nothing
 
 -- one entry of `memories`
-pub memory_grows : (g : ComponentDfg) (ys : List (CoreExport MemoryIndex)) (x : CoreExport MemoryIndex) → Changes g.memories ys x
+pub memory_grows : (g : ComponentDfg) (ys : List (CoreExport MemoryIndex)) (x : CoreExport MemoryIndex)
+    → Changes g.memories ys x
     → Grows g (record g { memories = ys })
 memory_grows g ys x change = record {
   lists = λ l. (memory_adds (λ l n x. Unit {0}) g ys x change tt l).extends;
   component_instances = omega arith;
 }
 
-pub memory_ordered : (g : ComponentDfg) (ys : List (CoreExport MemoryIndex)) (x : CoreExport MemoryIndex) → Changes g.memories ys x
+pub memory_ordered : (g : ComponentDfg) (ys : List (CoreExport MemoryIndex)) (x : CoreExport MemoryIndex)
+    → Changes g.memories ys x
     → IsHeld g (memory_def x) → IsOrdered g → IsOrdered (record g { memories = ys })
 unfolding HoldsEntry
 memory_ordered g ys x change held o =
@@ -163,20 +178,24 @@ memory_ordered g ys x change held o =
     quiet g h added o refl refl refl
 
 table_adds : (P : EntryFact) (g : ComponentDfg) (ys : List (CoreExport TableIndex)) (x : CoreExport TableIndex)
-    → Changes g.tables ys x → P (list.slots plan.table) (length (map table_def g.tables)) (table_def x) → AllAdd P g (record g { tables = ys })
+    → Changes g.tables ys x → P (list.slots plan.table) (length (map table_def g.tables)) (table_def x)
+    → AllAdd P g (record g { tables = ys })
 unfolding slots_of
-table_adds P g ys x change p (list.slots plan.table) = one_changed (P (list.slots plan.table)) (map table_def g.tables) (map table_def ys) (table_def x) (changes_mapped table_def g.tables ys x change) p
+table_adds P g ys x change p (list.slots plan.table) = one_changed (P (list.slots plan.table))
+    (map table_def g.tables) (map table_def ys) (table_def x) (changes_mapped table_def g.tables ys x change) p
 table_adds P g ys x change p l = nothing
 
 -- one entry of `tables`
-pub table_grows : (g : ComponentDfg) (ys : List (CoreExport TableIndex)) (x : CoreExport TableIndex) → Changes g.tables ys x
+pub table_grows : (g : ComponentDfg) (ys : List (CoreExport TableIndex)) (x : CoreExport TableIndex)
+    → Changes g.tables ys x
     → Grows g (record g { tables = ys })
 table_grows g ys x change = record {
   lists = λ l. (table_adds (λ l n x. Unit {0}) g ys x change tt l).extends;
   component_instances = omega arith;
 }
 
-pub table_ordered : (g : ComponentDfg) (ys : List (CoreExport TableIndex)) (x : CoreExport TableIndex) → Changes g.tables ys x
+pub table_ordered : (g : ComponentDfg) (ys : List (CoreExport TableIndex)) (x : CoreExport TableIndex)
+    → Changes g.tables ys x
     → IsHeld g (table_def x) → IsOrdered g → IsOrdered (record g { tables = ys })
 unfolding HoldsEntry
 table_ordered g ys x change held o =
@@ -188,9 +207,11 @@ table_ordered g ys x change held o =
     quiet g h added o refl refl refl
 
 realloc_adds : (P : EntryFact) (g : ComponentDfg) (ys : List CoreDef) (x : CoreDef)
-    → Changes g.reallocs ys x → P (list.slots plan.realloc) (length g.reallocs) x → AllAdd P g (record g { reallocs = ys })
+    → Changes g.reallocs ys x → P (list.slots plan.realloc) (length g.reallocs) x
+    → AllAdd P g (record g { reallocs = ys })
 unfolding slots_of
-realloc_adds P g ys x change p (list.slots plan.realloc) = one_changed (P (list.slots plan.realloc)) g.reallocs ys x change p
+realloc_adds P g ys x change p (list.slots plan.realloc) = one_changed (P
+    (list.slots plan.realloc)) g.reallocs ys x change p
 realloc_adds P g ys x change p l = nothing
 
 -- one entry of `reallocs`
@@ -213,9 +234,11 @@ realloc_ordered g ys x change held o =
     quiet g h added o refl refl refl
 
 callback_adds : (P : EntryFact) (g : ComponentDfg) (ys : List CoreDef) (x : CoreDef)
-    → Changes g.callbacks ys x → P (list.slots plan.callback) (length g.callbacks) x → AllAdd P g (record g { callbacks = ys })
+    → Changes g.callbacks ys x → P (list.slots plan.callback) (length g.callbacks) x
+    → AllAdd P g (record g { callbacks = ys })
 unfolding slots_of
-callback_adds P g ys x change p (list.slots plan.callback) = one_changed (P (list.slots plan.callback)) g.callbacks ys x change p
+callback_adds P g ys x change p (list.slots plan.callback) = one_changed (P
+    (list.slots plan.callback)) g.callbacks ys x change p
 callback_adds P g ys x change p l = nothing
 
 -- one entry of `callbacks`
@@ -238,9 +261,11 @@ callback_ordered g ys x change held o =
     quiet g h added o refl refl refl
 
 post_return_adds : (P : EntryFact) (g : ComponentDfg) (ys : List CoreDef) (x : CoreDef)
-    → Changes g.post_returns ys x → P (list.slots plan.post_return) (length g.post_returns) x → AllAdd P g (record g { post_returns = ys })
+    → Changes g.post_returns ys x → P (list.slots plan.post_return) (length g.post_returns) x
+    → AllAdd P g (record g { post_returns = ys })
 unfolding slots_of
-post_return_adds P g ys x change p (list.slots plan.post_return) = one_changed (P (list.slots plan.post_return)) g.post_returns ys x change p
+post_return_adds P g ys x change p (list.slots plan.post_return) = one_changed (P
+    (list.slots plan.post_return)) g.post_returns ys x change p
 post_return_adds P g ys x change p l = nothing
 
 -- one entry of `post_returns`
@@ -289,21 +314,24 @@ options_ordered g ys x change held o =
     quiet g h added o refl refl refl
 
 trampoline_adds : (P : EntryFact) (g : ComponentDfg) (ys : List SignedTrampoline) (x : SignedTrampoline)
-    → Changes g.trampolines ys x → P list.trampolines (length g.trampolines) x → AllAdd P g (record g { trampolines = ys })
+    → Changes g.trampolines ys x → P list.trampolines (length g.trampolines) x
+    → AllAdd P g (record g { trampolines = ys })
 unfolding slots_of
 trampoline_adds P g ys x change p list.trampolines = one_changed (P list.trampolines) g.trampolines ys x change p
 trampoline_adds P g ys x change p (list.slots plan.memory) = nothing
 trampoline_adds P g ys x change p l = nothing
 
 -- one entry of `trampolines`
-pub trampoline_grows : (g : ComponentDfg) (ys : List SignedTrampoline) (x : SignedTrampoline) → Changes g.trampolines ys x
+pub trampoline_grows : (g : ComponentDfg) (ys : List SignedTrampoline) (x : SignedTrampoline)
+    → Changes g.trampolines ys x
     → Grows g (record g { trampolines = ys })
 trampoline_grows g ys x change = record {
   lists = λ l. (trampoline_adds (λ l n x. Unit {0}) g ys x change tt l).extends;
   component_instances = omega arith;
 }
 
-pub trampoline_ordered : (g : ComponentDfg) (ys : List SignedTrampoline) (x : SignedTrampoline) → Changes g.trampolines ys x
+pub trampoline_ordered : (g : ComponentDfg) (ys : List SignedTrampoline) (x : SignedTrampoline)
+    → Changes g.trampolines ys x
     → HeldTrampoline g (trampoline_entry x) → IsOrdered g → IsOrdered (record g { trampolines = ys })
 unfolding HoldsEntry
 trampoline_ordered g ys x change held o =
@@ -340,22 +368,27 @@ adapter_ordered g ys x change held o =
     } in
     quiet g h added o refl refl refl
 
-adapter_module_adds : (P : EntryFact) (g : ComponentDfg) (ys : List (StaticModuleIndex × List CoreDef)) (x : StaticModuleIndex × List CoreDef)
-    → Changes g.adapter_modules ys x → P list.adapter_modules (length g.adapter_modules) x → AllAdd P g (record g { adapter_modules = ys })
+adapter_module_adds : (P : EntryFact) (g : ComponentDfg) (ys : List (StaticModuleIndex
+    × List CoreDef)) (x : StaticModuleIndex × List CoreDef)
+    → Changes g.adapter_modules ys x → P list.adapter_modules (length g.adapter_modules) x
+    → AllAdd P g (record g { adapter_modules = ys })
 unfolding slots_of
-adapter_module_adds P g ys x change p list.adapter_modules = one_changed (P list.adapter_modules) g.adapter_modules ys x change p
+adapter_module_adds P g ys x change p list.adapter_modules = one_changed
+    (P list.adapter_modules) g.adapter_modules ys x change p
 adapter_module_adds P g ys x change p (list.slots plan.memory) = nothing
 adapter_module_adds P g ys x change p l = nothing
 
 -- one entry of `adapter_modules`
-pub adapter_module_grows : (g : ComponentDfg) (ys : List (StaticModuleIndex × List CoreDef)) (x : StaticModuleIndex × List CoreDef) → Changes g.adapter_modules ys x
+pub adapter_module_grows : (g : ComponentDfg) (ys : List (StaticModuleIndex × List CoreDef)) (x : StaticModuleIndex
+    × List CoreDef) → Changes g.adapter_modules ys x
     → Grows g (record g { adapter_modules = ys })
 adapter_module_grows g ys x change = record {
   lists = λ l. (adapter_module_adds (λ l n x. Unit {0}) g ys x change tt l).extends;
   component_instances = omega arith;
 }
 
-pub adapter_module_ordered : (g : ComponentDfg) (ys : List (StaticModuleIndex × List CoreDef)) (x : StaticModuleIndex × List CoreDef) → Changes g.adapter_modules ys x
+pub adapter_module_ordered : (g : ComponentDfg) (ys : List (StaticModuleIndex
+    × List CoreDef)) (x : StaticModuleIndex × List CoreDef) → Changes g.adapter_modules ys x
     → All (IsHeld g) x.1 → IsOrdered g → IsOrdered (record g { adapter_modules = ys })
 unfolding HoldsEntry
 adapter_module_ordered g ys x change held o =
@@ -366,22 +399,27 @@ adapter_module_ordered g ys x change held o =
     } in
     quiet g h added o refl refl refl
 
-partitioning_adds : (P : EntryFact) (g : ComponentDfg) (ys : List (AdapterModuleId × EntityIndex)) (x : AdapterModuleId × EntityIndex)
-    → Changes g.adapter_partitionings ys x → P list.adapter_partitionings (length g.adapter_partitionings) x → AllAdd P g (record g { adapter_partitionings = ys })
+partitioning_adds : (P : EntryFact) (g : ComponentDfg) (ys : List (AdapterModuleId
+    × EntityIndex)) (x : AdapterModuleId × EntityIndex)
+    → Changes g.adapter_partitionings ys x → P list.adapter_partitionings (length g.adapter_partitionings) x
+    → AllAdd P g (record g { adapter_partitionings = ys })
 unfolding slots_of
-partitioning_adds P g ys x change p list.adapter_partitionings = one_changed (P list.adapter_partitionings) g.adapter_partitionings ys x change p
+partitioning_adds P g ys x change p list.adapter_partitionings = one_changed
+    (P list.adapter_partitionings) g.adapter_partitionings ys x change p
 partitioning_adds P g ys x change p (list.slots plan.memory) = nothing
 partitioning_adds P g ys x change p l = nothing
 
 -- one entry of `adapter_partitionings`
-pub partitioning_grows : (g : ComponentDfg) (ys : List (AdapterModuleId × EntityIndex)) (x : AdapterModuleId × EntityIndex) → Changes g.adapter_partitionings ys x
+pub partitioning_grows : (g : ComponentDfg) (ys : List (AdapterModuleId × EntityIndex)) (x : AdapterModuleId
+    × EntityIndex) → Changes g.adapter_partitionings ys x
     → Grows g (record g { adapter_partitionings = ys })
 partitioning_grows g ys x change = record {
   lists = λ l. (partitioning_adds (λ l n x. Unit {0}) g ys x change tt l).extends;
   component_instances = omega arith;
 }
 
-pub partitioning_ordered : (g : ComponentDfg) (ys : List (AdapterModuleId × EntityIndex)) (x : AdapterModuleId × EntityIndex) → Changes g.adapter_partitionings ys x
+pub partitioning_ordered : (g : ComponentDfg) (ys : List (AdapterModuleId × EntityIndex)) (x : AdapterModuleId
+    × EntityIndex) → Changes g.adapter_partitionings ys x
     → x.0.0 < length g.adapter_modules → IsOrdered g → IsOrdered (record g { adapter_partitionings = ys })
 unfolding HoldsEntry
 partitioning_ordered g ys x change held o =
@@ -393,7 +431,8 @@ partitioning_ordered g ys x change held o =
     quiet g h added o refl refl refl
 
 export_item_adds : (P : EntryFact) (g : ComponentDfg) (ys : List Export) (x : Export)
-    → Changes g.export_items ys x → P list.export_items (length g.export_items) x → AllAdd P g (record g { export_items = ys })
+    → Changes g.export_items ys x → P list.export_items (length g.export_items) x
+    → AllAdd P g (record g { export_items = ys })
 unfolding slots_of
 export_item_adds P g ys x change p list.export_items = one_changed (P list.export_items) g.export_items ys x change p
 export_item_adds P g ys x change p (list.slots plan.memory) = nothing

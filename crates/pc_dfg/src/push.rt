@@ -172,7 +172,8 @@ impl ComponentDfg {
         ensures put { IsPut self.old.trampolines self.new.trampolines (signature, trampoline) }
         ensures rest { self.new ≡ record self.old { trampolines = self.new.trampolines } }
         ensures grows { Grows self.old self.new }
-        ensures ordered { HeldTrampoline self.old (trampoline_entry (signature, trampoline)) → IsOrdered self.old → IsOrdered self.new }
+        ensures ordered { HeldTrampoline self.old (trampoline_entry (signature, trampoline))
+            → IsOrdered self.old → IsOrdered self.new }
         ensures full { (result ≡ Err PushError.TooMany) ↔ (4294967295 ≤ length self.old.trampolines) }
         ensures err { OnErr result (self.new ≡ self.old) }
     {
@@ -216,7 +217,8 @@ impl ComponentDfg {
         func: EntityIndex,
     ) -> Result<AdapterId, PushError>
         ensures key { IfOk result (λ key. key.0 ≡ length self.old.adapter_partitionings) }
-        ensures ok { OnOk result (self.new.adapter_partitionings ≡ self.old.adapter_partitionings ++ (adapter_module, func) ∷ []) }
+        ensures ok { OnOk result (self.new.adapter_partitionings
+            ≡ self.old.adapter_partitionings ++ (adapter_module, func) ∷ []) }
         ensures rest { self.new ≡ record self.old { adapter_partitionings = self.new.adapter_partitionings } }
         ensures grows { Grows self.old self.new }
         ensures ordered { adapter_module.0 < length self.old.adapter_modules → IsOrdered self.old → IsOrdered self.new }
@@ -232,7 +234,8 @@ impl ComponentDfg {
         ensures ok { OnOk result (self.new.export_items ≡ self.old.export_items ++ item ∷ []) }
         ensures rest { self.new ≡ record self.old { export_items = self.new.export_items } }
         ensures grows { Grows self.old self.new }
-        ensures ordered { HeldExport self.old (length self.old.export_items) item → IsOrdered self.old → IsOrdered self.new }
+        ensures ordered { HeldExport self.old (length self.old.export_items) item
+            → IsOrdered self.old → IsOrdered self.new }
         ensures full { (result ≡ Err PushError.TooMany) ↔ (4294967295 ≤ length self.old.export_items) }
         ensures err { OnErr result (self.new ≡ self.old) }
     {

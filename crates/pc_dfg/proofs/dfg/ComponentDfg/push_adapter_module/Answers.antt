@@ -5,4 +5,5 @@ pub returns-clause-grows : goal.returns-clause-grows
 returns-clause-grows c = adapter_module_grows _ _ (c.args.static_module, c.args.args) c.append.ensures.change
 
 pub returns-clause-ordered : goal.returns-clause-ordered
-returns-clause-ordered c held o = adapter_module_ordered _ _ (c.args.static_module, c.args.args) c.append.ensures.change held o
+returns-clause-ordered c held o = adapter_module_ordered _ _
+    (c.args.static_module, c.args.args) c.append.ensures.change held o
