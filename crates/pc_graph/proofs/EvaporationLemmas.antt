@@ -159,6 +159,14 @@ module _ {Node : Type 0} (number_of : Node → ℕ) where
         let same : k ≡ i = sym (are k into b at in_it) ∙ number in
         (from, into, a, b, is, ap (λ m. slice_get classes m) (sym same) ∙ at, stands, edge, in_it)
 
+    -- so the number is one of a class
+    pub leads_within : IsClosed d (flat classes) → (j i : ℕ) (from : List Node) → slice_get classes j ≡ Some from
+        → Contains (targets number_of d from) i
+        → i < length classes
+    leads_within closed j i from is there =
+        let (from', into, a, b, from_is, into_is, stands, edge, in_it) = leads_into closed j i from is there in
+        slice_get_within classes i into into_is
+
     -- once all edges are noted, the lists are the evaporation
     pub evaporated : (rows : List (List Scc)) (k : ℕ) → IsClosed d (flat classes) → length classes ≤ k
         → Notes (length classes) (Done d classes k) rows

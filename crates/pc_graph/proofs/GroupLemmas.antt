@@ -160,7 +160,7 @@ module _ {Node : Type 0} where
       (group, rest, refl, same)
 
   -- the oldest node of a group stands at its head
-  pub ends_at : (group : List Node) (rest : List (List Node)) (n : Node)
+  ends_at : (group : List Node) (rest : List (List Node)) (n : Node)
       → slice_get (reverse (flat (group ∷ rest))) (length (flat rest)) ≡ Some n
       → EndsWith group n
   ends_at group rest n at = go (reverse group) refl
@@ -185,13 +185,39 @@ module _ {Node : Type 0} where
           )
 
   -- a group's oldest node is found at its head
-  pub at_ends : (group : List Node) (rest : List (List Node)) (n : Node) → EndsWith group n
+  at_ends : (group : List Node) (rest : List (List Node)) (n : Node) → EndsWith group n
       → slice_get (reverse (flat (group ∷ rest))) (length (flat rest)) ≡ Some n
   at_ends group rest n (before, is) =
       ap (λ ns. slice_get ns (length (flat rest))) (stack_of group rest ∙ ap (λ g. reverse (flat rest) ++ reverse g) is
       ∙ ap (λ ns. reverse (flat rest) ++ ns) (reverse_push before n))
       ∙ ap (λ k. slice_get (reverse (flat rest) ++ n ∷ reverse before) k) (sym (length-reverse (flat rest)))
       ∙ slice_get-append_seam (reverse (flat rest)) n (reverse before)
+
+-- The newest group of a search on its stack.
+module _ {Node : Type 0} (path : List (List Node)) (stack : List Node) (stands : stack ≡ reverse (flat path))
+    (group : List Node) (rest : List (List Node)) (was : path ≡ group ∷ rest) (head : ℕ)
+    (is_head : head ≡ length (flat rest)) (n : Node) where
+  -- its oldest node stands at its head
+  pub at_head : EndsWith group n → slice_get stack head ≡ Some n
+  at_head ends =
+      ap (λ ns. slice_get ns head) (stands ∙ ap (λ q. reverse (flat q)) was)
+      ∙ ap (λ k. slice_get (reverse (flat (group ∷ rest))) k) is_head ∙ at_ends group rest n ends
+
+  -- the node that stands at its head is its oldest
+  pub head_at : slice_get stack head ≡ Some n → EndsWith group n
+  head_at at =
+      ends_at group rest n
+      (ap (λ k. slice_get (reverse (flat (group ∷ rest))) k) (sym is_head)
+      ∙ ap (λ ns. slice_get ns head) (sym (stands ∙ ap (λ q. reverse (flat q)) was)) ∙ at)
+
+-- there is a head where there is a group
+pub head_there : {Node : Type 0} (heads : List ℕ) (path : List (List Node)) (group : List Node)
+    (rest : List (List Node))
+    → heads ≡ heads_of path → path ≡ group ∷ rest → 0 < length heads
+head_there heads path group rest are was =
+    let e = ap length (are ∙ ap heads_of was) in
+    let f = length-append (heads_of rest) (length (flat rest) ∷ []) in
+    omega arith
 
 -- what a `pop` takes off where something is there
 pub popped_last : (old new : List ℕ) (r : Option ℕ) → old ≡ new ++ option_to_list r → (0 < length old → IsSome r)

@@ -1,5 +1,5 @@
 -- Values that are set in a map, node after node, and lists that are taken from the end.
-use Rattle.std.proofs.Common.{◌≡◌, ◌⊎◌, ℕ, ◌≤◌, List, [], ◌∷◌, ◌++◌, reverse, sym, ◌∙◌, ap, subst, inl, inr, arith, ◌+◌, ◌-◌, ◌<◌, length, get_or, drop}
+use Rattle.std.proofs.Common.{◌≡◌, ◌⊎◌, ℕ, ◌≤◌, List, [], ◌∷◌, ◌++◌, reverse, sym, ◌∙◌, ap, subst, append_assoc, inl, inr, arith, ◌+◌, ◌-◌, ◌<◌, length, get_or, drop}
 use Rattle.std.specs.List.{Contains}
 use Rattle.std.proofs.lemmas.List.{reverse-append, drop_all, drop_more}
 use Rattle.std.proofs.lemmas.List.Elements.{Contains-append_left, Contains-push, Contains-push_cases}
@@ -14,15 +14,25 @@ drop_left xs head left below (inl above) = let same : left ≡ head = omega arit
 drop_left xs head left below (inr end) = drop_all left xs (omega arith) ∙ sym (drop_all head xs (omega arith))
 
 -- one item more from the end
-pub taken_more : {X : Type 0} (xs group more : List X) (left : ℕ) (x : X) → 0 < left → left ≤ length xs
-    → x ≡ get_or xs (left - 1) x
-    → group ≡ reverse (drop left xs) → more ≡ group ++ x ∷ [] → more ≡ reverse (drop (left - 1) xs)
-taken_more xs group more left x some within is so_far pushed =
+pub taken_more : {X : Type 0} (xs : List X) (left : ℕ) (x : X) → 0 < left → left ≤ length xs
+    → x ≡ get_or xs (left - 1) x → reverse (drop (left - 1) xs) ≡ reverse (drop left xs) ++ x ∷ []
+taken_more xs left x some within is =
     let one : left - 1 + 1 ≡ left = omega arith in
     let next : drop (left - 1) xs ≡ x ∷ drop left xs =
     drop_more xs (left - 1) x (omega arith) ∙ ap (λ y. y ∷ drop (left - 1 + 1) xs) (sym is)
     ∙ ap (λ n. x ∷ drop n xs) one in
-    pushed ∙ ap (λ ys. ys ++ x ∷ []) so_far ∙ sym (reverse-append (x ∷ []) (drop left xs)) ∙ ap reverse (sym next)
+    ap reverse next ∙ reverse-append (x ∷ []) (drop left xs)
+
+-- a list that was moved behind another one, with one item more
+pub moved_more : {X : Type 0} (old now later group more : List X) (x : X) → now ≡ old ++ group → later ≡ now ++ x ∷ []
+    → more ≡ group ++ x ∷ [] → later ≡ old ++ more
+moved_more old now later group more x moved pushed taken =
+    pushed ∙ ap (λ ns. ns ++ x ∷ []) moved ∙ append_assoc old group (x ∷ []) ∙ ap (λ ns. old ++ ns) (sym taken)
+
+-- numbers from which the nodes can be told back tell nodes apart
+pub told_apart : {Node : Type 0} (number : Node → ℕ) (of_number : ℕ → Node) → ((n : Node) → of_number (number n) ≡ n)
+    → (a b : Node) → number a ≡ number b → a ≡ b
+told_apart number of_number back a b e = sym (back a) ∙ ap of_number e ∙ back b
 
 module _ {Node : Type 0} (number : Node → ℕ) (injective : (a b : Node) → number a ≡ number b → a ≡ b) where
   -- what is noted at a node that was set

@@ -90,7 +90,7 @@ module _ {X : Type 0} where
       cut_at_from e items ends last (suc k) h.1 (omega arith)
 
   -- the list of a number, where the first begins at 0
-  pub cut_at : (items : List X) (ends : List ℕ) (last k : ℕ) → Ascend 0 ends last → k < length ends
+  cut_at : (items : List X) (ends : List ℕ) (last k : ℕ) → Ascend 0 ends last → k < length ends
       → (slice_get (cut 0 items ends) k ≡ Some (slice_range items (start_of ends k) (get_or ends k 0)))
       × (start_of ends k ≤ get_or ends k 0) × (get_or ends k 0 ≤ last)
   cut_at items ends last zero h below = cut_at_from 0 items ends last zero h below
@@ -249,3 +249,16 @@ pub same_item : {X : Type 0} (xs : List X) (k : ℕ) (d e : X) → k < length xs
 same_item [] k d e below = absurd (omega arith)
 same_item (x ∷ xs) zero d e below = refl
 same_item (x ∷ xs) (suc k) d e below = same_item xs k d e (omega arith)
+
+-- the list of a number, from its start to its end
+pub cut_between : {X : Type 0} (items : List X) (ends : List ℕ) (last k start end : ℕ) → Ascend 0 ends last
+    → k < length ends → start ≡ start_of ends k → end ≡ get_or ends k end
+    → (slice_get (cut 0 items ends) k ≡ Some (slice_range items start end)) × (start ≤ end) × (end ≤ last)
+cut_between items ends last k start end h below begins stops =
+    let (at, ordered, within) = cut_at items ends last k h below in
+    let stop : end ≡ get_or ends k 0 = stops ∙ same_item ends k end 0 below in (
+      at ∙ ap (λ b. Some (slice_range items b (get_or ends k 0))) (sym begins)
+          ∙ ap (λ e. Some (slice_range items start e)) (sym stop),
+      subst (λ e. start ≤ e) (sym stop) (subst (λ b. b ≤ get_or ends k 0) (sym begins) ordered),
+      subst (λ e. e ≤ last) (sym stop) within,
+    )

@@ -1,6 +1,7 @@
 -- The search along the traversal: what is kept from event to event.
 use Rattle.std.proofs.Common.{◌≡◌, ◌⊎◌, ◌↔◌, ℕ, suc, ◌+◌, ◌-◌, ◌*◌, ◌<◌, Bool, true, false, Option, None, Some, List, [], ◌∷◌, ◌++◌, length, reverse, refl, sym, ◌∙◌, ap, subst, inl, inr, append_assoc, true≢false, add-zero, suc-mul, arith}
 use Rattle.std.specs.List.{Contains}
+use Rattle.std.specs.Option.{option_to_list}
 use Rattle.std.proofs.lemmas.List.{append-nil, length-append, length-reverse}
 use Rattle.std.proofs.lemmas.List.Elements.{Contains-append_left, Contains-append_right, Contains-append_cases}
 use Rattle.pc_entity.specs.SecondaryMap.{value_at}
@@ -33,7 +34,7 @@ module _ {Node : Type 0} (number : Node → ℕ) where
   IsIn s n = Contains (flat s.path) n ⊎ Contains (flat s.closed) n
 
   -- it is told exactly of the nodes of the search
-  pub tells_exactly : (held : Held Node) (s : Search Node) (met : List Node) → StandsFor number held s
+  tells_exactly : (held : Held Node) (s : Search Node) (met : List Node) → StandsFor number held s
       → ((n : Node) → Contains met n ↔ IsIn s n) → SaysExactly (Tells held) met
   tells_exactly held s met h same n answer is = (
     λ told. (same n).1 (there (value_at held.noted (number n)) (sym is ∙ told) (h.noted n)),
@@ -52,7 +53,7 @@ module _ {Node : Type 0} (number : Node → ℕ) where
       told_of Closed c done = refl
 
   -- a node that is met is new
-  pub can_turn : (d : Digraph Node) (held : Held Node) (old new : List (DfsEvent Node)) (event : DfsEvent Node)
+  can_turn : (d : Digraph Node) (held : Held Node) (old new : List (DfsEvent Node)) (event : DfsEvent Node)
       → Steps (Tells held) d old (Some event) new → CanTurn number held event
   can_turn d held old new (Pre n) (skipped, below, seen, is, (said, pushed, pushes, left)) =
       unmet (value_at held.noted (number n)) said
@@ -158,7 +159,7 @@ module _ {Node : Type 0} (number : Node → ℕ) where
       )
 
   -- an event more
-  pub going_on : (d : Digraph Node) (old new : List (DfsEvent Node)) (held later : Held Node) (event : DfsEvent Node)
+  going_on : (d : Digraph Node) (old new : List (DfsEvent Node)) (held later : Held Node) (event : DfsEvent Node)
       (g : Going d old held)
       → ((t : Search Node) × Turns g.search event t × StandsFor number later t)
       → ((rest : List (DfsEvent Node)) (end : List Node) → Remains d (met_after g.met (Some event)) new rest end
@@ -176,7 +177,7 @@ module _ {Node : Type 0} (number : Node → ℕ) where
   }
 
   -- at the end of the traversal the search has found the components
-  pub going_ends : (d : Digraph Node) (old new : List (DfsEvent Node)) (held : Held Node) (g : Going d old held)
+  going_ends : (d : Digraph Node) (old new : List (DfsEvent Node)) (held : Held Node) (g : Going d old held)
       → Steps (Tells held) d old None new
       → ((rest : List (DfsEvent Node)) (end : List Node) → Remains d g.met new rest end → Remains d g.met old rest end)
       → (s : Search Node) × StandsFor number held s × AreComponents d s.closed
@@ -255,7 +256,7 @@ falls big wide c c' k k' below (inr (same, less)) =
 
 module _ {Node : Type 0} (number : Node → ℕ) where
   -- the loop ends
-  pub going_falls : (d : Digraph Node) (big wide : ℕ) (old new : List (DfsEvent Node)) (held later : Held Node)
+  going_falls : (d : Digraph Node) (big wide : ℕ) (old new : List (DfsEvent Node)) (held later : Held Node)
       (event : DfsEvent Node) (s : Search Node)
       → StandsFor number held s → ((t : Search Node) × Turns s event t × StandsFor number later t)
       → Steps (Tells number held) d old (Some event) new
@@ -272,6 +273,47 @@ module _ {Node : Type 0} (number : Node → ℕ) where
         | inl one ↦ inl (omega arith, short)
         | inr none_met ↦ inr (omega arith, steps_shorter number (Tells number held) d old new event steps none_met.1)
       ])
+
+-- A round of the loop over the traversal, by what it gives next.
+module _ {Node : Type 0} (number : Node → ℕ) (d : Digraph Node) (old new : List (DfsEvent Node)) (held : Held Node)
+    (given : Option (DfsEvent Node)) (steps : Steps (Tells number held) d old given new) where
+  -- an event can be taken in
+  pub can_take : (event : DfsEvent Node) → given ≡ Some event → CanTurn number held event
+  can_take event is =
+      can_turn number d held old new event (subst (λ o. Steps (Tells number held) d old o new) is steps)
+
+  module _ (g : Going number d old held)
+      (remains : SaysExactly (Tells number held) g.met → (rest : List (DfsEvent Node)) (end : List Node)
+      → Remains d (met_after g.met given) new rest end → Remains d g.met old (option_to_list given ++ rest) end) where
+    -- the events to come, by those that are to come behind what is given
+    to_come : (o : Option (DfsEvent Node)) → given ≡ o → (rest : List (DfsEvent Node)) (end : List Node)
+        → Remains d (met_after g.met o) new rest end → Remains d g.met old (option_to_list o ++ rest) end
+    to_come o is = subst P is (remains (tells_exactly number held g.search g.met g.stands g.same))
+      where
+        P : Option (DfsEvent Node) → Type 0
+        P x = (rest : List (DfsEvent Node)) (end : List Node) → Remains d (met_after g.met x) new rest end
+            → Remains d g.met old (option_to_list x ++ rest) end
+
+    -- it is taken in
+    pub take_on : (later : Held Node) (event : DfsEvent Node) → given ≡ Some event
+        → ((t : Search Node) × Turns g.search event t × StandsFor number later t) → Going number d new later
+    take_on later event is turned = going_on number d old new held later event g turned (to_come (Some event) is)
+
+    -- the loop ends
+    pub take_falls : (big wide : ℕ) (later : Held Node) (event : DfsEvent Node) → given ≡ Some event
+        → ((t : Search Node) × Turns g.search event t × StandsFor number later t)
+        → length later.stack + length later.nodes < big → length new < wide
+        → (big - (length later.stack + length later.nodes)) * wide + length new <
+        (big - (length held.stack + length held.nodes)) * wide + length old
+    take_falls big wide later event is turned room short =
+        going_falls number d big wide old new held later event g.search g.stands turned
+        (subst (λ o. Steps (Tells number held) d old o new) is steps) room short
+
+    -- where no event is given, the search has found the components
+    pub take_ends : given ≡ None → (s : Search Node) × StandsFor number held s × AreComponents d s.closed
+    take_ends none =
+        going_ends number d old new held g (subst (λ o. Steps (Tells number held) d old o new) none steps)
+        (to_come None none)
 
 -- what isn't some value is none
 pub none_left : {X : Type 0} (o : Option X) → ((x : X) → o ≡ Some x → ⊥) → o ≡ None

@@ -12,8 +12,8 @@ use pc_numbers::EntityRef;
 use std::alloc::Global;
 use std::marker::{Model, PhantomData};
 
-/// A graph whose nodes are all numbers up to the greatest that was given. A contract sees the list of successors of
-/// each.
+/// A graph with a node for each number that is not above the greatest given one. A contract sees the list of successors
+/// of each.
 #[derive(Drop)]
 pub struct EntityGraph<Node> {
     rows: Vec<Seq<Node>>,

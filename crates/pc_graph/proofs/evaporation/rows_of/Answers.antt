@@ -1,8 +1,7 @@
 use Rattle.std.proofs.Common.{[], List, ◌∙◌, ap, sym, subst, length, replicate, arith}
-use Rattle.std.proofs.lemmas.Option.{slice_get_within}
 use Rattle.pc_graph.specs.Noting.{number_in}
 use Rattle.pc_graph.specs.declared.scc.Scc.{Scc}
-use Rattle.pc_graph.proofs.EvaporationLemmas.{Done, evaporated, leads_into, notes_more, notes_none}
+use Rattle.pc_graph.proofs.EvaporationLemmas.{Done, evaporated, leads_within, notes_more, notes_none}
 use Rattle.pc_graph.proofs.NotedLemmas.{Notes}
 use Rattle.pc_graph.proofs.evaporation.rows_of.Goals as goal
 
@@ -22,10 +21,8 @@ note_component-requires g c =
       d,
       shows,
       λ k there. (
-          let (from, into, a, b, from_is, into_is, stands, edge, in_it) =
-          leads_into number_of d classes c.requires.numbers closed c.loop-place.place k c.nodes.result.now
-          c.nodes.ensures there in
-          let within = slice_get_within classes k into into_is in
+          let within = leads_within number_of d classes c.requires.numbers closed c.loop-place.place k
+          c.nodes.result.now c.nodes.ensures there in
           omega arith
           ),
     )
@@ -36,12 +33,8 @@ loop-place-preserved g c = λ d shows closed.
     let classes = c.args.components.now in
     notes_more number_of d classes c.loop-place.place c.nodes.result.now c.loop-place.rows.items
     c.note_component.new.rows.items c.nodes.ensures
-    (λ k there. (
-    let (from, into, a, b, from_is, into_is, stands, edge, in_it) =
-    leads_into number_of d classes c.requires.numbers closed c.loop-place.place k c.nodes.result.now c.nodes.ensures
-    there in
-    slice_get_within classes k into into_is
-    ))
+    (λ k. leads_within number_of d classes c.requires.numbers closed c.loop-place.place k c.nodes.result.now
+    c.nodes.ensures)
     (c.in_ok-note_component.ensures d shows) (c.loop-place.invariant d shows closed)
 
 pub returns : goal.returns

@@ -1,8 +1,8 @@
-use Rattle.std.proofs.Common.{◌≡◌, ◌-◌, ◌++◌, ◌∷◌, [], ◌∙◌, ap, sym, subst, refl, reverse, drop, inl, inr, length, append_assoc, arith}
+use Rattle.std.proofs.Common.{◌≡◌, ◌++◌, [], ◌∙◌, ap, sym, subst, refl, reverse, drop, inl, inr, length, arith}
 use Rattle.std.specs.List.{Contains}
 use Rattle.std.proofs.lemmas.List.{append-nil, drop_all}
 use Rattle.pc_graph.specs.declared.search.Noted.TheVariants.{Closed}
-use Rattle.pc_graph.proofs.MapLemmas.{drop_left, others_more, set_more, taken_more}
+use Rattle.pc_graph.proofs.MapLemmas.{drop_left, moved_more, others_more, set_more, taken_more, told_apart}
 use Rattle.pc_graph.proofs.MemberLemmas.{contains_none}
 use Rattle.pc_graph.proofs.search.close_group.Goals as goal
 
@@ -23,35 +23,24 @@ loop-left-init g c =
 pub loop-left-preserved : goal.loop-left-preserved
 loop-left-preserved g c =
     let number = g.Node.EntityRef.number in
-    let injective : (a b : g.row.Node.Denot) → number a ≡ number b → a ≡ b = λ a b e.
-    sym (g.met.Node.EntityRef.of_number_number a) ∙ ap g.Node.EntityRef.of_number e
-    ∙ g.met.Node.EntityRef.of_number_number b in
+    let apart = told_apart number g.Node.EntityRef.of_number g.met.Node.EntityRef.of_number_number in
+    let l = c.loop-left in
     let node = c.index-node.result.now in
-    let stack = c.args.stack.now.items in
-    let group = reverse (drop c.loop-left.left stack) in
-    let more = reverse (drop (c.loop-left.left - 1) stack) in
-    let pushed : more ≡ group ++ node ∷ [] =
-    sym (taken_more stack group (group ++ node ∷ []) c.loop-left.left node
-    (omega arith) c.loop-left.invariant.within c.index-node.ensures refl refl) in
+    let set = c.in_ok-set.ensures.ok in
+    let taken = taken_more c.args.stack.now.items l.left node (omega arith) l.invariant.within c.index-node.ensures in
     record {
       within = omega arith;
       whole = inl (omega arith);
-      moved = c.in_ok-push.ensures.items ∙ ap (λ ns. ns ++ node ∷ []) c.loop-left.invariant.moved
-          ∙ append_assoc c.args.nodes.now.items group (node ∷ [])
-          ∙ ap (λ ns. c.args.nodes.now.items ++ ns) (sym pushed);
-      closed = set_more number injective Closed c.loop-left.noted c.set.new.self group more node c.in_ok-set.ensures.ok
-          pushed c.loop-left.invariant.closed;
-      others =
-          others_more number injective Closed c.loop-left.noted c.set.new.self c.args.noted.now group more node
-          c.in_ok-set.ensures.ok
-          pushed c.loop-left.invariant.others;
+      moved = moved_more _ _ _ _ _ node l.invariant.moved c.in_ok-push.ensures.items taken;
+      closed = set_more number apart Closed l.noted c.set.new.self _ _ node set taken l.invariant.closed;
+      others = others_more number apart Closed l.noted c.set.new.self c.args.noted.now _ _ node set taken
+          l.invariant.others;
     }
 
 pub returns : goal.returns
 returns g c =
-    let stack = c.args.stack.now.items in
-    let gone : reverse (drop c.loop-left.left stack) ≡ reverse (drop c.args.head stack) =
-    ap reverse (drop_left stack c.args.head c.loop-left.left (omega arith) c.loop-left.invariant.whole) in
+    let gone = ap reverse
+    (drop_left c.args.stack.now.items c.args.head c.loop-left.left (omega arith) c.loop-left.invariant.whole) in
     record {
       stack = c.truncate.ensures.items;
       nodes = c.loop-left.invariant.moved ∙ ap (λ ns. c.args.nodes.now.items ++ ns) gone;
