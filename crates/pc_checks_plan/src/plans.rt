@@ -3,18 +3,13 @@
 ghost use Rattle.std.specs.Prelude.{◌≡◌, length, IfOk};
 
 use pc_entity::{
-    DefinedResourceIndex, EntityIndex, ExportIndex, FuncIndex, GlobalIndex, MemoryIndex,
-    ModuleInternedTypeIndex, NoMemory, PrimaryMap, ResourceIndex, RuntimeComponentInstanceIndex,
-    RuntimeImportIndex, RuntimeInstanceIndex, RuntimeMemoryIndex, TableIndex, TagIndex, Text,
+    DefinedResourceIndex, EntityIndex, ExportIndex, FuncIndex, GlobalIndex, MemoryIndex, NoMemory,
+    PrimaryMap, ResourceIndex, RuntimeImportIndex, RuntimeInstanceIndex, TableIndex, TagIndex,
+    Text,
 };
-use pc_info::{
-    CanonicalOptions, CanonicalOptionsDataModel, Component, CoreDef, CoreExport, Export,
-    ExportItem, LinearMemoryOptions,
-};
+use pc_info::{Component, CoreDef, CoreExport, Export, ExportItem};
 use pc_names::{NameError, NameMap, NameMapNoIntern};
-use pc_types::{
-    ComponentExternData, InterfaceType, StringEncoding, TypeComponentInstanceIndex, TypeDef,
-};
+use pc_types::{ComponentExternData, InterfaceType, TypeComponentInstanceIndex, TypeDef};
 use std::alloc::Global;
 use std::test::Fail;
 
@@ -80,29 +75,6 @@ fn a_name_stays_where_entities_are_mapped(rt: HostRuntime) -> Result<(), Fail> {
     assert_eq!(rt; mapped.instance.0, 1);
     assert!(rt; matches!(&mapped.item, ExportItem::Name(name) if name.as_str() == "m"));
     Ok(())
-}
-
-/// Options with this data model.
-fn options(data_model: CanonicalOptionsDataModel) -> CanonicalOptions {
-    CanonicalOptions {
-        instance: RuntimeComponentInstanceIndex(0),
-        string_encoding: StringEncoding::Utf8,
-        callback: None,
-        post_return: None,
-        async_: false,
-        core_type: ModuleInternedTypeIndex(0),
-        data_model,
-    }
-}
-
-#[test]
-fn the_managed_heap_has_no_memory(rt: HostRuntime) {
-    let linear = options(CanonicalOptionsDataModel::LinearMemory(LinearMemoryOptions {
-        memory: Some(RuntimeMemoryIndex(3)),
-        realloc: None,
-    }));
-    assert_eq!(rt; linear.memory().map(|m| m.0), Some(3));
-    assert!(rt; options(CanonicalOptionsDataModel::Gc {}).memory().is_none());
 }
 
 /// An instance with the item of this number in it.

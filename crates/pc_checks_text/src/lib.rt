@@ -1,9 +1,6 @@
-//! Tests of `pc_text` and `pc_info`: what the printed texts look like, and what copies and comparisons of a plan's
-//! parts answer while there is memory.
+//! Tests of `pc_text`: what the printed texts look like, while there is memory.
 #![tactic(auto)]
 
-#[cfg(test)]
-mod copies;
 #[cfg(test)]
 mod exports;
 #[cfg(test)]
@@ -14,8 +11,6 @@ mod held;
 mod imports;
 #[cfg(test)]
 mod modules;
-#[cfg(test)]
-mod options;
 #[cfg(test)]
 mod parts;
 #[cfg(test)]

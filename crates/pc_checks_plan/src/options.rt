@@ -1,6 +1,5 @@
 //! Options that are equal, and options that differ in one field.
 
-use crate::support::holds;
 use pc_entity::{
     ExactEq, RuntimeCallbackIndex, RuntimeComponentInstanceIndex, RuntimeMemoryIndex,
     RuntimePostReturnIndex, RuntimeReallocIndex,
@@ -64,18 +63,37 @@ const WITHOUT: LinearMemoryOptions = LinearMemoryOptions {
 
 #[test]
 fn options_are_equal_where_each_field_is(rt: HostRuntime) {
-    holds(&rt, "itself", OPTIONS == OPTIONS);
+    assert!(rt; OPTIONS == OPTIONS, "itself");
     for other in OTHERS.iter() {
-        holds(&rt, "one field differs", OPTIONS != *other);
+        assert!(rt; OPTIONS != *other, "one field differs");
     }
 }
 
 #[test]
 fn models_are_the_same_by_memory_and_realloc(rt: HostRuntime) {
-    holds(&rt, "itself", SLOTS.is_same(&SLOTS));
-    holds(&rt, "no realloc", !SLOTS.is_same(&WITHOUT));
+    assert!(rt; SLOTS.is_same(&SLOTS), "itself");
+    assert!(rt; !SLOTS.is_same(&WITHOUT), "no realloc");
     let model = OPTIONS.data_model;
-    holds(&rt, "the same model", model.is_same(&model));
+    assert!(rt; model.is_same(&model), "the same model");
     let heap = CanonicalOptionsDataModel::Gc {};
-    holds(&rt, "the heap", !model.is_same(&heap));
+    assert!(rt; !model.is_same(&heap), "the heap");
+}
+
+/// Options with this data model.
+fn with_model(data_model: CanonicalOptionsDataModel) -> CanonicalOptions {
+    CanonicalOptions {
+        data_model,
+        ..OPTIONS
+    }
+}
+
+#[test]
+fn the_managed_heap_has_no_memory(rt: HostRuntime) {
+    let linear = with_model(CanonicalOptionsDataModel::LinearMemory(LinearMemoryOptions {
+        memory: Some(RuntimeMemoryIndex(3)),
+        realloc: None,
+    }));
+    assert_eq!(rt; linear.memory().map(|m| m.0), Some(3));
+    let heap = with_model(CanonicalOptionsDataModel::Gc {});
+    assert!(rt; heap.memory().is_none());
 }

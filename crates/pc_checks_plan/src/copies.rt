@@ -1,6 +1,5 @@
 //! Copies of definitions.
 
-use crate::support::holds;
 use pc_entity::{
     EntityIndex, FuncIndex, MemoryIndex, NoMemory, RuntimeInstanceIndex, Text, TryClone,
 };
@@ -39,7 +38,7 @@ fn is_copied_by_name(alloc: Global) -> Result<bool, NoMemory> {
 #[test]
 fn definitions_are_copied(rt: HostRuntime) {
     let by_name = is_copied_by_name(rt.alloc()).unwrap_or(false);
-    holds(&rt, "by name", by_name);
-    holds(&rt, "by entity", is_copied(rt.alloc(), &NUMBERED));
-    holds(&rt, "of one kind", is_copied(rt.alloc(), &MEMORY));
+    assert!(rt; by_name, "by name");
+    assert!(rt; is_copied(rt.alloc(), &NUMBERED), "by entity");
+    assert!(rt; is_copied(rt.alloc(), &MEMORY), "of one kind");
 }
