@@ -102,6 +102,10 @@ shape_of kind.Trap = shape trapping []
 shape_of kind.EnterSyncCall = shape helper []
 shape_of kind.ExitSyncCall = shape helper []
 
+-- a kind has this head with these parts
+abbrev pub HasShape : TrampolineKind → HeadShape → List PartShape → Type 0
+HasShape k h ps = shape h ps ≡ shape_of k
+
 -- what a type is as a part
 abbrev pub type_shape : TypeDef → PartShape
 type_shape (def.Interface (interface.Tuple n)) = tuple
@@ -143,7 +147,3 @@ module _ {L O M T C P : Type 0} where
   -- the parts are those of their kind
   abbrev pub IsShaped : Parts L O M T C P → Type 0
   IsShaped p = shape_of_parts p ≡ shape_of p.kind
-
-  -- a head and parts are these
-  abbrev pub IsMade : Head L O → PartList (Part O M T C P) → Head L O → PartList (Part O M T C P) → Type 0
-  IsMade h ps front list = (h ≡ front) × (ps ≡ list)

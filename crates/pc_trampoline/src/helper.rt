@@ -1,104 +1,113 @@
-//! What a lowering or a helper is made of, asked for by its shape.
+//! What is no builtin, put together from its parts: a lowering, a transcoder, a trap or another helper.
+#![tactic(auto, unfolding(crate::specs::Parts::parts_of, crate::specs::Shape::shape_of))]
 
-ghost use Rattle.std.specs.Prelude.{◌≡◌, ◌∷◌, [], IfNone, IfSome};
+ghost use Rattle.std.specs.Prelude.{◌≡◌, ◌∷◌, [], map, IfNone, IfSome};
 ghost use Rattle.pc_trampoline.specs.declared.part.Head.TheVariants as front;
-ghost use Rattle.pc_trampoline.specs.declared.part.Part.TheVariants as variant;
 ghost use Rattle.pc_trampoline.specs.declared.part.PartList.TheVariants as list;
+ghost use Rattle.pc_trampoline.specs.Parts.{list_of, made_of, parts_of};
 ghost use Rattle.pc_trampoline.specs.Shape as shape;
-ghost use Rattle.pc_trampoline.specs.Shape.{made_shape, IsMade};
+ghost use Rattle.pc_trampoline.specs.Shape.{HasShape, part_shape};
 
-use crate::made::{bare_both, both, is_empty, only};
-use crate::{Head, Part, PartList, Transcode, Trap, part_of};
-use pc_types::TypeFuncIndex;
+use crate::{Part, PartList, Trampoline, Transcode, Trap};
+use pc_types::{TrampolineKind as Kind, TypeFuncIndex};
 
 /// A helper without parts.
-pub(crate) fn bare<L: Copy, O: Copy, M: Copy, T: Copy, C: Copy, P: Copy>(
-    head: Head<L, O>,
-    parts: PartList<Part<O, M, T, C, P>>,
-) -> Option<()>
-    ensures some { IfSome result (λ r. IsMade head parts front.Helper list.Empty) }
-    ensures none { IfNone result (¬ (made_shape head parts ≡ shape.shape shape.helper [])) }
+fn bare<L: Copy, O: Copy, M: Copy, T: Copy, C: Copy, P: Copy>(
+    kind: Kind,
+) -> Option<Trampoline<L, O, M, T, C, P>>
+    ensures some { IfSome result (λ t. parts_of t ≡ made_of kind front.Helper list.Empty) }
+    ensures none { IfNone result (¬ HasShape kind shape.helper []) }
 {
-    match head {
-        Head::Helper => if is_empty(parts) { Some(()) } else { None },
+    match kind {
+        Kind::ResourceTransferOwn => Some(Trampoline::ResourceTransferOwn),
+        Kind::ResourceTransferBorrow => Some(Trampoline::ResourceTransferBorrow),
+        Kind::FutureTransfer => Some(Trampoline::FutureTransfer),
+        Kind::StreamTransfer => Some(Trampoline::StreamTransfer),
+        Kind::ErrorContextTransfer => Some(Trampoline::ErrorContextTransfer),
+        Kind::EnterSyncCall => Some(Trampoline::EnterSyncCall),
+        Kind::ExitSyncCall => Some(Trampoline::ExitSyncCall),
         _ => None,
     }
 }
 
-/// A helper with a memory, if there is one.
-pub(crate) fn bare_memory<L: Copy, O: Copy, M: Copy, T: Copy, C: Copy, P: Copy>(
-    head: Head<L, O>,
-    parts: PartList<Part<O, M, T, C, P>>,
-) -> Option<Option<M>>
-    ensures some { IfSome result (λ r. IsMade head parts front.Helper (list.One (variant.MaybeMemory r))) }
-    ensures none { IfNone result (¬ (made_shape head parts ≡ shape.shape shape.helper (shape.maybe_memory ∷ []))) }
+/// The helper with a part: it prepares a call.
+fn prepare_call<L: Copy, O: Copy, M: Copy, T: Copy, C: Copy, P: Copy>(
+    kind: Kind,
+    part: Part<O, M, T, C, P>,
+) -> Option<Trampoline<L, O, M, T, C, P>>
+    ensures some { IfSome result (λ t. parts_of t ≡ made_of kind front.Helper (list.One part)) }
+    ensures none { IfNone result (¬ HasShape kind shape.helper (part_shape part ∷ [])) }
 {
-    match head {
-        Head::Helper => match only(parts) {
-            Some(part) => part_of::maybe_memory(part),
-            None => None,
+    match kind {
+        Kind::PrepareCall => match part {
+            Part::MaybeMemory(memory) => Some(Trampoline::PrepareCall { memory }),
+            _ => None,
         },
         _ => None,
     }
 }
 
-/// A helper with a callback and a post-return function, if there are such.
-pub(crate) fn callback_and_post_return<L: Copy, O: Copy, M: Copy, T: Copy, C: Copy, P: Copy>(
-    head: Head<L, O>,
-    parts: PartList<Part<O, M, T, C, P>>,
-) -> Option<(Option<C>, Option<P>)>
-    ensures some { IfSome result (λ r. IsMade head parts front.Helper
-        (list.Two (variant.Callback r.0) (variant.PostReturn r.1))) }
-    ensures none { IfNone result (¬ (made_shape head parts
-        ≡ shape.shape shape.helper (shape.callback ∷ shape.post_return ∷ []))) }
+/// The helper with two parts: it starts a call.
+fn start_call<L: Copy, O: Copy, M: Copy, T: Copy, C: Copy, P: Copy>(
+    kind: Kind,
+    first: Part<O, M, T, C, P>,
+    second: Part<O, M, T, C, P>,
+) -> Option<Trampoline<L, O, M, T, C, P>>
+    ensures some { IfSome result (λ t. parts_of t ≡ made_of kind front.Helper (list.Two first second)) }
+    ensures none { IfNone result (¬ HasShape kind shape.helper (part_shape first ∷ part_shape second ∷ [])) }
 {
-    match bare_both(head, parts) {
-        Some((first, second)) => match part_of::callback(first) {
-            Some(x) => match part_of::post_return(second) {
-                Some(y) => Some((x, y)),
-                None => None,
+    match kind {
+        Kind::StartCall => match first {
+            Part::Callback(callback) => match second {
+                Part::PostReturn(post_return) => Some(Trampoline::StartCall {
+                    callback,
+                    post_return,
+                }),
+                _ => None,
             },
-            None => None,
+            _ => None,
         },
-        None => None,
+        _ => None,
     }
 }
 
-/// Two memories, whatever the head.
-pub(crate) fn memories<L: Copy, O: Copy, M: Copy, T: Copy, C: Copy, P: Copy>(
-    head: Head<L, O>,
+/// A helper other than a transcoder and a trap.
+#[tactic(auto)]
+pub(crate) fn of<L: Copy, O: Copy, M: Copy, T: Copy, C: Copy, P: Copy>(
+    kind: Kind,
     parts: PartList<Part<O, M, T, C, P>>,
-) -> Option<(M, M)>
-    ensures some { IfSome result (λ r. parts ≡ list.Two (variant.Memory r.0) (variant.Memory r.1)) }
-    ensures none { IfNone result (¬ (made_shape head parts
-        ≡ shape.shape shape.transcoding (shape.memory ∷ shape.memory ∷ []))) }
+) -> Option<Trampoline<L, O, M, T, C, P>>
+    ensures some { IfSome result (λ t. parts_of t ≡ made_of kind front.Helper parts) }
+    ensures none { IfNone result (¬ HasShape kind shape.helper (map part_shape (list_of parts))) }
 {
-    match both(parts) {
-        Some((first, second)) => match part_of::memory(first) {
-            Some(x) => match part_of::memory(second) {
-                Some(y) => Some((x, y)),
-                None => None,
-            },
-            None => None,
-        },
-        None => None,
+    match parts {
+        PartList::Empty => bare(kind),
+        PartList::One(part) => prepare_call(kind, part),
+        PartList::Two(first, second) => start_call(kind, first, second),
     }
 }
 
 /// A transcoder.
 pub(crate) fn transcoder<L: Copy, O: Copy, M: Copy, T: Copy, C: Copy, P: Copy>(
-    head: Head<L, O>,
+    kind: Kind,
+    op: Transcode,
+    from64: bool,
+    to64: bool,
     parts: PartList<Part<O, M, T, C, P>>,
-) -> Option<(Transcode, bool, bool, M, M)>
-    ensures some { IfSome result (λ r. IsMade head parts (front.Transcoding r.0 r.1 r.2)
-        (list.Two (variant.Memory r.3) (variant.Memory r.4))) }
-    ensures none { IfNone result (¬ (made_shape head parts
-        ≡ shape.shape shape.transcoding (shape.memory ∷ shape.memory ∷ []))) }
+) -> Option<Trampoline<L, O, M, T, C, P>>
+    ensures some { IfSome result (λ t. parts_of t ≡ made_of kind (front.Transcoding op from64 to64) parts) }
+    ensures none { IfNone result (¬ HasShape kind shape.transcoding (map part_shape (list_of parts))) }
 {
-    match head {
-        Head::Transcoding(op, from64, to64) => match memories(head, parts) {
-            Some((from, to)) => Some((op, from64, to64, from, to)),
-            None => None,
+    match kind {
+        Kind::Transcoder => match parts {
+            PartList::Two(Part::Memory(from), Part::Memory(to)) => Some(Trampoline::Transcoder {
+                op,
+                from,
+                from64,
+                to,
+                to64,
+            }),
+            _ => None,
         },
         _ => None,
     }
@@ -106,17 +115,23 @@ pub(crate) fn transcoder<L: Copy, O: Copy, M: Copy, T: Copy, C: Copy, P: Copy>(
 
 /// A lowering.
 pub(crate) fn lowering<L: Copy, O: Copy, M: Copy, T: Copy, C: Copy, P: Copy>(
-    head: Head<L, O>,
+    kind: Kind,
+    index: L,
+    lower_ty: TypeFuncIndex,
+    options: O,
     parts: PartList<Part<O, M, T, C, P>>,
-) -> Option<(L, TypeFuncIndex, O)>
-    ensures some { IfSome result (λ r. IsMade head parts (front.Lowering r.0 r.1 r.2) list.Empty) }
-    ensures none { IfNone result (¬ (made_shape head parts ≡ shape.shape shape.lowering [])) }
+) -> Option<Trampoline<L, O, M, T, C, P>>
+    ensures some { IfSome result (λ t. parts_of t ≡ made_of kind (front.Lowering index lower_ty options) parts) }
+    ensures none { IfNone result (¬ HasShape kind shape.lowering (map part_shape (list_of parts))) }
 {
-    match head {
-        Head::Lowering(index, ty, options) => if is_empty(parts) {
-            Some((index, ty, options))
-        } else {
-            None
+    match kind {
+        Kind::LowerImport => match parts {
+            PartList::Empty => Some(Trampoline::LowerImport {
+                index,
+                lower_ty,
+                options,
+            }),
+            _ => None,
         },
         _ => None,
     }
@@ -124,14 +139,18 @@ pub(crate) fn lowering<L: Copy, O: Copy, M: Copy, T: Copy, C: Copy, P: Copy>(
 
 /// A trap.
 pub(crate) fn trap<L: Copy, O: Copy, M: Copy, T: Copy, C: Copy, P: Copy>(
-    head: Head<L, O>,
+    kind: Kind,
+    code: Trap,
     parts: PartList<Part<O, M, T, C, P>>,
-) -> Option<Trap>
-    ensures some { IfSome result (λ r. IsMade head parts (front.Trapping r) list.Empty) }
-    ensures none { IfNone result (¬ (made_shape head parts ≡ shape.shape shape.trapping [])) }
+) -> Option<Trampoline<L, O, M, T, C, P>>
+    ensures some { IfSome result (λ t. parts_of t ≡ made_of kind (front.Trapping code) parts) }
+    ensures none { IfNone result (¬ HasShape kind shape.trapping (map part_shape (list_of parts))) }
 {
-    match head {
-        Head::Trapping(code) => if is_empty(parts) { Some(code) } else { None },
+    match kind {
+        Kind::Trap => match parts {
+            PartList::Empty => Some(Trampoline::Trap(code)),
+            _ => None,
+        },
         _ => None,
     }
 }

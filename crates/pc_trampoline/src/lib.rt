@@ -8,9 +8,8 @@ mod builtin;
 mod equal;
 mod exact;
 mod helper;
-mod made;
+mod one_part;
 mod part;
-mod part_of;
 mod plan;
 mod put_together;
 mod stem;
@@ -18,6 +17,7 @@ mod symbol;
 mod take_apart;
 mod trampoline;
 mod transcode;
+mod two_parts;
 
 pub use part::{Head, Mark, Part, PartList, Parts};
 pub use plan::{PlanPart, PlanParts, PlanTrampoline};

@@ -3,7 +3,7 @@
 
 ghost use Rattle.std.specs.Prelude.{◌≡◌};
 ghost use Rattle.pc_trampoline.specs.Parts.{error_context_part, future_part, parts_of, resource_part, stream_part};
-ghost use Rattle.pc_trampoline.specs.Parts.{made_of, tuple_part};
+ghost use Rattle.pc_trampoline.specs.Parts.{tuple_part};
 ghost use Rattle.pc_trampoline.specs.Shape.{IsShaped};
 
 use crate::{Head, Part, PartList, Parts, Trampoline};
@@ -47,329 +47,241 @@ fn error_context<O, M, T, C, P>(ty: TypeComponentLocalErrorContextTableIndex) ->
     Part::Type_(TypeDef::Interface(InterfaceType::ErrorContext(ty)))
 }
 
-/// A kind with what it is made of.
-fn of<L, O, M, T, C, P>(
-    kind: Kind,
-    head: Head<L, O>,
-    parts: PartList<Part<O, M, T, C, P>>,
-) -> Parts<L, O, M, T, C, P>
-    ensures { result ≡ made_of kind head parts }
-{
-    Parts { kind, head, parts }
-}
-
 impl<L: Copy, O: Copy, M: Copy, T: Copy, C: Copy, P: Copy> Trampoline<L, O, M, T, C, P> {
-    /// What it is made of.
-    #[tactic(auto, unfolding(crate::specs::Parts::parts_of, crate::specs::Shape::shape_of))]
-    pub fn parts(&self) -> Parts<L, O, M, T, C, P>
-        ensures parts { result ≡ parts_of self.now }
-        ensures shaped { IsShaped result }
+    /// Its kind.
+    #[tactic(auto, unfolding(crate::specs::Parts::parts_of))]
+    fn kind(&self) -> Kind
+        ensures { result ≡ (parts_of self.now).kind }
+    {
+        match self {
+            Trampoline::LowerImport { .. } => Kind::LowerImport,
+            Trampoline::ResourceNew { .. } => Kind::ResourceNew,
+            Trampoline::ResourceRep { .. } => Kind::ResourceRep,
+            Trampoline::ResourceDrop { .. } => Kind::ResourceDrop,
+            Trampoline::BackpressureInc { .. } => Kind::BackpressureInc,
+            Trampoline::BackpressureDec { .. } => Kind::BackpressureDec,
+            Trampoline::TaskReturn { .. } => Kind::TaskReturn,
+            Trampoline::TaskCancel { .. } => Kind::TaskCancel,
+            Trampoline::WaitableSetNew { .. } => Kind::WaitableSetNew,
+            Trampoline::WaitableSetWait { .. } => Kind::WaitableSetWait,
+            Trampoline::WaitableSetPoll { .. } => Kind::WaitableSetPoll,
+            Trampoline::WaitableSetDrop { .. } => Kind::WaitableSetDrop,
+            Trampoline::WaitableJoin { .. } => Kind::WaitableJoin,
+            Trampoline::SubtaskDrop { .. } => Kind::SubtaskDrop,
+            Trampoline::SubtaskCancel { .. } => Kind::SubtaskCancel,
+            Trampoline::StreamNew { .. } => Kind::StreamNew,
+            Trampoline::StreamRead { .. } => Kind::StreamRead,
+            Trampoline::StreamWrite { .. } => Kind::StreamWrite,
+            Trampoline::StreamCancelRead { .. } => Kind::StreamCancelRead,
+            Trampoline::StreamCancelWrite { .. } => Kind::StreamCancelWrite,
+            Trampoline::StreamDropReadable { .. } => Kind::StreamDropReadable,
+            Trampoline::StreamDropWritable { .. } => Kind::StreamDropWritable,
+            Trampoline::FutureNew { .. } => Kind::FutureNew,
+            Trampoline::FutureRead { .. } => Kind::FutureRead,
+            Trampoline::FutureWrite { .. } => Kind::FutureWrite,
+            Trampoline::FutureCancelRead { .. } => Kind::FutureCancelRead,
+            Trampoline::FutureCancelWrite { .. } => Kind::FutureCancelWrite,
+            Trampoline::FutureDropReadable { .. } => Kind::FutureDropReadable,
+            Trampoline::FutureDropWritable { .. } => Kind::FutureDropWritable,
+            Trampoline::ErrorContextNew { .. } => Kind::ErrorContextNew,
+            Trampoline::ErrorContextDebugMessage { .. } => Kind::ErrorContextDebugMessage,
+            Trampoline::ErrorContextDrop { .. } => Kind::ErrorContextDrop,
+            Trampoline::ThreadIndex { .. } => Kind::ThreadIndex,
+            Trampoline::ThreadNewIndirect { .. } => Kind::ThreadNewIndirect,
+            Trampoline::ThreadResumeLater { .. } => Kind::ThreadResumeLater,
+            Trampoline::ThreadSuspend { .. } => Kind::ThreadSuspend,
+            Trampoline::ThreadYield { .. } => Kind::ThreadYield,
+            Trampoline::ThreadSuspendThenResume { .. } => Kind::ThreadSuspendThenResume,
+            Trampoline::ThreadYieldThenResume { .. } => Kind::ThreadYieldThenResume,
+            Trampoline::ThreadSuspendThenPromote { .. } => Kind::ThreadSuspendThenPromote,
+            Trampoline::ThreadYieldThenPromote { .. } => Kind::ThreadYieldThenPromote,
+            Trampoline::Transcoder { .. } => Kind::Transcoder,
+            Trampoline::ResourceTransferOwn => Kind::ResourceTransferOwn,
+            Trampoline::ResourceTransferBorrow => Kind::ResourceTransferBorrow,
+            Trampoline::PrepareCall { .. } => Kind::PrepareCall,
+            Trampoline::StartCall { .. } => Kind::StartCall,
+            Trampoline::FutureTransfer => Kind::FutureTransfer,
+            Trampoline::StreamTransfer => Kind::StreamTransfer,
+            Trampoline::ErrorContextTransfer => Kind::ErrorContextTransfer,
+            Trampoline::Trap(_) => Kind::Trap,
+            Trampoline::EnterSyncCall => Kind::EnterSyncCall,
+            Trampoline::ExitSyncCall => Kind::ExitSyncCall,
+        }
+    }
+
+    /// What stands before its parts.
+    #[tactic(auto, unfolding(crate::specs::Parts::parts_of))]
+    fn head(&self) -> Head<L, O>
+        ensures { result ≡ (parts_of self.now).head }
     {
         match self {
             Trampoline::LowerImport {
                 index,
                 lower_ty,
                 options,
-            } => of(
-                Kind::LowerImport,
-                Head::Lowering(*index, *lower_ty, *options),
-                PartList::Empty,
-            ),
-            Trampoline::ResourceNew { instance, ty } => of(
-                Kind::ResourceNew,
-                Head::Builtin(*instance),
-                PartList::One(resource(*ty)),
-            ),
-            Trampoline::ResourceRep { instance, ty } => of(
-                Kind::ResourceRep,
-                Head::Builtin(*instance),
-                PartList::One(resource(*ty)),
-            ),
-            Trampoline::ResourceDrop { instance, ty } => of(
-                Kind::ResourceDrop,
-                Head::Builtin(*instance),
-                PartList::One(resource(*ty)),
-            ),
-            Trampoline::BackpressureInc { instance } => of(
-                Kind::BackpressureInc,
-                Head::Builtin(*instance),
-                PartList::Empty,
-            ),
-            Trampoline::BackpressureDec { instance } => of(
-                Kind::BackpressureDec,
-                Head::Builtin(*instance),
-                PartList::Empty,
-            ),
-            Trampoline::TaskReturn {
-                instance,
-                results,
-                options,
-            } => of(
-                Kind::TaskReturn,
-                Head::Builtin(*instance),
-                PartList::Two(tuple(*results), Part::Options(*options)),
-            ),
-            Trampoline::TaskCancel { instance } => of(
-                Kind::TaskCancel,
-                Head::Builtin(*instance),
-                PartList::Empty,
-            ),
-            Trampoline::WaitableSetNew { instance } => of(
-                Kind::WaitableSetNew,
-                Head::Builtin(*instance),
-                PartList::Empty,
-            ),
-            Trampoline::WaitableSetWait { instance, options } => of(
-                Kind::WaitableSetWait,
-                Head::Builtin(*instance),
-                PartList::One(Part::Options(*options)),
-            ),
-            Trampoline::WaitableSetPoll { instance, options } => of(
-                Kind::WaitableSetPoll,
-                Head::Builtin(*instance),
-                PartList::One(Part::Options(*options)),
-            ),
-            Trampoline::WaitableSetDrop { instance } => of(
-                Kind::WaitableSetDrop,
-                Head::Builtin(*instance),
-                PartList::Empty,
-            ),
-            Trampoline::WaitableJoin { instance } => of(
-                Kind::WaitableJoin,
-                Head::Builtin(*instance),
-                PartList::Empty,
-            ),
-            Trampoline::SubtaskDrop { instance } => of(
-                Kind::SubtaskDrop,
-                Head::Builtin(*instance),
-                PartList::Empty,
-            ),
-            Trampoline::SubtaskCancel { instance, async_ } => of(
-                Kind::SubtaskCancel,
-                Head::Builtin(*instance),
-                PartList::One(Part::Flag(*async_)),
-            ),
-            Trampoline::StreamNew { instance, ty } => of(
-                Kind::StreamNew,
-                Head::Builtin(*instance),
-                PartList::One(stream(*ty)),
-            ),
-            Trampoline::StreamRead {
-                instance,
-                ty,
-                options,
-            } => of(
-                Kind::StreamRead,
-                Head::Builtin(*instance),
-                PartList::Two(stream(*ty), Part::Options(*options)),
-            ),
-            Trampoline::StreamWrite {
-                instance,
-                ty,
-                options,
-            } => of(
-                Kind::StreamWrite,
-                Head::Builtin(*instance),
-                PartList::Two(stream(*ty), Part::Options(*options)),
-            ),
-            Trampoline::StreamCancelRead {
-                instance,
-                ty,
-                async_,
-            } => of(
-                Kind::StreamCancelRead,
-                Head::Builtin(*instance),
-                PartList::Two(stream(*ty), Part::Flag(*async_)),
-            ),
-            Trampoline::StreamCancelWrite {
-                instance,
-                ty,
-                async_,
-            } => of(
-                Kind::StreamCancelWrite,
-                Head::Builtin(*instance),
-                PartList::Two(stream(*ty), Part::Flag(*async_)),
-            ),
-            Trampoline::StreamDropReadable { instance, ty } => of(
-                Kind::StreamDropReadable,
-                Head::Builtin(*instance),
-                PartList::One(stream(*ty)),
-            ),
-            Trampoline::StreamDropWritable { instance, ty } => of(
-                Kind::StreamDropWritable,
-                Head::Builtin(*instance),
-                PartList::One(stream(*ty)),
-            ),
-            Trampoline::FutureNew { instance, ty } => of(
-                Kind::FutureNew,
-                Head::Builtin(*instance),
-                PartList::One(future(*ty)),
-            ),
-            Trampoline::FutureRead {
-                instance,
-                ty,
-                options,
-            } => of(
-                Kind::FutureRead,
-                Head::Builtin(*instance),
-                PartList::Two(future(*ty), Part::Options(*options)),
-            ),
-            Trampoline::FutureWrite {
-                instance,
-                ty,
-                options,
-            } => of(
-                Kind::FutureWrite,
-                Head::Builtin(*instance),
-                PartList::Two(future(*ty), Part::Options(*options)),
-            ),
-            Trampoline::FutureCancelRead {
-                instance,
-                ty,
-                async_,
-            } => of(
-                Kind::FutureCancelRead,
-                Head::Builtin(*instance),
-                PartList::Two(future(*ty), Part::Flag(*async_)),
-            ),
-            Trampoline::FutureCancelWrite {
-                instance,
-                ty,
-                async_,
-            } => of(
-                Kind::FutureCancelWrite,
-                Head::Builtin(*instance),
-                PartList::Two(future(*ty), Part::Flag(*async_)),
-            ),
-            Trampoline::FutureDropReadable { instance, ty } => of(
-                Kind::FutureDropReadable,
-                Head::Builtin(*instance),
-                PartList::One(future(*ty)),
-            ),
-            Trampoline::FutureDropWritable { instance, ty } => of(
-                Kind::FutureDropWritable,
-                Head::Builtin(*instance),
-                PartList::One(future(*ty)),
-            ),
-            Trampoline::ErrorContextNew {
-                instance,
-                ty,
-                options,
-            } => of(
-                Kind::ErrorContextNew,
-                Head::Builtin(*instance),
-                PartList::Two(error_context(*ty), Part::Options(*options)),
-            ),
-            Trampoline::ErrorContextDebugMessage {
-                instance,
-                ty,
-                options,
-            } => of(
-                Kind::ErrorContextDebugMessage,
-                Head::Builtin(*instance),
-                PartList::Two(error_context(*ty), Part::Options(*options)),
-            ),
-            Trampoline::ErrorContextDrop { instance, ty } => of(
-                Kind::ErrorContextDrop,
-                Head::Builtin(*instance),
-                PartList::One(error_context(*ty)),
-            ),
-            Trampoline::ThreadIndex { instance } => of(
-                Kind::ThreadIndex,
-                Head::Builtin(*instance),
-                PartList::Empty,
-            ),
-            Trampoline::ThreadNewIndirect {
-                instance,
-                start_func_ty_idx,
-                start_func_table_idx,
-            } => of(
-                Kind::ThreadNewIndirect,
-                Head::Builtin(*instance),
-                PartList::Two(
-                    Part::Number(start_func_ty_idx.0),
-                    Part::Table(*start_func_table_idx),
-                ),
-            ),
-            Trampoline::ThreadResumeLater { instance } => of(
-                Kind::ThreadResumeLater,
-                Head::Builtin(*instance),
-                PartList::Empty,
-            ),
-            Trampoline::ThreadSuspend { instance } => of(
-                Kind::ThreadSuspend,
-                Head::Builtin(*instance),
-                PartList::Empty,
-            ),
-            Trampoline::ThreadYield { instance } => of(
-                Kind::ThreadYield,
-                Head::Builtin(*instance),
-                PartList::Empty,
-            ),
-            Trampoline::ThreadSuspendThenResume { instance } => of(
-                Kind::ThreadSuspendThenResume,
-                Head::Builtin(*instance),
-                PartList::Empty,
-            ),
-            Trampoline::ThreadYieldThenResume { instance } => of(
-                Kind::ThreadYieldThenResume,
-                Head::Builtin(*instance),
-                PartList::Empty,
-            ),
-            Trampoline::ThreadSuspendThenPromote { instance } => of(
-                Kind::ThreadSuspendThenPromote,
-                Head::Builtin(*instance),
-                PartList::Empty,
-            ),
-            Trampoline::ThreadYieldThenPromote { instance } => of(
-                Kind::ThreadYieldThenPromote,
-                Head::Builtin(*instance),
-                PartList::Empty,
-            ),
+            } => Head::Lowering(*index, *lower_ty, *options),
             Trampoline::Transcoder {
                 op,
-                from,
                 from64,
-                to,
                 to64,
-            } => of(
-                Kind::Transcoder,
-                Head::Transcoding(*op, *from64, *to64),
-                PartList::Two(Part::Memory(*from), Part::Memory(*to)),
+                ..
+            } => Head::Transcoding(*op, *from64, *to64),
+            Trampoline::Trap(code) => Head::Trapping(*code),
+            Trampoline::ResourceNew { instance, .. }
+            | Trampoline::ResourceRep { instance, .. }
+            | Trampoline::ResourceDrop { instance, .. }
+            | Trampoline::BackpressureInc { instance }
+            | Trampoline::BackpressureDec { instance }
+            | Trampoline::TaskReturn { instance, .. }
+            | Trampoline::TaskCancel { instance }
+            | Trampoline::WaitableSetNew { instance }
+            | Trampoline::WaitableSetWait { instance, .. }
+            | Trampoline::WaitableSetPoll { instance, .. }
+            | Trampoline::WaitableSetDrop { instance }
+            | Trampoline::WaitableJoin { instance }
+            | Trampoline::SubtaskDrop { instance }
+            | Trampoline::SubtaskCancel { instance, .. }
+            | Trampoline::StreamNew { instance, .. }
+            | Trampoline::StreamRead { instance, .. }
+            | Trampoline::StreamWrite { instance, .. }
+            | Trampoline::StreamCancelRead { instance, .. }
+            | Trampoline::StreamCancelWrite { instance, .. }
+            | Trampoline::StreamDropReadable { instance, .. }
+            | Trampoline::StreamDropWritable { instance, .. }
+            | Trampoline::FutureNew { instance, .. }
+            | Trampoline::FutureRead { instance, .. }
+            | Trampoline::FutureWrite { instance, .. }
+            | Trampoline::FutureCancelRead { instance, .. }
+            | Trampoline::FutureCancelWrite { instance, .. }
+            | Trampoline::FutureDropReadable { instance, .. }
+            | Trampoline::FutureDropWritable { instance, .. }
+            | Trampoline::ErrorContextNew { instance, .. }
+            | Trampoline::ErrorContextDebugMessage { instance, .. }
+            | Trampoline::ErrorContextDrop { instance, .. }
+            | Trampoline::ThreadIndex { instance }
+            | Trampoline::ThreadNewIndirect { instance, .. }
+            | Trampoline::ThreadResumeLater { instance }
+            | Trampoline::ThreadSuspend { instance }
+            | Trampoline::ThreadYield { instance }
+            | Trampoline::ThreadSuspendThenResume { instance }
+            | Trampoline::ThreadYieldThenResume { instance }
+            | Trampoline::ThreadSuspendThenPromote { instance }
+            | Trampoline::ThreadYieldThenPromote { instance } => Head::Builtin(*instance),
+            Trampoline::ResourceTransferOwn
+            | Trampoline::ResourceTransferBorrow
+            | Trampoline::PrepareCall { .. }
+            | Trampoline::StartCall { .. }
+            | Trampoline::FutureTransfer
+            | Trampoline::StreamTransfer
+            | Trampoline::ErrorContextTransfer
+            | Trampoline::EnterSyncCall
+            | Trampoline::ExitSyncCall => Head::Helper,
+        }
+    }
+
+    /// Its parts.
+    #[tactic(auto, unfolding(crate::specs::Parts::parts_of))]
+    fn list(&self) -> PartList<Part<O, M, T, C, P>>
+        ensures { result ≡ (parts_of self.now).parts }
+    {
+        match self {
+            Trampoline::ResourceNew { ty, .. }
+            | Trampoline::ResourceRep { ty, .. }
+            | Trampoline::ResourceDrop { ty, .. } => PartList::One(resource(*ty)),
+            Trampoline::TaskReturn {
+                results,
+                options,
+                ..
+            } => PartList::Two(tuple(*results), Part::Options(*options)),
+            Trampoline::WaitableSetWait { options, .. }
+            | Trampoline::WaitableSetPoll { options, .. } => PartList::One(Part::Options(*options)),
+            Trampoline::SubtaskCancel { async_, .. } => PartList::One(Part::Flag(*async_)),
+            Trampoline::StreamNew { ty, .. }
+            | Trampoline::StreamDropReadable { ty, .. }
+            | Trampoline::StreamDropWritable { ty, .. } => PartList::One(stream(*ty)),
+            Trampoline::StreamRead { ty, options, .. }
+            | Trampoline::StreamWrite { ty, options, .. } => PartList::Two(
+                stream(*ty),
+                Part::Options(*options),
             ),
-            Trampoline::ResourceTransferOwn => of(
-                Kind::ResourceTransferOwn,
-                Head::Helper,
-                PartList::Empty,
+            Trampoline::StreamCancelRead { ty, async_, .. }
+            | Trampoline::StreamCancelWrite { ty, async_, .. } => PartList::Two(
+                stream(*ty),
+                Part::Flag(*async_),
             ),
-            Trampoline::ResourceTransferBorrow => of(
-                Kind::ResourceTransferBorrow,
-                Head::Helper,
-                PartList::Empty,
+            Trampoline::FutureNew { ty, .. }
+            | Trampoline::FutureDropReadable { ty, .. }
+            | Trampoline::FutureDropWritable { ty, .. } => PartList::One(future(*ty)),
+            Trampoline::FutureRead { ty, options, .. }
+            | Trampoline::FutureWrite { ty, options, .. } => PartList::Two(
+                future(*ty),
+                Part::Options(*options),
             ),
-            Trampoline::PrepareCall { memory } => of(
-                Kind::PrepareCall,
-                Head::Helper,
-                PartList::One(Part::MaybeMemory(*memory)),
+            Trampoline::FutureCancelRead { ty, async_, .. }
+            | Trampoline::FutureCancelWrite { ty, async_, .. } => PartList::Two(
+                future(*ty),
+                Part::Flag(*async_),
             ),
+            Trampoline::ErrorContextNew { ty, options, .. }
+            | Trampoline::ErrorContextDebugMessage { ty, options, .. } => PartList::Two(
+                error_context(*ty),
+                Part::Options(*options),
+            ),
+            Trampoline::ErrorContextDrop { ty, .. } => PartList::One(error_context(*ty)),
+            Trampoline::ThreadNewIndirect {
+                start_func_ty_idx,
+                start_func_table_idx,
+                ..
+            } => PartList::Two(
+                Part::Number(start_func_ty_idx.0),
+                Part::Table(*start_func_table_idx),
+            ),
+            Trampoline::Transcoder { from, to, .. } => PartList::Two(
+                Part::Memory(*from),
+                Part::Memory(*to),
+            ),
+            Trampoline::PrepareCall { memory } => PartList::One(Part::MaybeMemory(*memory)),
             Trampoline::StartCall {
                 callback,
                 post_return,
-            } => of(
-                Kind::StartCall,
-                Head::Helper,
-                PartList::Two(Part::Callback(*callback), Part::PostReturn(*post_return)),
-            ),
-            Trampoline::FutureTransfer => of(Kind::FutureTransfer, Head::Helper, PartList::Empty),
-            Trampoline::StreamTransfer => of(Kind::StreamTransfer, Head::Helper, PartList::Empty),
-            Trampoline::ErrorContextTransfer => of(
-                Kind::ErrorContextTransfer,
-                Head::Helper,
-                PartList::Empty,
-            ),
-            Trampoline::Trap(code) => of(Kind::Trap, Head::Trapping(*code), PartList::Empty),
-            Trampoline::EnterSyncCall => of(Kind::EnterSyncCall, Head::Helper, PartList::Empty),
-            Trampoline::ExitSyncCall => of(Kind::ExitSyncCall, Head::Helper, PartList::Empty),
+            } => PartList::Two(Part::Callback(*callback), Part::PostReturn(*post_return)),
+            Trampoline::LowerImport { .. }
+            | Trampoline::BackpressureInc { .. }
+            | Trampoline::BackpressureDec { .. }
+            | Trampoline::TaskCancel { .. }
+            | Trampoline::WaitableSetNew { .. }
+            | Trampoline::WaitableSetDrop { .. }
+            | Trampoline::WaitableJoin { .. }
+            | Trampoline::SubtaskDrop { .. }
+            | Trampoline::ThreadIndex { .. }
+            | Trampoline::ThreadResumeLater { .. }
+            | Trampoline::ThreadSuspend { .. }
+            | Trampoline::ThreadYield { .. }
+            | Trampoline::ThreadSuspendThenResume { .. }
+            | Trampoline::ThreadYieldThenResume { .. }
+            | Trampoline::ThreadSuspendThenPromote { .. }
+            | Trampoline::ThreadYieldThenPromote { .. }
+            | Trampoline::ResourceTransferOwn
+            | Trampoline::ResourceTransferBorrow
+            | Trampoline::FutureTransfer
+            | Trampoline::StreamTransfer
+            | Trampoline::ErrorContextTransfer
+            | Trampoline::Trap(_)
+            | Trampoline::EnterSyncCall
+            | Trampoline::ExitSyncCall => PartList::Empty,
+        }
+    }
+
+    /// What it is made of.
+    #[tactic(auto, using(crate::proofs::ShapeLemmas::made_shaped))]
+    pub fn parts(&self) -> Parts<L, O, M, T, C, P>
+        ensures parts { result ≡ parts_of self.now }
+        ensures shaped { IsShaped result }
+    {
+        Parts {
+            kind: self.kind(),
+            head: self.head(),
+            parts: self.list(),
         }
     }
 }

@@ -1,0 +1,2 @@
+pub mod BuiltinLemmas
+pub mod ShapeLemmas

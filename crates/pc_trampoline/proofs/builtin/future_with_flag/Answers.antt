@@ -1,4 +1,0 @@
-use Rattle.pc_trampoline.proofs.builtin.future_with_flag.Goals as goal
-
-pub returns-in-None-clause-none : goal.returns-in-None-clause-none
-returns-in-None-clause-none g c = c.in-None.ensures.none _ _
