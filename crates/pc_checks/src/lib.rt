@@ -1,6 +1,8 @@
-//! Tests of the crates that numbers, lists, types, facts and module records stand in.
+//! Tests of the crates that numbers, lists, types, facts, module records and the types builder stand in.
 #![tactic(auto)]
 
+#[cfg(test)]
+mod builder;
 #[cfg(test)]
 mod entity;
 #[cfg(test)]

@@ -94,20 +94,33 @@ fn parts_of<G: Graph<FuncIndex>>(
     Ok((components, evaporation))
 }
 
-/// Whether a worked graph has its components.
+/// Whether a graph has these components.
+fn has_parts<G: Graph<FuncIndex>>(
+    alloc: Global,
+    graph: &G,
+    parts: &[Part<'_>],
+) -> Result<bool, NoMemory>
+    requires { (d : Digraph FuncIndex) × G.Shows graph.now d }
+{
+    let (components, evaporation) = parts_of(alloc, graph)?;
+    Ok(are_parts(&components, &evaporation, parts))
+}
+
+/// Whether the graph of so many nodes with these edges has these components.
 fn is_worked(
     alloc: Global,
-    (count, edges, parts): &(u32, &[(u32, u32)], &[Part<'_>]),
+    count: u32,
+    edges: &[(u32, u32)],
+    parts: &[Part<'_>],
 ) -> Result<bool, GraphError<u32>> {
-    let graph = graph_of(alloc, *count, Edges::Listed(edges))?;
-    let (components, evaporation) = parts_of(alloc, &graph)?;
-    Ok(are_parts(&components, &evaporation, parts))
+    let graph = graph_of(alloc, count, Edges::Listed(edges))?;
+    Ok(has_parts(alloc, &graph, parts)?)
 }
 
 #[test]
 fn components_stand_as_they_are_left(rt: HostRuntime) -> Result<(), Fail> {
-    for worked in &WORKED {
-        assert!(rt; is_worked(rt.alloc(), worked)?);
+    for (count, edges, parts) in WORKED {
+        assert!(rt; is_worked(rt.alloc(), count, edges, parts)?);
     }
     Ok(())
 }
@@ -133,8 +146,7 @@ fn shows<G: Graph<FuncIndex>>(
     requires { (d : Digraph FuncIndex) × G.Shows graph.now d }
 {
     let found = listed(alloc, graph, 1)?;
-    let (components, evaporation) = parts_of(alloc, graph)?;
-    Ok(found.as_slice() == nodes && are_parts(&components, &evaporation, parts))
+    Ok(found.as_slice() == nodes && has_parts(alloc, graph, parts)?)
 }
 
 #[test]

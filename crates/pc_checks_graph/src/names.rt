@@ -140,16 +140,23 @@ fn an_error_says_its_cause(rt: HostRuntime) -> Result<(), Fail> {
     Ok(())
 }
 
+/// Whether a row has this name and this item.
+fn is_row(row: Option<&(&str, u32)>, key: &Text, item: u32) -> bool {
+    match row {
+        Some((name, value)) => key.as_str() == *name && *value == item,
+        None => false,
+    }
+}
+
 /// Whether the definitions are these, in this order.
 fn lists(map: &NameMap<Text, u32>, want: &[(&str, u32)]) -> bool {
-    let mut left = want;
+    let mut left = want.iter();
     for (key, item) in map.raw_iter() {
-        match left {
-            [(name, value), rest @ ..] if key.as_str() == *name && item == value => left = rest,
-            _ => return false,
+        if !is_row(left.next(), key, *item) {
+            return false;
         }
     }
-    left.is_empty()
+    left.next().is_none()
 }
 
 /// Writes 5 under a name, and copies the map.

@@ -1,8 +1,12 @@
-//! Tests of `pc_parsed`: what a payload list is translated to, and which lists have room for their numbers.
+//! Tests of how inputs are read: their form, what a payload list is translated to, and its local program.
 #![tactic(auto)]
 
 #[cfg(test)]
+mod form;
+#[cfg(test)]
 mod inputs;
+#[cfg(test)]
+mod local;
 #[cfg(test)]
 mod numbered;
 #[cfg(test)]

@@ -16,9 +16,9 @@ fn add(memories: &mut Intern<MemoryId, u32>, value: u32) -> Result<(), NoMemory>
 /// Three values of which two are equal.
 fn three(alloc: Global) -> Result<Intern<MemoryId, u32>, NoMemory> {
     let mut memories = Intern::new(alloc);
-    add(&mut memories, 7)?;
-    add(&mut memories, 9)?;
-    add(&mut memories, 7)?;
+    for value in [7, 9, 7] {
+        add(&mut memories, value)?;
+    }
     Ok(memories)
 }
 
@@ -31,18 +31,20 @@ fn equal_values_share_a_number(rt: HostRuntime) -> Result<(), Fail> {
     Ok(())
 }
 
+/// Whether a value came with this number.
+fn is_numbered(found: Option<(MemoryId, &u32)>, number: u32, value: u32) -> bool {
+    match found {
+        Some((key, held)) => key.0 == number && *held == value,
+        None => false,
+    }
+}
+
 #[test]
 fn values_come_with_their_numbers(rt: HostRuntime) -> Result<(), Fail> {
     let memories = three(rt.alloc())?;
     let mut values = memories.iter();
-    assert_eq!(rt;
-        values.next().map(|(key, value)| (key.0, *value)),
-        Some((0, 7))
-    );
-    assert_eq!(rt;
-        values.next().map(|(key, value)| (key.0, *value)),
-        Some((1, 9))
-    );
+    assert!(rt; is_numbered(values.next(), 0, 7));
+    assert!(rt; is_numbered(values.next(), 1, 9));
     assert!(rt; values.next().is_none());
     Ok(())
 }

@@ -1,11 +1,16 @@
-//! Tests of `pc_info`, `pc_trampoline` and `pc_intern`: what the functions of a plan, copies and comparisons of its parts
-//! answer, what trampolines are made of and how they are called, and which numbers interned values have.
+//! Tests of what a plan is made of: `pc_info`, `pc_trampoline`, `pc_intern`, `pc_offsets`, and the graph of `pc_dfg`.
 #![tactic(auto)]
 
 #[cfg(test)]
 mod copies;
 #[cfg(test)]
+mod graph;
+#[cfg(test)]
 mod interned;
+#[cfg(test)]
+mod laid_out;
+#[cfg(test)]
+mod layouts;
 #[cfg(test)]
 mod options;
 #[cfg(test)]

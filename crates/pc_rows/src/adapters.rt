@@ -142,14 +142,15 @@ const TWO_ADAPTERS: [&str; 20] = [
     r#""end""#,
 ];
 
+/// What stands before the payloads.
+const TYPES: &str = r#"{"limit":100,"intrinsics":null,"types":{"core":[[["i32"],["i32"]]],
+           "types":[{"func":{"params":[["x","u32"]],"result":"u32","async":false}},{"module":[[],[]]},
+           {"instance":[["f",["func",0]]]},{"instance":[]}]},"payloads":["#;
+
 /// The first so many payloads of the input with two adapters, as an input.
 fn prefix(alloc: Global, count: usize) -> Result<String, AllocError> {
     let payloads = TWO_ADAPTERS[..count.min(20)].join(alloc, ",")?;
-    format!(in alloc;
-        r#"{{"limit":100,"intrinsics":null,"types":{{"core":[[["i32"],["i32"]]],
-           "types":[{{"func":{{"params":[["x","u32"]],"result":"u32","async":false}}}},{{"module":[[],[]]}},
-           {{"instance":[["f",["func",0]]]}},{{"instance":[]}}]}},"payloads":[{payloads}]}}"#
-    )
+    [TYPES, payloads.as_str(), "]}"].join(alloc, "")
 }
 
 /// Whether this many payloads end too early.

@@ -173,9 +173,16 @@ pub(crate) fn is_refused(
     payloads: &str,
     fault: &str,
 ) -> Result<bool, AllocError> {
-    let input = format!(in alloc;
-        r#"{{"limit":100,"intrinsics":{intrinsics},"types":{{"core":[],"types":[{types}]}},"payloads":[{payloads}]}}"#
-    )?;
+    let parts = [
+        r#"{"limit":100,"intrinsics":"#,
+        intrinsics,
+        r#","types":{"core":[],"types":["#,
+        types,
+        r#"]},"payloads":["#,
+        payloads,
+        "]}",
+    ];
+    let input = parts.join(alloc, "")?;
     is_answered(alloc, "translate", &input, Status::Refused, fault)
 }
 

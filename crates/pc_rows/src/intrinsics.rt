@@ -152,9 +152,12 @@ const IMPORTS: [(&str, &str); 4] = [
 
 /// Whether an input whose root imports this entity as the intrinsics is refused with this text.
 fn is_declared(alloc: Global, types: &str, entity: &str, fault: &str) -> Result<bool, AllocError> {
-    let payloads = format!(in alloc;
-        r#""version",{{"imports":[["a",["func",0]],["i",{entity}]]}},"end""#
-    )?;
+    let parts = [
+        r#""version",{"imports":[["a",["func",0]],["i","#,
+        entity,
+        r#"]]},"end""#,
+    ];
+    let payloads = parts.join(alloc, "")?;
     is_refused(alloc, r#""i""#, types, &payloads, fault)
 }
 

@@ -1,4 +1,4 @@
-//! Tests that go through all crates: `run` on whole inputs, with streams in memory.
+//! Tests that go through all crates: `run` on whole inputs, with streams in memory, and the translator alone.
 #![tactic(auto)]
 
 #[cfg(test)]
@@ -25,3 +25,5 @@ mod root;
 mod streams;
 #[cfg(test)]
 mod structure;
+#[cfg(test)]
+mod translator;

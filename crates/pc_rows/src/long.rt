@@ -14,14 +14,29 @@ const DEPTHS: [(&str, &str, usize); 3] = [
     ("1", r#""end","#, 6002),
 ];
 
+/// What stands between the limit and the payloads.
+const TYPES: &str = r#","intrinsics":null,"types":{"core":[],"types":[{"instance":[]}]},
+           "payloads":["#;
+
+/// A text so many times.
+fn repeated(alloc: Global, text: &str, times: usize) -> Result<String, AllocError> {
+    text.repeat(alloc, times)
+}
+
 /// An input of components that stand in each other, each of which ends with this text.
 fn nested(alloc: Global, limit: &str, depth: usize, end: &str) -> Result<String, AllocError> {
-    let opened = r#""version","component","#.repeat(alloc, depth)?;
-    let closed = end.repeat(alloc, depth)?;
-    format!(in alloc;
-        r#"{{"limit":{limit},"intrinsics":null,"types":{{"core":[],"types":[{{"instance":[]}}]}},
-           "payloads":[{opened}"version",{closed}"end"]}}"#
-    )
+    let opened = repeated(alloc, r#""version","component","#, depth)?;
+    let closed = repeated(alloc, end, depth)?;
+    let parts = [
+        r#"{"limit":"#,
+        limit,
+        TYPES,
+        opened.as_str(),
+        r#""version","#,
+        closed.as_str(),
+        r#""end"]}"#,
+    ];
+    parts.join(alloc, "")
 }
 
 /// An input with a chain of lowered functions, each of which allocates by the one before it.

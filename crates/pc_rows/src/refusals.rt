@@ -13,6 +13,11 @@ const NO_INPUTS: [(&str, &str); 4] = [
     ("null", "fault bad-form\n"),
 ];
 
+/// What stands before the module.
+const BEGIN: &str = r#"{"limit":100,"intrinsics":null,"types":{"core":[[["i32"],["i32"]]],
+           "types":[{"func":{"params":[["x","u32"]],"result":"u32","async":false}},{"module":[[],[]]}]},
+           "payloads":["version","#;
+
 /// A core module with one function, which it exports.
 const MODULE: &str =
     r#"{"module":{"ty":1,"imports":[],"funcs":[0],"tables":0,"memories":[],"globals":0,"tags":0,
@@ -97,11 +102,7 @@ const ROWS: [(&str, &str); 15] = [
 
 /// Whether the input with the module above and these payloads is refused with this text.
 fn is_refused(alloc: Global, payloads: &str, fault: &str) -> Result<bool, AllocError> {
-    let input = format!(in alloc;
-        r#"{{"limit":100,"intrinsics":null,"types":{{"core":[[["i32"],["i32"]]],
-           "types":[{{"func":{{"params":[["x","u32"]],"result":"u32","async":false}}}},{{"module":[[],[]]}}]}},
-           "payloads":["version",{MODULE},{payloads},"end"]}}"#
-    )?;
+    let input = [BEGIN, MODULE, ",", payloads, r#","end"]}"#].join(alloc, "")?;
     is_answered(alloc, "translate", &input, Status::Refused, fault)
 }
 

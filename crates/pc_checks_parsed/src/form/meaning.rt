@@ -1,0 +1,25 @@
+//! The definition, computed on the tables of `specs/Examples.antt`.
+
+ghost use Rattle.pc_form.specs.Rules.{plain};
+ghost use Rattle.pc_form.specs.Names.{extern_name};
+ghost use Rattle.pc_form.specs.Types.{core_sig, decl_type};
+ghost use Rattle.pc_form.specs.Canon.{canon_item};
+ghost use Rattle.pc_form.specs.Payload.{payload_of};
+ghost use Rattle.pc_form.specs.Input.{input_of};
+ghost use Rattle.pc_checks_parsed.specs.Examples.{AreRead, sig_examples, entry_examples, name_examples};
+ghost use Rattle.pc_checks_parsed.specs.Examples.{canon_examples, payload_examples, input_examples};
+
+/// Each example is read as the value beside it.
+fn examples_are_read()
+    ensures signatures { AreRead core_sig sig_examples }
+    ensures entries { AreRead (decl_type plain) entry_examples }
+    ensures names { AreRead (extern_name plain) name_examples }
+    ensures canonical { AreRead canon_item canon_examples }
+    ensures payloads { AreRead (payload_of plain) payload_examples }
+    ensures inputs { AreRead (input_of plain) input_examples }
+{}
+
+#[test]
+fn every_word_and_shape_has_its_meaning() {
+    examples_are_read();
+}
