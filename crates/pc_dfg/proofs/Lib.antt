@@ -1,10 +1,11 @@
+-- For the layers above too: facts of lists, and that a definition has one value.
+pub mod AllLemmas
+pub mod UniqueLemmas
+pub mod ZipLemmas
 -- lists and graphs that have only grown
-mod AllLemmas
 mod GrowLemmas
--- a definition keeps its value, and has one
+-- a definition keeps its value
 mod KeptLemmas
-mod UniqueLemmas
-mod ZipLemmas
 mod TraceLemmas
 mod NodeLemmas
 -- what is held stays held, and names what it named

@@ -1,0 +1,61 @@
+mod CountLemmas
+mod StepLemmas
+mod ContinueLemmas
+mod AllLemmas
+mod ArgumentLemmas
+mod NamedLemmas
+mod RefusedLemmas
+mod DefLemmas
+-- the order: what an id leads to is lower, and is ready where it is named
+mod PartLemmas
+mod RankLemmas
+mod HeldLemmas
+mod ReadyLemmas
+-- what is held has a value
+mod ValueLemmas
+mod NumberLemmas
+mod GainLemmas
+-- the exports
+mod TypeLemmas
+mod NamingLemmas
+mod FurtherLemmas
+mod HereLemmas
+mod PushedLemmas
+mod InstanceLemmas
+mod NextLemmas
+mod ResolveLemmas
+mod ResourceLemmas
+mod EffectLemmas
+mod ItemLemmas
+mod NodeLemmas
+-- the stack
+mod OpenLemmas
+mod SumLemmas
+mod WorkLemmas
+mod StackLemmas
+-- numbers are given once
+mod NoteLemmas
+mod FillLemmas
+mod FullLemmas
+mod TakeLemmas
+mod RepresentedLemmas
+mod SharedLemmas
+mod UsedLemmas
+mod LiftedLemmas
+mod EntryLemmas
+mod GrownLemmas
+mod SlotLemmas
+mod KindLemmas
+mod ClosedSlotLemmas
+mod DoneLemmas
+mod StartLemmas
+mod OwnedLemmas
+mod WholeLemmas
+mod MadeLemmas
+mod OnlyLemmas
+mod NumberedLemmas
+mod OptionsLemmas
+mod TrampolineLemmas
+mod IntrinsicLemmas
+mod LoweringLemmas
+mod ModuleLemmas

@@ -1,0 +1,34 @@
+use Rattle.std.proofs.Common.{◌≡◌, ◌≤◌, length, ap, arith, ◌∙◌}
+use Rattle.std.proofs.lemmas.List.{take_all}
+use Rattle.pc_finish.specs.Arguments.{CanNumber, IsNumbered, host_in, named_in}
+use Rattle.pc_finish.proofs.ArgumentLemmas.{host_all}
+use Rattle.pc_finish.proofs.NamedLemmas.{copy_absent, copy_next}
+use Rattle.pc_finish.proofs.arguments.host_of.Goals as goal
+
+pub named_of-requires-clause-ready : goal.named_of-requires-clause-ready
+named_of-requires-clause-ready c =
+    host_all (CanNumber c.args.graph.now (length c.args.finish.now.instances)) c.args.args.now c.loop-place.place _
+    c.requires.ready c.entry_at.ensures
+
+pub named_of-requires-clause-numbered : goal.named_of-requires-clause-numbered
+named_of-requires-clause-numbered c =
+    host_all (IsNumbered c.args.graph.now c.args.finish.now) c.args.args.now c.loop-place.place _ c.requires.numbered
+    c.entry_at.ensures
+
+pub push-requires : goal.push-requires
+push-requires c = record {
+  absent = copy_absent (named_in c.args.graph.now c.args.finish.now) c.args.args.now c.loop-place.place _ c.entry_at.ensures
+      c.loop-place.all c.loop-place.invariant _ c.in_ok-copy_of.ensures c.names_are_distinct.ensures;
+}
+
+pub loop-place-preserved : goal.loop-place-preserved
+loop-place-preserved c =
+    copy_next (named_in c.args.graph.now c.args.finish.now) c.args.args.now c.loop-place.place _ c.entry_at.ensures
+    c.loop-place.all c.loop-place.invariant _ _ _ c.in_ok-copy_of.ensures c.in_ok-named.ensures c.in_ok-push.ensures.ok
+
+pub returns : goal.returns
+returns c =
+    let args = c.args.args.now in
+    let ended : length args ≤ c.loop-place.place = omega arith in
+    c.loop-place.invariant
+    ∙ ap (host_in c.args.graph.now c.args.finish.now) (take_all c.loop-place.place args ended)

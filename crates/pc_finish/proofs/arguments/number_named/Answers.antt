@@ -1,0 +1,38 @@
+use Rattle.std.proofs.Common.{◌≤◌, length, take, ap, subst, arith, ◌∙◌, Some}
+use Rattle.std.proofs.lemmas.List.{take_all}
+use Rattle.std.proofs.lemmas.Option.{slice_get-map}
+use Rattle.std.specs.Prelude.{option_map}
+use Rattle.pc_finish.specs.Arguments.{CanNumber, NumbersAll, named_defs}
+use Rattle.pc_finish.proofs.AllLemmas.{all_at}
+use Rattle.pc_finish.proofs.ArgumentLemmas.{can_still, named_item, named_next, numbers_more, numbers_none}
+use Rattle.pc_finish.proofs.arguments.number_named.Goals as goal
+
+pub loop-place-init : goal.loop-place-init
+loop-place-init c = numbers_none c.args.graph.now c.args.finish.now c.requires.fits
+
+pub number_def-requires-clause-ready : goal.number_def-requires-clause-ready
+number_def-requires-clause-ready c =
+    let g = c.args.graph.now in
+    let args = c.args.args.now in
+    let at = named_item args c.loop-place.place _ c.entry_at.ensures in
+    can_still g c.args.finish.now c.loop-place.finish c.loop-place.invariant.continues c.entry_at.result.1.now
+    (all_at (CanNumber g (length c.args.finish.now.instances)) (named_defs args) c.loop-place.place _ c.requires.ready at)
+
+pub number_def-requires-clause-fits : goal.number_def-requires-clause-fits
+number_def-requires-clause-fits c = c.loop-place.invariant.continues.fits
+
+pub loop-place-preserved : goal.loop-place-preserved
+loop-place-preserved c =
+    let g = c.args.graph.now in
+    let i = c.loop-place.place in
+    let args = c.args.args.now in
+    subst (NumbersAll g c.args.finish.now c.number_def.new.finish) (named_next args i _ c.entry_at.ensures)
+    (numbers_more g c.args.finish.now c.loop-place.finish c.number_def.new.finish (named_defs (take i args)) _
+    c.loop-place.invariant c.in_ok-number_def.ensures)
+
+pub returns : goal.returns
+returns c =
+    let args = c.args.args.now in
+    let ended : length args ≤ c.loop-place.place = omega arith in
+    subst (λ es. NumbersAll c.args.graph.now c.args.finish.now c.loop-place.finish (named_defs es))
+    (take_all c.loop-place.place args ended) c.loop-place.invariant

@@ -1,0 +1,31 @@
+use Rattle.std.proofs.Common.{All, length, sym, subst, ap}
+use Rattle.pc_dfg.specs.declared.instance.SideEffect.TheVariants as effect
+use Rattle.pc_dfg.specs.Held.{HeldEffect}
+use Rattle.pc_dfg.specs.Names.{each_of, in_effect, in_instance}
+use Rattle.pc_finish.specs.Arguments.{CanNumber}
+use Rattle.pc_finish.specs.Made.{IsDone}
+use Rattle.pc_finish.proofs.EffectLemmas.{instance_done}
+use Rattle.pc_finish.proofs.NextLemmas.{next_held, next_ready}
+use Rattle.pc_finish.proofs.RefusedLemmas.{ok_then}
+use Rattle.pc_finish.proofs.effects.make_instance.Goals as goal
+
+pub index-requires : goal.index-requires
+unfolding HeldEffect
+index-requires c = (next_held c.args.graph.now c.requires.ordered c.args.finish.now _ c.requires.next).0
+
+pub instantiation_of-requires-clause-ready : goal.instantiation_of-requires-clause-ready
+unfolding in_effect
+instantiation_of-requires-clause-ready c =
+    let g = c.args.graph.now in
+    subst (λ o. All (CanNumber g (length c.args.finish.now.instances)) (each_of in_instance o)) c.index.ensures
+    (next_ready g c.requires.ordered c.args.finish.now _ c.requires.next c.requires.grouped)
+
+pub returns : goal.returns
+returns c =
+    let g = c.args.graph.now in
+    let f = c.instantiation_of.new.finish in
+    ok_then c.push_instance.result (λ is. subst (λ z. IsDone g c.args.finish.now z
+    (effect.Instance c.args.instance c.args.owner)) (sym is)
+    (instance_done g c.requires.ordered c.requires.grouped c.args.finish.now f c.args.instance c.args.owner
+    c.requires.next c.index.result.now c.index.ensures c.in_ok-instantiation.instantiation
+    c.in_ok-instantiation.ensures)) c.push_instance.ensures

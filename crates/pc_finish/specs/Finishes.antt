@@ -1,0 +1,114 @@
+-- The plan of a graph: what it does, and what it has.
+use Rattle.std.specs.List.{AllZip}
+use Rattle.std.specs.Prelude.{◌≡◌, ◌<◌, ◌⊎◌, ℕ, List, length, map, Contains, Some, slice_get, true}
+use Rattle.pc_numbers.specs.declared.runtime.RuntimeComponentInstanceIndex.{RuntimeComponentInstanceIndex}
+use Rattle.pc_semantics.specs.Counts.{own_counts}
+use Rattle.pc_semantics.specs.ExportNode.{NamedNode}
+use Rattle.pc_semantics.specs.Log.{Entry, instances_of}
+use Rattle.pc_semantics.specs.Machine.{NeverStuck, owned_instances}
+use Rattle.pc_semantics.specs.PlanView as plan
+use Rattle.pc_semantics.specs.PlanView.{PlanView}
+use Rattle.pc_semantics.specs.Trace.{run_trace}
+use Rattle.pc_trampoline.specs.declared.part.Mark.{Mark}
+use Rattle.pc_names.specs.Stands.{StandsFor}
+use Rattle.pc_info.specs.declared.component.ComponentTranslation.{ComponentTranslation}
+use Rattle.pc_info.specs.declared.export.Export.{Export as PlanItem}
+use Rattle.pc_info.specs.declared.export.Export.TheVariants as item
+use Rattle.pc_info.specs.declared.module.ModuleTranslation.{ModuleTranslation}
+use Rattle.pc_info.specs.Exports.{has_items}
+use Rattle.pc_info.specs.declared.options.CanonicalOptions.{CanonicalOptions as PlanOptions}
+use Rattle.pc_info.specs.declared.core_def.CoreDef.{CoreDef as PlanDef}
+use Rattle.pc_info.specs.View.{counts_view, trampolines_view, view}
+use Rattle.pc_entity.specs.Lists.{AreDistinct}
+use Rattle.pc_entity.specs.declared.packed_option.PackedOption.TheVariants as packed
+use Rattle.pc_numbers.specs.declared.module_entity.ModuleInternedTypeIndex.{ModuleInternedTypeIndex}
+use Rattle.pc_numbers.specs.declared.runtime.OptionsIndex.{OptionsIndex}
+use Rattle.pc_types.specs.declared.intrinsic.UnsafeIntrinsic.{UnsafeIntrinsic}
+use Rattle.pc_types.specs.declared.type_index.TypeFuncIndex.{TypeFuncIndex}
+use Rattle.pc_types.specs.IntrinsicType.{intrinsic_place}
+use Rattle.pc_dfg.specs.declared.core_def.CoreDef.TheVariants as def
+use Rattle.pc_dfg.specs.declared.options.CanonicalOptions.{CanonicalOptions}
+use Rattle.pc_dfg.specs.declared.dfg.ComponentDfg.{ComponentDfg}
+use Rattle.pc_dfg.specs.declared.export.Export.{Export}
+use Rattle.pc_dfg.specs.declared.export.Export.TheVariants as export
+use Rattle.pc_dfg.specs.declared.instance.Resource.{Resource}
+use Rattle.pc_dfg.specs.Effects.{EffectsMean}
+use Rattle.pc_dfg.specs.Nodes.{ExportsMean}
+use Rattle.pc_finish.specs.Wired.{IsWired, Occurs}
+
+-- a plan never gets stuck: run from nothing it does what a trace says, in order, and it ends with these exports
+pub record Does (p : PlanView Mark) (trace : List (Entry Mark)) (nodes : List (NamedNode Mark)) : Type 0 where
+  pub never_stuck : NeverStuck p
+  pub traced : run_trace p ≡ Some trace
+  pub instances : owned_instances never_stuck.last ≡ instances_of trace
+  pub exports : never_stuck.nodes ≡ nodes
+
+-- an item of the plan is of the form that an item of the graph has, with its type but for that of a handed-in module; an
+-- instance has the same names, and finds what is under each
+unfoldable pub IsItem : Export → PlanItem → Type 0
+IsItem (export.LiftedFunction ty f o) (item.LiftedFunction ty' f' o') = ty ≡ ty'
+IsItem (export.ModuleStatic ty m) (item.ModuleStatic ty' m') = m ≡ m'
+IsItem (export.ModuleImport ty r) (item.ModuleImport ty' r') = (ty ≡ ty') × (r ≡ r')
+IsItem (export.Instance ty es) (item.Instance ty' es') =
+    (ty ≡ ty') × (es'.definitions ≡ es) × StandsFor (λ text key. key ≡ text) es' es
+IsItem (export.Type_ ty) (item.Type_ ty') = ty ≡ ty'
+IsItem e e' = ⊥
+
+-- an options entry of the plan has the signature of one of the graph
+unfoldable pub IsOptionsOf : ComponentDfg → PlanOptions → Type 0
+IsOptionsOf g o =
+    (k : ℕ) × (x : CanonicalOptions) × (slice_get g.options k ≡ Some x) × (o.core_type ≡ x.core_type)
+
+-- an exported function of a plan has the options of this number
+abbrev pub HasOptions : ℕ → PlanItem → Type 0
+HasOptions n (item.LiftedFunction ty f o) = o.0 ≡ n
+HasOptions n _ = ⊥
+
+-- a trampoline of a plan names the options of this number
+abbrev pub TakesOptions : ℕ → plan.TrampolineEntry Mark → Type 0
+TakesOptions n (plan.lowers r s ty o) = o ≡ n
+TakesOptions n (plan.builtin k symbol c ps) = Contains ps (plan.options n)
+TakesOptions n (plan.helper k symbol ps) = Contains ps (plan.options n)
+
+-- an exported function or a trampoline of a plan has the options of this number
+unfoldable pub IsUsed : ComponentTranslation → ℕ → Type 0
+IsUsed p n =
+    ((k : ℕ) × (e : PlanItem) × (slice_get p.component.export_items k ≡ Some e) × HasOptions n e)
+    ⊎ ((k : ℕ) × (x : plan.TrampolineEntry Mark)
+    × (slice_get (trampolines_view 0 p.component.trampolines p.trampolines) k ≡ Some x) × TakesOptions n x)
+
+-- a plan is that of a graph, where each module type of the table has this mark
+pub record Finishes (g : ComponentDfg) (converted : ℕ → Mark) (plan : ComponentTranslation) : Type 0 where
+  -- with all modules to which the graph is wired it does what the side effects do, and exports what the graph exports
+  pub does : (ms : List ModuleTranslation) (trace : List (Entry Mark)) (nodes : List (NamedNode Mark))
+      → IsWired g ms → EffectsMean g trace → ExportsMean g converted nodes → Does (view plan ms) trace nodes
+  -- what it has of the host is what the graph has of it
+  pub import_types : plan.component.import_types ≡ g.import_types
+  pub imports : plan.component.imports ≡ g.imports
+  pub imported_resources : plan.component.imported_resources ≡ g.imported_resources
+  -- each resource has its component instance
+  pub resources : plan.component.defined_resource_instances ≡ map (λ (r : Resource). r.instance) g.resources
+  -- it counts its steps, and the component instances and tables of the graph
+  pub counts : (ms : List ModuleTranslation)
+      → counts_view plan.component ≡ own_counts (view plan ms) g.num_runtime_component_instances g.num_future_tables
+      g.num_stream_tables g.num_error_context_tables
+  -- each trampoline has its signature
+  pub signatures : length plan.component.trampolines ≡ length plan.trampolines
+  -- it has the graph's names, and finds what is under each
+  pub names : plan.component.exports.definitions ≡ g.exports
+  pub finds : StandsFor (λ text key. key ≡ text) plan.component.exports g.exports
+  -- it has an item for each of the graph's, under its number, and each name has one
+  pub items : AllZip IsItem g.export_items plan.component.export_items
+  pub held : has_items plan.component ≡ true
+  -- no options entry stands twice; each is that of an entry of the graph with its signature, and something uses it
+  pub shared : AreDistinct plan.component.options
+  pub options : (n : ℕ) (o : PlanOptions) → slice_get plan.component.options n ≡ Some o → IsOptionsOf g o
+  pub used : (n : ℕ) → n < length plan.component.options → IsUsed plan n
+  -- a function that is exported has an options entry
+  pub lifted : (n : ℕ) (ty : TypeFuncIndex) (f : PlanDef) (o : OptionsIndex)
+      → slice_get plan.component.export_items n ≡ Some (item.LiftedFunction ty f o)
+      → o.0 < length plan.component.options
+  -- an unsafe intrinsic has a signature where the graph has it as a definition, under that signature
+  pub intrinsics : (n : ℕ) (s : ModuleInternedTypeIndex)
+      → slice_get plan.component.unsafe_intrinsics n ≡ Some (packed.Some s)
+      → (i : UnsafeIntrinsic) × (intrinsic_place i ≡ n) × Occurs g (def.UnsafeIntrinsic s i)

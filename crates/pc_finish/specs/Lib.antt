@@ -1,0 +1,25 @@
+-- What the public contract rests on, in reading order.
+pub mod Grouped
+pub mod Wired
+pub mod Finishes
+pub mod Finished
+-- How the contracts within the crate say what is made.
+pub mod Numbers
+pub mod Parts
+pub mod Ready
+pub mod Plan
+pub mod Converted
+pub mod Entries
+pub mod Added
+pub mod Reached
+pub mod Once
+pub mod Represented
+pub mod Full
+pub mod Closed
+pub mod Work
+pub mod Arguments
+pub mod ModuleTypes
+pub mod Exports
+pub mod Made
+pub mod Stack
+pub mod Whole

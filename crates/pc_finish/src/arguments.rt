@@ -1,0 +1,157 @@
+//! Arguments of core modules. All that they depend on gets its number first; then they are looked up, so that nothing
+//! has to be carried over what the plan grows by.
+
+ghost use Rattle.std.specs.Prelude.{◌≡◌, ◌∷◌, [], All, IfOk, OnOk, length};
+ghost use Rattle.pc_dfg.specs.Names.{if_any};
+ghost use Rattle.pc_dfg.specs.Ordered.{IsOrdered};
+ghost use Rattle.pc_finish.specs.Arguments.{CanNumber, IsNumbered, NumbersAll, named_defs, host_defs};
+ghost use Rattle.pc_finish.specs.Arguments.{named_in, host_in};
+ghost use Rattle.pc_finish.specs.Closed.{Fits};
+ghost use Rattle.pc_finish.specs.Grouped.{IsGrouped};
+ghost use Rattle.pc_finish.specs.Parts.{in_def};
+
+use crate::FinishError;
+use crate::convert::def_of;
+use crate::id::Id;
+use crate::run::number;
+use crate::state::Finish;
+use pc_dfg::{ComponentDfg, CoreDef};
+use pc_entity::{NoMemory, Text, TextMap};
+use std::alloc::Global;
+
+/// What a definition depends on, if on anything.
+fn id_in(graph: &ComponentDfg, def: &CoreDef) -> Option<Id>
+    ensures { if_any result ≡ in_def graph.now def.now }
+{
+    match def {
+        CoreDef::Export(_) | CoreDef::InstanceFlags(_) => None,
+        CoreDef::Trampoline(trampoline) => Some(Id::Trampoline(*trampoline)),
+        CoreDef::UnsafeIntrinsic(signature, intrinsic) => Some(Id::Intrinsic(
+            *signature, *intrinsic,
+        )),
+        CoreDef::Adapter(adapter) => match graph.adapter_partitionings.get(*adapter) {
+            Some(place) => Some(Id::AdapterModule(place.0)),
+            None => None,
+        },
+    }
+}
+
+/// Gives what a definition depends on its number.
+pub(crate) fn number_def(
+    alloc: Global,
+    graph: &ComponentDfg,
+    finish: &mut Finish,
+    def: &CoreDef,
+) -> Result<(), FinishError>
+    requires ordered { IsOrdered graph.now }
+    requires grouped { IsGrouped graph.now }
+    requires ready { CanNumber graph.now (length finish.old.instances) def.now }
+    requires fits { Fits graph.now finish.old }
+    ensures { OnOk result (NumbersAll graph.now finish.old finish.new (def.now ∷ [])) }
+{
+    match id_in(graph, def) {
+        Some(id) => number(alloc, graph, finish, id),
+        None => Ok(()),
+    }
+}
+
+/// Gives what these definitions depend on its numbers.
+pub(crate) fn number_all(
+    alloc: Global,
+    graph: &ComponentDfg,
+    finish: &mut Finish,
+    defs: &[CoreDef],
+) -> Result<(), FinishError>
+    requires ordered { IsOrdered graph.now }
+    requires grouped { IsGrouped graph.now }
+    requires ready { All (CanNumber graph.now (length finish.old.instances)) defs.now }
+    requires fits { Fits graph.now finish.old }
+    ensures { OnOk result (NumbersAll graph.now finish.old finish.new defs.now) }
+{
+    for def in defs {
+        number_def(alloc, graph, finish, def)?;
+    }
+    Ok(())
+}
+
+/// Gives what arguments of a host module under one module name depend on its numbers.
+fn number_named(
+    alloc: Global,
+    graph: &ComponentDfg,
+    finish: &mut Finish,
+    args: &TextMap<CoreDef>,
+) -> Result<(), FinishError>
+    requires ordered { IsOrdered graph.now }
+    requires grouped { IsGrouped graph.now }
+    requires ready { All (CanNumber graph.now (length finish.old.instances)) (named_defs args.now) }
+    requires fits { Fits graph.now finish.old }
+    ensures { OnOk result (NumbersAll graph.now finish.old finish.new (named_defs args.now)) }
+{
+    for place in 0..args.len() {
+        let (_, def) = args.entry_at(place);
+        number_def(alloc, graph, finish, def)?;
+    }
+    Ok(())
+}
+
+/// Gives what the arguments of a host module depend on its numbers.
+pub(crate) fn number_host(
+    alloc: Global,
+    graph: &ComponentDfg,
+    finish: &mut Finish,
+    args: &TextMap<TextMap<CoreDef>>,
+) -> Result<(), FinishError>
+    requires ordered { IsOrdered graph.now }
+    requires grouped { IsGrouped graph.now }
+    requires ready { All (CanNumber graph.now (length finish.old.instances)) (host_defs args.now) }
+    requires fits { Fits graph.now finish.old }
+    ensures { OnOk result (NumbersAll graph.now finish.old finish.new (host_defs args.now)) }
+{
+    for place in 0..args.len() {
+        let (_, named) = args.entry_at(place);
+        number_named(alloc, graph, finish, named)?;
+    }
+    Ok(())
+}
+
+/// Arguments of a host module under one module name, as the plan has them.
+fn named_of(
+    alloc: Global,
+    graph: &ComponentDfg,
+    finish: &Finish,
+    args: &TextMap<CoreDef>,
+) -> Result<TextMap<pc_info::CoreDef>, NoMemory>
+    requires ready { All (CanNumber graph.now (length finish.now.instances)) (named_defs args.now) }
+    requires numbered { All (IsNumbered graph.now finish.now) (named_defs args.now) }
+    ensures { IfOk result (λ all. all ≡ named_in graph.now finish.now args.now) }
+{
+    args.names_are_distinct();
+    let mut all = TextMap::new(alloc);
+    for place in 0..args.len() {
+        let (name, def) = args.entry_at(place);
+        let def = def_of(alloc, graph, finish, def)?;
+        all.push(Text::copy_of(alloc, name)?, def)?;
+    }
+    Ok(all)
+}
+
+/// The arguments of a host module as the plan has them.
+pub(crate) fn host_of(
+    alloc: Global,
+    graph: &ComponentDfg,
+    finish: &Finish,
+    args: &TextMap<TextMap<CoreDef>>,
+) -> Result<TextMap<TextMap<pc_info::CoreDef>>, NoMemory>
+    requires ready { All (CanNumber graph.now (length finish.now.instances)) (host_defs args.now) }
+    requires numbered { All (IsNumbered graph.now finish.now) (host_defs args.now) }
+    ensures { IfOk result (λ all. all ≡ host_in graph.now finish.now args.now) }
+{
+    args.names_are_distinct();
+    let mut all = TextMap::new(alloc);
+    for place in 0..args.len() {
+        let (name, named) = args.entry_at(place);
+        let named = named_of(alloc, graph, finish, named)?;
+        all.push(Text::copy_of(alloc, name)?, named)?;
+    }
+    Ok(all)
+}

@@ -1,0 +1,26 @@
+//! From the graph of a component to its plan.
+//!
+//! The side effects of the graph become steps in their order, and what they need is made right before the first of them
+//! that needs it: slots, lowerings, instances of adapter modules. The exports come last.
+//! It stands on `pc_dfg` for the graph and on `pc_info` for the plan.
+#![tactic(auto)]
+
+mod arguments;
+mod close;
+mod convert;
+mod effects;
+mod entries;
+mod error;
+mod exports;
+mod grow;
+mod id;
+mod listed;
+mod module_types;
+mod number_map;
+mod open;
+mod plan;
+mod run;
+mod state;
+
+pub use error::FinishError;
+pub use plan::finish;

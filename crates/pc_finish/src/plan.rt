@@ -1,0 +1,109 @@
+//! The plan of a graph, from nothing to the whole.
+//!
+//! First come the types of exported modules, since they ask most of the types builder. Then the side effects become
+//! steps, each after what it needs, and last come the exports with what they need.
+
+ghost use Rattle.std.specs.Prelude.{◌≡◌, None, All, IfOk};
+ghost use Rattle.pc_types.specs.Table.{table_fault};
+ghost use Rattle.pc_builder.specs.Types.{Grows};
+ghost use Rattle.pc_dfg.specs.Ordered.{IsOrdered};
+ghost use Rattle.pc_finish.specs.Finished.{IsFinished};
+ghost use Rattle.pc_finish.specs.Grouped.{IsGrouped};
+ghost use Rattle.pc_finish.specs.ModuleTypes.{HasModuleType};
+ghost use Rattle.pc_finish.specs.Whole.{IsMade, empty_plan, no_numbers};
+
+use crate::FinishError;
+use crate::effects::do_effects;
+use crate::exports::{Exported, exports};
+use crate::module_types::module_types;
+use crate::number_map::NumberMap;
+use crate::state::{Counts, Finish, INTRINSICS, Numbers};
+use pc_builder::ComponentTypesBuilder;
+use pc_dfg::ComponentDfg;
+use pc_entity::{NoMemory, PackedOption, PrimaryMap, Seq};
+use pc_info::ComponentTranslation;
+use pc_types::TypeTable;
+use std::alloc::Global;
+
+/// No entry has its number yet.
+fn no_numbers(alloc: Global, graph: &ComponentDfg) -> Result<Numbers, NoMemory>
+    ensures { IfOk result (λ n. n ≡ no_numbers graph.now) }
+{
+    Ok(Numbers {
+        memories: NumberMap::new(alloc, graph.memories.len())?,
+        tables: NumberMap::new(alloc, graph.tables.len())?,
+        reallocs: NumberMap::new(alloc, graph.reallocs.len())?,
+        callbacks: NumberMap::new(alloc, graph.callbacks.len())?,
+        post_returns: NumberMap::new(alloc, graph.post_returns.len())?,
+        options: NumberMap::new(alloc, graph.options.len())?,
+        lowerings: NumberMap::new(alloc, graph.trampolines.len())?,
+        trampolines: NumberMap::new(alloc, graph.trampolines.len())?,
+        adapter_modules: NumberMap::new(alloc, graph.adapter_modules.len())?,
+    })
+}
+
+/// A plan with nothing in it.
+fn start(alloc: Global, graph: &ComponentDfg) -> Result<Finish, NoMemory>
+    ensures { IfOk result (λ f. f ≡ empty_plan graph.now) }
+{
+    let numbers = no_numbers(alloc, graph)?;
+    Ok(Finish {
+        steps: Seq::new(alloc),
+        signatures: PrimaryMap::new(alloc),
+        trampolines: PrimaryMap::new(alloc),
+        options: PrimaryMap::new(alloc),
+        intrinsics: [PackedOption::None; INTRINSICS],
+        resources: PrimaryMap::new(alloc),
+        instances: PrimaryMap::new(alloc),
+        counts: Counts {
+            instances: 0,
+            lowerings: 0,
+            memories: 0,
+            tables: 0,
+            reallocs: 0,
+            callbacks: 0,
+            post_returns: 0,
+        },
+        numbers,
+    })
+}
+
+/// All that a plan of a graph consists of: its steps and lists, and its exports.
+fn make(
+    alloc: Global,
+    graph: &ComponentDfg,
+    table: &TypeTable,
+    types: &mut ComponentTypesBuilder,
+) -> Result<(Finish, Exported), FinishError>
+    requires ordered { IsOrdered graph.now }
+    requires grouped { IsGrouped graph.now }
+    requires sound { table_fault table.now ≡ None }
+    requires are_modules { All (HasModuleType table.now) graph.now.export_items }
+    ensures grows { Grows types.old types.new }
+    ensures made { IfOk result (λ m. IsMade types.new table.now graph.now m.0 m.1.names m.1.items) }
+{
+    graph.entries_are_distinct();
+    let module_types = module_types(alloc, types, table, graph.export_items.as_slice())?;
+    let mut finish = start(alloc, graph)?;
+    do_effects(alloc, graph, &mut finish)?;
+    let exported = exports(alloc, graph, &mut finish, &module_types)?;
+    Ok((finish, exported))
+}
+
+/// The plan of a graph whose adapters are grouped. Types of the table that it exports are put into the types builder.
+pub fn finish(
+    alloc: Global,
+    graph: ComponentDfg,
+    table: &TypeTable,
+    types: &mut ComponentTypesBuilder,
+) -> Result<ComponentTranslation, FinishError>
+    requires ordered { IsOrdered graph }
+    requires grouped { IsGrouped graph }
+    requires sound { table_fault table.now ≡ None }
+    requires are_modules { All (HasModuleType table.now) graph.export_items }
+    ensures grows { Grows types.old types.new }
+    ensures plan { IfOk result (λ p. IsFinished types.new table.now graph p) }
+{
+    let (finish, exported) = make(alloc, &graph, table, types)?;
+    finish.into_translation(alloc, graph, exported)
+}
