@@ -1,18 +1,18 @@
--- For the layers above too: facts of lists, and that a definition has one value.
+-- The layers above rest on these too.
+-- lists and graphs that have only grown
 pub mod AllLemmas
+pub mod GrowLemmas
+-- a definition keeps its value, and has one
+pub mod KeptLemmas
 pub mod UniqueLemmas
 pub mod ZipLemmas
--- lists and graphs that have only grown
-mod GrowLemmas
--- a definition keeps its value
-mod KeptLemmas
-mod TraceLemmas
-mod NodeLemmas
+pub mod TraceLemmas
+pub mod NodeLemmas
 -- what is held stays held, and names what it named
-mod HeldLemmas
+pub mod HeldLemmas
 mod NameLemmas
 -- the order is kept
-mod AddLemmas
-mod PushLemmas
+pub mod AddLemmas
+pub mod PushLemmas
 mod EffectLemmas
-mod EmptyLemmas
+pub mod EmptyLemmas

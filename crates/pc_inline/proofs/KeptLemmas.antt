@@ -1,0 +1,155 @@
+-- What numbers stand for they stand for when the tables have grown.
+use Rattle.std.proofs.Common.{◌≡◌, ◌<◌, ℕ, List, Option, Some, None, refl, sym, ap, subst, ◌∙◌, arith}
+use Rattle.std.specs.Prelude.{slice_get}
+use Rattle.std.specs.List.{AllZip}
+use Rattle.pc_entity.specs.Lists.{value_of}
+use Rattle.pc_types.specs.declared.module_record.ModuleRecord.{ModuleRecord}
+use Rattle.pc_types.specs.declared.parsed.CoreKind.{CoreKind}
+use Rattle.pc_types.specs.declared.parsed.CoreKind.TheVariants as core
+use Rattle.pc_types.specs.declared.type_index.TypeFuncIndex.{TypeFuncIndex}
+use Rattle.pc_types.specs.declared.types.TypeDef.TheVariants as type
+use Rattle.pc_types.specs.TypeTree.{TypeTree}
+use Rattle.pc_interned.specs.Types.{Types}
+use Rattle.pc_interned.specs.Types as builder
+use Rattle.pc_builder.proofs.TreeLemmas.{tree_grows}
+use Rattle.pc_intern.specs.declared.ids.InstanceId.{InstanceId}
+use Rattle.pc_numbers.specs.declared.entity_index.EntityIndex.{EntityIndex}
+use Rattle.pc_semantics.specs.CoreValue as value
+use Rattle.pc_semantics.specs.CoreValue.{CoreValue, MaybeValue, map_value}
+use Rattle.pc_parsed.specs.Mark.{Mark}
+use Rattle.pc_reading.specs.Scope as reading
+use Rattle.pc_reading.specs.Scope.{CoreItem, Scope}
+use Rattle.pc_reading.specs.Value.{Function, Module, Value, func_value, module_value}
+use Rattle.pc_dfg.specs.declared.core_def.CoreDef.{CoreDef}
+use Rattle.pc_dfg.specs.declared.dfg.ComponentDfg.{ComponentDfg}
+use Rattle.pc_dfg.specs.declared.instance.Instance.TheVariants as source
+use Rattle.pc_dfg.specs.Grows as graph
+use Rattle.pc_dfg.specs.Lists as list
+use Rattle.pc_dfg.specs.Means.{Means}
+use Rattle.pc_dfg.proofs.GrowLemmas.{kept, within}
+use Rattle.pc_dfg.proofs.KeptLemmas.{means_kept}
+use Rattle.pc_dfg.specs.Held.{HasBegun}
+use Rattle.pc_inline.specs.declared.definition.CoreId.{CoreId}
+use Rattle.pc_inline.specs.declared.definition.DataModel.{DataModel}
+use Rattle.pc_inline.specs.declared.definition.Definition.{Definition}
+use Rattle.pc_inline.specs.declared.definition.DefinitionId.{DefinitionId}
+use Rattle.pc_inline.specs.declared.definition.Options.{Options}
+use Rattle.pc_inline.specs.declared.frame.CoreInstance.{CoreInstance}
+use Rattle.pc_inline.specs.declared.frame.Frame.{Frame}
+use Rattle.pc_inline.specs.Frames.{BagItemStands, Both, CoreInstanceStands, FrameStands, FuncStands, ModuleStands, SameNames, bag_stands, made_stands}
+use Rattle.pc_inline.specs.Stands.{CoreStands, DefinitionStands, ItemStands, MaybeStands, ModelStands, OptionsStand, Stands, gc_stands, linear_stands, none_stands, options_stand, some_stands, stands, stands_host, stands_lifted, stands_static}
+use Rattle.pc_inline.specs.Tables.{HasEntity, IsItem, Keeps, Tables, is_entity, is_trampoline}
+use Rattle.pc_inline.specs.Typed.{number_of, whole_of}
+use Rattle.pc_inline.proofs.MarkLemmas.{still, value_twice}
+use Rattle.pc_inline.proofs.ZipLemmas.{both_more, zip_more}
+
+-- a definition keeps its value
+pub core_kept : (old new : Types) (g h : ComponentDfg) → builder.Grows old new → graph.Grows g h
+    → (d : CoreDef) (v : CoreValue Mark) → CoreStands old g d v → CoreStands new h d v
+core_kept old new g h types grows d v c = record {
+  numbered = map_value (still old new types) c.numbered;
+  means = subst (Means h d) (sym (value_twice (still old new types) (number_of new) c.numbered))
+      (means_kept g h grows c.means);
+  is = value_twice (still old new types) (whole_of new) c.numbered ∙ c.is;
+}
+
+-- a component instance that has begun has
+pub begun_kept : (g h : ComponentDfg) → graph.Grows g h → (c : ℕ) → HasBegun g c → HasBegun h c
+begun_kept g h grows c begun = omega (arith, begun, grows.component_instances)
+
+module _ (ms : List ModuleRecord) (g h : ComponentDfg) (grows : graph.Grows g h) where
+  -- an entity of a core instance is one
+  pub entity_kept : (i : InstanceId) (e : EntityIndex) → HasEntity ms g i e → HasEntity ms h i e
+  entity_kept i e x = record {
+    core_module = x.core_module;
+    arguments = x.arguments;
+    module_record = x.module_record;
+    made = kept g h grows list.instances i.0 (source.Static x.core_module x.arguments) x.made;
+    handed_in = x.handed_in;
+    has = x.has;
+  }
+
+  -- a core item of a kind is one
+  pub is_item_kept : (k : CoreKind) (d : CoreDef) → IsItem ms g k d → IsItem ms h k d
+  is_item_kept k d (is_entity {i = i} {e = e} kind x) = is_entity kind (entity_kept i e x)
+  is_item_kept k d (is_trampoline {t = t} below) = is_trampoline (within g h grows list.trampolines t.0 below)
+
+module _ (ms : List ModuleRecord) (b c : Tables) (keeps : Keeps b c) where
+  -- a core item by number
+  pub item_kept : (k : CoreKind) (n : CoreId) (v : CoreValue Mark) → ItemStands ms b k n v → ItemStands ms c k n v
+  item_kept k n v x = record {
+    definition = x.definition;
+    held = keeps.cores n.0 x.definition x.held;
+    stands = core_kept b.types c.types b.graph c.graph keeps.types keeps.graph x.definition v x.stands;
+    usable = is_item_kept ms b.graph c.graph keeps.graph k x.definition x.usable;
+  }
+
+  -- one that may be left out
+  pub maybe_kept : (k : CoreKind) (n : Option CoreId) (v : MaybeValue Mark) → MaybeStands ms b k n v
+      → MaybeStands ms c k n v
+  maybe_kept k n v none_stands = none_stands
+  maybe_kept k n v (some_stands {n = m} {v = w} x) = some_stands (item_kept k m w x)
+
+  pub model_kept : (m : DataModel) (v : value.DataModel Mark) → ModelStands ms b m v → ModelStands ms c m v
+  model_kept m v gc_stands = gc_stands
+  model_kept m v (linear_stands {m = n} {r = r} {memory = x} {realloc = y} memory realloc) =
+      linear_stands (maybe_kept core.Memory n x memory) (maybe_kept core.Func r y realloc)
+
+  -- options
+  pub options_kept : (o : Options) (v : value.Options Mark) → OptionsStand ms b o v → OptionsStand ms c o v
+  options_kept o v (options_stand {signature = s} {callback = x} {post_return = y} {where_values_lie = m}
+      begun signed callback post_return model) =
+      options_stand (begun_kept b.graph c.graph keeps.graph o.instance.0 begun)
+      (keeps.types.signatures o.core_type.0 s signed)
+      (maybe_kept core.Func o.callback x callback) (maybe_kept core.Func o.post_return y post_return)
+      (model_kept o.data_model m model)
+
+  definition_kept : (d : Definition) (v : Value) → DefinitionStands ms b d v → DefinitionStands ms c d v
+  definition_kept d v (stands_host {i = i} below) =
+      stands_host (within b.graph c.graph keeps.graph list.import_types i.0 below)
+  definition_kept d v (stands_lifted {ty = ty} {func = f} {o = o} {tree = tree} {v = w} {os = os} is_func func options) =
+      stands_lifted
+      (λ who. tree_grows b.types c.types keeps.types who (type.ComponentFunc ty) tree (is_func who))
+      (item_kept core.Func f w func) (options_kept o os options)
+  definition_kept d v stands_static = stands_static
+
+  -- a definition by number
+  pub stands_kept : (n : DefinitionId) (v : Value) → Stands ms b n v → Stands ms c n v
+  stands_kept n v (stands {d = d} held x) = stands (keeps.definitions n.0 d held) (definition_kept d v x)
+
+  bag_kept : (x : CoreKind × CoreId) (i : CoreItem) → BagItemStands ms b x i → BagItemStands ms c x i
+  bag_kept x i h = record { kind = h.kind; item = item_kept x.0 x.1 i.value h.item }
+
+  instance_kept : (x : CoreInstance) (i : reading.CoreInstance) → CoreInstanceStands ms b x i
+      → CoreInstanceStands ms c x i
+  instance_kept x i (made_stands {i = n} {m = m} {args = args} made) =
+      made_stands (kept b.graph c.graph keeps.graph list.instances n.0 (source.Static m args) made)
+  instance_kept x i (bag_stands {xs = xs} {items = items} same) =
+      bag_stands (λ name. both_more (BagItemStands ms b) (BagItemStands ms c) bag_kept (value_of name xs)
+      (value_of name items) (same name))
+
+  -- a component instance
+  pub frame_kept : (f : Frame) (s : Scope) → FrameStands ms b f s → FrameStands ms c f s
+  frame_kept f s h = record {
+    core_funcs = zip_more (ItemStands ms b core.Func) (ItemStands ms c core.Func) (item_kept core.Func) f.core_funcs
+        s.core_funcs h.core_funcs;
+    memories = zip_more (ItemStands ms b core.Memory) (ItemStands ms c core.Memory) (item_kept core.Memory) f.memories
+        s.memories h.memories;
+    tables = zip_more (ItemStands ms b core.Table) (ItemStands ms c core.Table) (item_kept core.Table) f.tables
+        s.tables h.tables;
+    globals = zip_more (ItemStands ms b core.Global) (ItemStands ms c core.Global) (item_kept core.Global) f.globals
+        s.globals h.globals;
+    tags = zip_more (ItemStands ms b core.Tag) (ItemStands ms c core.Tag) (item_kept core.Tag) f.tags s.tags h.tags;
+    modules = zip_more (ModuleStands ms b) (ModuleStands ms c) (λ n m. stands_kept n (module_value m)) f.modules
+        s.modules h.modules;
+    funcs = zip_more (FuncStands ms b) (FuncStands ms c) (λ n x. stands_kept n (func_value x)) f.funcs s.funcs h.funcs;
+    core_instances = zip_more (CoreInstanceStands ms b) (CoreInstanceStands ms c) instance_kept f.core_instances
+        s.core_instances h.core_instances;
+    instances = h.instances;
+    components = h.components;
+    arguments = λ name. both_more (Stands ms b) (Stands ms c) stands_kept (value_of name f.arguments)
+        (value_of name s.arguments) (h.arguments name);
+    known = h.known;
+    component_instance = h.component_instance;
+    begun = begun_kept b.graph c.graph keeps.graph f.component_instance.0 h.begun;
+  }

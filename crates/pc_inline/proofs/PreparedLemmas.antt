@@ -1,0 +1,243 @@
+-- The moment after an import of the root was prepared.
+use Rattle.std.proofs.Common.{◌≡◌, ◌≢◌, ◌<◌, ◌+◌, ◌⊎◌, inl, inr, if◌then◌else◌, Ok, Err, ℕ, Bool, true, false, List, [], ◌∷◌, ◌++◌, length, map, Option, Some, None, Vec, Global, refl, sym, ap, subst, ◌∙◌, zero, suc, arith}
+use Rattle.std.specs.Prelude.{slice_get, is_some}
+use Rattle.std.specs.List.{AllZip, list_any}
+use Rattle.std.proofs.lemmas.Bool.Decides.{eqb_tells}
+use Rattle.std.proofs.lemmas.List.{length-append}
+use Rattle.std.proofs.lemmas.Option.{none-some, same_Some, slice_get_within}
+use Rattle.pc_entity.specs.FirstValues.{with_first}
+use Rattle.pc_entity.specs.Lists.{value_of}
+use Rattle.pc_entity.proofs.Growing.{slice_get-append}
+use Rattle.pc_interned.specs.Types.{Types}
+use Rattle.pc_interned.specs.Trees.{HasTree}
+use Rattle.pc_numbers.specs.declared.runtime.ImportIndex.{ImportIndex}
+use Rattle.pc_numbers.specs.declared.runtime.ResourceIndex.{ResourceIndex}
+use Rattle.pc_numbers.specs.declared.runtime.RuntimeImportIndex.{RuntimeImportIndex}
+use Rattle.pc_types.specs.declared.error.Unsupported.TheVariants.{NotBuilt}
+use Rattle.pc_types.specs.declared.module_record.ModuleRecord.{ModuleRecord}
+use Rattle.pc_types.specs.declared.parsed.Entity.{Entity}
+use Rattle.pc_types.specs.declared.parsed.Entity.TheVariants as entity
+use Rattle.pc_types.specs.declared.parsed.TypeTable.{TypeTable}
+use Rattle.pc_types.specs.declared.type_index.TypeFuncIndex.{TypeFuncIndex}
+use Rattle.pc_types.specs.declared.types.ComponentExtern.{ComponentExtern}
+use Rattle.pc_types.specs.declared.types.TypeDef.TheVariants as type
+use Rattle.pc_types.specs.Table.{is_func}
+use Rattle.pc_types.specs.TypeTree.{Identity, Path, TypeTree}
+use Rattle.pc_parsed.specs.declared.payload.ExternName.{ExternName}
+use Rattle.pc_reading.specs.Imports.{import_resources, prepare, with_given}
+use Rattle.pc_reading.specs.Outcome.{bad_type, unsupported}
+use Rattle.pc_reading.specs.Resource.{resource_paths}
+use Rattle.pc_reading.specs.SameTypes.{same_path}
+use Rattle.pc_reading.specs.Scope.{Moment, Scope}
+use Rattle.pc_reading.specs.Types.{has_entry, type_tree}
+use Rattle.pc_reading.specs.Value.{Value, func_value, host_function}
+use Rattle.pc_reading.specs.World.{HostImport, World}
+use Rattle.pc_dfg.specs.declared.dfg.ComponentDfg.{ComponentDfg}
+use Rattle.pc_dfg.specs.Held.{HoldsEntry}
+use Rattle.pc_dfg.specs.Lists as list
+use Rattle.pc_dfg.specs.Ordered.{IsOrdered}
+use Rattle.pc_inline.specs.declared.definition.DefinitionId.{DefinitionId}
+use Rattle.pc_inline.specs.declared.error.ItemError.TheVariants as item_error
+use Rattle.pc_inline.specs.declared.error.ItemFault.TheVariants as item_fault
+use Rattle.pc_inline.specs.declared.frame.Frame.{Frame}
+use Rattle.pc_inline.specs.declared.state.State.{State}
+use Rattle.pc_inline.specs.Frames.{SameNames}
+use Rattle.pc_inline.specs.Points.{PointStands, Steps}
+use Rattle.pc_inline.specs.Prepares.{Converts}
+use Rattle.pc_inline.specs.Stands.{Stands}
+use Rattle.pc_inline.specs.Tables.{Tables}
+use Rattle.pc_inline.specs.Today.{built_prepare, is_built_entity}
+use Rattle.pc_inline.specs.Worlds.{AreUsed, import_path, path_of}
+use Rattle.pc_inline.proofs.StepLemmas.{steps_on}
+use Rattle.std.specs.Prelude.{⊤, All}
+use Rattle.pc_entity.proofs.Growing.{append_kept, kept_refl, slice_get-append_seam}
+use Rattle.pc_numbers.specs.declared.component_entity.StaticModuleIndex.{StaticModuleIndex}
+use Rattle.pc_types.specs.declared.parsed.CoreKind.{CoreKind}
+use Rattle.pc_semantics.specs.PlanView as plan
+use Rattle.pc_semantics.specs.Log.{trace}
+use Rattle.pc_trampoline.specs.declared.part.Mark.TheVariants as mark
+use Rattle.pc_parsed.specs.Mark.{of_type}
+use Rattle.pc_reading.specs.Nodes.{extern_data}
+use Rattle.pc_builder.specs.Trees.{IsEntry}
+use Rattle.pc_dfg.specs.declared.core_def.CoreDef.{CoreDef}
+use Rattle.pc_dfg.specs.Grows as graph
+use Rattle.pc_dfg.specs.Numbers.{slots_of}
+use Rattle.pc_dfg.proofs.AllLemmas.{all_more}
+use Rattle.pc_inline.specs.declared.definition.Definition.TheVariants as definition
+use Rattle.pc_inline.specs.Frames.{FrameStands}
+use Rattle.pc_inline.specs.Stands.{stands, stands_host}
+use Rattle.pc_inline.specs.Tables.{IsItem, Keeps, tables_of}
+use Rattle.pc_inline.specs.Typed.{Holds}
+use Rattle.pc_inline.specs.Worlds.{EffectStands, ImportStands, WorldStands, slot_kind}
+use Rattle.pc_inline.proofs.GivenLemmas.{argument_given, prepare_given, used_given}
+use Rattle.pc_inline.proofs.KeptLemmas.{frame_kept, is_item_kept}
+use Rattle.pc_inline.proofs.StateLemmas.{converts_prepares, types_refl}
+use Rattle.pc_inline.proofs.TypeLemmas.{entry_tree, scope_tree}
+use Rattle.pc_inline.proofs.WorldLemmas.{declared_still, effect_still, import_still, point_kept, trampoline_still}
+use Rattle.pc_inline.proofs.ZipLemmas.{zip_length, zip_more, zip_push}
+
+-- the slots of a graph with other imports
+given_slots : (g : ComponentDfg) (is : List (List ℕ × ComponentExtern)) (k : plan.SlotKind)
+    → slots_of (record g { import_types = is }) k ≡ slots_of g k
+unfolding slots_of
+given_slots g is plan.memory = refl
+given_slots g is plan.table = refl
+given_slots g is plan.realloc = refl
+given_slots g is plan.callback = refl
+given_slots g is plan.post_return = refl
+
+module _ (t : TypeTable) (ms : List ModuleRecord) (st : State) (f : Frame) (name : ExternName) (x : ComponentExtern)
+    (u : Vec (Option RuntimeImportIndex) Global) (i : ImportIndex) where
+  -- the graph with the import
+  abbrev given_in : ComponentDfg
+  given_in = record st.graph { import_types = st.graph.import_types ++ (name.name, x) ∷ [] }
+
+  -- the state with it
+  abbrev given_to : State
+  given_to = record st {
+    graph = given_in;
+    used = u;
+    definitions = st.definitions ++ definition.HostFunc i ∷ [];
+  }
+
+  module _ (grows : graph.Grows st.graph given_in) where
+    given_keeps : Keeps (tables_of st) (tables_of given_to)
+    given_keeps = record {
+      types = types_refl st.types;
+      graph = grows;
+      cores = kept_refl st.cores;
+      definitions = append_kept st.definitions (definition.HostFunc i ∷ []);
+    }
+
+    module _ (tree : TypeTree) (n : TypeFuncIndex) (typed : x.ty ≡ type.ComponentFunc n)
+        (meta : x.data_ ≡ extern_data name)
+        (has : (who : ResourceIndex → Identity) → HasTree st.types who (type.ComponentFunc n) tree) where
+      given_import : ImportStands st.types given_in (name.name, x) (record { name = name; import_type = tree })
+      unfolding Holds
+      given_import = record {
+        name = refl;
+        extern_data = meta;
+        typed = λ who. subst (λ d. HasTree st.types who d tree) (sym typed) (has who);
+      }
+
+      given_world : (w : World) → WorldStands st.types st.graph w
+          → WorldStands st.types given_in
+          (record w { imports = w.imports ++ record { name = name; import_type = tree } ∷ [] })
+      given_world w s = record {
+        effects = zip_more (EffectStands st.types st.graph) (EffectStands st.types given_in)
+            (effect_still st.types st.types st.graph given_in (types_refl st.types) grows) st.graph.side_effects
+            (trace w.log) s.effects;
+        order = s.order;
+        are_declared = λ k y at. declared_still st.types st.types st.graph given_in (types_refl st.types) grows w.log k y
+            (s.are_declared k y at);
+        trampolines = λ v entry. trampoline_still st.types st.types st.graph given_in (types_refl st.types) grows v
+            (s.trampolines v entry);
+        import_types = zip_push (ImportStands st.types given_in) st.graph.import_types w.imports (name.name, x) _
+            (zip_more (ImportStands st.types st.graph) (ImportStands st.types given_in)
+            (import_still st.types st.types st.graph given_in (types_refl st.types) grows) st.graph.import_types w.imports
+            s.import_types) given_import;
+        imports = s.imports;
+        imported_resources = s.imported_resources;
+        intrinsics = s.intrinsics;
+        no_adapters = s.no_adapters;
+        begun = s.begun;
+        total = s.total;
+      }
+
+      given_point : (IsOrdered st.graph → IsOrdered given_in) → i.0 ≡ length st.graph.import_types
+          → u.items ≡ st.used.items ++ None ∷ [] → (id : DefinitionId) → id.0 ≡ length st.definitions → (now : Moment)
+          → PointStands t ms st f now
+          → PointStands t ms given_to (record f { arguments = with_first f.arguments (name.name, id) })
+          (with_given now name tree (func_value (host_function (import_path (length now.world.imports)))))
+      given_point ordered number more id last now at =
+          let kept = frame_kept ms (tables_of st) (tables_of given_to) given_keeps f now.scope at.frame in
+          let place : i.0 ≡ length now.world.imports = number ∙ zip_length (ImportStands st.types st.graph)
+          st.graph.import_types now.world.imports at.world.import_types in
+          let longer : length given_in.import_types ≡ length st.graph.import_types + 1 =
+          length-append st.graph.import_types ((name.name, x) ∷ []) in
+          let below : i.0 < length given_in.import_types = omega (arith, number, longer) in
+          let host = subst (λ k. Stands ms (tables_of given_to) id (func_value (host_function (import_path k)))) place
+          (stands (ap (slice_get given_to.definitions) last ∙ slice_get-append_seam st.definitions (definition.HostFunc i) [])
+          (stands_host below)) in
+          record {
+            sound = record {
+              ordered = ordered at.sound.ordered;
+              items = record {
+                modules = λ k m args found. let old = at.sound.items.modules k m args found in (
+                  old.0,
+                  old.1,
+                  old.2,
+                  all_more (λ d. (k : CoreKind) × IsItem ms st.graph k d)
+                      (λ d. (k : CoreKind) × IsItem ms given_in k d)
+                      (λ d y. (y.0, is_item_kept ms st.graph given_in grows y.0 d y.1)) args old.3,
+                );
+                slots = λ k j d found. is_item_kept ms st.graph given_in grows (slot_kind k) d
+                    (at.sound.items.slots k j d (subst (λ xs. slice_get xs j ≡ Some d)
+                    (given_slots st.graph given_in.import_types k) found));
+                exports = λ j y z d found. is_item_kept ms st.graph given_in grows _ d
+                    (at.sound.items.exports j y z d found);
+              };
+              plain = record {
+                adapters = at.sound.plain.adapters;
+                adapter_modules = at.sound.plain.adapter_modules;
+                adapter_partitionings = at.sound.plain.adapter_partitionings;
+                resources = at.sound.plain.resources;
+                imported_resources = at.sound.plain.imported_resources;
+                unsafe_intrinsics = at.sound.plain.unsafe_intrinsics;
+              };
+              used = subst (AreUsed given_in) (sym more)
+                  (used_given st.graph given_in st.used.items (name.name, x) at.sound.ordered refl refl at.sound.used);
+              numbers = at.sound.numbers;
+            };
+            here = at.here;
+            frame = record {
+              core_funcs = kept.core_funcs;
+              memories = kept.memories;
+              tables = kept.tables;
+              globals = kept.globals;
+              tags = kept.tags;
+              modules = kept.modules;
+              funcs = kept.funcs;
+              core_instances = kept.core_instances;
+              instances = kept.instances;
+              components = kept.components;
+              arguments = argument_given ms (tables_of given_to) f.arguments now.scope.arguments name.name id _
+                  kept.arguments host;
+              known = kept.known;
+              component_instance = kept.component_instance;
+              begun = kept.begun;
+            };
+            world = given_world now.world at.world;
+            unexported = record { exports = at.unexported.exports; items = at.unexported.items };
+          }
+
+-- the import is prepared as the reading prepares it
+pub prepare_steps : (t : TypeTable) (ms : List ModuleRecord) (before : State) (f : Frame) (st : State)
+    → Converts t before st → (name : ExternName) (ty : ℕ) (n : TypeFuncIndex) → has_entry t is_func ty ≡ true
+    → IsEntry st.types t ty (type.ComponentFunc n) → (x : ComponentExtern) → x.ty ≡ type.ComponentFunc n
+    → x.data_ ≡ extern_data name → (i : ImportIndex) (h : ComponentDfg) → graph.Grows st.graph h
+    → h ≡ record st.graph { import_types = h.import_types } → h.import_types ≡ st.graph.import_types ++ (name.name, x) ∷ []
+    → (IsOrdered st.graph → IsOrdered h) → i.0 ≡ length st.graph.import_types
+    → (u : Vec (Option RuntimeImportIndex) Global) → u.items ≡ st.used.items ++ None ∷ [] → (end : State)
+    → end ≡ record st { graph = h; used = u; definitions = st.definitions ++ definition.HostFunc i ∷ [] }
+    → (id : DefinitionId) → id.0 ≡ length st.definitions → (f' : Frame)
+    → f' ≡ record f { arguments = with_first f.arguments (name.name, id) } → (r : ⊤)
+    → Steps t ms (built_prepare t ms name (entity.Func ty)) before f end f' (Ok r)
+prepare_steps t ms before f st converts name ty n typed entry x is_func_type meta i h grows rest more ordered number u unused
+    end ended id last f' framed r = steps_on t ms _ before f end f' r (λ now at.
+    let known : st.types.resources.known ≡ [] = ap (λ k. k.known) (converts.grows.resources ∙ at.here) in
+    let e = entry_tree st.types t ty (type.ComponentFunc n) known entry in
+    let still = point_kept t ms before st (converts_prepares t ms before st converts) f now at in
+    let made : h ≡ given_in t ms st f name x u i = rest ∙ (λ j. record st.graph { import_types = more j }) in
+    let after = given_point t ms st f name x u i (subst (graph.Grows st.graph) made grows) e.0 n is_func_type meta e.2
+    (λ o. subst IsOrdered made (ordered o)) number unused id last now still in
+    let next = with_given now name e.0 (func_value (host_function (import_path (length now.world.imports)))) in
+    let same : end ≡ given_to t ms st f name x u i =
+    ended ∙ (λ j. record st { graph = made j; used = u; definitions = st.definitions ++ definition.HostFunc i ∷ [] }) in
+    record {
+      now = next;
+      stands = subst (λ s. PointStands t ms s f' next) (sym same)
+          (subst (λ g. PointStands t ms (given_to t ms st f name x u i) g next) (sym framed) after);
+      done = prepare_given t ms st f name ty now e.0 typed
+          (scope_tree t ms before f now at st.types converts.grows.resources ty ∙ e.1);
+    })

@@ -1,0 +1,89 @@
+-- Errors that say no more than that there was no room, or a fault with its cause.
+use Rattle.std.proofs.Common.{◌≡◌, ◌≤◌, length, Ok, Err, refl, sym, subst}
+use Rattle.std.specs.Prelude.{IfErr, Result}
+use Rattle.std.specs.Result.{IsErrAnd}
+use Rattle.pc_interned.specs.Types.{IsFull}
+use Rattle.pc_types.specs.declared.error.TypeError.{TypeError}
+use Rattle.pc_types.specs.declared.error.TypeError.TheVariants as type_error
+use Rattle.pc_dfg.specs.declared.push_error.PushError.{PushError}
+use Rattle.pc_dfg.specs.declared.push_error.PushError.TheVariants as push_error
+use Rattle.pc_inline.specs.declared.error.ItemError.{ItemError}
+use Rattle.pc_inline.specs.declared.error.ItemError.TheVariants as item_error
+use Rattle.pc_inline.specs.declared.error.ItemFault.{ItemFault}
+use Rattle.pc_inline.specs.declared.error.ItemFault.TheVariants as item_fault
+use Rattle.pc_inline.specs.declared.state.State.{State}
+use Rattle.pc_inline.specs.Faults.{of_push_error, of_type_error}
+use Rattle.pc_inline.specs.Points.{IsFullSomewhere, full_cores, full_definitions, full_types}
+use Rattle.pc_inline.specs.Refused.{LacksRoom, LacksRoomOr}
+use Rattle.pc_inline.specs.Tables.{tables_of}
+
+-- what holds of the error that was passed up
+pub if_err : {T E : Type 0} (r : Result T E) (R P : E → Type 0) → IsErrAnd r R → ((e : E) → R e → P e) → IfErr r P
+if_err (Ok x) R P h f = absurd h
+if_err (Err e) R P h f = f e h
+
+type_lacks_at : (st : State) (cause : Type 0) (x : TypeError) (e : ItemError) → e ≡ of_type_error x
+    → (x ≡ type_error.BadNumber → cause) → (x ≡ type_error.TooMany → IsFull st.types)
+    → LacksRoomOr item_fault.BadType cause st e
+unfolding LacksRoomOr
+type_lacks_at st cause type_error.BadNumber e is bad full =
+    subst (LacksRoomOr item_fault.BadType cause st) (sym is) (refl, bad refl)
+type_lacks_at st cause type_error.TooMany e is bad full =
+    subst (LacksRoomOr item_fault.BadType cause st) (sym is) (full_types (full refl))
+type_lacks_at st cause type_error.NoMemory e is bad full =
+    subst (LacksRoomOr item_fault.BadType cause st) (sym is) tt
+
+push_lacks_at : (st : State) (x : PushError) (e : ItemError) → e ≡ of_push_error x
+    → (x ≡ push_error.TooMany → IsFullSomewhere (tables_of st)) → LacksRoom st e
+unfolding LacksRoom
+push_lacks_at st push_error.TooMany e is full = subst (LacksRoom st) (sym is) (full refl)
+push_lacks_at st push_error.NoMemory e is full = subst (LacksRoom st) (sym is) tt
+
+cause_lacks_at : (k : ItemFault) (P Q : Type 0) (st : State) (e : ItemError) → (P → Q) → LacksRoomOr k P st e
+    → LacksRoomOr k Q st e
+unfolding LacksRoomOr
+cause_lacks_at k P Q st (item_error.Fault j) f h = (h.0, f h.1)
+cause_lacks_at k P Q st item_error.TooMany f h = h
+cause_lacks_at k P Q st item_error.NoMemory f h = h
+
+module _ {T : Type 0} (r : Result T ItemError) (st : State) where
+  -- an error of the types builder
+  pub type_lacks : (cause : Type 0) (x : TypeError) → IsErrAnd r (λ e. e ≡ of_type_error x)
+      → (x ≡ type_error.BadNumber → cause) → (x ≡ type_error.TooMany → IsFull st.types)
+      → IfErr r (LacksRoomOr item_fault.BadType cause st)
+  type_lacks cause x is bad full =
+      if_err r (λ e. e ≡ of_type_error x) (LacksRoomOr item_fault.BadType cause st) is
+      (λ e same. type_lacks_at st cause x e same bad full)
+
+  -- an error of the graph
+  pub push_lacks : (x : PushError) → IsErrAnd r (λ e. e ≡ of_push_error x)
+      → (x ≡ push_error.TooMany → IsFullSomewhere (tables_of st)) → IfErr r (LacksRoom st)
+  push_lacks x is full =
+      if_err r (λ e. e ≡ of_push_error x) (LacksRoom st) is (λ e same. push_lacks_at st x e same full)
+
+  -- an error that is handed on
+  pub same_lacks : (x : ItemError) → IsErrAnd r (λ e. e ≡ x) → LacksRoom st x → IfErr r (LacksRoom st)
+  same_lacks x is h = if_err r (λ e. e ≡ x) (LacksRoom st) is (λ e same. subst (LacksRoom st) (sym same) h)
+
+  -- want of memory
+  pub memory_lacks : IsErrAnd r (λ e. e ≡ item_error.NoMemory) → IfErr r (LacksRoom st)
+  unfolding LacksRoom
+  memory_lacks is =
+      if_err r (λ e. e ≡ item_error.NoMemory) (LacksRoom st) is (λ e same. subst (LacksRoom st) (sym same) tt)
+
+  -- an error that is handed on with another cause
+  pub cause_lacks : (k : ItemFault) (P Q : Type 0) (x : ItemError) → IsErrAnd r (λ e. e ≡ x) → (P → Q)
+      → LacksRoomOr k P st x → IfErr r (LacksRoomOr k Q st)
+  cause_lacks k P Q x is f h =
+      if_err r (λ e. e ≡ x) (LacksRoomOr k Q st) is
+      (λ e same. subst (LacksRoomOr k Q st) (sym same) (cause_lacks_at k P Q st x f h))
+
+-- a table is full
+pub cores_lack : (st : State) → 4294967295 ≤ length st.cores → LacksRoom st item_error.TooMany
+unfolding LacksRoom
+cores_lack st full = full_cores full
+
+-- the other one
+pub definitions_lack : (st : State) → 4294967295 ≤ length st.definitions → LacksRoom st item_error.TooMany
+unfolding LacksRoom
+definitions_lack st full = full_definitions full

@@ -1,0 +1,33 @@
+use Rattle.std.proofs.Common.{◌≡◌, [], ◌∷◌, ◌++◌, Ok, true, false, ap, sym, subst, refl, ◌∙◌}
+use Rattle.pc_types.specs.declared.module_record.ModuleRecord.{ModuleRecord}
+use Rattle.pc_reading.specs.Item.{module_item}
+use Rattle.pc_inline.specs.declared.definition.Definition.TheVariants as definition
+use Rattle.pc_inline.specs.Points.{StepsItem}
+use Rattle.pc_inline.proofs.ModuleLemmas.{module_misses, module_steps}
+use Rattle.pc_inline.proofs.PassedLemmas.{passed_lacking, passed_unfed}
+use Rattle.pc_inline.proofs.context.Context.step_module.Goals as goal
+
+pub returns-then-not-is_module_type-clause-steps : goal.returns-then-not-is_module_type-clause-steps
+returns-then-not-is_module_type-clause-steps c =
+    module_misses c.args.self.now.table.now c.args.self.now.modules c.args.index c.args.ty c.args.state.now
+    c.args.frame.now c.args.state.now c.args.frame.now (sym c.is_module_type.ensures ∙ c.if-not-is_module_type.true)
+
+pub returns-in_err-id-clause-steps : goal.returns-in_err-id-clause-steps
+returns-in_err-id-clause-steps c = passed_lacking _ _ _ _ _ _ _ _ _ c.from_residual.ensures.1 c.in_err-id.ensures.lacks
+
+pub returns-in_err-push-clause-steps : goal.returns-in_err-push-clause-steps
+returns-in_err-push-clause-steps c = passed_unfed _ _ _ _ _ _ _ _ c.from_residual-in_err-push.ensures.1
+
+pub returns-clause-steps : goal.returns-clause-steps
+returns-clause-steps c =
+    let i = module_item c.args.index.0 c.args.ty in
+    subst (λ st. StepsItem c.args.self.now.table.now c.args.self.now.modules i c.args.state.now c.args.frame.now st
+    (record c.args.frame.now { modules = c.push.new.self }) (Ok tt)) (sym c.in_ok-id.ensures.ok)
+    (subst (λ fs. StepsItem c.args.self.now.table.now c.args.self.now.modules i c.args.state.now c.args.frame.now
+    (record c.args.state.now {
+      definitions = c.args.state.now.definitions
+          ++ definition.StaticModule c.args.index c.args.ty ∷ [];
+    })
+    (record c.args.frame.now { modules = fs }) (Ok tt)) (sym c.in_ok-push.ensures.ok)
+    (module_steps c.args.self.now.table.now c.args.self.now.modules c.args.index c.args.ty c.args.state.now
+    c.args.frame.now c.requires.input.table (sym c.is_module_type.ensures ∙ c.if-not-is_module_type.false) c.in_ok-id.id c.in_ok-id.ensures.key tt))

@@ -1,0 +1,36 @@
+use Rattle.std.proofs.Common.{◌≡◌, ◌<◌, ◌++◌, ◌∷◌, [], Some, Err, length, ap, sym, subst, refl, ◌∙◌}
+use Rattle.std.specs.Prelude.{slice_get}
+use Rattle.std.proofs.lemmas.Option.{slice_get_read}
+use Rattle.std.proofs.lemmas.List.{length-set}
+use Rattle.pc_dfg.specs.Lists as list
+use Rattle.pc_inline.proofs.GrowthLemmas.{graph_crowded}
+use Rattle.pc_inline.specs.Tables.{tables_of}
+use Rattle.pc_inline.proofs.RefusedLemmas.{push_lacks}
+use Rattle.pc_inline.proofs.UsesLemmas.{used_again, used_new}
+use Rattle.pc_inline.proofs.context.Context.use_import.Goals as goal
+
+pub returns-in-Some-clause-uses : goal.returns-in-Some-clause-uses
+returns-in-Some-clause-uses c =
+    let below = subst (λ n. c.args.import.0 < n) (sym c.requires.sound.used.room) c.requires.there in
+    used_again c.args.self.now.table.now c.args.self.now.modules c.args.state.now c.args.import c.in-Some.number
+    c.requires.sound (slice_get_read c.args.state.now.used.items _ c.args.import.0 c.index.result.now refl below
+    c.index.ensures ∙ ap Some c.in-Some.is)
+
+pub returns-in_err-number-clause-err : goal.returns-in_err-number-clause-err
+returns-in_err-number-clause-err c =
+    push_lacks c.from_residual.result (record c.args.state.now { graph = c.push_import.new.self })
+    c.in_err-number.field-0.0 c.from_residual.ensures.1
+    (λ is. graph_crowded (tables_of (record c.args.state.now { graph = c.push_import.new.self }))
+    c.args.state.now.graph c.push_import.ensures.grows list.imports
+    (c.push_import.ensures.full.0 (c.in_err-number.was ∙ ap Err is)))
+
+pub returns-clause-uses : goal.returns-clause-uses
+returns-clause-uses c =
+    let below = subst (λ n. c.args.import.0 < n) (sym c.requires.sound.used.room) c.requires.there in
+    used_new c.args.self.now.table.now c.args.self.now.modules c.args.state.now c.args.import c.in_ok-number.number _
+    c.push_import.new.self c.push_import.ensures.grows c.push_import.ensures.rest
+    (c.in_ok-number.ensures.ok ∙ (λ j. c.args.state.now.graph.imports ++ (c.args.import, c.new.ensures j) ∷ []))
+    c.push_import.ensures.ordered c.requires.there c.in_ok-number.ensures.key refl
+    (length-set c.args.state.now.used.items c.args.import.0 (Some c.in_ok-number.number))
+    (slice_get_read c.args.state.now.used.items _ c.args.import.0 c.index.result.now refl below
+    c.index.ensures ∙ ap Some c.in_default.is) below

@@ -1,0 +1,17 @@
+use Rattle.std.proofs.Common.{◌≤◌, subst}
+use Rattle.pc_inline.proofs.RefusedLemmas.{definitions_lack, memory_lacks}
+use Rattle.pc_inline.specs.Tables.{tables_of}
+use Rattle.pc_inline.proofs.GrowthLemmas.{definitions_grown, push_kept}
+use Rattle.pc_inline.proofs.state.State.push_definition.Goals as goal
+
+pub returns-clause-keeps : goal.returns-clause-keeps
+returns-clause-keeps c =
+    definitions_grown (tables_of c.args.self.now) _
+    (push_kept c.push.result _ _ c.args.definition c.push.ensures.ok c.push.ensures.err)
+
+pub returns-then-len-ge-MAX_ENTRIES-clause-lacks : goal.returns-then-len-ge-MAX_ENTRIES-clause-lacks
+returns-then-len-ge-MAX_ENTRIES-clause-lacks c =
+    definitions_lack _ (subst (λ n. 4294967295 ≤ n) c.len.ensures c.if-len-ge-MAX_ENTRIES.true)
+
+pub returns-in_err-push-clause-lacks : goal.returns-in_err-push-clause-lacks
+returns-in_err-push-clause-lacks c = memory_lacks _ _ c.from_residual.ensures.1

@@ -1,0 +1,28 @@
+-- What the root exports, against the nodes of the reading.
+use Rattle.std.specs.Prelude.{◌≡◌, ℕ, List}
+use Rattle.std.specs.List.{AllZip}
+use Rattle.pc_interned.specs.Types.{Types}
+use Rattle.pc_semantics.specs.ExportNode.{ExportNode, NamedNode, map_node}
+use Rattle.pc_trampoline.specs.declared.part.Mark.{Mark as Number}
+use Rattle.pc_parsed.specs.Mark.{Mark}
+use Rattle.pc_dfg.specs.declared.dfg.ComponentDfg.{ComponentDfg}
+use Rattle.pc_dfg.specs.Lists.{NamedExport}
+use Rattle.pc_dfg.specs.Nodes.{MeansItem}
+use Rattle.pc_inline.specs.Typed.{Numbered, number_of, whole_of}
+
+module _ (types : Types) (g : ComponentDfg) where
+  -- an export by number, whatever mark the types of modules have
+  pub record NodeStands (n : ℕ) (x : ExportNode Mark) : Type 0 where
+    pub numbered : ExportNode (Numbered types)
+    pub means : (converted : ℕ → Number) → MeansItem g converted n (map_node (number_of types) numbered)
+    pub is : map_node (whole_of types) numbered ≡ x
+
+  -- an export under its name
+  pub record NameStands (e : NamedExport) (x : NamedNode Mark) : Type 0 where
+    pub name : x.name ≡ e.0
+    pub extern_data : x.extern_data ≡ e.1.1
+    pub node : NodeStands e.1.0.0 x.node
+
+  -- the exports, in order
+  unfoldable pub ExportsStand : List (NamedNode Mark) → Type 0
+  ExportsStand nodes = AllZip NameStands g.exports nodes

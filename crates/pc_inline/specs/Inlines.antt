@@ -1,0 +1,66 @@
+-- What an instantiation answers: the graph that stands for the reading, or why there is none.
+use Rattle.std.specs.Prelude.{◌≡◌, ℕ, List, length, None, Result, Ok, Err}
+use Rattle.pc_interned.specs.Types.{Types}
+use Rattle.pc_types.specs.declared.error.Error.{Error}
+use Rattle.pc_types.specs.declared.error.Error.TheVariants as error
+use Rattle.pc_types.specs.declared.error.Unsupported.TheVariants.{NotBuilt}
+use Rattle.pc_types.specs.declared.module_record.ModuleRecord.{ModuleRecord}
+use Rattle.pc_types.specs.declared.parsed.TypeTable.{TypeTable}
+use Rattle.pc_reading.specs.Item.{Items}
+use Rattle.pc_reading.specs.Outcome.{bad_type, done, fault, invalid, over, unsupported}
+use Rattle.pc_reading.specs.Reading.{Reading, reading_of}
+use Rattle.pc_reading.specs.World.{World}
+use Rattle.pc_dfg.specs.declared.dfg.ComponentDfg.{ComponentDfg}
+use Rattle.pc_dfg.specs.Ordered.{IsOrdered}
+use Rattle.pc_inline.specs.Exports.{ExportsStand}
+use Rattle.pc_inline.specs.Today.{built_reading}
+use Rattle.pc_inline.specs.Worlds.{HasItems, IsPlain, WorldStands}
+
+-- the world at the end of a reading; no total is counted
+abbrev pub last_world : Reading → World
+last_world r = record {
+  log = r.log;
+  begun = r.begun;
+  total = None;
+  imports = r.imports;
+  imported_resources = r.imported_resources;
+  intrinsics = r.intrinsics;
+}
+
+-- a graph stands for a reading, with the types that the builder holds
+pub record GraphStands (ms : List ModuleRecord) (types : Types) (g : ComponentDfg) (r : Reading) : Type 0 where
+  -- its side effects, imports and trampolines are those of the reading
+  pub world : WorldStands types g (last_world r)
+  -- and so are its exports
+  pub exports : ExportsStand types g r.nodes
+  -- it is ordered, and its definitions are items of the modules' instances
+  pub ordered : IsOrdered g
+  pub items : HasItems ms g
+  pub plain : IsPlain g
+  -- it counts the tables that the builder holds
+  pub future_tables : g.num_future_tables ≡ length types.future_tables
+  pub stream_tables : g.num_stream_tables ≡ length types.stream_tables
+  pub error_context_tables : g.num_error_context_tables ≡ length types.error_context_tables
+
+-- the reading is done, and the graph stands for it
+pub record StandsForReading (t : TypeTable) (ms : List ModuleRecord) (limit : ℕ) (body : Items) (types : Types)
+    (g : ComponentDfg) : Type 0 where
+  pub result : Reading
+  pub outcome : reading_of t ms limit None body ≡ done result
+  pub stands : GraphStands ms types g result
+
+-- the reading ends with this fault at its place; or as far as it is built it ends where something isn't built
+abbrev pub IsFault : TypeTable → List ModuleRecord → (limit : ℕ) → Items → Error → Type 0
+IsFault t ms limit body (error.Invalid p) = reading_of t ms limit None body ≡ fault invalid p
+IsFault t ms limit body (error.BadType p) = reading_of t ms limit None body ≡ fault bad_type p
+IsFault t ms limit body (error.Unsupported NotBuilt p) = built_reading t ms limit body ≡ fault (unsupported NotBuilt) p
+IsFault t ms limit body (error.Unsupported u p) = reading_of t ms limit None body ≡ fault (unsupported u) p
+IsFault t ms limit body error.TooManyInstances = reading_of t ms limit None body ≡ over
+IsFault t ms limit body error.TooMany = Unit {0}
+IsFault t ms limit body error.NoMemory = Unit {0}
+IsFault t ms limit body e = ⊥
+
+-- the answer is the graph that stands for the reading, or the reading's end; want of memory and full lists are free
+unfoldable pub Inlines : TypeTable → List ModuleRecord → (limit : ℕ) → Items → Types → Result ComponentDfg Error → Type 0
+Inlines t ms limit body types (Ok g) = StandsForReading t ms limit body types g
+Inlines t ms limit body types (Err e) = IsFault t ms limit body e

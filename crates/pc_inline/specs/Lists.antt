@@ -1,0 +1,22 @@
+-- The lists of core items of a component instance, by kind.
+use Rattle.std.specs.Prelude.{List, [], ◌∷◌, ◌++◌}
+use Rattle.pc_types.specs.declared.parsed.CoreKind.{CoreKind}
+use Rattle.pc_types.specs.declared.parsed.CoreKind.TheVariants as core
+use Rattle.pc_inline.specs.declared.definition.CoreId.{CoreId}
+use Rattle.pc_inline.specs.declared.frame.Frame.{Frame}
+
+-- the core items of a kind
+abbrev pub core_ids : Frame → CoreKind → List CoreId
+core_ids f core.Func = f.core_funcs
+core_ids f core.Table = f.tables
+core_ids f core.Memory = f.memories
+core_ids f core.Global = f.globals
+core_ids f core.Tag = f.tags
+
+-- a component instance with one more core item of a kind
+abbrev pub with_core_id : Frame → CoreKind → CoreId → Frame
+with_core_id f core.Func n = record f { core_funcs = f.core_funcs ++ n ∷ [] }
+with_core_id f core.Table n = record f { tables = f.tables ++ n ∷ [] }
+with_core_id f core.Memory n = record f { memories = f.memories ++ n ∷ [] }
+with_core_id f core.Global n = record f { globals = f.globals ++ n ∷ [] }
+with_core_id f core.Tag n = record f { tags = f.tags ++ n ∷ [] }

@@ -1,0 +1,79 @@
+//! Functions: lift and lower.
+
+ghost use Rattle.std.specs.Prelude.{◌≡◌};
+ghost use Rattle.pc_reading.specs.Item.{lift_item, lower_item};
+ghost use Rattle.pc_inline.specs.Points.{IsInput, IsPoint, StepsItem};
+ghost use Rattle.pc_inline.specs.Tables.{Keeps, tables_of};
+
+use crate::context::Context;
+use crate::definition::Definition;
+use crate::error::{ItemError, ItemFault};
+use crate::frame::Frame;
+use crate::lookup::at;
+use crate::options::options_in;
+use crate::state::State;
+use pc_parsed::CanonOption;
+use pc_types::Unsupported;
+
+impl<'a> Context<'a> {
+    /// A core function, lifted.
+    pub fn step_lift(
+        &self,
+        state: &mut State,
+        frame: &mut Frame,
+        func: u32,
+        ty: u32,
+        core: u32,
+        opts: &[CanonOption],
+    ) -> Result<(), ItemError>
+        requires input { IsInput self.now.table.now self.now.modules }
+        requires here { IsPoint self.now.table.now self.now.modules state.old frame.old }
+        ensures keeps { Keeps (tables_of state.old) (tables_of state.new) }
+        ensures same { frame.new.component_instance ≡ frame.old.component_instance }
+        ensures steps { StepsItem self.now.table.now self.now.modules (lift_item func ty core opts.now)
+            state.old frame.old state.new frame.new result }
+    {
+        let (ty, core_type) = self.function_types(state, ty, core)?;
+        let Some(func) = at(frame.core_funcs.as_slice(), func) else {
+            return Err(ItemError::Fault(ItemFault::Invalid));
+        };
+        let Some(options) = options_in(frame, core_type, opts) else {
+            return Err(ItemError::Fault(ItemFault::Invalid));
+        };
+        let id = state.push_definition(Definition::LiftedFunc { ty, func, options })?;
+        frame.funcs.push(id)?;
+        Ok(())
+    }
+
+    /// A function, lowered. That of a lifted function isn't built yet.
+    pub fn step_lower(
+        &self,
+        state: &mut State,
+        frame: &mut Frame,
+        func: u32,
+        ty: u32,
+        core: u32,
+        opts: &[CanonOption],
+    ) -> Result<(), ItemError>
+        requires input { IsInput self.now.table.now self.now.modules }
+        requires here { IsPoint self.now.table.now self.now.modules state.old frame.old }
+        ensures keeps { Keeps (tables_of state.old) (tables_of state.new) }
+        ensures same { frame.new.component_instance ≡ frame.old.component_instance }
+        ensures steps { StepsItem self.now.table.now self.now.modules (lower_item func ty core opts.now)
+            state.old frame.old state.new frame.new result }
+    {
+        let (ty, core_type) = self.function_types(state, ty, core)?;
+        let Some(func) = at(frame.funcs.as_slice(), func) else {
+            return Err(ItemError::Fault(ItemFault::Invalid));
+        };
+        let Some(options) = options_in(frame, core_type, opts) else {
+            return Err(ItemError::Fault(ItemFault::Invalid));
+        };
+        let Some(import) = state.host_func(func) else {
+            return Err(ItemError::Fault(ItemFault::Unsupported(Unsupported::NotBuilt)));
+        };
+        let id = self.lower_host(state, import, ty, options)?;
+        frame.core_funcs.push(id)?;
+        Ok(())
+    }
+}

@@ -1,0 +1,65 @@
+//! Host functions, lowered.
+
+ghost use Rattle.std.specs.Prelude.{◌≡◌, ◌<◌, length, IfErr, IfOk};
+ghost use Rattle.pc_inline.specs.Hosts.{Lowers, Uses};
+ghost use Rattle.pc_inline.specs.Points.{IsSoundState};
+ghost use Rattle.pc_inline.specs.Refused.{LacksRoom};
+ghost use Rattle.pc_inline.specs.Slots.{OptionsThere};
+ghost use Rattle.pc_inline.specs.Tables.{Keeps, tables_of};
+
+use crate::context::Context;
+use crate::definition::{CoreId, Options};
+use crate::error::ItemError;
+use crate::state::State;
+use pc_dfg::{CoreDef, Trampoline};
+use pc_entity::{ImportIndex, RuntimeImportIndex, Seq};
+use pc_types::TypeFuncIndex;
+
+impl<'a> Context<'a> {
+    /// The number of an import among the host items that are used. It gets one the first time.
+    pub fn use_import(
+        &self,
+        state: &mut State,
+        import: ImportIndex,
+    ) -> Result<RuntimeImportIndex, ItemError>
+        requires sound { IsSoundState self.now.table.now self.now.modules state.old }
+        requires there { import.0 < length state.old.graph.import_types }
+        ensures keeps { Keeps (tables_of state.old) (tables_of state.new) }
+        ensures uses { IfOk result (Uses self.now.table.now self.now.modules state.old state.new import) }
+        ensures err { IfErr result (LacksRoom state.new) }
+    {
+        if let Some(number) = state.used[import.0 as usize] {
+            return Ok(number);
+        }
+        let number = state.graph.push_import(import, Seq::new(self.alloc))?;
+        state.used[import.0 as usize] = Some(number);
+        Ok(number)
+    }
+
+    /// The core function that a host function is lowered to.
+    pub fn lower_host(
+        &self,
+        state: &mut State,
+        import: ImportIndex,
+        ty: TypeFuncIndex,
+        options: Options,
+    ) -> Result<CoreId, ItemError>
+        requires sound { IsSoundState self.now.table.now self.now.modules state.old }
+        requires there { import.0 < length state.old.graph.import_types }
+        requires options { OptionsThere self.now.modules (tables_of state.old) options }
+        ensures keeps { Keeps (tables_of state.old) (tables_of state.new) }
+        ensures lowers { IfOk result
+            (Lowers self.now.table.now self.now.modules state.old state.new import ty options) }
+        ensures err { IfErr result (LacksRoom state.new) }
+    {
+        let index = self.use_import(state, import)?;
+        let entry = self.options_entry(state, options)?;
+        let lowering = Trampoline::LowerImport {
+            index,
+            lower_ty: ty,
+            options: entry,
+        };
+        let number = state.graph.push_trampoline(options.core_type, lowering)?;
+        state.push_core(CoreDef::Trampoline(number))
+    }
+}

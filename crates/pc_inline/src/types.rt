@@ -1,0 +1,104 @@
+//! The types builder's numbers of function types and of core signatures.
+
+ghost use Rattle.std.specs.Prelude.{◌≡◌, ◌&&◌, None, Some, false, true, length, option_and_then, slice_get, slice_set, IfErr, IfOk};
+ghost use Rattle.pc_types.specs.declared.types.TypeDef.TheVariants as def;
+ghost use Rattle.pc_types.specs.Record.{has_signature};
+ghost use Rattle.pc_types.specs.Table.{is_func, table_fault};
+ghost use Rattle.pc_interned.specs.Types as builder;
+ghost use Rattle.pc_builder.specs.Trees.{IsEntry};
+ghost use Rattle.pc_reading.specs.Types.{has_entry};
+ghost use Rattle.pc_inline.specs.Prepares.{Converts};
+ghost use Rattle.pc_inline.specs.Refused.{LacksRoomOr};
+ghost use Rattle.pc_inline.specs.Typed.{AreNumbers, AreOfFunction, AreSignatures, HasNoFunction, IsSignature};
+ghost use Rattle.pc_inline.specs.declared.error.ItemFault.TheVariants as item_fault;
+
+use crate::context::Context;
+use crate::error::ItemError;
+use crate::state::State;
+use pc_builder::ComponentTypesBuilder;
+use pc_entity::ModuleInternedTypeIndex;
+use pc_types::{TypeError, TypeFuncIndex, TypeTable};
+
+/// The number of a signature, if it has one.
+fn number_at(
+    signatures: &[Option<ModuleInternedTypeIndex>],
+    core: u32,
+) -> Option<ModuleInternedTypeIndex>
+    ensures { result ≡ option_and_then (λ number. number) (slice_get signatures.now core) }
+{
+    match signatures.get(core as usize) {
+        Some(number) => *number,
+        None => None,
+    }
+}
+
+/// A signature gets its number.
+fn note(
+    signatures: &mut Vec<Option<ModuleInternedTypeIndex>>,
+    core: u32,
+    index: ModuleInternedTypeIndex,
+)
+    ensures { signatures.new.items ≡ slice_set signatures.old.items core (Some index) }
+{
+    if (core as usize) < signatures.len() {
+        signatures[core as usize] = Some(index);
+    }
+}
+
+impl<'a> Context<'a> {
+    /// The builder's number of a function type, by its table number.
+    pub fn func_type(&self, state: &mut State, ty: u32) -> Result<TypeFuncIndex, ItemError>
+        requires sound { table_fault self.now.table.now ≡ None }
+        requires numbers { AreNumbers state.old.types self.now.table.now state.old.numbers }
+        ensures converts { Converts self.now.table.now state.old state.new }
+        ensures is { IfOk result (λ i. (has_entry self.now.table.now is_func ty ≡ true)
+            × IsEntry state.new.types self.now.table.now ty (def.ComponentFunc i)) }
+        ensures err { IfErr result
+            (LacksRoomOr item_fault.BadType (has_entry self.now.table.now is_func ty ≡ false) state.new) }
+    {
+        Ok(
+            state
+                .types
+                .convert_func_with(self.table, ty, &mut state.numbers.converted)?,
+        )
+    }
+
+    /// The builder's number of a core signature, by its table number.
+    pub fn signature(
+        &self,
+        state: &mut State,
+        core: u32,
+    ) -> Result<ModuleInternedTypeIndex, ItemError>
+        requires numbers { AreNumbers state.old.types self.now.table.now state.old.numbers }
+        ensures converts { Converts self.now.table.now state.old state.new }
+        ensures is { IfOk result (λ i. IsSignature state.new.types self.now.table.now core i) }
+        ensures err { IfErr result
+            (LacksRoomOr item_fault.BadType (slice_get self.now.table.now.core_funcs core ≡ None) state.new) }
+    {
+        if let Some(index) = number_at(state.numbers.signatures.as_slice(), core) {
+            return Ok(index);
+        }
+        let index = state.types.core_sig(self.table, core)?;
+        note(&mut state.numbers.signatures, core, index);
+        Ok(index)
+    }
+
+    /// The builder's numbers of the type and of the core signature of a function.
+    pub fn function_types(
+        &self,
+        state: &mut State,
+        ty: u32,
+        core: u32,
+    ) -> Result<(TypeFuncIndex, ModuleInternedTypeIndex), ItemError>
+        requires sound { table_fault self.now.table.now ≡ None }
+        requires numbers { AreNumbers state.old.types self.now.table.now state.old.numbers }
+        ensures converts { Converts self.now.table.now state.old state.new }
+        ensures are { IfOk result (λ r. AreOfFunction state.new.types self.now.table.now ty core r.0 r.1) }
+        ensures err { IfErr result (LacksRoomOr item_fault.BadType
+            (HasNoFunction self.now.table.now ty core) state.new) }
+    {
+        let ty = self.func_type(state, ty)?;
+        let core_type = self.signature(state, core)?;
+        Ok((ty, core_type))
+    }
+}
