@@ -1,5 +1,7 @@
-//! Tests of `pc_dfg`: what each way into a graph answers, and that a graph with a deep tree of exports is let go.
+//! Tests of `pc_dfg`: what each way into a graph answers, that a graph with a deep tree of exports is let go, and what
+//! is known of instantiations.
 
 mod definitions;
+mod instantiations;
 mod numbers;
 mod pushes;

@@ -9,11 +9,15 @@ use Rattle.pc_dfg.specs.declared.core_def.CoreDef.{CoreDef}
 use Rattle.pc_dfg.specs.declared.dfg.ComponentDfg.{ComponentDfg}
 use Rattle.pc_dfg.specs.Grows.{Grows}
 use Rattle.pc_dfg.specs.Lists as list
-use Rattle.pc_dfg.specs.Means.{Means, MeansTrampoline, MeansParts, MeansPart, MeansOptions, MeansEntry, MeansModel, MeansSlot}
+use Rattle.pc_dfg.specs.Means.{Means, MeansTrampoline, MeansParts, MeansPart, MeansOptions, MeansEntry, MeansModel}
+use Rattle.pc_dfg.specs.Means.{MeansSlot}
 use Rattle.pc_dfg.specs.Means.{MeansSide, MeansSideModel, MeansMaybe, means_export, means_flags, means_trampoline}
-use Rattle.pc_dfg.specs.Means.{means_intrinsic, means_adapter, means_lowered, means_builtin, means_helper, means_no_parts}
-use Rattle.pc_dfg.specs.Means.{means_and_part, means_mark, means_number, means_flag, means_slot_part, means_options_part}
-use Rattle.pc_dfg.specs.Means.{means_options, means_entry, means_gc, means_linear, means_no_slot, means_slot, means_side}
+use Rattle.pc_dfg.specs.Means.{means_intrinsic, means_adapter, means_lowered, means_builtin, means_helper}
+use Rattle.pc_dfg.specs.Means.{means_no_parts}
+use Rattle.pc_dfg.specs.Means.{means_and_part, means_mark, means_number, means_flag, means_slot_part}
+use Rattle.pc_dfg.specs.Means.{means_options_part}
+use Rattle.pc_dfg.specs.Means.{means_options, means_entry, means_gc, means_linear, means_no_slot, means_slot}
+use Rattle.pc_dfg.specs.Means.{means_side}
 use Rattle.pc_dfg.specs.Means.{means_side_gc, means_side_linear, means_none, means_some}
 use Rattle.pc_dfg.proofs.GrowLemmas.{kept}
 

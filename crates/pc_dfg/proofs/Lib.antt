@@ -5,6 +5,10 @@ pub mod GrowLemmas
 -- a definition keeps its value, and has one
 pub mod KeptLemmas
 pub mod UniqueLemmas
+-- what has a value has one number
+mod EntryLemmas
+mod TellLemmas
+pub mod SameLemmas
 pub mod ZipLemmas
 pub mod TraceLemmas
 pub mod NodeLemmas
@@ -16,3 +20,5 @@ pub mod AddLemmas
 pub mod PushLemmas
 mod EffectLemmas
 pub mod EmptyLemmas
+-- the join of instantiations
+mod JoinLemmas

@@ -1,5 +1,6 @@
 -- What held definitions name is held, and they name the same however the graph grows.
-use Rattle.std.proofs.Common.{◌≡◌, ◌<◌, ℕ, List, [], ◌∷◌, ◌++◌, length, All, Contains, Option, None, Some, refl, ap, sym, subst, ◌∙◌}
+use Rattle.std.proofs.Common.{◌≡◌, ◌<◌, ℕ, List, [], ◌∷◌, ◌++◌, length, All, Contains, Option, None, Some, refl, ap}
+use Rattle.std.proofs.Common.{sym, subst, ◌∙◌}
 use Rattle.std.specs.Prelude.{slice_get}
 use Rattle.std.specs.List.{flat_map}
 use Rattle.std.proofs.lemmas.List.Elements.{All-append, All-contains}
@@ -13,7 +14,8 @@ use Rattle.pc_dfg.specs.Grows.{Grows}
 use Rattle.pc_dfg.specs.Held.{IsHeld, HeldSlot, HeldModel, HeldOptions, HeldPart, HeldTrampoline, HoldsEntry, AreHeld}
 use Rattle.pc_dfg.specs.Lists as list
 use Rattle.pc_dfg.specs.Names.{if_any, each_of, in_slot, in_model, in_entry, in_options, in_part, in_trampoline}
-use Rattle.pc_dfg.specs.Names.{Thing, an_instance, an_adapter, Names, names_instance, names_adapter, names_through, OneNames}
+use Rattle.pc_dfg.specs.Names.{Thing, an_instance, an_adapter, Names, names_instance, names_adapter, names_through}
+use Rattle.pc_dfg.specs.Names.{OneNames}
 use Rattle.pc_dfg.specs.Numbers.{options_entry, trampoline_entry, slots_of}
 use Rattle.pc_dfg.proofs.AllLemmas.{all_none, all_one, all_first, all_rest, all_flat_map}
 use Rattle.pc_dfg.proofs.GrowLemmas.{kept}

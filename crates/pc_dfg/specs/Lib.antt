@@ -14,3 +14,7 @@ pub mod Ordered
 -- `==` is equality of values.
 pub mod Exact
 pub mod ExactOptions
+-- what values leave out
+pub mod Told
+-- what is known of core modules
+pub mod Instantiations

@@ -71,6 +71,8 @@ pub struct ComponentDfg {
 }
 
 impl ComponentDfg {
+    ghost use Rattle.pc_dfg.specs.Told.{AreInterned};
+
     /// A graph with nothing in it. It takes no memory.
     pub fn new(alloc: Global) -> ComponentDfg
         ensures { result ≡ empty_graph }
@@ -120,6 +122,7 @@ impl ComponentDfg {
         ensures trampolines { AreDistinct self.now.trampolines }
         ensures options { AreDistinct self.now.options }
         ensures adapters { AreDistinct self.now.adapters }
+        ensures all { AreInterned self.now }
     {
         let _memories = self.memories.as_slice();
         let _tables = self.tables.as_slice();
