@@ -1,5 +1,6 @@
 -- Definitions whose ids get their numbers, one after another.
-use Rattle.std.proofs.Common.{Contains, inl, ◌≡◌, ℕ, ◌+◌, ◌<◌, List, [], ◌∷◌, ◌++◌, All, Option, None, Some, length, map, take, get_or, refl, sym, subst, ap, ◌∙◌}
+use Rattle.std.proofs.Common.{Contains, inl, ◌≡◌, ℕ, ◌+◌, ◌<◌, List, [], ◌∷◌, ◌++◌, All, Option, None, Some, length}
+use Rattle.std.proofs.Common.{map, take, get_or, refl, sym, subst, ap, ◌∙◌}
 use Rattle.std.specs.Prelude.{option_map, slice_get}
 use Rattle.std.specs.List.{flat_map}
 use Rattle.std.proofs.lemmas.Grind.{flat_map-append}
@@ -19,7 +20,8 @@ use Rattle.pc_dfg.specs.Names.{each_of}
 use Rattle.pc_finish.specs.declared.id.Id.{Id}
 use Rattle.pc_finish.specs.declared.id.Id.TheVariants as id
 use Rattle.pc_finish.specs.declared.state.Finish.{Finish}
-use Rattle.pc_finish.specs.Arguments.{CanNumber, HasMeaning, IsNumbered, NumbersAll, OnlyFromThese, named_defs, host_defs}
+use Rattle.pc_finish.specs.Arguments.{CanNumber, HasMeaning, IsNumbered, NumbersAll, OnlyFromThese, named_defs}
+use Rattle.pc_finish.specs.Arguments.{host_defs}
 use Rattle.pc_finish.specs.Closed.{Closed, Continues, Fits, Valued}
 use Rattle.pc_finish.specs.Parts.{HasNumber, in_def}
 use Rattle.pc_finish.specs.Ready.{IsReadyDef}
@@ -161,4 +163,5 @@ all_ready g old new ds numbers can k d below = (all_can_still g old new numbers.
 -- the item that a loop over the same list reads
 pub item_read : {A : Type 0} (xs ys : List A) (i : ℕ) (d : A) → ys ≡ xs → i < length ys
     → slice_get xs i ≡ Some (get_or ys i d)
-item_read xs ys i d same within = subst (λ l. slice_get l i ≡ Some (get_or ys i d)) same (slice_get-get_or ys i d within)
+item_read xs ys i d same within = subst (λ l. slice_get l i ≡ Some (get_or ys i d)) same
+    (slice_get-get_or ys i d within)

@@ -1,6 +1,7 @@
 -- A slot that gets its number.
-use Rattle.std.proofs.Common.{◌≡◌, ◌<◌, ℕ, List, length, map, All, Option, None, Some, refl, sym, ap, subst, ◌∙◌}
-use Rattle.std.specs.Prelude.{slice_get, false, option_map, Result, Ok, Err, OnOk, IfOk}
+use Rattle.std.proofs.Common.{◌≡◌, ◌<◌, ◌++◌, ℕ, List, [], ◌∷◌, length, map, All, Option, None, Some, refl, sym, ap}
+use Rattle.std.proofs.Common.{subst, ◌∙◌, arith}
+use Rattle.std.specs.Prelude.{slice_get, Contains, false, option_map, Result, Ok, Err, OnOk, IfOk}
 use Rattle.std.proofs.lemmas.List.{length-map}
 use Rattle.std.proofs.lemmas.Option.{same_Some, slice_get_within, slice_get-map}
 use Rattle.pc_intern.specs.declared.ids.MemoryId.{MemoryId}
@@ -25,6 +26,8 @@ use Rattle.pc_finish.specs.Added.{add_slot}
 use Rattle.pc_finish.specs.Closed.{Closed, Fits, HasValue, Valued, is_side_effect}
 use Rattle.pc_finish.specs.Converted.{def_in, export_in}
 use Rattle.pc_finish.specs.Parts.{HasNumber, in_def, in_slot, number_of, parts, slot_id, slot_numbers}
+use Rattle.pc_finish.specs.Represented.{AreNamed}
+use Rattle.pc_finish.specs.Slots.{step_definitions}
 use Rattle.pc_finish.specs.Plan.{slot_count}
 use Rattle.pc_finish.specs.Ready.{CanClose, IsReadyDef, IsReadySlot}
 use Rattle.pc_finish.specs.Wired.{in_a_slot}
@@ -35,7 +38,8 @@ use Rattle.pc_finish.proofs.GrownLemmas.{continues_step}
 use Rattle.pc_finish.proofs.KindLemmas.{slot_kind_fits}
 use Rattle.pc_finish.proofs.NoteLemmas.{notes_here, notes_numbered, notes_only, slot_noted}
 use Rattle.pc_finish.proofs.SlotLemmas.{slot_counts, slot_fits, slot_goes}
-use Rattle.pc_finish.proofs.RepresentedLemmas.{represents_slot}
+use Rattle.pc_finish.proofs.RepresentedLemmas.{notes_stay, represents_slot}
+use Rattle.pc_finish.proofs.StepNameLemmas.{def_named, names_last}
 
 -- the numbers of the slots of a kind are as many as the entries
 numbers_length : (g : ComponentDfg) (f : Finish) → Fits g f → (k : plan.SlotKind)
@@ -71,6 +75,17 @@ slot_parts_there : (g : ComponentDfg) (f : Finish) (k : plan.SlotKind) (n : ℕ)
 slot_parts_there g f k n d at all =
     subst (All (HasNumber f)) (sym (slot_parts g k n ∙ ap (each_of (in_def g)) at)) all
 
+-- its step names the trampoline that is in it
+slot_named : (g : ComponentDfg) (f : Finish) (k : plan.SlotKind) (n : ℕ) (i : GlobalInitializer) (d : CoreDef)
+    → slice_get (slots_of g k) n ≡ Some d
+    → initializer_view i ≡ plan.extract k (slot_count f k) (def_view (def_in g f d))
+    → AreNamed f (f.steps ++ i ∷ []) (parts g (slot_id k n))
+slot_named g f k n i d at view t m inside number =
+    let within = subst (λ (xs : List Id). Contains xs (id.Trampoline t))
+    (slot_parts g k n ∙ ap (each_of (in_def g)) at) inside in
+    names_last f.steps i m (subst (λ v. Contains (step_definitions v) (plan.trampoline m)) (sym view)
+    (0, omega arith, def_named g f d t m within number))
+
 -- a slot gets its number
 pub closed_slot : (g : ComponentDfg) (f : Finish) (k : plan.SlotKind) (n : ℕ) (i : GlobalInitializer) (d : CoreDef)
     → AreHeld g → slice_get (slots_of g k) n ≡ Some d → IsReadyDef g (length f.instances) d
@@ -85,9 +100,11 @@ closed_slot g f k n i d held at ready numbered fits fresh view =
     record {
       continues = continues_step g f (add_slot k n i f) i
           (slot_counts g f k n d i within (def_view (def_in g f d)) view) (ap is_side_effect view)
-          (notes_numbered f new (slot_id k n) (slot_count f k) noted) (slot_fits g f k n d i within fits) refl refl
+          (notes_numbered f new (slot_id k n) (slot_count f k) noted)
+          (notes_stay f new (slot_id k n) (slot_count f k) noted fresh) (slot_fits g f k n d i within fits) refl refl
           (λ fills. slot_fills f fills k n i within (sym (slot_number f k n) ∙ fresh))
-          (λ is. represents_slot g f is k n i within fresh (slot_parts_there g f k n d at numbered));
+          (λ is. represents_slot g f is k n i within fresh (slot_parts_there g f k n d at numbered)
+          (slot_named g f k n i d at view));
       here = notes_here f new (slot_id k n) (slot_count f k) noted;
       only = notes_only f new (slot_id k n) (slot_count f k) noted g;
       goes = λ ms wired valued s trace reached.
@@ -114,7 +131,8 @@ module _ (g : ComponentDfg) (k : plan.SlotKind) (n : ℕ) where
       let d = slot_can g made k n can in
       slice_get_within (slots_of g k) n d.0 d.1
 
-  pub slot_held : (f : Finish) → Fits g f → CanClose g (length f.instances) (slot_id k n) → n < length (slot_numbers f k)
+  pub slot_held : (f : Finish) → Fits g f → CanClose g (length f.instances) (slot_id k n)
+      → n < length (slot_numbers f k)
   slot_held f fits can =
       subst (λ (m : ℕ). n < m) (sym (numbers_length g f fits k)) (slot_within (length f.instances) can)
 
@@ -138,7 +156,8 @@ module _ (g : ComponentDfg) (k : plan.SlotKind) (n : ℕ) where
       → initializer_view i ≡ plan.extract k (slot_count f k) (def_view (def_in g f d)) → Closed g f h (slot_id k n)
   slot_closed f h i d held can all fits fresh at is view =
       subst (λ (x : Finish). Closed g f x (slot_id k n)) (sym is)
-      (closed_slot g f k n i d held at (slot_ready (length f.instances) d can at) (slot_numbered f d all at) fits fresh view)
+      (closed_slot g f k n i d held at (slot_ready (length f.instances) d can at) (slot_numbered f d all at) fits
+      fresh view)
 
 -- a memory, and a table
 pub memory_at : (g : ComponentDfg) (n : ℕ) (e : CoreExport MemoryIndex) → slice_get g.memories n ≡ Some e

@@ -48,6 +48,7 @@ module _ (g : ComponentDfg) where
   continues_refl f fits = record {
     counts = λ c. c;
     numbered = λ y h. h;
+    stay = λ y n at. at;
     fits = fits;
     instances = refl;
     resources = refl;
@@ -60,6 +61,7 @@ module _ (g : ComponentDfg) where
   continues_then a b c first second = record {
     counts = λ h. second.counts (first.counts h);
     numbered = λ y h. second.numbered y (first.numbered y h);
+    stay = λ y n at. second.stay y n (first.stay y n at);
     fits = second.fits;
     instances = second.instances ∙ first.instances;
     resources = second.resources ∙ first.resources;

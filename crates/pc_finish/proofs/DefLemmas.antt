@@ -1,5 +1,6 @@
 -- What a definition stands for in a run, where all that it names has its number.
-use Rattle.std.proofs.Common.{◌≡◌, ◌<◌, ◌≤◌, ◌+◌, ℕ, Bool, true, false, List, [], ◌∷◌, length, All, Option, None, Some, filter, refl, sym, ap, subst, ◌∙◌, arith}
+use Rattle.std.proofs.Common.{◌≡◌, ◌<◌, ◌≤◌, ◌+◌, ℕ, Bool, true, false, List, [], ◌∷◌, length, All, Option, None, Some}
+use Rattle.std.proofs.Common.{filter, refl, sym, ap, subst, ◌∙◌, arith}
 use Rattle.std.specs.Prelude.{slice_get, option_and_then, option_map, nat_lt, ◌==◌, if◌then◌else◌, unwrap_or, map}
 use Rattle.std.specs.List.{AllZip}
 use Rattle.std.proofs.lemmas.Bool.{lt-ltb, le-ltb}
@@ -22,7 +23,8 @@ use Rattle.pc_types.specs.IntrinsicType.{intrinsic_place}
 use Rattle.pc_semantics.specs.CoreValue as value
 use Rattle.pc_semantics.specs.CoreValue.{CoreValue, ExportedItem, by_index}
 use Rattle.pc_semantics.specs.Log.{Entry, Instantiation, of_static, of_host}
-use Rattle.pc_semantics.specs.Machine.{State, RuntimeInstance, PlanModule, handed_in, adapter_module, module_at, resolve}
+use Rattle.pc_semantics.specs.Machine.{State, RuntimeInstance, PlanModule, handed_in, adapter_module, module_at}
+use Rattle.pc_semantics.specs.Machine.{resolve}
 use Rattle.pc_semantics.specs.Machine.{exported_item, instance_item, static_item, has_item, owned_before}
 use Rattle.pc_semantics.specs.PlanView as plan
 use Rattle.pc_trampoline.specs.declared.part.Mark.{Mark}
@@ -88,7 +90,8 @@ module _ {g : ComponentDfg} {ms : List ModuleTranslation} {f : Finish} {s : Stat
       let given = wired.arguments k m args at in
       let r = given.0 in
       let has = wired.items k m args e r at occurs is given.1 in
-      let there = handed_in_at p m.0 r (ap (λ (l : List ModuleRecord). slice_get l m.0) extends.has.handed_in ∙ given.1) in
+      let there = handed_in_at p m.0 r (ap (λ (l : List ModuleRecord). slice_get l m.0) extends.has.handed_in
+      ∙ given.1) in
       rw (there, has) refl
   item_of_made k e x (of_host path vs) at (means_host host zip) occurs is = refl
 

@@ -1,11 +1,13 @@
 -- Side effects that are done one after another.
-use Rattle.std.proofs.Common.{◌≡◌, inl, inr, All, Contains, ◌≤◌, ◌+◌, ◌++◌, ℕ, List, [], ◌∷◌, length, map, take, drop, Option, None, Some, refl, sym, ap, subst, ◌∙◌, arith}
+use Rattle.std.proofs.Common.{◌≡◌, inl, inr, All, Contains, ◌≤◌, ◌+◌, ◌++◌, ℕ, List, [], ◌∷◌, length, map, take, drop}
+use Rattle.std.proofs.Common.{Option, None, Some, refl, sym, ap, subst, ◌∙◌, arith}
 use Rattle.std.specs.Prelude.{slice_get}
 use Rattle.std.specs.List.{AllZip, cons_option, filter_map}
 use Rattle.std.proofs.lemmas.List.{append-nil, length-append, length-map, length-take-le, map-append, take-append-drop}
 use Rattle.std.proofs.lemmas.Grind.{flat_map-append}
 use Rattle.std.proofs.lemmas.List.Concat.{flat_map-cons}
-use Rattle.std.proofs.lemmas.List.Elements.{All-append, All-weaker, Contains-append_left, Contains-append_right, filter_map-append}
+use Rattle.std.proofs.lemmas.List.Elements.{All-append, All-weaker, Contains-append_cases, Contains-append_left}
+use Rattle.std.proofs.lemmas.List.Elements.{Contains-append_right, filter_map-append}
 use Rattle.pc_entity.proofs.Growing.{take-next}
 use Rattle.pc_entity.proofs.LookupLemmas.{found_at}
 use Rattle.pc_numbers.specs.declared.runtime.RuntimeComponentInstanceIndex.{RuntimeComponentInstanceIndex}
@@ -21,13 +23,16 @@ use Rattle.pc_dfg.specs.Held.{HeldEffect}
 use Rattle.pc_dfg.specs.Names.{each_of, if_any}
 use Rattle.pc_dfg.specs.Ordered.{IsOrdered, declared_by, made_before, made_by}
 use Rattle.pc_finish.specs.declared.id.Id.{Id}
+use Rattle.pc_finish.specs.declared.id.Id.TheVariants as id
 use Rattle.pc_finish.specs.declared.state.Finish.{Finish}
 use Rattle.pc_finish.specs.Arguments.{IsFrom}
 use Rattle.pc_finish.specs.Made.{DoneBefore, IsDone, IsNext, Stands, declared_before, ids_in, ids_in_all, owner_of}
 use Rattle.pc_finish.specs.Once.{IsUsedBy}
 use Rattle.pc_finish.specs.Parts.{HasNumber}
+use Rattle.pc_finish.specs.Represented.{AreNamed}
 use Rattle.pc_finish.specs.Wired.{IsWired}
 use Rattle.pc_finish.proofs.NextLemmas.{next_held, next_resource}
+use Rattle.pc_finish.proofs.StepNameLemmas.{named_later}
 
 -- the last of the items that are related to others
 pub record LastZip {A B : Type 0} (R : A → B → Type 0) (xs : List A) (x : A) (ys : List B) : Type 0 where
@@ -67,7 +72,7 @@ made_next {A} {B} h xs i x at =
     by (Some y) = refl
 
 -- and it is no more than is made of all
-made_at_most : {A B : Type 0} (h : A → Option B) (xs : List A) (i : ℕ)
+pub made_at_most : {A B : Type 0} (h : A → Option B) (xs : List A) (i : ℕ)
     → length (filter_map h (take i xs)) ≤ length (filter_map h xs)
 made_at_most h xs i =
     let whole = ap (λ l. length (filter_map h l)) (sym (take-append-drop i xs))
@@ -138,7 +143,8 @@ module _ (g : ComponentDfg) (ordered : IsOrdered g) (i : ℕ) (f : Finish) (done
         → (x : Id) × Contains (ids_in_all g (take (i + 1) g.side_effects)) x × IsUsedBy g x y
     used_next y has = by (it.only y has)
       where
-        by : IsFrom g f (ids_in g e) y → (x : Id) × Contains (ids_in_all g (take (i + 1) g.side_effects)) x × IsUsedBy g x y
+        by : IsFrom g f (ids_in g e) y → (x : Id) × Contains (ids_in_all g (take (i + 1) g.side_effects)) x
+            × IsUsedBy g x y
         by (inl before) =
             let old = done.used y before in (
               old.0,
@@ -153,6 +159,16 @@ module _ (g : ComponentDfg) (ordered : IsOrdered g) (i : ℕ) (f : Finish) (done
           now.2,
         )
 
+    -- and the steps name the trampolines among it
+    named_next : AreNamed new new.steps (ids_in_all g (take (i + 1) g.side_effects))
+    named_next t n inside number =
+        let front = ids_in_all g (take i g.side_effects) in
+        let within = subst (λ xs. Contains xs (id.Trampoline t)) (sym (ids_next g i e at)) inside in
+        elim (Contains-append_cases front (ids_in g e) (id.Trampoline t) within) [
+          | inl before ↦ named_later f new it.stay it.keeps front done.here done.named t n before number
+          | inr now ↦ it.named t n now number
+        ]
+
     pub done_next : DoneBefore g (i + 1) new
     done_next = record {
       fits = it.fits;
@@ -162,7 +178,9 @@ module _ (g : ComponentDfg) (ordered : IsOrdered g) (i : ℕ) (f : Finish) (done
       here =
           subst (All (HasNumber new)) (ids_next g i e at)
           (All-append (HasNumber new) (ids_in_all g (take i g.side_effects)) (ids_in g e)
-          (All-weaker (HasNumber f) (HasNumber new) it.numbered (ids_in_all g (take i g.side_effects)) done.here) it.here);
+          (All-weaker (HasNumber f) (HasNumber new) it.numbered (ids_in_all g (take i g.side_effects)) done.here)
+          it.here);
+      named = named_next;
       used = used_next;
       instances =
           it.instances ∙ ap (λ n. n + length (if_any (made_by e))) done.instances

@@ -1,7 +1,8 @@
 -- A side effect whose arguments have their numbers is done by its step.
-use Rattle.std.proofs.Common.{◌≡◌, ◌<◌, ◌+◌, ◌++◌, ℕ, List, [], ◌∷◌, length, map, All, Option, None, Some, refl, sym, ap, subst, ◌∙◌, arith}
+use Rattle.std.proofs.Common.{◌≡◌, ◌<◌, ◌+◌, ◌++◌, ℕ, List, [], ◌∷◌, length, map, All, Option, None, Some, refl, sym}
+use Rattle.std.proofs.Common.{ap, subst, ◌∙◌, arith}
 use Rattle.std.specs.Prelude.{option_map, slice_get}
-use Rattle.std.specs.List.{AllZip, flat_map}
+use Rattle.std.specs.List.{AllZip, Contains, flat_map}
 use Rattle.std.proofs.lemmas.List.{append-nil}
 use Rattle.std.proofs.lemmas.List.Elements.{All-nil, All-weaker}
 use Rattle.std.proofs.lemmas.Option.{same_Some}
@@ -22,13 +23,14 @@ use Rattle.pc_info.specs.declared.initializer.InstantiateModule.{InstantiateModu
 use Rattle.pc_info.specs.declared.initializer.InstantiateModule.TheVariants as plan_source
 use Rattle.pc_info.specs.declared.initializer.Resource.{Resource as PlanResource}
 use Rattle.pc_info.specs.declared.module.ModuleTranslation.{ModuleTranslation}
-use Rattle.pc_info.specs.Definitions.{resource_view, source_view}
+use Rattle.pc_info.specs.Definitions.{def_view, resource_view, source_view}
 use Rattle.pc_dfg.specs.declared.core_def.CoreDef.{CoreDef}
 use Rattle.pc_dfg.specs.declared.dfg.ComponentDfg.{ComponentDfg}
 use Rattle.pc_dfg.specs.declared.instance.Instance.{Instance}
 use Rattle.pc_dfg.specs.declared.instance.Resource.{Resource}
 use Rattle.pc_dfg.specs.declared.instance.SideEffect.TheVariants as effect
-use Rattle.pc_dfg.specs.Effects.{Argument, MeansArgument, MeansEffect, MeansInstance, host_arguments, means_declared, means_host}
+use Rattle.pc_dfg.specs.Effects.{Argument, MeansArgument, MeansEffect, MeansInstance, host_arguments, means_declared}
+use Rattle.pc_dfg.specs.Effects.{means_host}
 use Rattle.pc_dfg.specs.Effects.{means_made, means_static}
 use Rattle.pc_dfg.specs.Held.{HeldEffect, HoldsEntry}
 use Rattle.pc_dfg.specs.Lists as list
@@ -46,6 +48,7 @@ use Rattle.pc_finish.specs.Grouped.{IsGrouped}
 use Rattle.pc_finish.specs.Made.{IsDone, IsNext, Makes, Prepares, PreparesAny, Stands, instance_in, with_instance}
 use Rattle.pc_finish.specs.Made.{with_resource}
 use Rattle.pc_finish.specs.Parts.{HasNumber, in_def, number_of}
+use Rattle.pc_finish.specs.Slots.{definitions_in}
 use Rattle.pc_finish.specs.Plan.{Extends, slot_count}
 use Rattle.pc_finish.specs.Reached.{Reached, all_linked}
 use Rattle.pc_finish.specs.Wired.{IsWired, Occurs}
@@ -61,6 +64,7 @@ use Rattle.pc_finish.proofs.PushedLemmas.{length_pushed}
 use Rattle.pc_finish.proofs.RepresentedLemmas.{represents_aside}
 use Rattle.pc_finish.proofs.ResolveLemmas.{Resolves, each_resolves, host_goes, static_goes}
 use Rattle.pc_finish.proofs.ResourceLemmas.{declare, resource_goes, resource_reached}
+use Rattle.pc_finish.proofs.StepNameLemmas.{adds_keep, destructor_named, instance_named, names_front, names_last}
 
 -- no number is given by a step that fills no slot
 number_aside : (f : Finish) (steps : List GlobalInitializer) (instances : List RuntimeInstanceIndex) (counts : Counts)
@@ -92,7 +96,8 @@ here_aside : (g : ComponentDfg) (f : Finish) (steps : List GlobalInitializer) (i
 here_aside g f steps instances counts resources ds all =
     let later : Finish = record f { steps = steps; instances = instances; counts = counts; resources = resources } in
     all_made (HasNumber later) (IsNumbered g f) (in_def g)
-    (λ d each. All-weaker (HasNumber f) (HasNumber later) (has_aside f steps instances counts resources) (in_def g d) each)
+    (λ d each. All-weaker (HasNumber f) (HasNumber later) (has_aside f steps instances counts resources) (in_def g d)
+    each)
     ds all
 
 -- the lists of numbers are as long as they were
@@ -187,17 +192,21 @@ instance_goes : {g : ComponentDfg} {ms : List ModuleTranslation} {f : Finish} {s
     → c < g.num_runtime_component_instances → All (Resolves wired reached extends) (in_instance x)
     → step p all_linked s (source_view m (Some (record { 0 = c }))) ≡ Some (add_instance s v (Some c))
 unfolding instance_in in_instance
-instance_goes {s = s} {p = p} wired reached extends ordered k x v m c at (means_static {m = n} {args = args} {vs = vs} zip) is
+instance_goes {s = s} {p = p} wired reached extends ordered k x v m c at
+    (means_static {m = n} {args = args} {vs = vs} zip) is
     within all =
-    subst (λ z. step p all_linked s (source_view z (Some (record { 0 = c }))) ≡ Some (add_instance s v (Some c))) (sym is)
+    subst (λ z. step p all_linked s (source_view z (Some (record { 0 = c }))) ≡ Some (add_instance s v (Some c)))
+    (sym is)
     (static_goes wired reached extends k n args c vs at within all zip)
 instance_goes {s = s} {p = p} wired reached extends ordered k x v m c at
     (means_host {r = r} {args = args} {path = path} {vs = vs} has zip) is within all =
-    subst (λ z. step p all_linked s (source_view z (Some (record { 0 = c }))) ≡ Some (add_instance s v (Some c))) (sym is)
+    subst (λ z. step p all_linked s (source_view z (Some (record { 0 = c }))) ≡ Some (add_instance s v (Some c)))
+    (sym is)
     (host_goes wired reached extends ordered.held r args c path vs has within all zip)
 
 module _ (g : ComponentDfg) (ordered : IsOrdered g) (grouped : IsGrouped g) (old new : Finish) where
-  module _ (i : InstanceId) (c : RuntimeComponentInstanceIndex) (next : IsNext g old (effect.Instance i c)) (x : Instance)
+  module _ (i : InstanceId) (c : RuntimeComponentInstanceIndex) (next : IsNext g old (effect.Instance i c))
+      (x : Instance)
       (at : slice_get g.instances i.0 ≡ Some x) (m : InstantiateModule) (prepares : Prepares g old new x m) where
     abbrev made : Finish
     made = with_instance new m c
@@ -256,11 +265,23 @@ module _ (g : ComponentDfg) (ordered : IsOrdered g) (grouped : IsGrouped g) (old
               (continues.counts before);
           fills = λ before. instance_fills new (continues.fills before) made.steps;
           represents = λ before.
-              represents_aside g new (continues.represents before) continues.fits made.steps made.instances made.counts new.resources;
+              represents_aside g new (continues.represents before) continues.fits made.steps made.instances
+              made.counts new.resources
+              (names_front new.steps (init.InstantiateModule m (Some c) ∷ []));
           only = subst (λ ds. OnlyFromThese g old made (flat_map (in_def g) ds)) (sym in_it)
               (only_aside g old new made.steps made.instances made.counts new.resources _ prepares.numbers.only);
           numbered = λ y has.
               has_aside new made.steps made.instances made.counts new.resources y (continues.numbered y has);
+          stay = λ y k has.
+              number_aside new made.steps made.instances made.counts new.resources y ∙ continues.stay y k has;
+          keeps = λ k named.
+              names_front new.steps (init.InstantiateModule m (Some c) ∷ []) k
+              (adds_keep old new continues.steps k named);
+          named = λ t k inside number.
+              names_last new.steps (init.InstantiateModule m (Some c)) k
+              (subst (λ z. Contains (definitions_in (init.InstantiateModule z (Some c))) (plan.trampoline k))
+              (sym prepares.is) (instance_named g new x (Some c) t k
+              (subst (λ ds. Contains (flat_map (in_def g) ds) (id.Trampoline t)) in_it inside) number));
           here = subst (λ ds. All (HasNumber made) (flat_map (in_def g) ds)) (sym in_it)
               (here_aside g new made.steps made.instances made.counts new.resources (in_instance x)
               prepares.numbers.here);
@@ -300,7 +321,8 @@ module _ (g : ComponentDfg) (ordered : IsOrdered g) (grouped : IsGrouped g) (old
         let number = next_resource g ordered old (effect.Resource n) next n.0 refl
         ∙ sym (ap length prepares.numbers.continues.resources) in
         let all = each_resolves wired reached extends (if_any x.dtor) occurs still prepares.numbers.here in
-        subst (λ z. step p all_linked s (resource_view (record resource { dtor = z })) ≡ Some (declare s x.rep v x.instance.0))
+        subst (λ z. step p all_linked s (resource_view (record resource { dtor = z })) ≡ Some
+        (declare s x.rep v x.instance.0))
         (sym prepares.is) (resource_goes s x.rep v x.instance.0 wired reached extends n.0 x.dtor number begun means all)
 
     declares_it : (ms : List ModuleTranslation) → IsWired g ms → (v : MaybeValue Mark) → MeansMaybe g x.dtor v
@@ -332,11 +354,22 @@ module _ (g : ComponentDfg) (ordered : IsOrdered g) (grouped : IsGrouped g) (old
               (continues.counts before);
           fills = λ before. resource_fills new (continues.fills before) declared.steps declared.resources;
           represents = λ before.
-              represents_aside g new (continues.represents before) continues.fits declared.steps new.instances new.counts declared.resources;
+              represents_aside g new (continues.represents before) continues.fits declared.steps new.instances
+              new.counts declared.resources
+              (names_front new.steps (init.Resource resource ∷ []));
           only = subst (λ ds. OnlyFromThese g old declared (flat_map (in_def g) ds)) (sym in_resource_here)
               (only_aside g old new declared.steps new.instances new.counts declared.resources _ prepares.numbers.only);
           numbered = λ y has.
               has_aside new declared.steps new.instances new.counts declared.resources y (continues.numbered y has);
+          stay = λ y k has.
+              number_aside new declared.steps new.instances new.counts declared.resources y ∙ continues.stay y k has;
+          keeps = λ k named.
+              names_front new.steps (init.Resource resource ∷ []) k (adds_keep old new continues.steps k named);
+          named = λ t k inside number.
+              names_last new.steps (init.Resource resource) k
+              (subst (λ z. Contains (if_any (option_map def_view z)) (plan.trampoline k)) (sym prepares.is)
+              (destructor_named g new x.dtor t k
+              (subst (λ ds. Contains (flat_map (in_def g) ds) (id.Trampoline t)) in_resource_here inside) number));
           here = subst (λ ds. All (HasNumber declared) (flat_map (in_def g) ds)) (sym in_resource_here)
               (here_aside g new declared.steps new.instances new.counts declared.resources (if_any x.dtor)
               prepares.numbers.here);

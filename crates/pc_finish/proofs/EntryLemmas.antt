@@ -1,5 +1,6 @@
 -- What options entries and trampolines name has its number.
-use Rattle.std.proofs.Common.{◌≡◌, ℕ, Bool, true, false, List, [], ◌∷◌, ◌++◌, map, All, Option, None, Some, refl, sym, ap, subst, ◌∙◌, true≢false}
+use Rattle.std.proofs.Common.{◌≡◌, ℕ, Bool, true, false, List, [], ◌∷◌, ◌++◌, map, All, Option, None, Some, refl, sym}
+use Rattle.std.proofs.Common.{ap, subst, ◌∙◌, true≢false}
 use Rattle.std.specs.Prelude.{option_map}
 use Rattle.std.specs.List.{flat_map}
 use Rattle.std.specs.Option.{IsSome, IfSome}
@@ -24,7 +25,8 @@ use Rattle.pc_trampoline.specs.declared.part.Part.TheVariants as part
 use Rattle.pc_trampoline.specs.declared.part.PartList.{PartList}
 use Rattle.pc_trampoline.specs.declared.part.PartList.TheVariants as list
 use Rattle.pc_trampoline.specs.Parts.{list_of, made_of, parts_of}
-use Rattle.pc_trampoline.specs.Shape.{HeadShape, PartShape, Shape, IsShaped, shape, shape_of, head_shape, part_shape, lowering, builtin, helper}
+use Rattle.pc_trampoline.specs.Shape.{HeadShape, PartShape, Shape, IsShaped, shape, shape_of, head_shape, part_shape}
+use Rattle.pc_trampoline.specs.Shape.{lowering, builtin, helper}
 use Rattle.pc_trampoline.specs.Shape.{transcoding, trapping, shape_of_parts}
 use Rattle.pc_trampoline.specs.View.{entry_of, part_by}
 use Rattle.pc_dfg.specs.declared.options.CanonicalOptionsDataModel.{CanonicalOptionsDataModel as Model}
@@ -37,7 +39,8 @@ use Rattle.pc_finish.specs.declared.id.Id.TheVariants as id
 use Rattle.pc_finish.specs.declared.state.Finish.{Finish}
 use Rattle.pc_finish.specs.Entries.{GraphPart, GraphParts, PlanPart, in_head, head_in, part_in, list_in}
 use Rattle.pc_finish.specs.Numbers.{number_at}
-use Rattle.pc_finish.specs.Parts.{HasNumber, in_entry, in_model, in_part, in_trampoline, maybe_slot, number_of, options_id, slot_id, slot_numbers}
+use Rattle.pc_finish.specs.Parts.{HasNumber, in_entry, in_model, in_part, in_trampoline, maybe_slot, number_of}
+use Rattle.pc_finish.specs.Parts.{options_id, slot_id, slot_numbers}
 use Rattle.pc_finish.proofs.NumberLemmas.{is_there}
 
 -- a fact of all items of two lists is one of those of each
@@ -103,7 +106,8 @@ module _ (f : Finish) where
       All (HasNumber f) (flat_map in_part (map (part_by graph_numbers) (list_of l)))) is all))
 
   -- what is in a data model
-  pub model_is : (m : Model) (memory : Option MemoryId) (realloc : Option ReallocId) → m ≡ model.LinearMemory memory realloc
+  pub model_is : (m : Model) (memory : Option MemoryId) (realloc : Option ReallocId)
+      → m ≡ model.LinearMemory memory realloc
       → All (HasNumber f) (in_model (model_entry m))
       → IfSome memory (λ x. IsSome (number_at f.numbers.memories x.0))
       × IfSome realloc (λ x. IsSome (number_at f.numbers.reallocs x.0))
@@ -157,7 +161,8 @@ module _ (f : Finish) where
       let second = part_shaped y in
       λ i. first i ∷ second i ∷ []
 
-  pub stays_shaped : (t : TrampolineIndex) (p : GraphParts) (h : Head LoweredIndex OptionsIndex) (ps : PartList PlanPart)
+  pub stays_shaped : (t : TrampolineIndex) (p : GraphParts) (h : Head LoweredIndex OptionsIndex)
+      (ps : PartList PlanPart)
       → h ≡ head_in f t p.head → ps ≡ list_in f p.parts → IsShaped p
       → IsShaped (made_of p.kind h ps)
   stays_shaped t p h ps front all shaped =
@@ -209,7 +214,8 @@ module _ (f : Finish) (t : TrampolineIndex) (s : ModuleInternedTypeIndex) (p : G
           → All (HasNumber f) (flat_map in_part (map (part_by graph_numbers) (list_of p.parts)))
       by (head.Lowering r ty o) is all =
           let alone = lowering_alone p.kind (map part_shape (list_of p.parts))
-          (ap (λ (h : Head RuntimeImportIndex OptionsId). shape (head_shape h) (map part_shape (list_of p.parts))) (sym is) ∙ shaped) in
+          (ap (λ (h : Head RuntimeImportIndex OptionsId). shape (head_shape h) (map part_shape (list_of p.parts)))
+          (sym is) ∙ shaped) in
           rw (no_parts p.parts alone) (All-nil (HasNumber f))
       by h is all = all
 

@@ -1,5 +1,6 @@
 -- Each number is given once, and the numbers below a count are those that were given.
-use Rattle.std.proofs.Common.{◌≡◌, ◌<◌, ◌+◌, ◌++◌, ℕ, zero, suc, List, [], ◌∷◌, length, Option, None, Some, option_map, refl, sym, ap, subst, ◌∙◌, ◌⊎◌, inl, inr, arith}
+use Rattle.std.proofs.Common.{◌≡◌, ◌<◌, ◌+◌, ◌++◌, ℕ, zero, suc, List, [], ◌∷◌, length, Option, None, Some, option_map}
+use Rattle.std.proofs.Common.{refl, sym, ap, subst, ◌∙◌, ◌⊎◌, inl, inr, arith}
 use Rattle.std.specs.Prelude.{option_and_then, slice_get}
 use Rattle.std.proofs.lemmas.Bool.{cases_eq}
 use Rattle.std.proofs.lemmas.List.{length_push}
@@ -161,7 +162,8 @@ module _ (f : Finish) (fills : Fills f) where
     lowerings = fills.lowerings;
     trampolines = fills.trampolines;
     instances =
-        given_more (number_in_run f) (number_in_run (add_module entry static args f)) f.counts.instances (of_module entry)
+        given_more (number_in_run f) (number_in_run (add_module entry static args f)) f.counts.instances
+        (of_module entry)
         (number_noted f.numbers.adapter_modules entry f.counts.instances within) keeps only fills.instances;
   }
     where
@@ -208,7 +210,8 @@ module _ (f : Finish) (fills : Fills f) where
     options = fills.options;
     lowerings = fills.lowerings;
     trampolines =
-        subst (AreGiven (number_at (add_trampoline entry s t f).numbers.trampolines)) (sym (length_push f.trampolines t))
+        subst (AreGiven (number_at (add_trampoline entry s t f).numbers.trampolines))
+        (sym (length_push f.trampolines t))
         (given_noted f.numbers.trampolines entry (length f.trampolines) within none fills.trampolines);
     instances = fills.instances;
   }

@@ -1,5 +1,6 @@
 -- A plan whose numbers are given once has no more of them than the graph has entries.
-use Rattle.std.proofs.Common.{◌≡◌, ◌<◌, ◌≤◌, ◌+◌, ◌++◌, ℕ, zero, suc, List, length, map, sum_by, Option, None, Some, option_map, ap, subst, ◌∙◌, arith}
+use Rattle.std.proofs.Common.{◌≡◌, ◌<◌, ◌≤◌, ◌+◌, ◌++◌, ℕ, zero, suc, List, length, map, sum_by, Option, None, Some}
+use Rattle.std.proofs.Common.{option_map, ◌⊎◌, inl, inr, ap, subst, ◌∙◌, arith}
 use Rattle.std.specs.Prelude.{option_and_then, slice_get}
 use Rattle.std.specs.List.{Contains}
 use Rattle.std.proofs.lemmas.List.{length-append, length-map}
@@ -8,14 +9,16 @@ use Rattle.std.proofs.lemmas.Option.{get_or_from_slice_get, none-some, slice_get
 use Rattle.pc_numbers.specs.declared.runtime.RuntimeInstanceIndex.{RuntimeInstanceIndex}
 use Rattle.pc_semantics.specs.PlanView as plan
 use Rattle.pc_dfg.specs.declared.dfg.ComponentDfg.{ComponentDfg}
+use Rattle.pc_dfg.specs.Numbers.{memory_def, slots_of, table_def}
 use Rattle.pc_finish.specs.declared.id.Id.{Id}
 use Rattle.pc_finish.specs.declared.id.Id.TheVariants as id
 use Rattle.pc_finish.specs.declared.state.Finish.{Finish}
 use Rattle.pc_finish.specs.Added.{IsFull}
 use Rattle.pc_finish.specs.Closed.{Fits}
-use Rattle.pc_finish.specs.Full.{AreTooMany}
+use Rattle.pc_finish.specs.Full.{HasTooMany, of_instances, of_options, of_slots, of_trampolines}
 use Rattle.pc_finish.specs.Numbers.{number_at}
 use Rattle.pc_finish.specs.Once.{AreGiven, Fills, Origin, number_in_run, of_instance, of_module}
+use Rattle.pc_finish.specs.Plan.{slot_count}
 use Rattle.pc_finish.proofs.FillLemmas.{in_run, mapped_back}
 use Rattle.pc_finish.proofs.SumLemmas.{below_itself, below_more, below_one, below_other, is_below, sum_less, sum_ones}
 
@@ -65,7 +68,7 @@ number_contains : (ns : List (Option ℕ)) (k n : ℕ) → number_at ns k ≡ So
 number_contains ns k n is = at_contains ns k (Some n) (joined_back (slice_get ns k) n is)
 
 -- a list has as many entries as there are numbers
-count_within : (ns : List (Option ℕ)) (count : ℕ) → AreGiven (number_at ns) count → count ≤ length ns
+pub count_within : (ns : List (Option ℕ)) (count : ℕ) → AreGiven (number_at ns) count → count ≤ length ns
 count_within ns count given =
     no_shorter ns count (λ n below. let k = given.given n below in number_contains ns k.0 n k.1)
 
@@ -95,31 +98,52 @@ run_within f given =
     (λ n below. let x = given.given n below in run_contains f x.0 n x.1) in
     omega (arith, all, length-append (map v f.instances) f.numbers.adapter_modules, length-map f.instances v)
 
--- where a list of the plan is full, the graph has too many entries
-pub full_too_many : (g : ComponentDfg) (f : Finish) → Fits g f → Fills f → length f.instances ≤ length g.instances
-    → (x : Id) → IsFull f x → AreTooMany g x
-unfolding IsFull AreTooMany
-full_too_many g f fits fills made (id.Memory n) full =
-    omega (arith, full, fits.memories, count_within f.numbers.memories f.counts.memories (fills.slots plan.memory))
-full_too_many g f fits fills made (id.Table n) full =
-    omega (arith, full, fits.tables, count_within f.numbers.tables f.counts.tables (fills.slots plan.table))
-full_too_many g f fits fills made (id.Realloc n) full =
-    omega (arith, full, fits.reallocs, count_within f.numbers.reallocs f.counts.reallocs (fills.slots plan.realloc))
-full_too_many g f fits fills made (id.Callback n) full =
-    omega (arith, full, fits.callbacks, count_within f.numbers.callbacks f.counts.callbacks (fills.slots plan.callback))
-full_too_many g f fits fills made (id.PostReturn n) full =
-    omega (
-      arith,
-      full,
-      fits.post_returns,
-      count_within f.numbers.post_returns f.counts.post_returns (fills.slots plan.post_return),
-    )
-full_too_many g f fits fills made (id.Options o) full =
-    omega (arith, full, fits.options, count_within f.numbers.options (length f.options) fills.options)
-full_too_many g f fits fills made (id.Lowering t) full =
-    omega (arith, full, fits.lowerings, count_within f.numbers.lowerings f.counts.lowerings fills.lowerings)
-full_too_many g f fits fills made (id.Trampoline t) full =
-    omega (arith, full, fits.trampolines, count_within f.numbers.trampolines (length f.trampolines) fills.trampolines)
-full_too_many g f fits fills made (id.Intrinsic s i) full = full
-full_too_many g f fits fills made (id.AdapterModule m) full =
-    omega (arith, full, made, fits.adapter_modules, run_within f fills.instances)
+module _ (g : ComponentDfg) (f : Finish) (fits : Fits g f) (fills : Fills f) where
+  -- no more slots are filled than the graph has entries for
+  slots_within : (k : plan.SlotKind) → slot_count f k ≤ length (slots_of g k)
+  unfolding slots_of
+  slots_within plan.memory =
+      let same = length-map g.memories memory_def in
+      omega (arith, same, fits.memories, count_within f.numbers.memories f.counts.memories (fills.slots plan.memory))
+  slots_within plan.table =
+      let same = length-map g.tables table_def in
+      omega (arith, same, fits.tables, count_within f.numbers.tables f.counts.tables (fills.slots plan.table))
+  slots_within plan.realloc =
+      omega (arith, fits.reallocs, count_within f.numbers.reallocs f.counts.reallocs (fills.slots plan.realloc))
+  slots_within plan.callback =
+      omega (arith, fits.callbacks, count_within f.numbers.callbacks f.counts.callbacks (fills.slots plan.callback))
+  slots_within plan.post_return =
+      let count = count_within f.numbers.post_returns f.counts.post_returns (fills.slots plan.post_return) in
+      omega (arith, fits.post_returns, count)
+
+  -- where the slots of a kind are full, the graph has too many entries
+  slots_too_many : (k : plan.SlotKind) → 4294967294 ≤ slot_count f k → HasTooMany g
+  slots_too_many k full =
+      let within = slots_within k in
+      of_slots k (omega (arith, full, within))
+
+  -- and so it has where there are too many core instances
+  pub instances_too_many : length f.instances ≤ length g.instances
+      → (4294967294 ≤ f.counts.instances) ⊎ (4294967294 ≤ length f.instances) → HasTooMany g
+  instances_too_many made (inl counted) =
+      of_instances (omega (arith, counted, made, fits.adapter_modules, run_within f fills.instances))
+  instances_too_many made (inr listed) = of_instances (omega (arith, listed, made))
+
+  -- or where the list of an id is full
+  pub full_too_many : length f.instances ≤ length g.instances → (x : Id) → IsFull f x → HasTooMany g
+  unfolding IsFull
+  full_too_many made (id.Memory n) full = slots_too_many plan.memory full
+  full_too_many made (id.Table n) full = slots_too_many plan.table full
+  full_too_many made (id.Realloc n) full = slots_too_many plan.realloc full
+  full_too_many made (id.Callback n) full = slots_too_many plan.callback full
+  full_too_many made (id.PostReturn n) full = slots_too_many plan.post_return full
+  full_too_many made (id.Options o) full =
+      of_options (omega (arith, full, fits.options, count_within f.numbers.options (length f.options) fills.options))
+  full_too_many made (id.Lowering t) full =
+      let count = count_within f.numbers.lowerings f.counts.lowerings fills.lowerings in
+      of_trampolines (omega (arith, full, fits.lowerings, count))
+  full_too_many made (id.Trampoline t) full =
+      let count = count_within f.numbers.trampolines (length f.trampolines) fills.trampolines in
+      of_trampolines (omega (arith, full, fits.trampolines, count))
+  full_too_many made (id.Intrinsic s i) full = absurd full
+  full_too_many made (id.AdapterModule m) full = instances_too_many made (inl full)

@@ -1,5 +1,6 @@
 -- What exports depend on gets its numbers, one after another, and each of them has a value.
-use Rattle.std.proofs.Common.{◌≡◌, ◌<◌, ◌≤◌, ℕ, List, [], ◌∷◌, All, Contains, get_or, Option, None, Some, take, length, ◌+◌, sym, ap, subst, ◌∙◌}
+use Rattle.std.proofs.Common.{◌≡◌, ◌<◌, ◌≤◌, ℕ, List, [], ◌∷◌, All, Contains, get_or, Option, None, Some, take, length}
+use Rattle.std.proofs.Common.{◌+◌, sym, ap, subst, ◌∙◌}
 use Rattle.std.specs.Prelude.{slice_get, IfSome}
 use Rattle.std.proofs.lemmas.List.{take_all}
 use Rattle.std.proofs.lemmas.List.Elements.{All-push, All-weaker, All-contains_itself}

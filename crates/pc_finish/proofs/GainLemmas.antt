@@ -1,5 +1,6 @@
 -- What stood for a value in a state stands for it in one that has gained.
-use Rattle.std.proofs.Common.{◌≡◌, ◌≤◌, ℕ, Bool, true, false, List, [], ◌∷◌, ◌++◌, length, drop, take, Option, None, Some, refl, sym, ap, subst, ◌∙◌, arith}
+use Rattle.std.proofs.Common.{◌≡◌, ◌≤◌, ℕ, Bool, true, false, List, [], ◌∷◌, ◌++◌, length, drop, take, Option, None}
+use Rattle.std.proofs.Common.{Some, refl, sym, ap, subst, ◌∙◌, arith}
 use Rattle.std.specs.Prelude.{slice_get, option_and_then, option_map, if◌then◌else◌, count_by, is_some, All}
 use Rattle.std.specs.List.{filter_map}
 use Rattle.std.proofs.Math.Seq.{drop-append_seam}
@@ -10,8 +11,10 @@ use Rattle.pc_entity.proofs.Growing.{slice_get-append}
 use Rattle.pc_semantics.specs.CoreValue as value
 use Rattle.pc_semantics.specs.CoreValue.{CoreValue, Options, DataModel, MaybeValue, Parts, Part, a_value, ExportedItem}
 use Rattle.pc_semantics.specs.Log.{Entry}
-use Rattle.pc_semantics.specs.Machine.{State, RuntimeInstance, DeclaredResource, chosen, model_from, options_from, options_at, part_value}
-use Rattle.pc_semantics.specs.Machine.{part_values, trampoline_value, resolve, exported_item, instance_item, owned_before, owned_of}
+use Rattle.pc_semantics.specs.Machine.{State, RuntimeInstance, DeclaredResource, chosen, model_from, options_from}
+use Rattle.pc_semantics.specs.Machine.{options_at, part_value}
+use Rattle.pc_semantics.specs.Machine.{part_values, trampoline_value, resolve, exported_item, instance_item}
+use Rattle.pc_semantics.specs.Machine.{owned_before, owned_of}
 use Rattle.pc_semantics.specs.Machine.{is_counted, path_of, with_numbers, slots_of}
 use Rattle.pc_semantics.specs.PlanView as plan
 use Rattle.pc_semantics.specs.Trace.{gained, instance_entry, resource_entry}
@@ -72,7 +75,8 @@ module _ (p : plan.PlanView Mark) (s t : State Mark) (gains : Gains s t) where
       → Keeps (model_from p s.memories s.reallocs m) (model_from p t.memories t.reallocs m)
   model_kept plan.gc v h = h
   model_kept (plan.linear m r) v h =
-      then_kept (λ w. option_map (value.linear w) (chosen s.reallocs r)) (λ w. option_map (value.linear w) (chosen t.reallocs r))
+      then_kept (λ w. option_map (value.linear w) (chosen s.reallocs r))
+      (λ w. option_map (value.linear w) (chosen t.reallocs r))
       (chosen s.memories m) (chosen t.memories m)
       (slot_kept plan.memory m) (λ w. map_kept (value.linear w) _ _ (slot_kept plan.realloc r)) v h
 
@@ -80,7 +84,8 @@ module _ (p : plan.PlanView Mark) (s t : State Mark) (gains : Gains s t) where
       → Keeps (options_from p s.callbacks s.post_returns s.memories s.reallocs o)
       (options_from p t.callbacks t.post_returns t.memories t.reallocs o)
   entry_kept o =
-      let made = λ (cb pr : MaybeValue Mark). value.options o.component_instance o.encoding o.is_async o.signature cb pr in
+      let made = λ (cb pr : MaybeValue Mark). value.options o.component_instance o.encoding o.is_async o.signature cb
+      pr in
       tested_kept (is_counted p o.component_instance) _ _
       (then_kept
       (λ cb. option_and_then (λ pr. option_map (made cb pr) (model_from p s.memories s.reallocs o.model))
@@ -111,7 +116,8 @@ module _ (p : plan.PlanView Mark) (s t : State Mark) (gains : Gains s t) where
   parts_kept : (xs : List (plan.TrampolinePart Mark)) → Keeps (part_values p s xs) (part_values p t xs)
   parts_kept [] v h = h
   parts_kept (x ∷ xs) v h =
-      then_kept (λ w. option_map (value.and_part w) (part_values p s xs)) (λ w. option_map (value.and_part w) (part_values p t xs))
+      then_kept (λ w. option_map (value.and_part w) (part_values p s xs))
+      (λ w. option_map (value.and_part w) (part_values p t xs))
       (part_value p s x) (part_value p t x) (part_kept x) (λ w. map_kept (value.and_part w) _ _ (parts_kept xs)) v h
 
   -- a trampoline stands for what it stood for
@@ -119,8 +125,10 @@ module _ (p : plan.PlanView Mark) (s t : State Mark) (gains : Gains s t) where
   trampoline_kept (plan.lowers index signature ty o) v h =
       then_kept (λ path. option_map (value.lowered path ty) (options_at p s o))
       (λ path. option_map (value.lowered path ty) (options_at p t o))
-      (option_and_then (path_of p) (slice_get s.lowerings index)) (option_and_then (path_of p) (slice_get t.lowerings index))
-      (then_kept (path_of p) (path_of p) (slice_get s.lowerings index) (slice_get t.lowerings index) (gains.lowerings index)
+      (option_and_then (path_of p) (slice_get s.lowerings index))
+      (option_and_then (path_of p) (slice_get t.lowerings index))
+      (then_kept (path_of p) (path_of p) (slice_get s.lowerings index) (slice_get t.lowerings index)
+      (gains.lowerings index)
       (λ r path same. same))
       (λ path. map_kept (value.lowered path ty) _ _ (options_kept o)) v h
   trampoline_kept (plan.builtin k symbol c parts) v h =

@@ -1,5 +1,6 @@
 -- A run that goes on while the plan is made further without a side effect.
-use Rattle.std.proofs.Common.{◌≡◌, ℕ, Bool, true, false, List, [], ◌∷◌, ◌++◌, length, map, take, All, Option, None, Some, refl, sym, ap, ◌∙◌}
+use Rattle.std.proofs.Common.{◌≡◌, ℕ, Bool, true, false, List, [], ◌∷◌, ◌++◌, length, map, take, All, Option, None}
+use Rattle.std.proofs.Common.{Some, refl, sym, ap, ◌∙◌}
 use Rattle.std.specs.Prelude.{slice_get, count_by, is_some}
 use Rattle.std.proofs.lemmas.List.{append-nil, map-append}
 use Rattle.std.proofs.lemmas.List.Elements.{All-nil, All-cons}
@@ -17,7 +18,7 @@ use Rattle.pc_finish.specs.declared.id.Id.{Id}
 use Rattle.pc_finish.specs.declared.state.Finish.{Finish}
 use Rattle.pc_finish.specs.Closed.{AddsSteps, Continues, Fits, is_side_effect}
 use Rattle.pc_finish.specs.Numbers.{number_at}
-use Rattle.pc_finish.specs.Once.{Fills}
+use Rattle.pc_finish.specs.Once.{Fills, Stay}
 use Rattle.pc_finish.specs.Parts.{HasNumber}
 use Rattle.pc_finish.specs.Plan.{Extends, steps_view}
 use Rattle.pc_finish.specs.Represented.{Represents}
@@ -47,7 +48,8 @@ module _ (g : ComponentDfg) (ms : List ModuleTranslation) (f h : Finish) (s t : 
       → ((p : plan.PlanView Mark) → Extends g ms h p → Extends g ms f p) → Resolves g ms f s → Resolves g ms h t
   resolves_stay gains os ts back r = record {
     options = λ o n v p at means extends.
-        options_kept p s t gains n v (r.options o n v p (ap (λ (l : List (Option ℕ)). number_at l o) (sym os) ∙ at) means
+        options_kept p s t gains n v (r.options o n v p (ap (λ (l : List (Option ℕ)). number_at l o) (sym os) ∙ at)
+        means
         (back p extends));
     trampoline = λ x n v p at means extends.
         resolve_kept p s t gains (plan.trampoline n) v
@@ -134,11 +136,13 @@ module _ (g : ComponentDfg) (ms : List ModuleTranslation) (f h : Finish) (s : St
 module _ (g : ComponentDfg) (f h : Finish) where
   -- a plan is made further by a step that is no side effect
   pub continues_step : (i : GlobalInitializer) → CountsOne f h i → is_side_effect (initializer_view i) ≡ false
-      → ((y : Id) → HasNumber f y → HasNumber h y) → Fits g h → h.instances ≡ f.instances → h.resources ≡ f.resources
+      → ((y : Id) → HasNumber f y → HasNumber h y) → Stay f h → Fits g h → h.instances ≡ f.instances
+      → h.resources ≡ f.resources
       → (Fills f → Fills h) → (Represents g f → Represents g h) → Continues g f h
-  continues_step i one quiet numbered fits instances resources fills represents = record {
+  continues_step i one quiet numbered stay fits instances resources fills represents = record {
     counts = counts_more f h i one;
     numbered = numbered;
+    stay = stay;
     fits = fits;
     instances = instances;
     resources = resources;

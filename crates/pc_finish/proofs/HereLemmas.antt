@@ -1,11 +1,13 @@
 -- A run that only has more core instances and resources: slots, lowerings, options and trampolines stay.
-use Rattle.std.proofs.Common.{◌≡◌, ◌≤◌, ◌++◌, ℕ, Bool, List, [], ◌∷◌, length, drop, Option, None, Some, refl, sym, ap, subst, ◌∙◌, arith}
+use Rattle.std.proofs.Common.{◌≡◌, ◌≤◌, ◌++◌, ℕ, Bool, List, [], ◌∷◌, length, drop, Option, None, Some, refl, sym, ap}
+use Rattle.std.proofs.Common.{subst, ◌∙◌, arith}
 use Rattle.std.specs.Prelude.{option_and_then, option_map, slice_get, if◌then◌else◌}
 use Rattle.pc_numbers.specs.declared.runtime.RuntimeComponentInstanceIndex.{RuntimeComponentInstanceIndex}
 use Rattle.pc_numbers.specs.declared.runtime.RuntimeInstanceIndex.{RuntimeInstanceIndex}
 use Rattle.pc_semantics.specs.CoreValue as value
 use Rattle.pc_semantics.specs.CoreValue.{CoreValue, Parts}
-use Rattle.pc_semantics.specs.Machine.{State, RuntimeInstance, DeclaredResource, chosen, is_counted, part_value, part_values}
+use Rattle.pc_semantics.specs.Machine.{State, RuntimeInstance, DeclaredResource, chosen, is_counted, part_value}
+use Rattle.pc_semantics.specs.Machine.{part_values}
 use Rattle.pc_semantics.specs.Machine.{resolve, trampoline_value, with_numbers}
 use Rattle.pc_semantics.specs.Machine as machine
 use Rattle.pc_semantics.specs.PlanView as plan
@@ -31,7 +33,8 @@ drop_whole (x ∷ xs) = drop_whole xs
 abbrev pub state_with : State Mark → List (RuntimeInstance Mark) → List (DeclaredResource Mark) → State Mark
 state_with s instances resources = record s { instances = instances; resources = resources }
 
-module _ (p : plan.PlanView Mark) (s : State Mark) (is : List (RuntimeInstance Mark)) (rs : List (DeclaredResource Mark))
+module _ (p : plan.PlanView Mark) (s : State Mark) (is : List (RuntimeInstance Mark))
+    (rs : List (DeclaredResource Mark))
   where
     abbrev then_ : State Mark
     then_ = state_with s is rs

@@ -1,5 +1,6 @@
 -- A run that makes one more core instance for a component instance.
-use Rattle.std.proofs.Common.{◌≡◌, ◌≤◌, ◌<◌, ◌+◌, ◌++◌, ◌⊎◌, inl, inr, ℕ, Bool, true, List, [], ◌∷◌, length, map, take, drop, Option, None, Some, refl, sym, ap, subst, ◌∙◌, arith}
+use Rattle.std.proofs.Common.{◌≡◌, ◌≤◌, ◌<◌, ◌+◌, ◌++◌, ◌⊎◌, inl, inr, ℕ, Bool, true, List, [], ◌∷◌, length, map, take}
+use Rattle.std.proofs.Common.{drop, Option, None, Some, refl, sym, ap, subst, ◌∙◌, arith}
 use Rattle.std.specs.Prelude.{count_by, is_some, slice_get}
 use Rattle.std.specs.List.{AllZip, filter_map}
 use Rattle.std.proofs.Math.Seq.{drop-append_seam}
@@ -77,7 +78,8 @@ module _ (g : ComponentDfg) (f : Finish) (s : State Mark) (m : InstantiateModule
 
     last_before : owned_before then_ f.counts.instances ≡ length f.instances
     last_before =
-        ap (owned_before then_) (sym placed.count) ∙ before_here s v c.0 (length s.instances) (omega arith) ∙ placed.next
+        ap (owned_before then_) (sym placed.count) ∙ before_here s v c.0 (length s.instances) (omega arith)
+        ∙ placed.next
 
     -- where a core instance of the graph is
     IsPlaced : ℕ → RuntimeInstanceIndex → Type 0
@@ -146,7 +148,8 @@ module _ (g : ComponentDfg) (f : Finish) (s : State Mark) (m : InstantiateModule
 
     before : (p : plan.PlanView Mark) → Extends g ms later p → Extends g ms f p
     before p extends =
-        extends_before g f later.steps later.instances (f.counts.instances + 1) f.resources ms p (omega arith) (omega arith)
+        extends_before g f later.steps later.instances (f.counts.instances + 1) f.resources ms p (omega arith)
+        (omega arith)
         extends
 
     steps_later : steps_view later ≡ steps_view f ++ source_view m (Some c) ∷ []
@@ -157,9 +160,11 @@ module _ (g : ComponentDfg) (f : Finish) (s : State Mark) (m : InstantiateModule
     instance_reached = record {
       runs = λ p extends.
           rw steps_later (run_more p (steps_view f) (source_view m (Some c)) start s then_
-          (reached.runs p (before p extends)) (goes p (before p extends)) (is_within_counts g ms later then_ p counted extends));
+          (reached.runs p (before p extends)) (goes p (before p extends))
+          (is_within_counts g ms later then_ p counted extends));
       traced = λ p extends.
-          rw (steps_later, ← one_gained s v c.0) (trace_more p (steps_view f) (source_view m (Some c)) start s then_ trace
+          rw (steps_later, ← one_gained s v c.0)
+          (trace_more p (steps_view f) (source_view m (Some c)) start s then_ trace
           (reached.runs p (before p extends)) (reached.traced p (before p extends)) (goes p (before p extends))
           (is_within_counts g ms later then_ p counted extends));
       placed = placed_more reached.placed;

@@ -1,5 +1,6 @@
 -- An intrinsic that gets its core signature: the run stays where it is.
-use Rattle.std.proofs.Common.{◌≡◌, ◌<◌, ℕ, List, [], ◌∷◌, length, map, Option, None, Some, refl, sym, ap, subst, ◌∙◌, inl, inr, ◌⊎◌, arith}
+use Rattle.std.proofs.Common.{◌≡◌, ◌<◌, ℕ, List, [], ◌∷◌, length, map, Option, None, Some, refl, sym, ap, subst, ◌∙◌}
+use Rattle.std.proofs.Common.{inl, inr, ◌⊎◌, arith}
 use Rattle.std.specs.Prelude.{slice_get, slice_set, option_and_then, option_map}
 use Rattle.std.proofs.lemmas.Bool.{cases_eq}
 use Rattle.std.proofs.lemmas.List.{length-set}
@@ -32,6 +33,7 @@ use Rattle.pc_finish.proofs.FillLemmas.{intrinsic_fills}
 use Rattle.pc_finish.proofs.NoteLemmas.{intrinsic_noted, notes_here, notes_numbered, notes_only}
 use Rattle.pc_finish.proofs.GrownLemmas.{grown_still, no_steps, placed_stays}
 use Rattle.pc_finish.proofs.RepresentedLemmas.{notes_stay, represents_still}
+use Rattle.pc_finish.proofs.StepNameLemmas.{none_named}
 use Rattle.pc_finish.specs.Parts.{HasNumber, number_of, parts}
 use Rattle.std.proofs.lemmas.List.Elements.{All-nil}
 
@@ -55,7 +57,8 @@ module _ (g : ComponentDfg) (f : Finish) (i : UnsafeIntrinsic) (signature : Modu
     place_within = subst (λ (n : ℕ). intrinsic_place i < n) (sym fits.intrinsics) (place_below i)
 
     noted : (n : ℕ) → n ≡ intrinsic_place i
-        → slice_get (slice_set f.intrinsics (intrinsic_place i) (packed.Some signature)) n ≡ Some (packed.Some signature)
+        → slice_get (slice_set f.intrinsics (intrinsic_place i) (packed.Some signature)) n ≡ Some
+        (packed.Some signature)
     noted n same =
         ap (slice_get (slice_set f.intrinsics (intrinsic_place i) (packed.Some signature))) same
         ∙ slice_get-set_same f.intrinsics (intrinsic_place i) (packed.Some signature) place_within
@@ -112,6 +115,7 @@ module _ (g : ComponentDfg) (f : Finish) (i : UnsafeIntrinsic) (signature : Modu
         counts = λ c.
             record { instances = c.instances; lowerings = c.lowerings; slots = c.slots; resources = c.resources };
         numbered = notes_numbered f with_signature (id.Intrinsic signature i) (intrinsic_place i) given;
+        stay = notes_stay f with_signature (id.Intrinsic signature i) (intrinsic_place i) given fresh;
         fits = record {
           memories = fits.memories;
           tables = fits.tables;
@@ -133,7 +137,7 @@ module _ (g : ComponentDfg) (f : Finish) (i : UnsafeIntrinsic) (signature : Modu
             represents_still g f with_signature
             (notes_stay f with_signature (id.Intrinsic signature i) (intrinsic_place i) given fresh) is
             (id.Intrinsic signature i) (intrinsic_place i) given (All-nil (HasNumber f)) refl refl refl refl refl
-            (signed is.intrinsics occurs);
+            (signed is.intrinsics occurs) (λ n named. named) (none_named f f.steps);
       };
       here = notes_here f with_signature (id.Intrinsic signature i) (intrinsic_place i) given;
       only = notes_only f with_signature (id.Intrinsic signature i) (intrinsic_place i) given g;

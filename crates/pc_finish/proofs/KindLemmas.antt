@@ -1,5 +1,6 @@
 -- What stands in a slot is of the slot's kind.
-use Rattle.std.proofs.Common.{◌≡◌, ℕ, Bool, true, false, List, map, Option, None, Some, refl, sym, ap, subst, ◌∙◌, true≢false}
+use Rattle.std.proofs.Common.{◌≡◌, ℕ, Bool, true, false, List, map, Option, None, Some, refl, sym, ap, subst, ◌∙◌}
+use Rattle.std.proofs.Common.{true≢false}
 use Rattle.std.specs.Prelude.{slice_get, option_and_then, if◌then◌else◌}
 use Rattle.std.proofs.lemmas.Option.{none-some, slice_get-map}
 use Rattle.pc_entity.proofs.LookupLemmas.{found_at}
@@ -70,7 +71,8 @@ module _ (g : ComponentDfg) (ms : List ModuleTranslation) (f : Finish) (p : plan
   function_fits : (made : ℕ) (d : CoreDef) (v : CoreValue Mark) → AreHeld g → is_function d ≡ true
       → IsReadyDef g made d → Means g d v → machine.fits plan.realloc (def_view (def_in g f d)) ≡ true
   unfolding def_in IsReadyDef
-  function_fits made (def.Export e) v held is ready means = item_fits (instance_of f e.instance.0).0 (item_view e.item) is
+  function_fits made (def.Export e) v held is ready means = item_fits (instance_of f e.instance.0).0
+      (item_view e.item) is
   function_fits made (def.InstanceFlags c) v held is ready means = absurd (true≢false (sym is))
   function_fits made (def.Trampoline t) v held is ready means = refl
   function_fits made (def.UnsafeIntrinsic s i) v held is ready means = refl
@@ -85,7 +87,8 @@ module _ (g : ComponentDfg) (ms : List ModuleTranslation) (f : Finish) (p : plan
   memory_fits e = by e.item refl
     where
       by : (i : ExportItem MemoryIndex) → e.item ≡ i
-          → machine.fits plan.memory (def_view (def_in g f (memory_def (record { instance = e.instance; item = i })))) ≡ true
+          → machine.fits plan.memory (def_view (def_in g f (memory_def (record { instance = e.instance; item = i }))))
+          ≡ true
       by (item.Index m) is = refl
       by (item.Name name) is = refl
 
@@ -94,7 +97,8 @@ module _ (g : ComponentDfg) (ms : List ModuleTranslation) (f : Finish) (p : plan
   table_fits e = by e.item refl
     where
       by : (i : ExportItem TableIndex) → e.item ≡ i
-          → machine.fits plan.table (def_view (def_in g f (table_def (record { instance = e.instance; item = i })))) ≡ true
+          → machine.fits plan.table (def_view (def_in g f (table_def (record { instance = e.instance; item = i })))) ≡
+          true
       by (item.Index m) is = refl
       by (item.Name name) is = refl
 

@@ -1,6 +1,7 @@
 -- The functions that a plan exports have options entries of it, and an options entry is used where it was numbered for
 -- an export.
-use Rattle.std.proofs.Common.{◌≡◌, ◌<◌, ℕ, zero, suc, List, [], ◌∷◌, ◌++◌, ◌⊎◌, inl, inr, length, All, Option, None, Some, refl, sym, ap, subst, ◌∙◌}
+use Rattle.std.proofs.Common.{◌≡◌, ◌<◌, ℕ, zero, suc, List, [], ◌∷◌, ◌++◌, ◌⊎◌, inl, inr, length, All, Option, None}
+use Rattle.std.proofs.Common.{Some, refl, sym, ap, subst, ◌∙◌}
 use Rattle.std.specs.Prelude.{slice_get, unwrap_or, IfSome}
 use Rattle.std.specs.List.{AllZip, Contains, flat_map}
 use Rattle.std.proofs.lemmas.List.Concat.{flat_map-cons}
@@ -21,7 +22,8 @@ use Rattle.pc_dfg.specs.declared.export.Export.TheVariants as export
 use Rattle.pc_finish.specs.declared.id.Id.{Id}
 use Rattle.pc_finish.specs.declared.id.Id.TheVariants as id
 use Rattle.pc_finish.specs.declared.state.Finish.{Finish}
-use Rattle.pc_finish.specs.Exports.{Exports, IsConverted, IsExportable, IsLiftable, Target, in_export, in_exports, in_lifted, lifted_in}
+use Rattle.pc_finish.specs.Exports.{Exports, IsConverted, IsExportable, IsLiftable, Target, in_export, in_exports}
+use Rattle.pc_finish.specs.Exports.{in_lifted, lifted_in}
 use Rattle.pc_finish.specs.Finishes.{HasOptions}
 use Rattle.pc_finish.specs.Numbers.{number_at, numbered}
 use Rattle.pc_finish.specs.Once.{Fills}

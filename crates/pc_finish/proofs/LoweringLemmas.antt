@@ -1,5 +1,6 @@
 -- A host item that is lowered.
-use Rattle.std.proofs.Common.{◌≡◌, ◌<◌, ◌≤◌, ◌+◌, ℕ, List, [], ◌∷◌, ◌++◌, length, All, Option, None, Some, refl, sym, ap, subst, ◌∙◌, inl, inr, ◌⊎◌, arith}
+use Rattle.std.proofs.Common.{◌≡◌, ◌<◌, ◌≤◌, ◌+◌, ℕ, List, [], ◌∷◌, ◌++◌, length, All, Option, None, Some, refl, sym}
+use Rattle.std.proofs.Common.{ap, subst, ◌∙◌, inl, inr, ◌⊎◌, arith}
 use Rattle.std.specs.Prelude.{slice_get, false}
 use Rattle.std.proofs.lemmas.Bool.{eq-eqb}
 use Rattle.std.proofs.lemmas.List.{append-nil, length-append, length-set}
@@ -50,6 +51,7 @@ use Rattle.pc_finish.proofs.NoteLemmas.{lowering_noted, notes_here, notes_number
 use Rattle.pc_finish.proofs.NumberLemmas.{number_back}
 use Rattle.pc_finish.proofs.NumberedLemmas.{path_means}
 use Rattle.pc_finish.proofs.RepresentedLemmas.{notes_stay, represents_still}
+use Rattle.pc_finish.proofs.StepNameLemmas.{names_front, none_named}
 
 -- the host item of a lowering
 abbrev lowered_by : plan.TrampolineEntry Mark → ℕ
@@ -78,7 +80,8 @@ module _ (g : ComponentDfg) (f : Finish) (t : TrampolineIndex) (x : SignedTrampo
   same_count plan.memory = refl
   same_count k = refl
 
-  lowering_back : (ms : List ModuleTranslation) (p : plan.PlanView Mark) → Extends g ms with_lowering p → Extends g ms f p
+  lowering_back : (ms : List ModuleTranslation) (p : plan.PlanView Mark) → Extends g ms with_lowering p
+      → Extends g ms f p
   lowering_back ms p e = record {
     has = e.has;
     import_types = e.import_types;
@@ -148,15 +151,21 @@ module _ (g : ComponentDfg) (f : Finish) (t : TrampolineIndex) (x : SignedTrampo
         (subst (HeldTrampoline g) entry_is (held list_name.trampolines t.0 x at)).0 in
         let item = found_at g.imports r.0 below in
         let path : Path = record { import = item.0.0.0; names = item.0.1 } in
-        rw (path_means g ms f p r.0 path held e item.1, eq-eqb f.counts.lowerings (length s.lowerings) (sym filled.lowerings))
+        rw (
+          path_means g ms f p r.0 path held e item.1,
+          eq-eqb f.counts.lowerings (length s.lowerings)
+              (sym filled.lowerings),
+        )
         refl
 
   -- a lowering gets its number
   pub closed_lowering : AreHeld g → number_of f (id.Lowering t) ≡ None → Closed g f with_lowering (id.Lowering t)
   unfolding number_of parts
   closed_lowering held fresh = record {
-    continues = continues_step g f with_lowering (init.LowerImport (record { 0 = f.counts.lowerings }) r) lowering_counts
+    continues = continues_step g f with_lowering (init.LowerImport (record { 0 = f.counts.lowerings }) r)
+        lowering_counts
         refl (notes_numbered f with_lowering (id.Lowering t) f.counts.lowerings noted)
+        (notes_stay f with_lowering (id.Lowering t) f.counts.lowerings noted fresh)
         (record {
           memories = fits.memories;
           tables = fits.tables;
@@ -170,13 +179,16 @@ module _ (g : ComponentDfg) (f : Finish) (t : TrampolineIndex) (x : SignedTrampo
           intrinsics = fits.intrinsics;
           signatures = fits.signatures;
         }) refl refl (λ fills. lowering_fills f fills t.0 r lowering_within fresh)
-        (λ is. represents_still g f with_lowering (notes_stay f with_lowering (id.Lowering t) f.counts.lowerings noted fresh) is
+        (λ is. represents_still g f with_lowering
+        (notes_stay f with_lowering (id.Lowering t) f.counts.lowerings noted fresh) is
         (id.Lowering t) f.counts.lowerings noted (All-nil (HasNumber f)) refl refl refl refl refl
-        is.intrinsics);
+        is.intrinsics (names_front f.steps (init.LowerImport (record { 0 = f.counts.lowerings }) r ∷ []))
+        (none_named f with_lowering.steps));
     here = notes_here f with_lowering (id.Lowering t) f.counts.lowerings noted;
     only = notes_only f with_lowering (id.Lowering t) f.counts.lowerings noted g;
     goes = λ ms wired valued s trace reached.
-        grown_step g ms f with_lowering s (lowered s) (init.LowerImport (record { 0 = f.counts.lowerings }) r) trace refl
+        grown_step g ms f with_lowering s (lowered s) (init.LowerImport (record { 0 = f.counts.lowerings }) r) trace
+        refl
         (lowering_gains s) (lowering_back ms)
         (λ p e. lowering_step s ms p held (lowering_back ms p e) reached.filled)
         (placed_stays g ms f with_lowering s (lowered s) refl refl refl refl reached.placed)
@@ -201,7 +213,8 @@ lowering_can g made t can =
     slice_get_within g.trampolines t.0 x.0 x.1
 
 -- and lowers a host item
-lowers_only : (s : ModuleInternedTypeIndex) (x : Trampoline RuntimeImportIndex OptionsId MemoryId TableId CallbackId PostReturnId) → IsLowering (trampoline_entry (s, x))
+lowers_only : (s : ModuleInternedTypeIndex) (x : Trampoline RuntimeImportIndex OptionsId MemoryId TableId CallbackId
+    PostReturnId) → IsLowering (trampoline_entry (s, x))
     → (r : RuntimeImportIndex) × (ty : TypeFuncIndex) × (o : OptionsId) × (x ≡ trampoline.LowerImport r ty o)
 unfolding parts_of
 lowers_only s (trampoline.LowerImport r ty o) h = (r, ty, o, refl)

@@ -37,12 +37,13 @@ mark_typed b t types ty are there = by (type_at types ty) refl there
     )
 
 pub made_finished : {b : Types} {t : TypeTable} {g : ComponentDfg} {f : Finish} {names : Contents (List ℕ) Target}
-    {items : List PlanItem} → IsOrdered g → IsMade b t g f names items → IsFinished b t g (translation_of g f names items)
+    {items : List PlanItem} → IsOrdered g → IsMade b t g f names items
+    → IsFinished b t g (translation_of g f names items)
 made_finished {b} {t} {g} {f} {names} {items} ordered made = record {
   converted = module_mark made.types;
   types = λ n ty m at.
       let typed = all_at (IsTyped made.types) g.export_items n (export.ModuleStatic ty m) made.typed at in
       mark_typed b t made.types ty made.are typed;
   finishes = whole_finishes g ordered made.before made.done f made.further made.types names items made.exports
-      made.distinct made.only;
+      made.distinct made.apart made.only;
 }

@@ -1,5 +1,6 @@
 -- The instance of a module of adapters that is made.
-use Rattle.std.proofs.Common.{◌≡◌, ◌<◌, ◌≤◌, ◌+◌, ℕ, suc, Bool, true, List, [], ◌∷◌, ◌++◌, length, map, take, All, Option, None, Some, refl, sym, ap, subst, ◌∙◌, inl, inr, ◌⊎◌, arith}
+use Rattle.std.proofs.Common.{◌≡◌, ◌<◌, ◌≤◌, ◌+◌, ℕ, suc, Bool, true, List, [], ◌∷◌, ◌++◌, length, map, take, All}
+use Rattle.std.proofs.Common.{Option, None, Some, refl, sym, ap, subst, ◌∙◌, inl, inr, ◌⊎◌, arith}
 use Rattle.std.specs.Prelude.{slice_get, count_by, is_some, Contains}
 use Rattle.std.specs.List.{AllZip, flat_map, list_all}
 use Rattle.std.proofs.lemmas.List.{append-nil, length-append, length-set}
@@ -12,7 +13,8 @@ use Rattle.pc_intern.specs.declared.ids.AdapterModuleId.{AdapterModuleId}
 use Rattle.pc_numbers.specs.declared.component_entity.StaticModuleIndex.{StaticModuleIndex}
 use Rattle.pc_semantics.specs.CoreValue.{CoreValue}
 use Rattle.pc_semantics.specs.Log.{Entry, of_static}
-use Rattle.pc_semantics.specs.Machine.{State, RuntimeInstance, add_instance, adapter_module, has_places, owned_before, resolve, step}
+use Rattle.pc_semantics.specs.Machine.{State, RuntimeInstance, add_instance, adapter_module, has_places, owned_before}
+use Rattle.pc_semantics.specs.Machine.{resolve, step}
 use Rattle.pc_semantics.specs.PlanView as plan
 use Rattle.pc_trampoline.specs.declared.part.Mark.{Mark}
 use Rattle.pc_info.specs.declared.core_def.CoreDef.{CoreDef as PlanDef}
@@ -35,6 +37,7 @@ use Rattle.pc_finish.specs.Converted.{def_in}
 use Rattle.pc_finish.specs.Numbers.{number_at}
 use Rattle.pc_finish.specs.Once.{Notes}
 use Rattle.pc_finish.specs.Parts.{HasNumber, in_def, number_of, parts}
+use Rattle.pc_finish.specs.Represented.{AreNamed}
 use Rattle.pc_finish.specs.Plan.{Extends, counted_slots, slot_count}
 use Rattle.pc_finish.specs.Reached.{all_linked, Filled, Gains, Placed, Reached}
 use Rattle.pc_finish.specs.Ready.{CanClose, IsReadyDef}
@@ -48,6 +51,7 @@ use Rattle.pc_finish.proofs.FillLemmas.{module_fills}
 use Rattle.pc_finish.proofs.NoteLemmas.{module_noted, notes_here, notes_numbered, notes_only}
 use Rattle.pc_finish.proofs.NumberLemmas.{number_back}
 use Rattle.pc_finish.proofs.RepresentedLemmas.{notes_stay, represents_still}
+use Rattle.pc_finish.proofs.StepNameLemmas.{defs_named, names_front, names_last}
 
 -- as many values as definitions
 zip_length : {A B : Type 0} (R : A → B → Type 0) (xs : List A) (ys : List B) → AllZip R xs ys → length ys ≡ length xs
@@ -71,21 +75,23 @@ each_numbered g f (d ∷ ds) all =
     (each_numbered g f ds (all_back (HasNumber f) (in_def g d) (flat_map (in_def g) ds) all))
 
 module _ {g : ComponentDfg} {ms : List ModuleTranslation} {f : Finish} {s : State Mark} {trace : List (Entry Mark)}
-    {p : plan.PlanView Mark} (wired : IsWired g ms) (reached : Reached g ms f s trace) (extends : Extends g ms f p) where
-  -- definitions stand for their values, in order
-  pub defs_resolve : (ds : List CoreDef) (vs : List (CoreValue Mark)) → AllZip (Means g) ds vs → All (Occurs g) ds
-      → All (IsReadyDef g (length f.instances)) ds → All (λ (d : CoreDef). All (HasNumber f) (in_def g d)) ds
-      → map_all (resolve p s) (map def_view (map (def_in g f) ds)) ≡ Some vs
-  defs_resolve [] [] zip occurs ready numbered = refl
-  defs_resolve [] (v ∷ vs) zip occurs ready numbered = absurd zip
-  defs_resolve (d ∷ ds) [] zip occurs ready numbered = absurd zip
-  defs_resolve (d ∷ ds) (v ∷ vs) zip occurs ready numbered =
-      let made = IsReadyDef g (length f.instances) in
-      let has = λ (d : CoreDef). All (HasNumber f) (in_def g d) in
-      map_all_cons (resolve p s) (def_view (def_in g f d)) (map def_view (map (def_in g f) ds)) v vs
-      (def_resolves wired (All-head (Occurs g) d ds occurs) reached zip.0 (All-head made d ds ready)
-      (All-head has d ds numbered) extends)
-      (defs_resolve ds vs zip.1 (All-tail (Occurs g) d ds occurs) (All-tail made d ds ready) (All-tail has d ds numbered))
+    {p : plan.PlanView Mark} (wired : IsWired g ms) (reached : Reached g ms f s trace) (extends : Extends g ms f p)
+  where
+    -- definitions stand for their values, in order
+    pub defs_resolve : (ds : List CoreDef) (vs : List (CoreValue Mark)) → AllZip (Means g) ds vs → All (Occurs g) ds
+        → All (IsReadyDef g (length f.instances)) ds → All (λ (d : CoreDef). All (HasNumber f) (in_def g d)) ds
+        → map_all (resolve p s) (map def_view (map (def_in g f) ds)) ≡ Some vs
+    defs_resolve [] [] zip occurs ready numbered = refl
+    defs_resolve [] (v ∷ vs) zip occurs ready numbered = absurd zip
+    defs_resolve (d ∷ ds) [] zip occurs ready numbered = absurd zip
+    defs_resolve (d ∷ ds) (v ∷ vs) zip occurs ready numbered =
+        let made = IsReadyDef g (length f.instances) in
+        let has = λ (d : CoreDef). All (HasNumber f) (in_def g d) in
+        map_all_cons (resolve p s) (def_view (def_in g f d)) (map def_view (map (def_in g f) ds)) v vs
+        (def_resolves wired (All-head (Occurs g) d ds occurs) reached zip.0 (All-head made d ds ready)
+        (All-head has d ds numbered) extends)
+        (defs_resolve ds vs zip.1 (All-tail (Occurs g) d ds occurs) (All-tail made d ds ready)
+        (All-tail has d ds numbered))
 
 -- whether an instance was made for a component instance
 abbrev is_owned : RuntimeInstance Mark → Bool
@@ -228,6 +234,15 @@ module _ (g : ComponentDfg) (f : Finish) (m : AdapterModuleId) (x : StaticModule
   module_occurs =
       All-weaker (Contains x.1) (Occurs g) (λ d here. in_a_module m.0 x at here) x.1 (All-contains_itself x.1)
 
+  -- its step names the trampolines among its arguments
+  module_named : AreNamed f with_module.steps (parts g (id.AdapterModule m))
+  unfolding parts
+  module_named t n inside number =
+      let within = subst (λ (o : Option (StaticModuleIndex × List CoreDef)).
+      Contains (each_of (λ (y : StaticModuleIndex × List CoreDef). flat_map (in_def g) y.1) o) (id.Trampoline t)) at
+      inside in
+      names_last f.steps made_by n (defs_named g f x.1 t n within number)
+
   -- a module of adapters gets its number
   pub closed_module : All (IsReadyDef g (length f.instances)) x.1 → All (HasNumber f) (parts g (id.AdapterModule m))
       → number_of f (id.AdapterModule m) ≡ None → Closed g f with_module (id.AdapterModule m)
@@ -235,6 +250,7 @@ module _ (g : ComponentDfg) (f : Finish) (m : AdapterModuleId) (x : StaticModule
   closed_module ready all fresh = record {
     continues = continues_step g f with_module made_by module_counts refl
         (notes_numbered f with_module (id.AdapterModule m) f.counts.instances noted)
+        (notes_stay f with_module (id.AdapterModule m) f.counts.instances noted fresh)
         (record {
           memories = fits.memories;
           tables = fits.tables;
@@ -251,7 +267,8 @@ module _ (g : ComponentDfg) (f : Finish) (m : AdapterModuleId) (x : StaticModule
         }) refl refl (λ fills. module_fills f fills m.0 x.0 arguments module_within fresh)
         (λ is. represents_still g f with_module
         (notes_stay f with_module (id.AdapterModule m) f.counts.instances noted fresh) is (id.AdapterModule m)
-        f.counts.instances noted all refl refl refl refl refl is.intrinsics);
+        f.counts.instances noted all refl refl refl refl refl is.intrinsics (names_front f.steps (made_by ∷ []))
+        module_named);
     here = notes_here f with_module (id.AdapterModule m) f.counts.instances noted;
     only = notes_only f with_module (id.AdapterModule m) f.counts.instances noted g;
     goes = λ ms wired valued s trace reached.

@@ -1,5 +1,6 @@
 -- Named entries that are copied in order: the next name is absent from the copies before it.
-use Rattle.std.proofs.Common.{◌≡◌, ℕ, zero, suc, ◌+◌, ◌<◌, ◌≤◌, Bool, true, false, List, [], ◌∷◌, ◌++◌, Option, None, Some, length, map, take, drop, if◌then◌else◌, refl, sym, ap, subst, ◌∙◌, arith}
+use Rattle.std.proofs.Common.{◌≡◌, ℕ, zero, suc, ◌+◌, ◌<◌, ◌≤◌, Bool, true, false, List, [], ◌∷◌, ◌++◌, Option, None}
+use Rattle.std.proofs.Common.{Some, length, map, take, drop, if◌then◌else◌, refl, sym, ap, subst, ◌∙◌, arith}
 use Rattle.std.specs.Prelude.{slice_get, option_map}
 use Rattle.std.proofs.lemmas.List.{take-append-drop, length-take-le, map-append}
 use Rattle.std.proofs.lemmas.Option.{none-some, same_Some, slice_get-map, slice_get_within}
@@ -49,7 +50,8 @@ next_absent {V} {W} f es i e distinct at =
     let front = in_front es i k behind.0 (omega (arith, within)) behind.1 in
     let name = λ (a : List ℕ × V). a.0 in
     let first : slice_get (names_of es) k ≡ Some e.0 =
-    slice_get-map name es k ∙ ap (option_map name) front.1 ∙ ap Some (ap (λ (y : List ℕ × W). y.0) behind.2 ∙ sym same) in
+    slice_get-map name es k ∙ ap (option_map name) front.1
+    ∙ ap Some (ap (λ (y : List ℕ × W). y.0) behind.2 ∙ sym same) in
     let second : slice_get (names_of es) i ≡ Some e.0 = slice_get-map name es i ∙ ap (option_map name) at in
     let one = distinct k i e.0 first second in
     absurd (omega (arith, front.0, one)))

@@ -31,7 +31,8 @@ module _ (g : ComponentDfg) (ordered : IsOrdered g) (f : Finish) (e : SideEffect
 
   pub next_resource : (n : ℕ) → declared_by e ≡ Some n → n ≡ length f.resources
   next_resource n is =
-      ordered.resources.each _ n (filter_map_at declared_by g.side_effects next.place e n next.at is) ∙ sym next.resources
+      ordered.resources.each _ n (filter_map_at declared_by g.side_effects next.place e n next.at is)
+      ∙ sym next.resources
 
   -- what it names occurs in the graph
   pub next_occurs : All (Occurs g) (in_effect g e)

@@ -1,5 +1,6 @@
 -- The numbers of a list's entries, with one more.
-use Rattle.std.proofs.Common.{◌≡◌, ◌<◌, ℕ, List, [], length, All, Option, None, Some, refl, sym, ap, subst, ◌∙◌, inl, inr, ◌⊎◌, arith}
+use Rattle.std.proofs.Common.{◌≡◌, ◌<◌, ℕ, List, [], length, All, Option, None, Some, refl, sym, ap, subst, ◌∙◌, inl}
+use Rattle.std.proofs.Common.{inr, ◌⊎◌, arith}
 use Rattle.std.specs.Prelude.{slice_get, slice_set, option_and_then}
 use Rattle.std.specs.Option.{IsSome}
 use Rattle.std.proofs.lemmas.Bool.{cases_eq}
@@ -55,7 +56,8 @@ pub trampoline_there : (g : ComponentDfg) (f : Finish) (d : CoreDef) (t : Trampo
     → All (HasNumber f) (in_def g d) → IsSome (number_at f.numbers.trampolines t.0)
 unfolding number_of
 trampoline_there g f d t is all =
-    let n = All-head (HasNumber f) (id.Trampoline t) [] (subst (λ (e : CoreDef). All (HasNumber f) (in_def g e)) is all) in
+    let n = All-head (HasNumber f) (id.Trampoline t) []
+    (subst (λ (e : CoreDef). All (HasNumber f) (in_def g e)) is all) in
     is_there (number_at f.numbers.trampolines t.0) n.0 n.1
 
 -- and the module of an adapter that it is

@@ -1,5 +1,6 @@
 -- Options entries and trampolines stand for their values, where all that they name has its number.
-use Rattle.std.proofs.Common.{◌≡◌, ◌<◌, ◌+◌, ℕ, Bool, true, false, List, [], ◌∷◌, ◌++◌, length, map, All, Option, None, Some, refl, sym, ap, subst, ◌∙◌}
+use Rattle.std.proofs.Common.{◌≡◌, ◌<◌, ◌+◌, ℕ, Bool, true, false, List, [], ◌∷◌, ◌++◌, length, map, All, Option, None}
+use Rattle.std.proofs.Common.{Some, refl, sym, ap, subst, ◌∙◌}
 use Rattle.std.specs.Prelude.{slice_get, option_and_then, option_map, unwrap_or}
 use Rattle.std.specs.List.{flat_map}
 use Rattle.std.proofs.lemmas.Bool.{lt-ltb}
@@ -23,7 +24,8 @@ use Rattle.pc_types.specs.declared.types.TypeDef.TheVariants as type
 use Rattle.pc_types.specs.TypeTree.{Path}
 use Rattle.pc_semantics.specs.CoreValue as value
 use Rattle.pc_semantics.specs.CoreValue.{CoreValue, Options, DataModel, MaybeValue, Parts, Part}
-use Rattle.pc_semantics.specs.Machine.{State, chosen, is_counted, model_from, options_from, options_at, part_value, part_values, path_of}
+use Rattle.pc_semantics.specs.Machine.{State, chosen, is_counted, model_from, options_from, options_at, part_value}
+use Rattle.pc_semantics.specs.Machine.{part_values, path_of}
 use Rattle.pc_semantics.specs.Machine.{trampoline_value, with_numbers}
 use Rattle.pc_semantics.specs.Machine as machine
 use Rattle.pc_semantics.specs.PlanView as plan
@@ -46,16 +48,19 @@ use Rattle.pc_dfg.specs.declared.options.CanonicalOptionsDataModel.{CanonicalOpt
 use Rattle.pc_dfg.specs.declared.options.CanonicalOptionsDataModel.TheVariants as model
 use Rattle.pc_dfg.specs.Held.{AreHeld, HasBegun, HeldTrampoline, HoldsEntry}
 use Rattle.pc_dfg.specs.Lists as list_name
-use Rattle.pc_dfg.specs.Means.{HasPath, Means, MeansTrampoline, MeansParts, MeansPart, MeansOptions, MeansEntry, MeansModel, MeansSlot}
+use Rattle.pc_dfg.specs.Means.{HasPath, Means, MeansTrampoline, MeansParts, MeansPart, MeansOptions, MeansEntry}
+use Rattle.pc_dfg.specs.Means.{MeansModel, MeansSlot}
 use Rattle.pc_dfg.specs.Means.{means_lowered, means_builtin, means_helper, means_no_parts, means_and_part, means_mark}
 use Rattle.pc_dfg.specs.Means.{means_number, means_flag, means_slot_part, means_options_part, means_entry, means_gc}
 use Rattle.pc_dfg.specs.Means.{means_linear, means_no_slot, means_slot}
 use Rattle.pc_dfg.specs.Numbers.{SignedTrampoline, graph_numbers, model_entry, options_entry, trampoline_entry}
 use Rattle.pc_finish.specs.declared.id.Id.TheVariants as id
 use Rattle.pc_finish.specs.declared.state.Finish.{Finish}
-use Rattle.pc_finish.specs.Entries.{GraphPart, PlanPart, callback_in, memory_in, post_return_in, realloc_in, head_in, model_in, options_in, part_in, list_in}
+use Rattle.pc_finish.specs.Entries.{GraphPart, PlanPart, callback_in, memory_in, post_return_in, realloc_in, head_in}
+use Rattle.pc_finish.specs.Entries.{model_in, options_in, part_in, list_in}
 use Rattle.pc_finish.specs.Numbers.{number_at, numbered}
-use Rattle.pc_finish.specs.Parts.{HasNumber, in_entry, in_model, in_part, in_trampoline, maybe_slot, options_id, slot_numbers}
+use Rattle.pc_finish.specs.Parts.{HasNumber, in_entry, in_model, in_part, in_trampoline, maybe_slot, options_id}
+use Rattle.pc_finish.specs.Parts.{slot_numbers}
 use Rattle.pc_finish.specs.Plan.{Extends}
 use Rattle.pc_finish.specs.Reached.{Filled, Resolves}
 use Rattle.pc_finish.specs.Wired.{Has}
@@ -69,7 +74,8 @@ path_means g ms f p r path held e has =
     let item : slice_get p.imports r ≡ Some (import_view (record { 0 = path.import }, path.names)) =
     ap (λ (l : List plan.RuntimeImport). slice_get l r) e.imports ∙ slice_get-map import_view g.imports r
     ∙ ap (option_map import_view) has in
-    let found = found_at g.import_types path.import (held list_name.imports r (record { 0 = path.import }, path.names) has) in
+    let found = found_at g.import_types path.import
+    (held list_name.imports r (record { 0 = path.import }, path.names) has) in
     let kind : slice_get p.import_types path.import ≡ Some (import_type_view found.0) =
     ap (λ (l : List (plan.ImportType Mark)). slice_get l path.import) e.import_types
     ∙ slice_get-map import_type_view g.import_types path.import ∙ ap (option_map import_type_view) found.1 in
@@ -109,9 +115,11 @@ module _ {g : ComponentDfg} {f : Finish} {s : State Mark} (filled : Filled g f s
       let of_memory = maybe_slot plan.memory (option_map (λ (x : MemoryId). x.0) m) in
       let of_realloc = maybe_slot plan.realloc (option_map (λ (x : ReallocId). x.0) r) in
       rw (
-        typed_slot (λ (x : MemoryId). x.0) (memory_in f) (λ (x : RuntimeMemoryIndex). x.0) plan.memory (λ x. refl) m memory a
+        typed_slot (λ (x : MemoryId). x.0) (memory_in f) (λ (x : RuntimeMemoryIndex). x.0) plan.memory (λ x. refl) m
+            memory a
             (all_front (HasNumber f) of_memory of_realloc all),
-        typed_slot (λ (x : ReallocId). x.0) (realloc_in f) (λ (x : RuntimeReallocIndex). x.0) plan.realloc (λ x. refl) r realloc b
+        typed_slot (λ (x : ReallocId). x.0) (realloc_in f) (λ (x : RuntimeReallocIndex). x.0) plan.realloc (λ x. refl)
+            r realloc b
             (all_back (HasNumber f) of_memory of_realloc all),
       ) refl
 
@@ -131,14 +139,17 @@ module _ {g : ComponentDfg} {f : Finish} {s : State Mark} (filled : Filled g f s
       (subst (λ (n : ℕ). o.instance.0 < n) (sym has.component_instances) begun) in
       rw (
         counted,
-        typed_slot (λ (x : CallbackId). x.0) (callback_in f) (λ (x : RuntimeCallbackIndex). x.0) plan.callback (λ x. refl) o.callback callback a
+        typed_slot (λ (x : CallbackId). x.0) (callback_in f) (λ (x : RuntimeCallbackIndex). x.0) plan.callback
+            (λ x. refl) o.callback callback a
             (all_back (HasNumber f) of_model of_callback front),
-        typed_slot (λ (x : PostReturnId). x.0) (post_return_in f) (λ (x : RuntimePostReturnIndex). x.0) plan.post_return (λ x. refl) o.post_return post_return b
+        typed_slot (λ (x : PostReturnId). x.0) (post_return_in f) (λ (x : RuntimePostReturnIndex). x.0)
+            plan.post_return (λ x. refl) o.post_return post_return b
             (all_back (HasNumber f) (of_model ++ of_callback) of_post_return all),
         model_means p o.data_model lies c (all_front (HasNumber f) of_model of_callback front),
       ) refl
 
-  module _ (ms : List ModuleTranslation) (p : plan.PlanView Mark) (resolves : Resolves g ms f s) (extends : Extends g ms f p)
+  module _ (ms : List ModuleTranslation) (p : plan.PlanView Mark) (resolves : Resolves g ms f s)
+      (extends : Extends g ms f p)
     where
       -- options stand for their value by their number
       options_mean : (o : ℕ) (v : Options Mark) → MeansOptions g o v → HasNumber f (options_id o)
@@ -159,15 +170,18 @@ module _ {g : ComponentDfg} {f : Finish} {s : State Mark} (filled : Filled g f s
           ap (option_map value.value_part) (slot_means plan.memory (Some m.0) w a all)
       part_means (part.MaybeMemory m) v (means_slot_part {v = w} a) all =
           ap (option_map value.value_part)
-          (typed_slot (λ (x : MemoryId). x.0) (memory_in f) (λ (x : RuntimeMemoryIndex). x.0) plan.memory (λ x. refl) m w a all)
+          (typed_slot (λ (x : MemoryId). x.0) (memory_in f) (λ (x : RuntimeMemoryIndex). x.0) plan.memory (λ x. refl)
+          m w a all)
       part_means (part.Table t) v (means_slot_part {v = w} a) all =
           ap (option_map value.value_part) (slot_means plan.table (Some t.0) w a all)
       part_means (part.Callback c) v (means_slot_part {v = w} a) all =
           ap (option_map value.value_part)
-          (typed_slot (λ (x : CallbackId). x.0) (callback_in f) (λ (x : RuntimeCallbackIndex). x.0) plan.callback (λ x. refl) c w a all)
+          (typed_slot (λ (x : CallbackId). x.0) (callback_in f) (λ (x : RuntimeCallbackIndex). x.0) plan.callback
+          (λ x. refl) c w a all)
       part_means (part.PostReturn q) v (means_slot_part {v = w} a) all =
           ap (option_map value.value_part)
-          (typed_slot (λ (x : PostReturnId). x.0) (post_return_in f) (λ (x : RuntimePostReturnIndex). x.0) plan.post_return (λ x. refl) q w a all)
+          (typed_slot (λ (x : PostReturnId). x.0) (post_return_in f) (λ (x : RuntimePostReturnIndex). x.0)
+          plan.post_return (λ x. refl) q w a all)
       part_means (part.Options o) v (means_options_part {v = w} a) all =
           ap (option_map value.options_part) (options_mean o.0 w a (All-head (HasNumber f) (options_id o.0) [] all))
 
@@ -218,7 +232,8 @@ module _ {g : ComponentDfg} {f : Finish} {s : State Mark} (filled : Filled g f s
           let n = lowering_numbered f t (All-head (HasNumber f) lowering (options_id o.0 ∷ []) all) in
           let step : slice_get s.lowerings (numbered f.numbers.lowerings t.0) ≡ Some r.0 =
           ap (slice_get s.lowerings) (numbered_is f.numbers.lowerings t.0 n.0 n.1)
-          ∙ filled.lowering t.0 n.0 r.0 o.0 x (mark.Signature signature) (mark.Type_ (type.ComponentFunc ty)) n.1 at is in
+          ∙ filled.lowering t.0 n.0 r.0 o.0 x (mark.Signature signature) (mark.Type_ (type.ComponentFunc ty)) n.1 at
+          is in
           rw (
             step,
             path_means g ms f p r.0 path held extends has,
@@ -233,7 +248,8 @@ module _ {g : ComponentDfg} {f : Finish} {s : State Mark} (filled : Filled g f s
       trampoline_means t x k head.Helper xs signature v held at is (means_helper {vs = ws} means) all =
           ap (option_map (λ (vs : Parts Mark). value.helper k (with_numbers [] vs)))
           (signed_mean signature xs ws means all)
-      trampoline_means t x k (head.Transcoding op from64 to64) xs signature v held at is (means_helper {vs = ws} means) all =
+      trampoline_means t x k (head.Transcoding op from64 to64) xs signature v held at is
+          (means_helper {vs = ws} means) all =
           ap (option_map (λ (vs : Parts Mark).
           value.helper k (with_numbers (place_of op ∷ address_bits from64 ∷ address_bits to64 ∷ []) vs)))
           (signed_mean signature xs ws means all)

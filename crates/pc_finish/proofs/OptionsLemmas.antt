@@ -1,5 +1,6 @@
 -- An options entry, a trampoline and an intrinsic that get their numbers: the run stays where it is.
-use Rattle.std.proofs.Common.{◌≡◌, ◌<◌, ◌≤◌, ◌+◌, ℕ, zero, suc, List, [], ◌∷◌, ◌++◌, length, map, All, Option, None, Some, refl, sym, ap, subst, ◌∙◌, inl, inr, ◌⊎◌, arith}
+use Rattle.std.proofs.Common.{◌≡◌, ◌<◌, ◌≤◌, ◌+◌, ℕ, zero, suc, List, [], ◌∷◌, ◌++◌, length, map, All, Option, None}
+use Rattle.std.proofs.Common.{Some, refl, sym, ap, subst, ◌∙◌, inl, inr, ◌⊎◌, arith}
 use Rattle.std.specs.Prelude.{slice_get, slice_set, option_and_then, option_map, unwrap_or, false}
 use Rattle.std.proofs.lemmas.Bool.{cases_eq}
 use Rattle.std.proofs.lemmas.List.{length-append, length-set, map-append}
@@ -49,7 +50,7 @@ use Rattle.pc_finish.proofs.FillLemmas.{options_fills}
 use Rattle.pc_finish.proofs.NoteLemmas.{notes_here, notes_numbered, notes_only, options_noted}
 use Rattle.pc_finish.proofs.NumberLemmas.{number_back}
 use Rattle.pc_finish.proofs.NumberedLemmas.{entry_means, trampoline_means}
-use Rattle.pc_finish.proofs.RepresentedLemmas.{represents_options}
+use Rattle.pc_finish.proofs.RepresentedLemmas.{notes_stay, represents_options}
 
 -- a list with more keeps what it had
 kept_appended : {A : Type 0} (xs ys zs : List A) → Kept (xs ++ ys) zs → Kept xs zs
@@ -128,6 +129,7 @@ module _ (g : ComponentDfg) (f : Finish) (o : OptionsId) (x : CanonicalOptions) 
       counts = λ c.
           record { instances = c.instances; lowerings = c.lowerings; slots = c.slots; resources = c.resources };
       numbered = notes_numbered f with_options (id.Options o) (length f.options) noted;
+      stay = notes_stay f with_options (id.Options o) (length f.options) noted fresh;
       fits = record {
         memories = fits.memories;
         tables = fits.tables;
@@ -160,7 +162,8 @@ module _ (g : ComponentDfg) (f : Finish) (o : OptionsId) (x : CanonicalOptions) 
           slot = reached.filled.slot;
         })
         (options_resolve ms s held
-        (subst (λ (w : Option CanonicalOptions). All (HasNumber f) (each_of (λ y. in_entry (options_entry y)) w)) at all)
+        (subst (λ (w : Option CanonicalOptions). All (HasNumber f) (each_of (λ y. in_entry (options_entry y)) w)) at
+        all)
         reached.filled reached.resolves)
         reached;
   }

@@ -1,5 +1,6 @@
 -- The core instances that a run has in the end are those of its trace.
-use Rattle.std.proofs.Common.{◌≡◌, ◌++◌, ℕ, Bool, true, false, List, [], ◌∷◌, length, map, drop, Option, None, Some, refl, sym, ap, ◌∙◌}
+use Rattle.std.proofs.Common.{◌≡◌, ◌++◌, ℕ, Bool, true, false, List, [], ◌∷◌, length, map, drop, Option, None, Some}
+use Rattle.std.proofs.Common.{refl, sym, ap, ◌∙◌}
 use Rattle.std.specs.Prelude.{option_and_then, option_map, if◌then◌else◌, ◌==◌, ◌&&◌}
 use Rattle.std.specs.List.{cons_option, filter_map}
 use Rattle.std.proofs.Math.Seq.{drop-append_seam}
@@ -10,8 +11,10 @@ use Rattle.pc_entity.specs.Lists.{map_all}
 use Rattle.pc_semantics.specs.CoreValue.{CoreValue, MaybeValue}
 use Rattle.pc_semantics.specs.Log.{Entry, NamedArgument, Owned, instances_of, of_host, of_static}
 use Rattle.pc_semantics.specs.Log as log
-use Rattle.pc_semantics.specs.Machine.{State, PlanModule, RuntimeInstance, DeclaredResource, add_instance, can_make, fill, fits}
-use Rattle.pc_semantics.specs.Machine.{is_counted, is_within, module_at, owned_instances, owned_of, path_of, resolve, resolve_maybe}
+use Rattle.pc_semantics.specs.Machine.{State, PlanModule, RuntimeInstance, DeclaredResource, add_instance, can_make}
+use Rattle.pc_semantics.specs.Machine.{fill, fits}
+use Rattle.pc_semantics.specs.Machine.{is_counted, is_within, module_at, owned_instances, owned_of, path_of, resolve}
+use Rattle.pc_semantics.specs.Machine.{resolve_maybe}
 use Rattle.pc_semantics.specs.Machine.{resolve_named, run_from, slots_of, step}
 use Rattle.pc_semantics.specs.PlanView as plan
 use Rattle.pc_semantics.specs.Trace.{gained, instance_entry, resource_entry, trace_from}
@@ -83,7 +86,8 @@ module _ (p : plan.PlanView Mark) where
       none (q ∷ qs) = none qs
 
   -- what a step gained are the instances that it added
-  gained_owned : (s t : State Mark) → AddsInstances s t → owned_instances t ≡ owned_instances s ++ instances_of (gained s t)
+  gained_owned : (s t : State Mark) → AddsInstances s t
+      → owned_instances t ≡ owned_instances s ++ instances_of (gained s t)
   gained_owned s t adds =
       let new : drop (length s.instances) t.instances ≡ adds.0 =
       ap (drop (length s.instances)) adds.1 ∙ drop-append_seam s.instances adds.0 in
@@ -117,7 +121,8 @@ module _ (p : plan.PlanView Mark) where
           else None) ≡ Some trace → Owns is t → owned_instances t ≡ owned_instances s ++ instances_of trace
       here n goes false h d later = absurd (none-some t h)
       here n goes true h d later =
-          let rest = behind_map (λ (more : List (Entry Mark)). gained s n ++ more) (trace_from p all_linked is n) trace d in
+          let rest = behind_map (λ (more : List (Entry Mark)). gained s n ++ more) (trace_from p all_linked is n)
+          trace d in
           later n rest.0 h rest.1 ∙ ap (λ l. l ++ instances_of rest.0) (gained_owned s n (step_adds s n i goes))
           ∙ append_assoc (owned_instances s) (instances_of (gained s n)) (instances_of rest.0)
           ∙ ap (λ l. owned_instances s ++ l) (sym (filter_map-append log.owned_of (gained s n) rest.0)

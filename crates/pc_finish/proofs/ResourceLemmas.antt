@@ -1,5 +1,6 @@
 -- A run that declares one more resource.
-use Rattle.std.proofs.Common.{◌≡◌, ◌≤◌, ◌<◌, ◌+◌, ◌++◌, ℕ, Bool, true, List, [], ◌∷◌, length, map, drop, All, Option, None, Some, refl, sym, ap, ◌∙◌, arith, eq-eqb}
+use Rattle.std.proofs.Common.{◌≡◌, ◌≤◌, ◌<◌, ◌+◌, ◌++◌, ℕ, Bool, true, List, [], ◌∷◌, length, map, drop, All, Option}
+use Rattle.std.proofs.Common.{None, Some, refl, sym, ap, ◌∙◌, arith, eq-eqb}
 use Rattle.std.specs.Prelude.{option_map, ◌==◌}
 use Rattle.std.proofs.Math.Seq.{drop-append_seam}
 use Rattle.std.proofs.lemmas.List.{map-append}
@@ -98,7 +99,8 @@ module _ (g : ComponentDfg) (ms : List ModuleTranslation) (f : Finish) (s : Stat
 
   before : (p : plan.PlanView Mark) → Extends g ms later p → Extends g ms f p
   before p extends =
-      extends_before g f later.steps later.instances f.counts.instances later.resources ms p (omega arith) longer extends
+      extends_before g f later.steps later.instances f.counts.instances later.resources ms p (omega arith) longer
+      extends
 
   steps_later : steps_view later ≡ steps_view f ++ resource_view r ∷ []
   steps_later = map-append initializer_view f.steps (init.Resource r ∷ [])
@@ -110,7 +112,8 @@ module _ (g : ComponentDfg) (ms : List ModuleTranslation) (f : Finish) (s : Stat
         rw steps_later (run_more p (steps_view f) (resource_view r) start s then_ (reached.runs p (before p extends))
         (goes p (before p extends)) (is_within_counts g ms later then_ p counted extends));
     traced = λ p extends.
-        rw (steps_later, ← one_gained s r.rep v r.instance.0) (trace_more p (steps_view f) (resource_view r) start s then_
+        rw (steps_later, ← one_gained s r.rep v r.instance.0)
+        (trace_more p (steps_view f) (resource_view r) start s then_
         trace (reached.runs p (before p extends)) (reached.traced p (before p extends)) (goes p (before p extends))
         (is_within_counts g ms later then_ p counted extends));
     placed = record {

@@ -29,14 +29,15 @@ use Rattle.pc_finish.proofs.PartLemmas.{all_left, all_right}
 use Rattle.pc_finish.proofs.RepresentedLemmas.{options_parts}
 
 -- one number is that of one entry
-one_entry : (ns : List (Option ℕ)) (count : ℕ) → AreGiven (number_at ns) count → (a b n m : ℕ) → number_at ns a ≡ Some n
+pub one_entry : (ns : List (Option ℕ)) (count : ℕ) → AreGiven (number_at ns) count → (a b n m : ℕ)
+    → number_at ns a ≡ Some n
     → number_at ns b ≡ Some m → numbered ns a ≡ numbered ns b → a ≡ b
 one_entry ns count given a b n m at at' same =
     let one = ap (λ o. unwrap_or o 0) (sym at) ∙ same ∙ ap (λ o. unwrap_or o 0) at' in
     given.once a b n at (at' ∙ ap (λ k. Some k) (sym one))
 
 -- what has one image is one, where it is so for what is there
-one_maybe : {K V : Type 0} (f : K → V) (P : Option K → Type 0)
+pub one_maybe : {K V : Type 0} (f : K → V) (P : Option K → Type 0)
     → ((a b : K) → P (Some a) → P (Some b) → f a ≡ f b → a ≡ b) → (o p : Option K) → P o → P p
     → option_map f o ≡ option_map f p → o ≡ p
 one_maybe f P one None None a b same = refl
@@ -54,7 +55,7 @@ realloc_of plan_model.Gc = None
 realloc_of (plan_model.LinearMemory o) = o.realloc
 
 module _ (f : Finish) (fills : Fills f) where
-  one_memory : (a b : MemoryId) → All (HasNumber f) (maybe_slot plan.memory (Some a.0))
+  pub one_memory : (a b : MemoryId) → All (HasNumber f) (maybe_slot plan.memory (Some a.0))
       → All (HasNumber f) (maybe_slot plan.memory (Some b.0)) → memory_in f a ≡ memory_in f b → a ≡ b
   unfolding number_of
   one_memory a b has has' same =
@@ -74,7 +75,7 @@ module _ (f : Finish) (fills : Fills f) where
       (ap (λ i. i.0) same) in
       ap (λ k. record { 0 = k }) one
 
-  one_callback : (a b : CallbackId) → All (HasNumber f) (maybe_slot plan.callback (Some a.0))
+  pub one_callback : (a b : CallbackId) → All (HasNumber f) (maybe_slot plan.callback (Some a.0))
       → All (HasNumber f) (maybe_slot plan.callback (Some b.0)) → callback_in f a ≡ callback_in f b → a ≡ b
   unfolding number_of
   one_callback a b has has' same =
@@ -84,7 +85,7 @@ module _ (f : Finish) (fills : Fills f) where
       (ap (λ i. i.0) same) in
       ap (λ k. record { 0 = k }) one
 
-  one_post_return : (a b : PostReturnId) → All (HasNumber f) (maybe_slot plan.post_return (Some a.0))
+  pub one_post_return : (a b : PostReturnId) → All (HasNumber f) (maybe_slot plan.post_return (Some a.0))
       → All (HasNumber f) (maybe_slot plan.post_return (Some b.0)) → post_return_in f a ≡ post_return_in f b → a ≡ b
   unfolding number_of
   one_post_return a b has has' same =
@@ -96,16 +97,16 @@ module _ (f : Finish) (fills : Fills f) where
       ap (λ k. record { 0 = k }) one
 
   -- what a maybe left out slot depends on has its number
-  abbrev Memories : Option MemoryId → Type 0
+  abbrev pub Memories : Option MemoryId → Type 0
   Memories m = All (HasNumber f) (maybe_slot plan.memory (option_map (λ (k : MemoryId). k.0) m))
 
   abbrev Reallocs : Option ReallocId → Type 0
   Reallocs r = All (HasNumber f) (maybe_slot plan.realloc (option_map (λ (k : ReallocId). k.0) r))
 
-  abbrev Callbacks : Option CallbackId → Type 0
+  abbrev pub Callbacks : Option CallbackId → Type 0
   Callbacks c = All (HasNumber f) (maybe_slot plan.callback (option_map (λ (k : CallbackId). k.0) c))
 
-  abbrev PostReturns : Option PostReturnId → Type 0
+  abbrev pub PostReturns : Option PostReturnId → Type 0
   PostReturns p = All (HasNumber f) (maybe_slot plan.post_return (option_map (λ (k : PostReturnId). k.0) p))
 
   one_model : (a b : Model) → All (HasNumber f) (in_model (model_entry a))

@@ -1,5 +1,6 @@
 -- A slot that is filled.
-use Rattle.std.proofs.Common.{◌≡◌, ◌≤◌, ◌<◌, ◌+◌, ℕ, Bool, true, false, List, [], ◌∷◌, ◌++◌, length, All, Option, None, Some, refl, sym, ap, subst, ◌∙◌, inl, inr, ◌⊎◌, true≢false, arith}
+use Rattle.std.proofs.Common.{◌≡◌, ◌≤◌, ◌<◌, ◌+◌, ℕ, Bool, true, false, List, [], ◌∷◌, ◌++◌, length, All, Option, None}
+use Rattle.std.proofs.Common.{Some, refl, sym, ap, subst, ◌∙◌, inl, inr, ◌⊎◌, true≢false, arith}
 use Rattle.std.specs.Prelude.{slice_get, slice_set, ◌==◌}
 use Rattle.std.proofs.lemmas.Bool.{eq-eqb}
 use Rattle.std.proofs.lemmas.List.{length-append, length-set, append-nil}
@@ -95,9 +96,30 @@ pub same_else : (k : plan.SlotKind) (n v : ℕ) (c : Counts) (m : Numbers)
 same_else k n v c m = by k
   where
     by : (l : plan.SlotKind) → SameElse c (more_slots l c) m (number_slot l n v m)
-    by plan.memory = record { instances = refl; lowerings = refl; options = refl; lowered = refl; trampolines = refl; adapter_modules = refl }
-    by plan.table = record { instances = refl; lowerings = refl; options = refl; lowered = refl; trampolines = refl; adapter_modules = refl }
-    by l = record { instances = refl; lowerings = refl; options = refl; lowered = refl; trampolines = refl; adapter_modules = refl }
+    by plan.memory = record {
+      instances = refl;
+      lowerings = refl;
+      options = refl;
+      lowered = refl;
+      trampolines = refl;
+      adapter_modules = refl;
+    }
+    by plan.table = record {
+      instances = refl;
+      lowerings = refl;
+      options = refl;
+      lowered = refl;
+      trampolines = refl;
+      adapter_modules = refl;
+    }
+    by l = record {
+      instances = refl;
+      lowerings = refl;
+      options = refl;
+      lowered = refl;
+      trampolines = refl;
+      adapter_modules = refl;
+    }
 
 module _ (s : State Mark) (v : CoreValue Mark) where
   -- a slot of a state is filled
@@ -252,7 +274,8 @@ module _ (g : ComponentDfg) (f : Finish) (k : plan.SlotKind) (n : ℕ) (d : Core
       slots : (l : plan.SlotKind)
           → slot_count (add_slot k n i f) l ≡ slot_count f l + one (fills l (initializer_view i))
       slots l =
-          elim (kinds k l) as (λ _. slot_count (add_slot k n i f) l ≡ slot_count f l + one (fills l (initializer_view i))) [
+          elim (kinds k l) as (λ _. slot_count (add_slot k n i f) l ≡ slot_count f l + one
+          (fills l (initializer_view i))) [
             | inl same ↦ subst (λ (q : plan.SlotKind). slot_count (add_slot k n i f) q
                 ≡ slot_count f q + one (fills q (initializer_view i))) same
                 (some _ _ _ (count_same f n i k) (ap (λ (j : plan.Initializer). one (fills k j)) view ∙ itself k))

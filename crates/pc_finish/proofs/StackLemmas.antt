@@ -1,7 +1,9 @@
 -- What waits on the stack, and what is reached when the stack is empty.
-use Rattle.std.proofs.Common.{◌≡◌, ◌++◌, inl, inr, ◌<◌, ◌≤◌, List, [], ◌∷◌, All, length, Option, None, Some, refl, sym, ap, subst, ◌∙◌, arith}
+use Rattle.std.proofs.Common.{◌≡◌, ◌++◌, inl, inr, ◌<◌, List, [], ◌∷◌, All, length, Option, None, Some, refl, sym, ap}
+use Rattle.std.proofs.Common.{subst, ◌∙◌, arith}
 use Rattle.std.proofs.lemmas.List.{append-nil, append_assoc}
-use Rattle.std.proofs.lemmas.List.Elements.{All-nil, All-cons, All-append, All-push, All-weaker, All-contains_itself, All-head}
+use Rattle.std.proofs.lemmas.List.Elements.{All-nil, All-cons, All-append, All-push, All-weaker, All-contains_itself}
+use Rattle.std.proofs.lemmas.List.Elements.{All-head}
 use Rattle.std.proofs.lemmas.Option.{none-some}
 use Rattle.std.specs.List.{Contains}
 use Rattle.pc_info.specs.declared.module.ModuleTranslation.{ModuleTranslation}
@@ -13,9 +15,9 @@ use Rattle.pc_finish.specs.declared.id.Task.TheVariants as task
 use Rattle.pc_finish.specs.declared.state.Finish.{Finish}
 use Rattle.pc_finish.specs.Added.{IsFull}
 use Rattle.pc_finish.specs.Closed.{Closed, Continues, Fits, Valued}
-use Rattle.pc_finish.specs.Full.{HasTooMany}
 use Rattle.pc_finish.specs.Grouped.{IsGrouped}
-use Rattle.pc_finish.specs.Once.{Fills, OnlyFrom}
+use Rattle.pc_finish.specs.Once.{OnlyFrom}
+use Rattle.pc_finish.specs.Outgrown.{Outgrows}
 use Rattle.pc_finish.specs.Parts.{HasNumber, number_of, parts}
 use Rattle.pc_finish.specs.Reached.{GoesOn}
 use Rattle.pc_finish.specs.Ready.{CanClose, IsReady, Leads, here, through}
@@ -294,10 +296,10 @@ module _ (g : ComponentDfg) (ordered : IsOrdered g) (grouped : IsGrouped g) wher
 
 -- where a list is full on the way, the graph has too many entries
 pub ongoing_full : (g : ComponentDfg) (old f : Finish) (root x : Id) (tasks : List Task)
-    → Ongoing g old f root tasks → IsFull f x → Fills old → length old.instances ≤ length g.instances → HasTooMany g
+    → Ongoing g old f root tasks → IsFull f x → Outgrows g old
 ongoing_full g old f root x tasks on full fills made =
     let later = on.continues in
-    (x, full_too_many g f later.fits (later.fills fills) (omega (arith, made, ap length later.instances)) x full)
+    full_too_many g f later.fits (later.fills fills) (omega (arith, made, ap length later.instances)) x full
 
 -- nothing is on an empty stack
 pub emptied : (tasks : List Task) → length tasks ≡ 0 → tasks ≡ []

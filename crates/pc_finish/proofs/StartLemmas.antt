@@ -31,6 +31,7 @@ use Rattle.pc_finish.specs.Parts.{HasNumber, number_of, slot_numbers}
 use Rattle.pc_finish.specs.Plan.{slot_count}
 use Rattle.pc_finish.specs.Reached.{Filled, Reached}
 use Rattle.pc_finish.specs.Whole.{empty_plan}
+use Rattle.pc_finish.proofs.StepNameLemmas.{none_named}
 
 -- no entry has a number
 pub none_numbered : (n k m : ℕ) → number_at (replicate n None) k ≡ Some m → ⊥
@@ -40,7 +41,8 @@ none_numbered (suc n) (suc k) m at = none_numbered n k m at
 
 -- no intrinsic has a signature
 none_signed : (n k m : ℕ)
-    → option_map (λ (s : ModuleInternedTypeIndex). k) (option_and_then as_option (slice_get (replicate n packed.None) k))
+    → option_map (λ (s : ModuleInternedTypeIndex). k)
+    (option_and_then as_option (slice_get (replicate n packed.None) k))
     ≡ Some m → ⊥
 none_signed n k m at = by n k k at
   where
@@ -165,10 +167,12 @@ module _ (g : ComponentDfg) where
     represents = record {
       intrinsics = λ n s at. absurd (none_recorded 21 n s at);
       parts = λ x has. absurd (none_has x has);
+      named = λ x has. absurd (none_has x has);
       options = λ k n at. absurd (none_numbered (length g.options) k n at);
       trampolines = λ t n at. absurd (none_numbered (length g.trampolines) t n at);
     };
     here = All-nil (HasNumber (empty_plan g));
+    named = none_named (empty_plan g) [];
     used = λ y has. absurd (none_has y has);
     instances = refl;
     resources = refl;

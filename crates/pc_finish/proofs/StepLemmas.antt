@@ -1,5 +1,6 @@
 -- A run that goes on by one step, and what it does by that.
-use Rattle.std.proofs.Common.{◌≡◌, ℕ, ◌≤◌, ◌++◌, ◌∷◌, [], Bool, true, false, List, length, Option, None, Some, refl, sym, ap, ◌∙◌, arith}
+use Rattle.std.proofs.Common.{◌≡◌, ℕ, ◌≤◌, ◌++◌, ◌∷◌, [], Bool, true, false, List, length, Option, None, Some, refl}
+use Rattle.std.proofs.Common.{sym, ap, ◌∙◌, arith}
 use Rattle.std.specs.Prelude.{option_and_then, option_map, if◌then◌else◌, nat_le}
 use Rattle.std.proofs.lemmas.List.{append-nil, append_assoc}
 use Rattle.std.proofs.lemmas.Option.{none-some, same_Some}
@@ -77,7 +78,8 @@ module _ (p : plan.PlanView Mark) where
           (trace_from p all_linked (is ++ i ∷ []) n) else None) ≡ Some (trace ++ gained t u)
       here n false h d later = absurd (none-some t h)
       here n true h d later =
-          let rest = behind_map (λ (more : List (Entry Mark)). gained s n ++ more) (trace_from p all_linked is n) trace d in
+          let rest = behind_map (λ (more : List (Entry Mark)). gained s n ++ more) (trace_from p all_linked is n)
+          trace d in
           ap (option_map (λ (more : List (Entry Mark)). gained s n ++ more)) (later n rest.0 h rest.1)
           ∙ ap Some (sym (append_assoc (gained s n) rest.0 (gained t u)) ∙ ap (λ es. es ++ gained t u) rest.2)
 

@@ -1,4 +1,4 @@
--- A trampoline of the plan names the options entries of what it depends on.
+-- A trampoline of the plan names what that of the graph depends on, options entries among it.
 use Rattle.std.proofs.Common.{◌≡◌, ◌++◌, inl, inr, ℕ, zero, suc, [], ◌∷◌, map, None, Some, ap, ◌∙◌, arith}
 use Rattle.std.specs.Prelude.{unwrap_or}
 use Rattle.std.specs.List.{Contains, flat_map}
@@ -11,12 +11,13 @@ use Rattle.pc_types.specs.declared.trampoline.TrampolineKind.{TrampolineKind}
 use Rattle.pc_semantics.specs.PlanView as plan
 use Rattle.pc_trampoline.specs.declared.part.Head.{Head}
 use Rattle.pc_trampoline.specs.declared.part.Head.TheVariants as head
+use Rattle.pc_trampoline.specs.declared.part.Mark.{Mark}
 use Rattle.pc_trampoline.specs.declared.part.Mark.TheVariants as mark
 use Rattle.pc_trampoline.specs.declared.part.Part.TheVariants as part
 use Rattle.pc_trampoline.specs.declared.part.PartList.{PartList}
 use Rattle.pc_trampoline.specs.declared.part.PartList.TheVariants as list
 use Rattle.pc_trampoline.specs.Parts.{list_of}
-use Rattle.pc_trampoline.specs.View.{entry_of, part_by, parts_entry, plan_numbers}
+use Rattle.pc_trampoline.specs.View.{entry_of, part_by, parts_entry, plan_numbers, signed}
 use Rattle.pc_dfg.specs.Numbers.{graph_numbers}
 use Rattle.pc_finish.specs.declared.id.Id.{Id}
 use Rattle.pc_finish.specs.declared.id.Id.TheVariants as id
@@ -27,17 +28,46 @@ use Rattle.pc_finish.specs.Numbers.{number_at, numbered}
 use Rattle.pc_finish.specs.Parts.{in_part, in_trampoline, options_id}
 
 -- the one item of a list
-one_in : {A : Type 0} (x y : A) → Contains (x ∷ []) y → x ≡ y
+pub one_in : {A : Type 0} (x y : A) → Contains (x ∷ []) y → x ≡ y
 one_in x y (zero, below, is) = is
 one_in x y (suc k, below, is) = absurd (omega (arith, below))
 
-none_in : {A : Type 0} (y : A) → Contains [] y → ⊥
+pub none_in : {A : Type 0} (y : A) → Contains [] y → ⊥
 none_in y (k, below, is) = absurd (omega (arith, below))
 
 -- the number of options
 abbrev options_of : Id → ℕ
 options_of (id.Options o) = o.0
 options_of x = 0
+
+module _ (f : Finish) (y : Id) (q : plan.TrampolinePart Mark)
+    (named : (p : GraphPart) → Contains (in_part (part_by graph_numbers p)) y
+    → part_by plan_numbers (part_in f p) ≡ q) where
+  list_names : (ps : PartList GraphPart) → Contains (flat_map in_part (map (part_by graph_numbers) (list_of ps))) y
+      → Contains (map (part_by plan_numbers) (list_of (list_in f ps))) q
+  list_names list.Empty inside = absurd (none_in y inside)
+  list_names (list.One p) inside =
+      elim (Contains-append_cases (in_part (part_by graph_numbers p)) [] y inside) [
+        | inl first ↦ (0, omega arith, named p first)
+        | inr rest ↦ absurd (none_in y rest)
+      ]
+  list_names (list.Two p r) inside =
+      let second = in_part (part_by graph_numbers r) in
+      elim (Contains-append_cases (in_part (part_by graph_numbers p)) (second ++ []) y inside) [
+        | inl here ↦ (0, omega arith, named p here)
+        | inr rest ↦ elim (Contains-append_cases second [] y rest) [
+          | inl here ↦ (1, omega arith, named r here)
+          | inr none ↦ absurd (none_in y none)
+        ]
+      ]
+
+  -- where the parts of a graph's trampoline depend on an id, those of the plan's name what it became
+  pub signed_names : (s : ModuleInternedTypeIndex) (ps : PartList GraphPart)
+      → Contains (flat_map in_part (map (part_by graph_numbers) (list_of ps))) y
+      → Contains (signed plan_numbers s (list_of (list_in f ps))) q
+  signed_names s ps inside =
+      Contains-append_right (plan.mark (mark.Signature s) ∷ []) (map (part_by plan_numbers) (list_of (list_in f ps))) q
+      (list_names ps inside)
 
 module _ (f : Finish) (o m : ℕ) (has : number_at f.numbers.options o ≡ Some m) where
   -- the options of this number are the plan's entry m
@@ -61,25 +91,6 @@ module _ (f : Finish) (o m : ℕ) (has : number_at f.numbers.options o ≡ Some 
   part_takes (part.Options q) inside =
       ap (λ n. plan.options n) (options_are q.0 (one_in (options_id q.0) (options_id o) inside))
 
-  list_takes : (ps : PartList GraphPart)
-      → Contains (flat_map in_part (map (part_by graph_numbers) (list_of ps))) (options_id o)
-      → Contains (map (part_by plan_numbers) (list_of (list_in f ps))) (plan.options m)
-  list_takes list.Empty inside = absurd (none_in (options_id o) inside)
-  list_takes (list.One p) inside =
-      elim (Contains-append_cases (in_part (part_by graph_numbers p)) [] (options_id o) inside) [
-        | inl first ↦ (0, omega arith, part_takes p first)
-        | inr rest ↦ absurd (none_in (options_id o) rest)
-      ]
-  list_takes (list.Two p q) inside =
-      let second = in_part (part_by graph_numbers q) in
-      elim (Contains-append_cases (in_part (part_by graph_numbers p)) (second ++ []) (options_id o) inside) [
-        | inl here ↦ (0, omega arith, part_takes p here)
-        | inr rest ↦ elim (Contains-append_cases second [] (options_id o) rest) [
-          | inl here ↦ (1, omega arith, part_takes q here)
-          | inr none ↦ absurd (none_in (options_id o) none)
-        ]
-      ]
-
   head_takes : (s : ModuleInternedTypeIndex) (t : TrampolineIndex) (k : TrampolineKind)
       (h : Head RuntimeImportIndex OptionsId) (ps : PartList GraphPart)
       → Contains (in_trampoline t (entry_of graph_numbers s k h (list_of ps))) (options_id o)
@@ -88,11 +99,8 @@ module _ (f : Finish) (o m : ℕ) (has : number_at f.numbers.options o ≡ Some 
   head_takes s t k (head.Lowering r ty q) ps (suc zero, below, is) = options_are q.0 is
   head_takes s t k (head.Lowering r ty q) ps (suc (suc i), below, is) = absurd (omega (arith, below))
   head_takes s t k (head.Builtin c) ps inside =
-      Contains-append_right (plan.mark (mark.Signature s) ∷ []) (map (part_by plan_numbers) (list_of (list_in f ps)))
-      (plan.options m) (list_takes ps inside)
-  head_takes s t k h ps inside =
-      Contains-append_right (plan.mark (mark.Signature s) ∷ []) (map (part_by plan_numbers) (list_of (list_in f ps)))
-      (plan.options m) (list_takes ps inside)
+      signed_names f (options_id o) (plan.options m) part_takes s ps inside
+  head_takes s t k h ps inside = signed_names f (options_id o) (plan.options m) part_takes s ps inside
 
   -- what a graph's trampoline depends on, the plan's trampoline names
   pub parts_take : (s : ModuleInternedTypeIndex) (t : TrampolineIndex) (p : GraphParts)

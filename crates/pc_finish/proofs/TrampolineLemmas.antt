@@ -1,5 +1,6 @@
 -- A trampoline that gets its number: the run stays where it is.
-use Rattle.std.proofs.Common.{◌≡◌, ◌<◌, ◌+◌, ℕ, zero, suc, List, [], ◌∷◌, ◌++◌, length, All, Option, None, Some, refl, sym, ap, subst, ◌∙◌, inl, inr, ◌⊎◌, arith}
+use Rattle.std.proofs.Common.{◌≡◌, ◌<◌, ◌+◌, ℕ, zero, suc, List, [], ◌∷◌, ◌++◌, length, All, Option, None, Some, refl}
+use Rattle.std.proofs.Common.{sym, ap, subst, ◌∙◌, inl, inr, ◌⊎◌, arith}
 use Rattle.std.specs.Prelude.{slice_get, option_and_then, option_map, unwrap_or}
 use Rattle.std.proofs.lemmas.List.{length-append, length-set}
 use Rattle.std.proofs.lemmas.Option.{none-some, same_Some, slice_get_within}
@@ -38,7 +39,7 @@ use Rattle.pc_finish.proofs.FillLemmas.{trampoline_fills}
 use Rattle.pc_finish.proofs.NoteLemmas.{notes_here, notes_numbered, notes_only, trampoline_noted}
 use Rattle.pc_finish.proofs.NumberLemmas.{number_back}
 use Rattle.pc_finish.proofs.NumberedLemmas.{trampoline_means}
-use Rattle.pc_finish.proofs.RepresentedLemmas.{represents_trampoline}
+use Rattle.pc_finish.proofs.RepresentedLemmas.{notes_stay, represents_trampoline}
 
 -- a trampoline of a plan under the core signature of its place
 abbrev signed_at : List ModuleInternedTypeIndex → ℕ → PlanTrampoline → plan.TrampolineEntry Mark
@@ -154,6 +155,7 @@ module _ (g : ComponentDfg) (f : Finish) (t : TrampolineIndex) (x : SignedTrampo
       counts = λ c.
           record { instances = c.instances; lowerings = c.lowerings; slots = c.slots; resources = c.resources };
       numbered = notes_numbered f with_trampoline (id.Trampoline t) (length f.trampolines) noted;
+      stay = notes_stay f with_trampoline (id.Trampoline t) (length f.trampolines) noted fresh;
       fits = record {
         memories = fits.memories;
         tables = fits.tables;

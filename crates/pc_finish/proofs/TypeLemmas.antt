@@ -1,5 +1,6 @@
 -- The types of module types of a table, with one more.
-use Rattle.std.proofs.Common.{◌≡◌, ◌<◌, ◌+◌, ℕ, List, length, All, Option, None, Some, true, take, refl, sym, ap, subst, subst₂, ◌∙◌, ◌⊎◌, inl, inr, true≢false, rules}
+use Rattle.std.proofs.Common.{◌≡◌, ◌<◌, ◌+◌, ℕ, List, length, All, Option, None, Some, true, take, refl, sym, ap, subst}
+use Rattle.std.proofs.Common.{subst₂, ◌∙◌, ◌⊎◌, inl, inr, true≢false, rules}
 use Rattle.std.specs.Prelude.{slice_get, slice_set, option_and_then}
 use Rattle.std.specs.Option.{IsSome, IfSome}
 use Rattle.std.proofs.lemmas.Bool.{cases_eq}
@@ -16,7 +17,9 @@ use Rattle.pc_builder.specs.Types.{Grows, Types}
 use Rattle.pc_builder.specs.Trees.{IsEntry}
 use Rattle.pc_builder.proofs.TreeLemmas.{entry_grows}
 use Rattle.pc_dfg.specs.declared.export.Export.{Export}
-use Rattle.pc_finish.specs.ModuleTypes.{AreModuleTypes, IsModuleType, IsTyped, KeepsTypes, static_type, type_at}
+use Rattle.pc_dfg.specs.declared.export.Export.TheVariants as export
+use Rattle.pc_finish.specs.ModuleTypes.{AreModuleTypes, HasNoModule, IsModuleType, IsTyped, KeepsTypes, static_type}
+use Rattle.pc_finish.specs.ModuleTypes.{type_at}
 
 -- a module type is an entry of the table
 pub module_there : (t : TypeTable) (n : ℕ) → IsModuleType t n → n < length t.types
@@ -73,6 +76,12 @@ module _ (types : List (Option TypeModuleIndex)) (k : ℕ) (i : TypeModuleIndex)
       | inr was ↦ entry_grows old new grows t n (def.Module j) (are.entries n j was)
     ];
   }
+
+-- where none is a handed-in module, no export has the type of one
+pub none_static : (es : List Export) (n : ℕ) (e : Export) → HasNoModule es → slice_get es n ≡ Some e
+    → static_type e ≡ None
+none_static es n (export.ModuleStatic ty m) none at = absurd (none n ty m at)
+none_static es n e none at = refl
 
 -- an export whose type was converted has it still
 pub typed_still : (old new : List (Option TypeModuleIndex)) → KeepsTypes old new → (e : Export) → IsTyped old e

@@ -1,5 +1,6 @@
 -- Each options entry of a plan is named by a trampoline of it, or by what gave it its number.
-use Rattle.std.proofs.Common.{◌≡◌, ◌++◌, ◌⊎◌, inl, inr, ℕ, List, [], ◌∷◌, All, Option, None, Some, option_map, refl, ap, subst, ◌∙◌}
+use Rattle.std.proofs.Common.{◌≡◌, ◌++◌, ◌⊎◌, inl, inr, ℕ, List, [], ◌∷◌, All, Option, None, Some, option_map, refl}
+use Rattle.std.proofs.Common.{sym, ap, subst, ◌∙◌}
 use Rattle.std.specs.Prelude.{slice_get, unwrap_or}
 use Rattle.std.specs.List.{Contains, flat_map}
 use Rattle.std.proofs.lemmas.List.Elements.{All-append, All-contains, All-nil}
@@ -8,7 +9,8 @@ use Rattle.pc_numbers.specs.declared.entity_index.EntityIndex.{EntityIndex}
 use Rattle.pc_numbers.specs.declared.runtime.TrampolineIndex.{TrampolineIndex}
 use Rattle.pc_semantics.specs.PlanView as plan
 use Rattle.pc_trampoline.specs.declared.part.Mark.{Mark}
-use Rattle.pc_trampoline.specs.View.{entry_view}
+use Rattle.pc_trampoline.specs.Parts.{parts_of}
+use Rattle.pc_trampoline.specs.View.{entry_view, parts_entry, plan_numbers}
 use Rattle.pc_info.specs.View.{no_signature, trampolines_view}
 use Rattle.pc_dfg.specs.declared.core_def.CoreDef.{CoreDef}
 use Rattle.pc_dfg.specs.declared.core_def.CoreDef.TheVariants as def
@@ -20,10 +22,13 @@ use Rattle.pc_finish.specs.declared.state.Finish.{Finish}
 use Rattle.pc_finish.specs.Finishes.{TakesOptions}
 use Rattle.pc_finish.specs.Numbers.{number_at}
 use Rattle.pc_finish.specs.Once.{Alike, IsUsedBy, unsigned}
-use Rattle.pc_finish.specs.Parts.{HasNumber, in_def, in_entry, in_model, in_slot, maybe_slot, number_of, options_id, parts, slot_id}
+use Rattle.pc_finish.specs.Parts.{HasNumber, in_def, in_entry, in_model, in_slot, maybe_slot, number_of, options_id}
+use Rattle.pc_finish.specs.Parts.{parts, slot_id}
 use Rattle.pc_finish.specs.Ready.{Leads, here, through}
 use Rattle.pc_finish.specs.Represented.{Represents}
 use Rattle.pc_finish.proofs.PartLemmas.{all_each, all_one}
+use Rattle.pc_finish.proofs.RepresentedLemmas.{copied_parts}
+use Rattle.pc_finish.proofs.TakeLemmas.{parts_take}
 use Rattle.pc_finish.proofs.TrampolineLemmas.{first_view}
 
 -- an id that isn't one of options
@@ -100,7 +105,7 @@ module _ (g : ComponentDfg) where
   alike_options x k alike = alike
 
   -- what an id leads to is it itself, or a part of what it leads to
-  leads_last : (x z : Id) → Leads g x z → (x ≡ z) ⊎ ((y : Id) × Leads g x y × Contains (parts g y) z)
+  pub leads_last : (x z : Id) → Leads g x z → (x ≡ z) ⊎ ((y : Id) × Leads g x y × Contains (parts g y) z)
   leads_last x z here = inl refl
   leads_last x z (through {y = y} first leads) =
       elim (leads_last y z leads) [
@@ -110,7 +115,7 @@ module _ (g : ComponentDfg) where
 
   module _ (f : Finish) (is : Represents g f) where
     -- all that an id with a number leads to has one
-    leads_numbered : (x z : Id) → Leads g x z → HasNumber f x → HasNumber f z
+    pub leads_numbered : (x z : Id) → Leads g x z → HasNumber f x → HasNumber f z
     leads_numbered x z here has = has
     leads_numbered x z (through {y = y} first leads) has =
         leads_numbered y z leads (All-contains (HasNumber f) (parts g x) y (is.parts x has) first)
@@ -129,7 +134,13 @@ module _ (g : ComponentDfg) where
         let view = first_view f.signatures f.trampolines has.0
         ∙ ap (option_map (λ z. entry_view (unwrap_or (slice_get f.signatures has.0) no_signature) z)) e.there
         ∙ ap (λ o. Some (entry_view (unwrap_or o no_signature) e.made)) e.signature in
-        (has.0, entry_view e.entry.0 e.made, view, e.takes k n inside at)
+        let inner = subst (λ l. Contains l (options_id k)) (copied_parts g t.0 e.entry e.at) inside in
+        let takes = parts_take f k n at e.entry.0 t (parts_of e.entry.1) inner in (
+          has.0,
+          entry_view e.entry.0 e.made,
+          view,
+          subst (λ p. TakesOptions n (parts_entry plan_numbers e.entry.0 p)) (sym e.is) takes,
+        )
 
     -- an options entry is named by a trampoline of the plan, or is what an id with a number is
     pub used_options : (r : Id) (k n : ℕ) → HasNumber f r → IsUsedBy g r (options_id k)

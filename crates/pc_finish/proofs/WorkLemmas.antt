@@ -1,8 +1,10 @@
 -- The stack stands for less work after each task.
-use Rattle.std.proofs.Common.{◌≡◌, ◌+◌, ◌++◌, ◌⊎◌, inl, inr, ◌<◌, ◌≤◌, ℕ, zero, suc, List, [], ◌∷◌, All, length, sum_by, refl, sym, ap, ◌∙◌, arith}
+use Rattle.std.proofs.Common.{◌≡◌, ◌+◌, ◌++◌, ◌⊎◌, inl, inr, ◌<◌, ◌≤◌, ℕ, zero, suc, List, [], ◌∷◌, All, length, sum_by}
+use Rattle.std.proofs.Common.{refl, sym, ap, ◌∙◌, arith}
 use Rattle.std.specs.Prelude.{slice_get}
 use Rattle.std.specs.List.{Contains, flat_map}
-use Rattle.std.proofs.lemmas.List.Elements.{All-contains, All-weaker, All-contains_itself, Contains-append_left, Contains-append_right}
+use Rattle.std.proofs.lemmas.List.Elements.{All-contains, All-weaker, All-contains_itself, Contains-append_left}
+use Rattle.std.proofs.lemmas.List.Elements.{Contains-append_right}
 use Rattle.std.proofs.lemmas.List.FromFn.{length-map-range_with_len, get_or-map-range_with_len}
 use Rattle.std.proofs.lemmas.List.Sums.{sum_by-cons, sum_by-append, sum_by_push}
 use Rattle.pc_dfg.specs.declared.dfg.ComponentDfg.{ComponentDfg}
@@ -22,7 +24,8 @@ use Rattle.pc_finish.specs.Stack.{opens, Takes}
 use Rattle.pc_finish.specs.Work.{ids_below, ids_in, work, far, weight}
 use Rattle.pc_finish.proofs.OpenLemmas.{no_memory_parts, no_table_parts}
 use Rattle.pc_finish.proofs.RankLemmas.{lowers}
-use Rattle.pc_finish.proofs.SumLemmas.{below_itself, below_more, below_one, below_other, is_below, sum_above, sum_less, sum_ones, sum_same}
+use Rattle.pc_finish.proofs.SumLemmas.{below_itself, below_more, below_one, below_other, is_below, sum_above, sum_less}
+use Rattle.pc_finish.proofs.SumLemmas.{sum_ones, sum_same}
 
 -- an id by number is among those of its kind
 among_below : (f : ℕ → Id) (n k : ℕ) → k < n → Contains (ids_below f n) (f k)

@@ -1,5 +1,6 @@
 -- What becomes of a plan when an id gets its number, and with it all that it leads to.
-use Rattle.std.specs.Prelude.{◌≡◌, ℕ, ◌++◌, Bool, true, List, [], ◌∷◌, length, map, Option, None, Some, slice_get, All, false, count_by}
+use Rattle.std.specs.Prelude.{◌≡◌, ℕ, ◌++◌, Bool, true, List, [], ◌∷◌, length, map, Option, None, Some, slice_get, All}
+use Rattle.std.specs.Prelude.{false, count_by}
 use Rattle.pc_semantics.specs.CoreValue.{CoreValue, Options}
 use Rattle.pc_semantics.specs.Counts.{makes_instance, lowers_import, fills, declares_resource}
 use Rattle.pc_semantics.specs.PlanView as plan
@@ -15,7 +16,7 @@ use Rattle.pc_dfg.specs.Numbers.{slots_of}
 use Rattle.pc_finish.specs.declared.id.Id.{Id}
 use Rattle.pc_finish.specs.declared.id.Id.TheVariants as id
 use Rattle.pc_finish.specs.declared.state.Finish.{Finish}
-use Rattle.pc_finish.specs.Once.{Fills, OnlyFrom}
+use Rattle.pc_finish.specs.Once.{Fills, OnlyFrom, Stay}
 use Rattle.pc_finish.specs.Parts.{HasNumber}
 use Rattle.pc_finish.specs.Plan.{slot_count, steps_view}
 use Rattle.pc_finish.specs.Reached.{GoesOn}
@@ -78,6 +79,7 @@ pub record CountsSteps (f : Finish) : Type 0 where
 pub record Continues (g : ComponentDfg) (old new : Finish) : Type 0 where
   pub counts : CountsSteps old → CountsSteps new
   pub numbered : (y : Id) → HasNumber old y → HasNumber new y
+  pub stay : Stay old new
   pub fits : Fits g new
   pub instances : new.instances ≡ old.instances
   pub resources : new.resources ≡ old.resources

@@ -1,5 +1,6 @@
 -- What becomes of a plan when a side effect of the graph is done.
-use Rattle.std.specs.Prelude.{◌≡◌, All, Contains, ℕ, ◌+◌, ◌++◌, ◌∷◌, [], List, Option, Some, length, map, take, option_map, slice_get}
+use Rattle.std.specs.Prelude.{◌≡◌, All, Contains, ℕ, ◌+◌, ◌++◌, ◌∷◌, [], List, Option, Some, length, map, take}
+use Rattle.std.specs.Prelude.{option_map, slice_get}
 use Rattle.std.specs.List.{AllZip, filter_map, flat_map}
 use Rattle.pc_numbers.specs.declared.runtime.RuntimeComponentInstanceIndex.{RuntimeComponentInstanceIndex}
 use Rattle.pc_semantics.specs.Log.{Entry}
@@ -27,10 +28,10 @@ use Rattle.pc_finish.specs.declared.state.Finish.{Finish}
 use Rattle.pc_finish.specs.Arguments.{NumbersAll, OnlyFromThese, host_in}
 use Rattle.pc_finish.specs.Closed.{CountsSteps, Fits}
 use Rattle.pc_finish.specs.Converted.{def_in}
-use Rattle.pc_finish.specs.Once.{Fills, IsUsedBy}
+use Rattle.pc_finish.specs.Once.{Fills, IsUsedBy, Stay}
 use Rattle.pc_finish.specs.Parts.{HasNumber, in_def}
 use Rattle.pc_finish.specs.Reached.{Reached}
-use Rattle.pc_finish.specs.Represented.{Represents}
+use Rattle.pc_finish.specs.Represented.{AreNamed, Keeps, Represents}
 use Rattle.pc_finish.specs.Wired.{IsWired}
 
 -- a module with its arguments, as the plan has it
@@ -106,6 +107,9 @@ pub record IsDone (g : ComponentDfg) (old new : Finish) (e : SideEffect) : Type 
   pub represents : Represents g old → Represents g new
   pub only : OnlyFromThese g old new (ids_in g e)
   pub numbered : (y : Id) → HasNumber old y → HasNumber new y
+  pub stay : Stay old new
+  pub keeps : Keeps old.steps new.steps
+  pub named : AreNamed new new.steps (ids_in g e)
   pub here : All (HasNumber new) (ids_in g e)
   pub instances : length new.instances ≡ length old.instances + length (if_any (made_by e))
   pub resources : new.resources ≡ old.resources ++ owner_of g e
@@ -120,6 +124,8 @@ pub record DoneBefore (g : ComponentDfg) (i : ℕ) (f : Finish) : Type 0 where
   pub represents : Represents g f
   -- what they depend on has its number
   pub here : All (HasNumber f) (ids_in_all g (take i g.side_effects))
+  -- and the steps name the trampolines among it
+  pub named : AreNamed f f.steps (ids_in_all g (take i g.side_effects))
   -- only what they lead to has a number
   pub used : (y : Id) → HasNumber f y
       → (x : Id) × Contains (ids_in_all g (take i g.side_effects)) x × IsUsedBy g x y

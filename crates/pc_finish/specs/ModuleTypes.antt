@@ -1,5 +1,7 @@
 -- The types of handed-in modules that a graph exports, as numbers of the types builder.
-use Rattle.std.specs.Prelude.{◌≡◌, ℕ, true, List, length, Option, None, Some, slice_get, option_and_then, unwrap_or, IsSome, IsSomeAnd, IfSome}
+use Rattle.std.specs.Prelude.{◌≡◌, ℕ, true, List, length, Option, None, Some, slice_get, option_and_then, unwrap_or}
+use Rattle.std.specs.Prelude.{IsSome, IsSomeAnd, IfSome}
+use Rattle.pc_numbers.specs.declared.component_entity.StaticModuleIndex.{StaticModuleIndex}
 use Rattle.pc_types.specs.declared.parsed.TypeTable.{TypeTable}
 use Rattle.pc_types.specs.declared.type_index.TypeModuleIndex.{TypeModuleIndex}
 use Rattle.pc_types.specs.declared.types.TypeDef.TheVariants as def
@@ -34,6 +36,10 @@ static_type (export.ModuleStatic ty m) = Some ty
 static_type (export.ModuleImport ty r) = None
 static_type (export.Instance ty es) = None
 static_type (export.Type_ ty) = None
+
+-- none of these exports is a handed-in module
+abbrev pub HasNoModule : List Export → Type 0
+HasNoModule es = (n ty : ℕ) (m : StaticModuleIndex) → slice_get es n ≡ Some (export.ModuleStatic ty m) → ⊥
 
 -- a handed-in module that is exported has a module type of the table
 abbrev pub HasModuleType : TypeTable → Export → Type 0

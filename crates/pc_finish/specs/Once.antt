@@ -60,6 +60,10 @@ IsUsedBy g x y = (z : Id) × Leads g x z × Alike z y
 abbrev pub OnlyFrom : ComponentDfg → (old new : Finish) → Id → Type 0
 OnlyFrom g old new x = (y : Id) → HasNumber new y → HasNumber old y ⊎ IsUsedBy g x y
 
+-- what has a number keeps it
+abbrev pub Stay : (old new : Finish) → Type 0
+Stay old new = (y : Id) (n : ℕ) → number_of old y ≡ Some n → number_of new y ≡ Some n
+
 -- an id has this number now, and all others have what they had
 pub record Notes (old new : Finish) (x : Id) (n : ℕ) : Type 0 where
   pub here : number_of new x ≡ Some n

@@ -1,5 +1,6 @@
 -- What an id depends on, and its number in the plan.
-use Rattle.std.specs.Prelude.{◌≡◌, ℕ, List, [], ◌∷◌, ◌++◌, Option, None, Some, map, option_map, option_and_then, slice_get}
+use Rattle.std.specs.Prelude.{◌≡◌, ℕ, List, [], ◌∷◌, ◌++◌, Option, None, Some, map, option_map, option_and_then}
+use Rattle.std.specs.Prelude.{slice_get}
 use Rattle.std.specs.List.{flat_map}
 use Rattle.pc_entity.specs.PackedOption.{as_option}
 use Rattle.pc_intern.specs.declared.ids.AdapterModuleId.{AdapterModuleId}

@@ -67,8 +67,9 @@ pub record IsMade (b : Types) (t : TypeTable) (g : ComponentDfg) (f : Finish) (n
   pub are : AreModuleTypes b t types
   pub typed : All (IsTyped types) g.export_items
   pub exports : Exports g types f names items
-  -- no options of the graph stand twice
+  -- no options and no trampolines of the graph stand twice
   pub distinct : AreDistinct g.options
+  pub apart : AreDistinct g.trampolines
 
 -- a plan that was made, with its exports
 abbrev pub component_of : ComponentDfg → Finish → Contents (List ℕ) Target → List PlanItem → Component

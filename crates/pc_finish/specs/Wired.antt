@@ -1,5 +1,6 @@
 -- A graph is wired to core modules: each module is given what it imports, and has what is taken from its instances.
-use Rattle.std.specs.Prelude.{◌≡◌, ◌<◌, ◌≤◌, ◌+◌, ◌==◌, ℕ, Bool, true, false, List, length, filter, Some, slice_get, Contains}
+use Rattle.std.specs.Prelude.{◌≡◌, ◌<◌, ◌≤◌, ◌+◌, ◌==◌, ℕ, Bool, true, false, List, length, filter, Some, slice_get}
+use Rattle.std.specs.Prelude.{Contains}
 use Rattle.std.specs.List.{list_all, AllZip}
 use Rattle.pc_intern.specs.declared.ids.AdapterModuleId.{AdapterModuleId}
 use Rattle.pc_intern.specs.declared.ids.OptionsId.{OptionsId}

@@ -1,13 +1,15 @@
 //! Arguments of core modules. All that they depend on gets its number first; then they are looked up, so that nothing
 //! has to be carried over what the plan grows by.
 
-ghost use Rattle.std.specs.Prelude.{◌≡◌, ◌∷◌, [], All, IfOk, OnOk, length};
+ghost use Rattle.std.specs.Prelude.{◌≡◌, ◌∷◌, [], All, Err, IfOk, OnOk, length};
 ghost use Rattle.pc_dfg.specs.Names.{if_any};
 ghost use Rattle.pc_dfg.specs.Ordered.{IsOrdered};
+ghost use Rattle.pc_finish.specs.declared.error.FinishError.TheVariants as refusal;
 ghost use Rattle.pc_finish.specs.Arguments.{CanNumber, IsNumbered, NumbersAll, named_defs, host_defs};
 ghost use Rattle.pc_finish.specs.Arguments.{named_in, host_in};
 ghost use Rattle.pc_finish.specs.Closed.{Fits};
 ghost use Rattle.pc_finish.specs.Grouped.{IsGrouped};
+ghost use Rattle.pc_finish.specs.Outgrown.{Outgrows};
 ghost use Rattle.pc_finish.specs.Parts.{in_def};
 
 use crate::FinishError;
@@ -47,7 +49,8 @@ pub(crate) fn number_def(
     requires grouped { IsGrouped graph.now }
     requires ready { CanNumber graph.now (length finish.old.instances) def.now }
     requires fits { Fits graph.now finish.old }
-    ensures { OnOk result (NumbersAll graph.now finish.old finish.new (def.now ∷ [])) }
+    ensures numbers { OnOk result (NumbersAll graph.now finish.old finish.new (def.now ∷ [])) }
+    ensures full { result ≡ Err refusal.TooMany → Outgrows graph.now finish.old }
 {
     match id_in(graph, def) {
         Some(id) => number(alloc, graph, finish, id),
@@ -66,7 +69,8 @@ pub(crate) fn number_all(
     requires grouped { IsGrouped graph.now }
     requires ready { All (CanNumber graph.now (length finish.old.instances)) defs.now }
     requires fits { Fits graph.now finish.old }
-    ensures { OnOk result (NumbersAll graph.now finish.old finish.new defs.now) }
+    ensures numbers { OnOk result (NumbersAll graph.now finish.old finish.new defs.now) }
+    ensures full { result ≡ Err refusal.TooMany → Outgrows graph.now finish.old }
 {
     for def in defs {
         number_def(alloc, graph, finish, def)?;
@@ -85,7 +89,8 @@ fn number_named(
     requires grouped { IsGrouped graph.now }
     requires ready { All (CanNumber graph.now (length finish.old.instances)) (named_defs args.now) }
     requires fits { Fits graph.now finish.old }
-    ensures { OnOk result (NumbersAll graph.now finish.old finish.new (named_defs args.now)) }
+    ensures numbers { OnOk result (NumbersAll graph.now finish.old finish.new (named_defs args.now)) }
+    ensures full { result ≡ Err refusal.TooMany → Outgrows graph.now finish.old }
 {
     for place in 0..args.len() {
         let (_, def) = args.entry_at(place);
@@ -105,7 +110,8 @@ pub(crate) fn number_host(
     requires grouped { IsGrouped graph.now }
     requires ready { All (CanNumber graph.now (length finish.old.instances)) (host_defs args.now) }
     requires fits { Fits graph.now finish.old }
-    ensures { OnOk result (NumbersAll graph.now finish.old finish.new (host_defs args.now)) }
+    ensures numbers { OnOk result (NumbersAll graph.now finish.old finish.new (host_defs args.now)) }
+    ensures full { result ≡ Err refusal.TooMany → Outgrows graph.now finish.old }
 {
     for place in 0..args.len() {
         let (_, named) = args.entry_at(place);

@@ -1,15 +1,18 @@
 //! Side effects. Each becomes a step, in the order of the graph, once all that it names has a number.
 
-ghost use Rattle.std.specs.Prelude.{◌≡◌, ◌++◌, ◌∷◌, [], All, IfOk, OnOk, length, Some};
+ghost use Rattle.std.specs.Prelude.{◌≡◌, ◌≤◌, ◌++◌, ◌∷◌, [], ◌⊎◌, All, Err, IfOk, OnOk, length, Some};
 ghost use Rattle.pc_info.specs.declared.initializer.GlobalInitializer.TheVariants as init;
 ghost use Rattle.pc_dfg.specs.declared.instance.SideEffect.TheVariants as effect;
 ghost use Rattle.pc_dfg.specs.Names.{if_any, in_instance};
 ghost use Rattle.pc_dfg.specs.Ordered.{IsOrdered};
+ghost use Rattle.pc_finish.specs.declared.error.FinishError.TheVariants as refusal;
 ghost use Rattle.pc_finish.specs.Arguments.{CanNumber};
 ghost use Rattle.pc_finish.specs.Closed.{Fits};
+ghost use Rattle.pc_finish.specs.Full.{HasTooMany};
 ghost use Rattle.pc_finish.specs.Grouped.{IsGrouped};
 ghost use Rattle.pc_finish.specs.Made.{DoneBefore, IsDone, IsNext, Prepares, PreparesAny};
 ghost use Rattle.pc_finish.specs.Made.{with_instance, with_resource};
+ghost use Rattle.pc_finish.specs.Outgrown.{Outgrows};
 
 use crate::FinishError;
 use crate::arguments::{host_of, number_all, number_def, number_host};
@@ -33,7 +36,8 @@ fn instantiation_of(
     requires grouped { IsGrouped graph.now }
     requires ready { All (CanNumber graph.now (length finish.old.instances)) (in_instance instance.now) }
     requires fits { Fits graph.now finish.old }
-    ensures { IfOk result (λ m. Prepares graph.now finish.old finish.new instance.now m) }
+    ensures prepares { IfOk result (λ m. Prepares graph.now finish.old finish.new instance.now m) }
+    ensures full { result ≡ Err refusal.TooMany → Outgrows graph.now finish.old }
 {
     match instance {
         Instance::Static(module, args) => {
@@ -55,7 +59,9 @@ fn push_instance(
     instantiation: InstantiateModule,
     owner: RuntimeComponentInstanceIndex,
 ) -> Result<(), FinishError>
-    ensures { OnOk result (finish.new ≡ with_instance finish.old instantiation owner) }
+    ensures added { OnOk result (finish.new ≡ with_instance finish.old instantiation owner) }
+    ensures full { result ≡ Err refusal.TooMany
+        → (4294967294 ≤ finish.old.counts.instances) ⊎ (4294967294 ≤ length finish.old.instances) }
 {
     let number = next(finish.counts.instances)?;
     finish.steps.push(GlobalInitializer::InstantiateModule(instantiation, Some(owner)))?;
@@ -76,7 +82,8 @@ fn make_instance(
     requires grouped { IsGrouped graph.now }
     requires next { IsNext graph.now finish.old (effect.Instance instance owner) }
     requires fits { Fits graph.now finish.old }
-    ensures { OnOk result (IsDone graph.now finish.old finish.new (effect.Instance instance owner)) }
+    ensures done { OnOk result (IsDone graph.now finish.old finish.new (effect.Instance instance owner)) }
+    ensures full { result ≡ Err refusal.TooMany → Outgrows graph.now finish.old }
 {
     let instantiation = instantiation_of(alloc, graph, finish, &graph.instances[instance])?;
     push_instance(finish, instantiation, owner)
@@ -93,7 +100,8 @@ fn destructor_of(
     requires grouped { IsGrouped graph.now }
     requires ready { All (CanNumber graph.now (length finish.old.instances)) (if_any dtor.now) }
     requires fits { Fits graph.now finish.old }
-    ensures { IfOk result (λ d. PreparesAny graph.now finish.old finish.new dtor.now d) }
+    ensures prepares { IfOk result (λ d. PreparesAny graph.now finish.old finish.new dtor.now d) }
+    ensures full { result ≡ Err refusal.TooMany → Outgrows graph.now finish.old }
 {
     match dtor {
         Some(def) => {
@@ -106,7 +114,8 @@ fn destructor_of(
 
 /// Adds the step that declares a resource.
 fn push_resource(finish: &mut Finish, resource: pc_info::Resource) -> Result<(), FinishError>
-    ensures { OnOk result (finish.new ≡ with_resource finish.old resource) }
+    ensures added { OnOk result (finish.new ≡ with_resource finish.old resource) }
+    ensures full { result ≡ Err refusal.TooMany → 4294967294 ≤ length finish.old.resources }
 {
     let owner = resource.instance;
     finish.steps.push(GlobalInitializer::Resource(resource))?;
@@ -125,7 +134,8 @@ fn declare_resource(
     requires grouped { IsGrouped graph.now }
     requires next { IsNext graph.now finish.old (effect.Resource index) }
     requires fits { Fits graph.now finish.old }
-    ensures { OnOk result (IsDone graph.now finish.old finish.new (effect.Resource index)) }
+    ensures done { OnOk result (IsDone graph.now finish.old finish.new (effect.Resource index)) }
+    ensures full { result ≡ Err refusal.TooMany → Outgrows graph.now finish.old }
 {
     let resource = &graph.resources[index];
     let dtor = destructor_of(alloc, graph, finish, &resource.dtor)?;
@@ -151,7 +161,8 @@ fn do_effect(
     requires grouped { IsGrouped graph.now }
     requires next { IsNext graph.now finish.old effect }
     requires fits { Fits graph.now finish.old }
-    ensures { OnOk result (IsDone graph.now finish.old finish.new effect) }
+    ensures done { OnOk result (IsDone graph.now finish.old finish.new effect) }
+    ensures full { result ≡ Err refusal.TooMany → Outgrows graph.now finish.old }
 {
     match effect {
         SideEffect::Instance(instance, owner) => make_instance(
@@ -170,7 +181,8 @@ pub(crate) fn do_effects(
     requires ordered { IsOrdered graph.now }
     requires grouped { IsGrouped graph.now }
     requires begins { DoneBefore graph.now 0 finish.old }
-    ensures { OnOk result (DoneBefore graph.now (length graph.now.side_effects) finish.new) }
+    ensures done { OnOk result (DoneBefore graph.now (length graph.now.side_effects) finish.new) }
+    ensures full { result ≡ Err refusal.TooMany → HasTooMany graph.now }
 {
     for effect in graph.side_effects.as_slice() {
         do_effect(alloc, graph, finish, *effect)?;

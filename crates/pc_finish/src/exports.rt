@@ -2,17 +2,20 @@
 //! before it. All that the functions among them depend on is made first; then nothing changes any more, and the items
 //! are looked up.
 
-ghost use Rattle.std.specs.Prelude.{◌≡◌, None, Some, All, IfOk, OnOk, length};
+ghost use Rattle.std.specs.Prelude.{◌≡◌, None, Some, All, Err, IfOk, OnOk, length};
 ghost use Rattle.std.specs.List.{AllZip};
 ghost use Rattle.pc_dfg.specs.Ordered.{IsOrdered};
+ghost use Rattle.pc_finish.specs.declared.error.FinishError.TheVariants as refusal;
 ghost use Rattle.pc_finish.specs.Arguments.{OnlyFromThese};
 ghost use Rattle.pc_finish.specs.Closed.{Fits};
 ghost use Rattle.std.specs.Option.{option_map};
-ghost use Rattle.pc_finish.specs.Exports.{AddsName, CanExport, CanLift, Exports, GoesFurther, IsConverted, IsExportable};
+ghost use Rattle.pc_finish.specs.Exports.{AddsName, CanExport, CanLift, Exports, GoesFurther, IsConverted};
+ghost use Rattle.pc_finish.specs.Exports.{IsExportable};
 ghost use Rattle.pc_finish.specs.Exports.{IsInstance, IsLiftable, IsNamed, Lacks, function_of, lifted_in};
 ghost use Rattle.pc_finish.specs.Exports.{in_export, in_exports, in_lifted};
 ghost use Rattle.pc_finish.specs.Grouped.{IsGrouped};
 ghost use Rattle.pc_finish.specs.ModuleTypes.{IsTyped};
+ghost use Rattle.pc_finish.specs.Outgrown.{Outgrows};
 
 use crate::FinishError;
 use crate::arguments::number_def;
@@ -97,6 +100,7 @@ fn number_function(
     ensures here { OnOk result (IsLiftable graph.now finish.new (func.now, options)) }
     ensures only { OnOk result
         (OnlyFromThese graph.now finish.old finish.new (in_lifted graph.now (func.now, options))) }
+    ensures full { result ≡ Err refusal.TooMany → Outgrows graph.now finish.old }
 {
     number_def(alloc, graph, finish, func)?;
     number(alloc, graph, finish, Id::Options(options))
@@ -117,6 +121,7 @@ fn number_item(
     ensures further { OnOk result (GoesFurther graph.now finish.old finish.new) }
     ensures here { OnOk result (IsExportable graph.now finish.new item.now) }
     ensures only { OnOk result (OnlyFromThese graph.now finish.old finish.new (in_export graph.now item.now)) }
+    ensures full { result ≡ Err refusal.TooMany → Outgrows graph.now finish.old }
 {
     match function_of(item) {
         Some((func, options)) => number_function(alloc, graph, finish, func, options),
@@ -134,6 +139,7 @@ fn number_items(alloc: Global, graph: &ComponentDfg, finish: &mut Finish) -> Res
     ensures here { OnOk result (All (IsExportable graph.now finish.new) graph.now.export_items) }
     ensures only { OnOk result
         (OnlyFromThese graph.now finish.old finish.new (in_exports graph.now graph.now.export_items)) }
+    ensures full { result ≡ Err refusal.TooMany → Outgrows graph.now finish.old }
 {
     for item in graph.export_items.as_slice() {
         number_item(alloc, graph, finish, item)?;
@@ -241,6 +247,7 @@ pub(crate) fn exports(
     ensures further { OnOk result (GoesFurther graph.now finish.old finish.new) }
     ensures only { OnOk result
         (OnlyFromThese graph.now finish.old finish.new (in_exports graph.now graph.now.export_items)) }
+    ensures full { result ≡ Err refusal.TooMany → Outgrows graph.now finish.old }
     ensures exports { IfOk result (λ e. Exports graph.now types.now finish.new e.names e.items) }
 {
     number_items(alloc, graph, finish)?;

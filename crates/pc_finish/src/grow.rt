@@ -6,7 +6,8 @@ ghost use Rattle.std.specs.Prelude.{◌≡◌, ◌≤◌, ◌<◌, ◌↔◌, le
 ghost use Rattle.pc_semantics.specs.PlanView as plan;
 ghost use Rattle.pc_info.specs.declared.initializer.GlobalInitializer.TheVariants as init;
 ghost use Rattle.pc_finish.specs.declared.error.FinishError.TheVariants as refusal;
-ghost use Rattle.pc_finish.specs.Added.{add_slot, add_lowering, add_module, add_options, add_trampoline, note_intrinsic};
+ghost use Rattle.pc_finish.specs.Added.{add_slot, add_lowering, add_module, add_options, add_trampoline};
+ghost use Rattle.pc_finish.specs.Added.{note_intrinsic};
 
 use crate::FinishError;
 use crate::state::Finish;

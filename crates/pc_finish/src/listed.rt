@@ -1,6 +1,7 @@
 //! An entry put into a numbered list, unless the list is full.
 
-ghost use Rattle.std.specs.Prelude.{◌≡◌, ◌++◌, ◌∷◌, [], length, IfOk, OnOk};
+ghost use Rattle.std.specs.Prelude.{◌≡◌, ◌≤◌, ◌++◌, ◌∷◌, [], length, Err, IfOk, OnOk};
+ghost use Rattle.pc_finish.specs.declared.error.FinishError.TheVariants as refusal;
 
 use crate::FinishError;
 use pc_entity::{EntityRef, PrimaryMap};
@@ -15,6 +16,7 @@ pub(crate) fn append<K: EntityRef, V: Drop>(
 ) -> Result<K, FinishError>
     ensures key { IfOk result (λ key. key ≡ K.of_number (length list.old)) }
     ensures ok { OnOk result (list.new ≡ list.old ++ entry ∷ []) }
+    ensures full { result ≡ Err refusal.TooMany → 4294967294 ≤ length list.old }
 {
     if list.len() < MAX_ENTRIES {
         Ok(list.push(entry)?)

@@ -9,8 +9,8 @@ ghost use Rattle.pc_builder.specs.Types.{Grows, IsTooFullFor, Types};
 ghost use Rattle.pc_builder.specs.Trees.{IsEntry};
 ghost use Rattle.pc_dfg.specs.declared.export.Export.{Export};
 ghost use Rattle.pc_finish.specs.declared.error.FinishError.TheVariants as refusal;
-ghost use Rattle.pc_finish.specs.ModuleTypes.{AreModuleTypes, HasModuleType, HasNoPlace, IsModuleType, IsTyped};
-ghost use Rattle.pc_finish.specs.ModuleTypes.{KeepsTypes, module_type, static_type, type_at};
+ghost use Rattle.pc_finish.specs.ModuleTypes.{AreModuleTypes, HasModuleType, HasNoModule, HasNoPlace, IsModuleType};
+ghost use Rattle.pc_finish.specs.ModuleTypes.{IsTyped, KeepsTypes, module_type, static_type, type_at};
 
 use crate::FinishError;
 use pc_builder::ComponentTypesBuilder;
@@ -137,6 +137,7 @@ fn convert_item(
     ensures keeps { OnOk result (KeepsTypes done.old done.new) }
     ensures here { OnOk result (IsTyped done.new item.now) }
     ensures full { result ≡ Err refusal.TooMany → HasNoPlace types.new table.now item.now }
+    ensures unchanged { static_type item.now ≡ None → types.new ≡ types.old }
 {
     match static_type(item) {
         Some(ty) => convert(types, table, done, ty),
@@ -158,6 +159,7 @@ pub(crate) fn module_types(
     ensures typed { IfOk result (λ m. All (IsTyped m) items.now) }
     ensures full { result ≡ Err refusal.TooMany
         → (e : Export) × Contains items.now e × HasNoPlace types.new table.now e }
+    ensures unchanged { HasNoModule items.now → types.new ≡ types.old }
 {
     let mut done = ModuleTypes::new(alloc, table)?;
     for item in items {

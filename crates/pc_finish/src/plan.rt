@@ -3,13 +3,16 @@
 //! First come the types of exported modules, since they ask most of the types builder. Then the side effects become
 //! steps, each after what it needs, and last come the exports with what they need.
 
-ghost use Rattle.std.specs.Prelude.{◌≡◌, None, All, IfOk};
+ghost use Rattle.std.specs.Prelude.{◌≡◌, ◌⊎◌, None, All, Contains, Err, IfOk};
 ghost use Rattle.pc_types.specs.Table.{table_fault};
 ghost use Rattle.pc_builder.specs.Types.{Grows};
+ghost use Rattle.pc_dfg.specs.declared.export.Export.{Export};
 ghost use Rattle.pc_dfg.specs.Ordered.{IsOrdered};
+ghost use Rattle.pc_finish.specs.declared.error.FinishError.TheVariants as refusal;
 ghost use Rattle.pc_finish.specs.Finished.{IsFinished};
+ghost use Rattle.pc_finish.specs.Full.{HasTooMany};
 ghost use Rattle.pc_finish.specs.Grouped.{IsGrouped};
-ghost use Rattle.pc_finish.specs.ModuleTypes.{HasModuleType};
+ghost use Rattle.pc_finish.specs.ModuleTypes.{HasModuleType, HasNoModule, HasNoPlace};
 ghost use Rattle.pc_finish.specs.Whole.{IsMade, empty_plan, no_numbers};
 
 use crate::FinishError;
@@ -80,6 +83,9 @@ fn make(
     requires sound { table_fault table.now ≡ None }
     requires are_modules { All (HasModuleType table.now) graph.now.export_items }
     ensures grows { Grows types.old types.new }
+    ensures unchanged { HasNoModule graph.now.export_items → types.new ≡ types.old }
+    ensures full { result ≡ Err refusal.TooMany → HasTooMany graph.now
+        ⊎ ((e : Export) × Contains graph.now.export_items e × HasNoPlace types.new table.now e) }
     ensures made { IfOk result (λ m. IsMade types.new table.now graph.now m.0 m.1.names m.1.items) }
 {
     graph.entries_are_distinct();
@@ -102,6 +108,9 @@ pub fn finish(
     requires sound { table_fault table.now ≡ None }
     requires are_modules { All (HasModuleType table.now) graph.export_items }
     ensures grows { Grows types.old types.new }
+    ensures unchanged { HasNoModule graph.export_items → types.new ≡ types.old }
+    ensures full { result ≡ Err refusal.TooMany → HasTooMany graph
+        ⊎ ((e : Export) × Contains graph.export_items e × HasNoPlace types.new table.now e) }
     ensures plan { IfOk result (λ p. IsFinished types.new table.now graph p) }
 {
     let (finish, exported) = make(alloc, &graph, table, types)?;

@@ -4,15 +4,14 @@
 //! opened waits, below its parts, to be closed. An id that two others need is on the stack twice at most, and passed
 //! over where it has its number by then.
 
-ghost use Rattle.std.specs.Prelude.{◌≡◌, ◌≤◌, ◌∷◌, [], Err, IfOk, OnOk, length};
+ghost use Rattle.std.specs.Prelude.{◌≡◌, ◌∷◌, [], Err, IfOk, OnOk, length};
 ghost use Rattle.pc_dfg.specs.Held.{AreHeld};
 ghost use Rattle.pc_dfg.specs.Ordered.{IsOrdered};
 ghost use Rattle.pc_finish.specs.declared.error.FinishError.TheVariants as refusal;
 ghost use Rattle.pc_finish.specs.Added.{IsFull};
 ghost use Rattle.pc_finish.specs.Closed.{Closed, Fits};
-ghost use Rattle.pc_finish.specs.Full.{HasTooMany};
 ghost use Rattle.pc_finish.specs.Grouped.{IsGrouped};
-ghost use Rattle.pc_finish.specs.Once.{Fills};
+ghost use Rattle.pc_finish.specs.Outgrown.{Outgrows};
 ghost use Rattle.pc_finish.specs.Ready.{IsReady};
 ghost use Rattle.pc_finish.specs.Stack.{CanTake, Takes, id_of};
 
@@ -67,8 +66,7 @@ pub(crate) fn number(
     requires ready { IsReady graph.now (length finish.old.instances) id }
     requires fits { Fits graph.now finish.old }
     ensures closed { OnOk result (Closed graph.now finish.old finish.new id) }
-    ensures full { result ≡ Err refusal.TooMany → Fills finish.old
-        → length finish.old.instances ≤ length graph.now.instances → HasTooMany graph.now }
+    ensures full { result ≡ Err refusal.TooMany → Outgrows graph.now finish.old }
 {
     let mut tasks = begin(alloc, id)?;
     'tasks: while let Some(task) = tasks.pop() {

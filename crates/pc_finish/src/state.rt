@@ -1,6 +1,7 @@
 //! A plan while it is made.
 
-ghost use Rattle.std.specs.Prelude.{◌≡◌, ◌+◌, IfOk};
+ghost use Rattle.std.specs.Prelude.{◌≡◌, ◌<◌, ◌+◌, length, Err, IfOk};
+ghost use Rattle.pc_finish.specs.declared.error.FinishError.TheVariants as refusal;
 ghost use Rattle.pc_finish.specs.Whole.{translation_of};
 
 use crate::FinishError;
@@ -71,7 +72,8 @@ pub(crate) struct Finish {
 
 /// The number of the imported and the declared resources together.
 fn resource_count(imported: usize, declared: usize) -> Result<u32, FinishError>
-    ensures { IfOk result (λ n. n ≡ imported + declared) }
+    ensures sum { IfOk result (λ n. n ≡ imported + declared) }
+    ensures full { result ≡ Err refusal.TooMany → 4294967295 < imported + declared }
 {
     let limit = u32::MAX as usize;
     if imported <= limit && declared <= limit - imported {
@@ -90,7 +92,9 @@ impl Finish {
         graph: ComponentDfg,
         exported: Exported,
     ) -> Result<ComponentTranslation, FinishError>
-        ensures { IfOk result (λ t. t ≡ translation_of graph self exported.names exported.items) }
+        ensures plan { IfOk result (λ t. t ≡ translation_of graph self exported.names exported.items) }
+        ensures full { result ≡ Err refusal.TooMany
+            → 4294967295 < length graph.imported_resources + length self.resources }
     {
         let num_resources = resource_count(graph.imported_resources.len(), self.resources.len())?;
         let Finish {

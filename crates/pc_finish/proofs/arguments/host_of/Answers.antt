@@ -17,7 +17,8 @@ named_of-requires-clause-numbered c =
 
 pub push-requires : goal.push-requires
 push-requires c = record {
-  absent = copy_absent (named_in c.args.graph.now c.args.finish.now) c.args.args.now c.loop-place.place _ c.entry_at.ensures
+  absent = copy_absent (named_in c.args.graph.now c.args.finish.now) c.args.args.now c.loop-place.place _
+      c.entry_at.ensures
       c.loop-place.all c.loop-place.invariant _ c.in_ok-copy_of.ensures c.names_are_distinct.ensures;
 }
 

@@ -4,6 +4,7 @@ use Rattle.pc_entity.proofs.Growing.{take-next}
 use Rattle.pc_finish.specs.Arguments.{CanNumber, NumbersAll}
 use Rattle.pc_finish.proofs.AllLemmas.{all_at}
 use Rattle.pc_finish.proofs.ArgumentLemmas.{can_still, item_at, numbers_more, numbers_none}
+use Rattle.pc_finish.proofs.OutgrownLemmas.{outgrows_before}
 use Rattle.pc_finish.proofs.arguments.number_all.Goals as goal
 
 pub loop-def-init : goal.loop-def-init
@@ -15,7 +16,8 @@ number_def-requires-clause-ready c =
     let x = c.def-item.result in
     let at = item_at c.args.defs.now c.loop-def.def-index x c.loop-def-test.true c.def-item.is in
     can_still g c.args.finish.now c.loop-def.finish c.loop-def.invariant.continues x
-    (all_at (CanNumber g (length c.args.finish.now.instances)) c.args.defs.now c.loop-def.def-index x c.requires.ready at)
+    (all_at (CanNumber g (length c.args.finish.now.instances)) c.args.defs.now c.loop-def.def-index x c.requires.ready
+    at)
 
 pub number_def-requires-clause-fits : goal.number_def-requires-clause-fits
 number_def-requires-clause-fits c = c.loop-def.invariant.continues.fits
@@ -28,9 +30,15 @@ loop-def-preserved c =
     let at = item_at c.args.defs.now i x c.loop-def-test.true c.def-item.is in
     subst (NumbersAll g c.args.finish.now c.number_def.new.finish) (sym (take-next c.args.defs.now i x at))
     (numbers_more g c.args.finish.now c.loop-def.finish c.number_def.new.finish (take i c.args.defs.now) _
-    c.loop-def.invariant c.in_ok-number_def.ensures)
+    c.loop-def.invariant c.in_ok-number_def.ensures.numbers)
 
-pub returns : goal.returns
-returns c =
+pub returns-clause-numbers : goal.returns-clause-numbers
+returns-clause-numbers c =
     subst (NumbersAll c.args.graph.now c.args.finish.now c.loop-def.finish)
     (take_all c.loop-def.def-index c.args.defs.now c.loop-def-test.false) c.loop-def.invariant
+
+pub returns-in_err-number_def-clause-full : goal.returns-in_err-number_def-clause-full
+returns-in_err-number_def-clause-full c is =
+    let too_many = rw is at c.from_residual.ensures.1 in
+    let full = c.in_err-number_def.ensures.full (cc too_many) in
+    outgrows_before c.args.graph.now c.args.finish.now c.loop-def.finish c.loop-def.invariant.continues full

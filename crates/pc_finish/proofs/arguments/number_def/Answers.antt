@@ -12,11 +12,11 @@ number-requires-clause-ready c =
     let ready = IsReady g (length c.args.finish.now.instances) in
     all_first ready c.in-Some.id [] (subst (All ready) (sym c.in-Some.ensures) c.requires.ready.parts)
 
-pub returns-in-Some : goal.returns-in-Some
-returns-in-Some c =
+pub returns-in-Some-clause-numbers : goal.returns-in-Some-clause-numbers
+returns-in-Some-clause-numbers c =
     ok_then c.number.result (λ closed. numbers_id _ _ _ c.args.def.now c.in-Some.id c.in-Some.ensures closed)
     c.number.ensures.closed
 
-pub returns-in-None : goal.returns-in-None
-returns-in-None c =
+pub returns-in-None-clause-numbers : goal.returns-in-None-clause-numbers
+returns-in-None-clause-numbers c =
     numbers_nothing c.args.graph.now c.args.finish.now c.args.def.now c.in-None.ensures c.requires.fits

@@ -5,6 +5,7 @@ use Rattle.std.specs.Prelude.{option_map}
 use Rattle.pc_finish.specs.Arguments.{CanNumber, NumbersAll, named_defs}
 use Rattle.pc_finish.proofs.AllLemmas.{all_at}
 use Rattle.pc_finish.proofs.ArgumentLemmas.{can_still, named_item, named_next, numbers_more, numbers_none}
+use Rattle.pc_finish.proofs.OutgrownLemmas.{outgrows_before}
 use Rattle.pc_finish.proofs.arguments.number_named.Goals as goal
 
 pub loop-place-init : goal.loop-place-init
@@ -16,7 +17,8 @@ number_def-requires-clause-ready c =
     let args = c.args.args.now in
     let at = named_item args c.loop-place.place _ c.entry_at.ensures in
     can_still g c.args.finish.now c.loop-place.finish c.loop-place.invariant.continues c.entry_at.result.1.now
-    (all_at (CanNumber g (length c.args.finish.now.instances)) (named_defs args) c.loop-place.place _ c.requires.ready at)
+    (all_at (CanNumber g (length c.args.finish.now.instances)) (named_defs args) c.loop-place.place _ c.requires.ready
+    at)
 
 pub number_def-requires-clause-fits : goal.number_def-requires-clause-fits
 number_def-requires-clause-fits c = c.loop-place.invariant.continues.fits
@@ -28,11 +30,17 @@ loop-place-preserved c =
     let args = c.args.args.now in
     subst (NumbersAll g c.args.finish.now c.number_def.new.finish) (named_next args i _ c.entry_at.ensures)
     (numbers_more g c.args.finish.now c.loop-place.finish c.number_def.new.finish (named_defs (take i args)) _
-    c.loop-place.invariant c.in_ok-number_def.ensures)
+    c.loop-place.invariant c.in_ok-number_def.ensures.numbers)
 
-pub returns : goal.returns
-returns c =
+pub returns-clause-numbers : goal.returns-clause-numbers
+returns-clause-numbers c =
     let args = c.args.args.now in
     let ended : length args ≤ c.loop-place.place = omega arith in
     subst (λ es. NumbersAll c.args.graph.now c.args.finish.now c.loop-place.finish (named_defs es))
     (take_all c.loop-place.place args ended) c.loop-place.invariant
+
+pub returns-in_err-number_def-clause-full : goal.returns-in_err-number_def-clause-full
+returns-in_err-number_def-clause-full c is =
+    let too_many = rw is at c.from_residual.ensures.1 in
+    let full = c.in_err-number_def.ensures.full (cc too_many) in
+    outgrows_before c.args.graph.now c.args.finish.now c.loop-place.finish c.loop-place.invariant.continues full

@@ -17,11 +17,13 @@ close_realloc-requires-clause-numbered c =
 
 pub close_callback-requires-clause-numbered : goal.close_callback-requires-clause-numbered
 close_callback-requires-clause-numbered c =
-    subst (λ (x : Id). All (HasNumber c.args.finish.now) (parts c.args.graph.now x)) c.in-Callback.is c.requires.numbered
+    subst (λ (x : Id). All (HasNumber c.args.finish.now) (parts c.args.graph.now x)) c.in-Callback.is
+    c.requires.numbered
 
 pub close_post_return-requires-clause-numbered : goal.close_post_return-requires-clause-numbered
 close_post_return-requires-clause-numbered c =
-    subst (λ (x : Id). All (HasNumber c.args.finish.now) (parts c.args.graph.now x)) c.in-PostReturn.is c.requires.numbered
+    subst (λ (x : Id). All (HasNumber c.args.finish.now) (parts c.args.graph.now x)) c.in-PostReturn.is
+    c.requires.numbered
 
 pub close_options-requires-clause-numbered : goal.close_options-requires-clause-numbered
 close_options-requires-clause-numbered c =
@@ -29,12 +31,15 @@ close_options-requires-clause-numbered c =
 
 pub close_lowering-requires-clause-numbered : goal.close_lowering-requires-clause-numbered
 close_lowering-requires-clause-numbered c =
-    subst (λ (x : Id). All (HasNumber c.args.finish.now) (parts c.args.graph.now x)) c.in-Lowering.is c.requires.numbered
+    subst (λ (x : Id). All (HasNumber c.args.finish.now) (parts c.args.graph.now x)) c.in-Lowering.is
+    c.requires.numbered
 
 pub close_trampoline-requires-clause-numbered : goal.close_trampoline-requires-clause-numbered
 close_trampoline-requires-clause-numbered c =
-    subst (λ (x : Id). All (HasNumber c.args.finish.now) (parts c.args.graph.now x)) c.in-Trampoline.is c.requires.numbered
+    subst (λ (x : Id). All (HasNumber c.args.finish.now) (parts c.args.graph.now x)) c.in-Trampoline.is
+    c.requires.numbered
 
 pub close_adapter_module-requires-clause-numbered : goal.close_adapter_module-requires-clause-numbered
 close_adapter_module-requires-clause-numbered c =
-    subst (λ (x : Id). All (HasNumber c.args.finish.now) (parts c.args.graph.now x)) c.in-AdapterModule.is c.requires.numbered
+    subst (λ (x : Id). All (HasNumber c.args.finish.now) (parts c.args.graph.now x)) c.in-AdapterModule.is
+    c.requires.numbered

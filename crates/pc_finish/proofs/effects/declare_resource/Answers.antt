@@ -6,6 +6,7 @@ use Rattle.pc_finish.specs.Arguments.{CanNumber}
 use Rattle.pc_finish.specs.Made.{IsDone}
 use Rattle.pc_finish.proofs.EffectLemmas.{resource_done}
 use Rattle.pc_finish.proofs.NextLemmas.{next_held, next_ready}
+use Rattle.pc_finish.proofs.OutgrownLemmas.{resources_outgrow}
 use Rattle.pc_finish.proofs.RefusedLemmas.{ok_then}
 use Rattle.pc_finish.proofs.effects.declare_resource.Goals as goal
 
@@ -20,10 +21,22 @@ destructor_of-requires-clause-ready c =
     subst (λ o. All (CanNumber g (length c.args.finish.now.instances)) (each_of in_resource o)) c.index-resource.ensures
     (next_ready g c.requires.ordered c.args.finish.now _ c.requires.next c.requires.grouped)
 
-pub returns : goal.returns
-returns c =
+pub returns-clause-done : goal.returns-clause-done
+returns-clause-done c =
     let g = c.args.graph.now in
     let f = c.destructor_of.new.finish in
-    ok_then c.push_resource.result (λ is. subst (λ z. IsDone g c.args.finish.now z (effect.Resource c.args.index)) (sym is)
+    ok_then c.push_resource.result (λ is. subst (λ z. IsDone g c.args.finish.now z (effect.Resource c.args.index))
+    (sym is)
     (resource_done g c.requires.ordered c.requires.grouped c.args.finish.now f c.args.index c.requires.next
-    c.index-resource.result.now c.index-resource.ensures c.in_ok-dtor.dtor c.in_ok-dtor.ensures)) c.push_resource.ensures
+    c.index-resource.result.now c.index-resource.ensures c.in_ok-dtor.dtor c.in_ok-dtor.ensures.prepares))
+    c.push_resource.ensures.added
+
+pub returns-clause-full : goal.returns-clause-full
+returns-clause-full c is fills made =
+    resources_outgrow c.args.graph.now c.requires.ordered c.args.finish.now c.destructor_of.new.finish _ c.requires.next
+    c.in_ok-dtor.ensures.prepares.numbers.continues (c.push_resource.ensures.full is)
+
+pub returns-in_err-dtor-clause-full : goal.returns-in_err-dtor-clause-full
+returns-in_err-dtor-clause-full c is =
+    let too_many = rw is at c.from_residual.ensures.1 in
+    c.in_err-dtor.ensures.full (cc too_many)

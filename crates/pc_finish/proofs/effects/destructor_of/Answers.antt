@@ -19,15 +19,15 @@ def_of-requires-clause-ready c =
     let f = c.number_def.new.finish in
     let can = CanNumber g (length c.args.finish.now.instances) in
     all_first (IsReadyDef g (length f.instances)) c.in-Some.def [] (all_ready g c.args.finish.now f _
-    c.in_ok-number_def-in-Some.ensures (subst (λ o. All can (if_any o)) c.in-Some.is c.requires.ready))
+    c.in_ok-number_def-in-Some.ensures.numbers (subst (λ o. All can (if_any o)) c.in-Some.is c.requires.ready))
 
 pub def_of-requires-clause-numbered : goal.def_of-requires-clause-numbered
 def_of-requires-clause-numbered c =
     all_first (IsNumbered c.args.graph.now c.number_def.new.finish) c.in-Some.def []
-    c.in_ok-number_def-in-Some.ensures.here
+    c.in_ok-number_def-in-Some.ensures.numbers.here
 
-pub returns-in-None : goal.returns-in-None
-returns-in-None c =
+pub returns-in-None-clause-prepares : goal.returns-in-None-clause-prepares
+returns-in-None-clause-prepares c =
     let g = c.args.graph.now in
     let f = c.args.finish.now in
     let none = sym c.in-None.is in
@@ -36,12 +36,17 @@ returns-in-None c =
       is = ap (option_map (def_in g f)) none;
     }
 
-pub returns-in_ok-def_of-in-Some : goal.returns-in_ok-def_of-in-Some
-returns-in_ok-def_of-in-Some c =
+pub returns-in_ok-def_of-in-Some-clause-prepares : goal.returns-in_ok-def_of-in-Some-clause-prepares
+returns-in_ok-def_of-in-Some-clause-prepares c =
     let g = c.args.graph.now in
     let f = c.number_def.new.finish in
     let is = sym c.in-Some.is in
     record {
-      numbers = subst (λ o. NumbersAll g c.args.finish.now f (if_any o)) is c.in_ok-number_def-in-Some.ensures;
+      numbers = subst (λ o. NumbersAll g c.args.finish.now f (if_any o)) is c.in_ok-number_def-in-Some.ensures.numbers;
       is = ap Some c.in_ok-def_of-in-Some.ensures ∙ ap (option_map (def_in g f)) is;
     }
+
+pub returns-in_err-number_def-in-Some-clause-full : goal.returns-in_err-number_def-in-Some-clause-full
+returns-in_err-number_def-in-Some-clause-full c is =
+    let too_many = rw is at c.from_residual.ensures.1 in
+    c.in_err-number_def-in-Some.ensures.full (cc too_many)

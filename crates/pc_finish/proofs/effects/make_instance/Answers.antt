@@ -6,6 +6,7 @@ use Rattle.pc_finish.specs.Arguments.{CanNumber}
 use Rattle.pc_finish.specs.Made.{IsDone}
 use Rattle.pc_finish.proofs.EffectLemmas.{instance_done}
 use Rattle.pc_finish.proofs.NextLemmas.{next_held, next_ready}
+use Rattle.pc_finish.proofs.OutgrownLemmas.{instances_outgrow}
 use Rattle.pc_finish.proofs.RefusedLemmas.{ok_then}
 use Rattle.pc_finish.proofs.effects.make_instance.Goals as goal
 
@@ -20,12 +21,22 @@ instantiation_of-requires-clause-ready c =
     subst (λ o. All (CanNumber g (length c.args.finish.now.instances)) (each_of in_instance o)) c.index.ensures
     (next_ready g c.requires.ordered c.args.finish.now _ c.requires.next c.requires.grouped)
 
-pub returns : goal.returns
-returns c =
+pub returns-clause-done : goal.returns-clause-done
+returns-clause-done c =
     let g = c.args.graph.now in
     let f = c.instantiation_of.new.finish in
     ok_then c.push_instance.result (λ is. subst (λ z. IsDone g c.args.finish.now z
     (effect.Instance c.args.instance c.args.owner)) (sym is)
     (instance_done g c.requires.ordered c.requires.grouped c.args.finish.now f c.args.instance c.args.owner
     c.requires.next c.index.result.now c.index.ensures c.in_ok-instantiation.instantiation
-    c.in_ok-instantiation.ensures)) c.push_instance.ensures
+    c.in_ok-instantiation.ensures.prepares)) c.push_instance.ensures.added
+
+pub returns-clause-full : goal.returns-clause-full
+returns-clause-full c is =
+    instances_outgrow c.args.graph.now c.args.finish.now c.instantiation_of.new.finish
+    c.in_ok-instantiation.ensures.prepares.numbers.continues (c.push_instance.ensures.full is)
+
+pub returns-in_err-instantiation-clause-full : goal.returns-in_err-instantiation-clause-full
+returns-in_err-instantiation-clause-full c is =
+    let too_many = rw is at c.from_residual.ensures.1 in
+    c.in_err-instantiation.ensures.full (cc too_many)

@@ -30,3 +30,8 @@ returns-clause-exports c =
           (can_export_all g c.requires.ordered c.requires.grouped) numbers.here items zip
           c.in_ok-names.names.definitions named.definitions nodes means;
     }
+
+pub returns-in_err-number_items-clause-full : goal.returns-in_err-number_items-clause-full
+returns-in_err-number_items-clause-full c is =
+    let too_many = rw is at c.from_residual.ensures.1 in
+    c.in_err-number_items.ensures.full (cc too_many)

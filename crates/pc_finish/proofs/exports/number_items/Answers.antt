@@ -3,6 +3,7 @@ use Rattle.pc_finish.specs.Arguments.{OnlyFromThese}
 use Rattle.pc_finish.specs.Exports.{IsExportable, in_exports}
 use Rattle.pc_finish.proofs.FurtherLemmas.{can_export, exportable_next, further_then, lent_all, lent_at}
 use Rattle.pc_finish.proofs.OnlyLemmas.{only_next}
+use Rattle.pc_finish.proofs.OutgrownLemmas.{outgrows_before}
 use Rattle.pc_finish.proofs.exports.number_items.Goals as goal
 
 pub number_item-requires-clause-can : goal.number_item-requires-clause-can
@@ -41,3 +42,9 @@ returns-clause-only c =
     subst (λ es. OnlyFromThese g c.args.finish.now c.loop-item.finish (in_exports g es))
     (lent_all c.as_slice-item-items.result.now g.export_items c.as_slice-item-items.ensures c.loop-item.item-index
     c.loop-item-test.false) c.loop-item.invariant.2
+
+pub returns-in_err-number_item-clause-full : goal.returns-in_err-number_item-clause-full
+returns-in_err-number_item-clause-full c is =
+    let too_many = rw is at c.from_residual.ensures.1 in
+    let full = c.in_err-number_item.ensures.full (cc too_many) in
+    outgrows_before c.args.graph.now c.args.finish.now c.loop-item.finish c.loop-item.invariant.0.continues full

@@ -1,9 +1,9 @@
-use Rattle.std.proofs.Common.{All, take}
+use Rattle.std.proofs.Common.{◌≡◌, All, take}
 use Rattle.pc_builder.specs.Types.{Grows}
-use Rattle.pc_finish.specs.ModuleTypes.{AreModuleTypes, IsTyped}
+use Rattle.pc_finish.specs.ModuleTypes.{AreModuleTypes, HasNoModule, IsTyped}
 use Rattle.pc_finish.proofs.module_types.module_types.Given as goal
 
 abbrev pub invariant-loop-item : goal.invariant-loop-item
 invariant-loop-item l =
     Grows l.initial.types l.types × AreModuleTypes l.types l.table l.done
-    × All (IsTyped l.done) (take l.item-index l.items)
+    × All (IsTyped l.done) (take l.item-index l.items) × (HasNoModule l.items → l.types ≡ l.initial.types)

@@ -36,7 +36,7 @@ returns-clause-closed c =
     ongoing_end c.args.graph.now r.ordered r.grouped _ _ r.ready _ _ none c.tasks.invariant
 
 pub returns-in_err-take-clause-full : goal.returns-in_err-take-clause-full
-returns-in_err-take-clause-full c is fills made =
+returns-in_err-take-clause-full c is =
     let too_many = rw is at c.from_residual-in_err-take.ensures.1 in
     let full = c.in_err-take.ensures.full (cc too_many) in
-    ongoing_full c.args.graph.now _ _ _ _ _ c.tasks.invariant full fills made
+    ongoing_full c.args.graph.now _ _ _ _ _ c.tasks.invariant full

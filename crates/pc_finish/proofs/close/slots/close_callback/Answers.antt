@@ -5,7 +5,8 @@ use Rattle.pc_info.specs.Definitions.{def_view}
 use Rattle.pc_dfg.specs.Numbers.{slots_of}
 use Rattle.pc_finish.specs.Added.{IsFull}
 use Rattle.pc_finish.specs.Converted.{def_in}
-use Rattle.pc_finish.proofs.ClosedSlotLemmas.{slot_closed, slot_held, slot_numbered, slot_ready, slot_within, ok_then, ok_value}
+use Rattle.pc_finish.proofs.ClosedSlotLemmas.{slot_closed, slot_held, slot_numbered, slot_ready, slot_within, ok_then}
+use Rattle.pc_finish.proofs.ClosedSlotLemmas.{ok_value}
 use Rattle.pc_finish.proofs.close.slots.close_callback.Goals as goal
 
 pub index-requires : goal.index-requires
@@ -33,9 +34,12 @@ unfolding slots_of
 returns-clause-closed c =
     let def = ok_value (λ d. d ≡ def_in c.args.graph.now c.args.finish.now c.index.result.now) c.def_of.result
     c.in_ok-def.def c.in_ok-def.was c.def_of.ensures in
-    ok_then c.fill_callback.result (λ is. slot_closed c.args.graph.now plan.callback c.args.callback.0 c.args.finish.now _ _
-    c.index.result.now c.requires.held c.requires.can c.requires.numbered c.requires.fits c.requires.fresh c.index.ensures is
-    (ap (λ (d : PlanDef). plan.extract plan.callback c.args.finish.now.counts.callbacks (def_view d)) def)) c.fill_callback.ensures.ok
+    ok_then c.fill_callback.result (λ is. slot_closed c.args.graph.now plan.callback c.args.callback.0
+    c.args.finish.now _ _
+    c.index.result.now c.requires.held c.requires.can c.requires.numbered c.requires.fits c.requires.fresh
+    c.index.ensures is
+    (ap (λ (d : PlanDef). plan.extract plan.callback c.args.finish.now.counts.callbacks (def_view d)) def))
+    c.fill_callback.ensures.ok
 
 pub returns-clause-full : goal.returns-clause-full
 unfolding IsFull

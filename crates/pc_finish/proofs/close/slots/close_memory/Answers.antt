@@ -29,7 +29,8 @@ returns-clause-closed c =
     let export = ok_value (λ e. e ≡ export_in c.args.finish.now c.index.result.now) c.export_of.result
     c.in_ok-export.export c.in_ok-export.was c.export_of.ensures in
     ok_then c.fill_memory.result (λ is. slot_closed c.args.graph.now plan.memory c.args.memory.0 c.args.finish.now _ _
-    (memory_def c.index.result.now) c.requires.held c.requires.can c.requires.numbered c.requires.fits c.requires.fresh at is
+    (memory_def c.index.result.now) c.requires.held c.requires.can c.requires.numbered c.requires.fits
+    c.requires.fresh at is
     (memory_view c.args.graph.now c.args.finish.now c.index.result.now c.in_ok-export.export export))
     c.fill_memory.ensures.ok
 
