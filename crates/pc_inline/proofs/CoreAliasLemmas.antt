@@ -1,5 +1,5 @@
 -- An alias of an item of a core instance, against its row.
-use Rattle.std.proofs.Common.{◌≡◌, ℕ, List, [], ◌∷◌, ◌++◌, Result, Ok, Err, Option, Some, None, refl, ap, sym, subst, ◌∙◌}
+use Rattle.std.proofs.Common.{◌≡◌, ℕ, List, Ok, Err, Some, None, refl, ap, sym, subst}
 use Rattle.std.specs.Prelude.{⊤, slice_get, option_and_then}
 use Rattle.pc_types.specs.declared.module_record.ModuleRecord.{ModuleRecord}
 use Rattle.pc_types.specs.declared.parsed.CoreKind.{CoreKind}
@@ -50,7 +50,8 @@ module _ (t : TypeTable) (ms : List ModuleRecord) (input : IsInput t ms) (st : S
       (option_and_then (core_export ms k name) (slice_get now.scope.core_instances n))
   alias_found now at =
       found_in t ms input (tables_of st) k name _ _
-      (zip_at (CoreInstanceStands ms (tables_of st)) f.core_instances now.scope.core_instances n at.frame.core_instances)
+      (zip_at (CoreInstanceStands ms (tables_of st)) f.core_instances now.scope.core_instances n
+      at.frame.core_instances)
 
   -- the core instance is missing, or has no such item
   pub alias_missing : (st' : State) (f' : Frame)
@@ -76,7 +77,8 @@ module _ (t : TypeTable) (ms : List ModuleRecord) (input : IsInput t ms) (st : S
       record {
         now = next;
         stands = subst (λ g. PointStands t ms st' g next) (sym is)
-            (framed_point t ms st' f (with_core_id f k id) now (with_core now.scope k v.0) after (core_same f k id) framed);
+            (framed_point t ms st' f (with_core_id f k id) now (with_core now.scope k v.0) after (core_same f k id)
+            framed);
         done = row_goes t ms now next (core_alias_item k n name) refl
             (ap (λ o. found invalid o (λ (v : CoreValue Mark). Ok (add_core now k v))) v.1) at.world.no_adapters;
       })

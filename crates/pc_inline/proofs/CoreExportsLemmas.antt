@@ -1,5 +1,5 @@
 -- A core instance from items, against its row.
-use Rattle.std.proofs.Common.{◌≡◌, ℕ, List, [], ◌∷◌, ◌++◌, Result, Ok, Err, Option, Some, None, refl, ap, sym, subst}
+use Rattle.std.proofs.Common.{◌≡◌, ℕ, List, [], ◌∷◌, ◌++◌, Ok, Err, Option, Some, None, refl, ap, sym, subst}
 use Rattle.std.specs.Prelude.{⊤}
 use Rattle.pc_entity.specs.Lists.{map_all}
 use Rattle.pc_numbers.specs.declared.entity_index.EntityIndex.{EntityIndex}
@@ -10,7 +10,7 @@ use Rattle.pc_reading.specs.Item.{core_exports_item}
 use Rattle.pc_reading.specs.Modules.{bag_entry, read_core_exports}
 use Rattle.pc_reading.specs.Outcome.{found, invalid}
 use Rattle.pc_reading.specs.Rows.{read_row}
-use Rattle.pc_reading.specs.Scope.{CoreItem, Moment, Scope, add_core_instance, bag, with_core_instance}
+use Rattle.pc_reading.specs.Scope.{CoreItem, Scope, add_core_instance, bag, with_core_instance}
 use Rattle.pc_inline.specs.declared.definition.CoreId.{CoreId}
 use Rattle.pc_inline.specs.declared.error.ItemError.TheVariants as item_error
 use Rattle.pc_inline.specs.declared.error.ItemFault.TheVariants as item_fault
@@ -18,7 +18,7 @@ use Rattle.pc_inline.specs.declared.frame.CoreInstance.TheVariants as instance
 use Rattle.pc_inline.specs.declared.frame.Frame.{Frame}
 use Rattle.pc_inline.specs.declared.state.State.{State}
 use Rattle.pc_inline.specs.Frames.{BagItemStands, Both, FrameStands, SameNames, bag_stands}
-use Rattle.pc_inline.specs.Points.{Goes, PointStands, StepsItem}
+use Rattle.pc_inline.specs.Points.{PointStands, StepsItem}
 use Rattle.pc_inline.specs.Tables.{Tables, tables_of}
 use Rattle.pc_inline.proofs.FrameLemmas.{framed_point, instance_framed}
 use Rattle.pc_inline.proofs.StepLemmas.{row_goes, row_stuck, steps_on, steps_stuck}
@@ -32,7 +32,8 @@ IsBag f items made =
 
 module _ (t : TypeTable) (ms : List ModuleRecord) (st : State) (f : Frame) (items : List (List ℕ × EntityIndex)) where
   -- an index is missing
-  pub bag_missing : IsBag f items None → StepsItem t ms (core_exports_item items) st f st f (Err (item_error.Fault item_fault.Invalid))
+  pub bag_missing : IsBag f items None → StepsItem t ms (core_exports_item items) st f st f
+      (Err (item_error.Fault item_fault.Invalid))
   unfolding read_row read_core_exports
   bag_missing made = steps_stuck t ms _ st f st f item_fault.Invalid (λ now at.
       row_stuck t ms now (core_exports_item items) invalid refl
@@ -47,7 +48,8 @@ module _ (t : TypeTable) (ms : List ModuleRecord) (st : State) (f : Frame) (item
   bag_made xs f' r made is = steps_on t ms _ st f st f' r (λ now at.
       let es = both_there _ (Some xs) _ xs (made ms (tables_of st) now.scope at.frame) refl in
       let next = add_core_instance now (bag es.0) in
-      let stands = instance_framed ms (tables_of st) f now.scope at.frame (instance.Bag xs) (bag es.0) (bag_stands es.2) in
+      let stands = instance_framed ms (tables_of st) f now.scope at.frame (instance.Bag xs) (bag es.0)
+      (bag_stands es.2) in
       record {
         now = next;
         stands = subst (λ g. PointStands t ms st g next) (sym is)

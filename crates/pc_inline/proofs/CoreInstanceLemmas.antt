@@ -1,14 +1,13 @@
 -- A core instance of a module, against its row.
-use Rattle.std.proofs.Common.{◌≡◌, ◌≤◌, ◌<◌, ◌⊎◌, inl, inr, ℕ, zero, suc, false, List, [], ◌∷◌, ◌++◌, length, map, ◌+◌, All, Result, Ok, Err, Option, Some, None, refl, sym, ap, subst, ◌∙◌, arith}
-use Rattle.std.specs.Prelude.{⊤, slice_get, option_and_then}
+use Rattle.std.proofs.Common.{◌≡◌, ◌⊎◌, inl, inr, ℕ, zero, suc, List, [], ◌∷◌, ◌++◌, length, map, ◌+◌, All, Some, refl}
+use Rattle.std.proofs.Common.{sym, ap, subst, ◌∙◌, arith}
+use Rattle.std.specs.Prelude.{slice_get}
 use Rattle.std.specs.List.{AllZip}
-use Rattle.std.proofs.lemmas.List.{append-nil, length-append}
+use Rattle.std.proofs.lemmas.List.{length-append}
 use Rattle.std.proofs.lemmas.List.Elements.{All-append, filter_map-append}
 use Rattle.std.proofs.lemmas.Option.{none-some, same_Some, slice_get_within}
 use Rattle.pc_entity.proofs.Growing.{slice_get-append_seam}
-use Rattle.pc_entity.proofs.MapAll.{length-map_all}
 use Rattle.pc_interned.specs.Types.{Types}
-use Rattle.pc_intern.specs.declared.ids.InstanceId.{InstanceId}
 use Rattle.pc_numbers.specs.declared.component_entity.StaticModuleIndex.{StaticModuleIndex}
 use Rattle.pc_numbers.specs.declared.runtime.RuntimeComponentInstanceIndex.{RuntimeComponentInstanceIndex}
 use Rattle.pc_types.specs.declared.module_record.ModuleRecord.{ModuleRecord}
@@ -17,7 +16,6 @@ use Rattle.pc_types.specs.declared.parsed.TypeTable.{TypeTable}
 use Rattle.pc_semantics.specs.CoreValue.{CoreValue, map_value}
 use Rattle.pc_semantics.specs.Log.{instantiated, instances_of, of_static, owned_of, trace}
 use Rattle.pc_semantics.specs.PlanView as plan
-use Rattle.pc_trampoline.specs.declared.part.Mark.{Mark as Number}
 use Rattle.pc_parsed.specs.Mark.{Mark}
 use Rattle.pc_reading.specs.Scope.{Moment, add_entry}
 use Rattle.pc_reading.specs.World.{World, logging}
@@ -39,15 +37,15 @@ use Rattle.pc_inline.specs.declared.state.State.{State}
 use Rattle.pc_inline.specs.Found.{ArgumentStands, ArgumentsStand}
 use Rattle.pc_inline.specs.Points.{IsSoundState, PointStands}
 use Rattle.pc_inline.specs.Stands.{CoreStands}
-use Rattle.pc_inline.specs.Tables.{IsItem, Keeps, is_entity, is_trampoline, tables_of}
+use Rattle.pc_inline.specs.Tables.{IsItem, is_entity, is_trampoline, tables_of}
 use Rattle.pc_inline.specs.Typed.{Numbered, number_of, whole_of}
-use Rattle.pc_inline.specs.Worlds.{EffectStands, HasItems, WorldStands}
+use Rattle.pc_inline.specs.Worlds.{EffectStands, HasItems, IsStatic, WorldStands}
 use Rattle.pc_inline.proofs.GrowthLemmas.{graph_grown}
 use Rattle.pc_inline.proofs.KeptLemmas.{core_kept, frame_kept, is_item_kept}
 use Rattle.pc_inline.proofs.LogLemmas.{declared_on, paths-push, trace-push, world_on}
 use Rattle.pc_inline.proofs.StateLemmas.{types_refl}
 use Rattle.pc_inline.proofs.WorldLemmas.{effect_still}
-use Rattle.pc_inline.proofs.ZipLemmas.{zip_length, zip_more, zip_push}
+use Rattle.pc_inline.proofs.ZipLemmas.{zip_more, zip_push}
 
 -- what is found in a list with one item more was there, or is that item
 pub found_in_push : {A : Type 0} (xs : List A) (y : A) (p : ℕ) (x : A) → slice_get (xs ++ y ∷ []) p ≡ Some x
@@ -58,10 +56,11 @@ found_in_push (z ∷ xs) y zero x h = inl h
 found_in_push (z ∷ xs) y (suc p) x h = found_in_push xs y p x h
 
 -- the values of definitions, with numbers and whole
-pub record AreNumbered (types : Types) (g : ComponentDfg) (ds : List CoreDef) (vs : List (CoreValue Mark)) : Type 0 where
-  pub numbered : List (CoreValue (Numbered types))
-  pub means : AllZip (Means g) ds (map (map_value (number_of types)) numbered)
-  pub is : map (map_value (whole_of types)) numbered ≡ vs
+pub record AreNumbered (types : Types) (g : ComponentDfg) (ds : List CoreDef) (vs : List (CoreValue Mark)) : Type 0
+  where
+    pub numbered : List (CoreValue (Numbered types))
+    pub means : AllZip (Means g) ds (map (map_value (number_of types)) numbered)
+    pub is : map (map_value (whole_of types)) numbered ≡ vs
 
 are_numbered : (types : Types) (g : ComponentDfg) (ds : List CoreDef) (vs : List (CoreValue Mark))
     → AllZip (CoreStands types g) ds vs → AreNumbered types g ds vs
@@ -125,23 +124,35 @@ module _ (t : TypeTable) (ms : List ModuleRecord) (st : State) (m : StaticModule
         × All (λ d. (k : CoreKind) × IsItem ms after k d) args) [
           | inl before ↦ let old = items.modules i n args before in
               (old.0, old.1, old.2, more args old.3)
-          | inr last ↦ subst (λ (x : StaticModuleIndex × List CoreDef). (r : ModuleRecord) × (slice_get ms x.0.0 ≡ Some r)
+          | inr last ↦ subst (λ (x : StaticModuleIndex × List CoreDef). (r : ModuleRecord)
+              × (slice_get ms x.0.0 ≡ Some r)
               × (length x.1 ≡ length r.imports) × All (λ d. (k : CoreKind) × IsItem ms after k d) x.1)
               (parts n args last) (r, held, count, more ds (arguments_usable ms st ds vs stands))
         ];
     slots = λ k n d at. is_item_kept ms st.graph after grows _ d
-        (items.slots k n d (subst (λ xs. slice_get xs n ≡ Some d) (same_slots st.graph (source.Static m ds) owner k) at));
+        (items.slots k n d (subst (λ xs. slice_get xs n ≡ Some d) (same_slots st.graph (source.Static m ds) owner k)
+        at));
     exports = λ n ty o d at. is_item_kept ms st.graph after grows _ d (items.exports n ty o d at);
   }
     where
       more : (args : List CoreDef) → All (λ d. (k : CoreKind) × IsItem ms st.graph k d) args
           → All (λ d. (k : CoreKind) × IsItem ms after k d) args
-      more args all = all_more (λ d. (k : CoreKind) × IsItem ms st.graph k d) (λ d. (k : CoreKind) × IsItem ms after k d)
+      more args all = all_more (λ d. (k : CoreKind) × IsItem ms st.graph k d)
+          (λ d. (k : CoreKind) × IsItem ms after k d)
           (λ d x. (x.0, is_item_kept ms st.graph after grows x.0 d x.1)) args all
 
       parts : (n : StaticModuleIndex) (args : List CoreDef) → source.Static m ds ≡ source.Static n args
           → ◌≡◌ {A = StaticModuleIndex × List CoreDef} (m, ds) (n, args)
       parts n args same = let a : m ≡ n = cc in let b : ds ≡ args = cc in λ i. (a i, b i)
+
+  -- they are instances of handed-in modules
+  made_static : ((i : ℕ) (x : Instance) → slice_get st.graph.instances i ≡ Some x → IsStatic x) → (i : ℕ) (x : Instance)
+      → slice_get after.instances i ≡ Some x → IsStatic x
+  made_static all i x at =
+      elim (found_in_push st.graph.instances (source.Static m ds) i x at) as (λ _. IsStatic x) [
+        | inl before ↦ all i x before
+        | inr last ↦ subst IsStatic last tt
+      ]
 
   -- it is in order by itself
   made_sound : (r : ModuleRecord) → slice_get ms m.0 ≡ Some r → length ds ≡ length r.imports
@@ -161,9 +172,12 @@ module _ (t : TypeTable) (ms : List ModuleRecord) (st : State) (m : StaticModule
       resources = sound.plain.resources;
       imported_resources = sound.plain.imported_resources;
       unsafe_intrinsics = sound.plain.unsafe_intrinsics;
+      instances = made_static sound.plain.instances;
+      export_items = sound.plain.export_items;
     };
     used = record { room = sound.used.room; numbers = sound.used.numbers; others = sound.used.others };
     numbers = sound.numbers;
+    held = record { options = sound.held.options; functions = sound.held.functions };
   }
 
   -- and does what the log says with the instantiation
@@ -191,6 +205,7 @@ module _ (t : TypeTable) (ms : List ModuleRecord) (st : State) (m : StaticModule
       ∙ ap (λ n. n + 1) world.order ∙ sym (length-append st.graph.instances (source.Static m ds ∷ [])))
       (declared_on st.types st.graph after grows w e world)
       (λ v is. absurd (let k : ⊥ = cc in k))
+      (omega arith)
       (world.imports ∙ sym (paths-push w.log e)) refl refl refl
 
   -- so it is where the reading is then
@@ -199,7 +214,8 @@ module _ (t : TypeTable) (ms : List ModuleRecord) (st : State) (m : StaticModule
       → (HeldInstance st.graph (source.Static m ds) → HasBegun st.graph owner.0 → IsOrdered st.graph → IsOrdered after)
       → PointStands t ms st f now → PointStands t ms made f (add_entry now (instantiated (of_static m.0 vs) owner.0))
   made_point f now r held count here ordered at = record {
-    sound = made_sound r held count (subst (λ (c : RuntimeComponentInstanceIndex). HasBegun st.graph c.0) here at.frame.begun)
+    sound = made_sound r held count (subst (λ (c : RuntimeComponentInstanceIndex). HasBegun st.graph c.0) here
+        at.frame.begun)
         ordered at.sound;
     here = at.here;
     frame = frame_kept ms (tables_of st) (tables_of made) (graph_grown (tables_of st) after grows) f now.scope at.frame;

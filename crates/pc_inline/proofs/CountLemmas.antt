@@ -1,13 +1,11 @@
 -- A graph whose counts of tables are set stands for what it stood for.
-use Rattle.std.proofs.Common.{◌≡◌, ℕ, List, length, All, Some, refl, sym, ap, subst, ◌∙◌, arith}
+use Rattle.std.proofs.Common.{◌≡◌, ℕ, List, Some, refl, arith}
 use Rattle.std.specs.Prelude.{slice_get}
-use Rattle.std.specs.List.{AllZip}
 use Rattle.pc_types.specs.declared.module_record.ModuleRecord.{ModuleRecord}
 use Rattle.pc_types.specs.declared.parsed.CoreKind.{CoreKind}
 use Rattle.pc_interned.specs.Types.{Types}
-use Rattle.pc_semantics.specs.ExportNode.{ExportNode, NamedNode}
+use Rattle.pc_semantics.specs.ExportNode.{NamedNode}
 use Rattle.pc_semantics.specs.PlanView as plan
-use Rattle.pc_trampoline.specs.declared.part.Mark.{Mark as Number}
 use Rattle.pc_parsed.specs.Mark.{Mark}
 use Rattle.pc_reading.specs.World.{World}
 use Rattle.pc_dfg.specs.declared.core_def.CoreDef.{CoreDef}
@@ -21,9 +19,9 @@ use Rattle.pc_dfg.proofs.AddLemmas.{Added, AllAdd, EntryFact, NewHeld, nothing}
 use Rattle.pc_dfg.proofs.AllLemmas.{all_more}
 use Rattle.pc_dfg.proofs.NodeLemmas.{item_kept}
 use Rattle.pc_dfg.proofs.PushLemmas.{quiet}
-use Rattle.pc_inline.specs.Exports.{ExportsStand, NameStands, NodeStands}
+use Rattle.pc_inline.specs.Exports.{ExportsStand, NameStands}
 use Rattle.pc_inline.specs.Tables.{IsItem}
-use Rattle.pc_inline.specs.Worlds.{HasItems, IsPlain, WorldStands}
+use Rattle.pc_inline.specs.Worlds.{HasItems, HoldsTypes, IsPlain, WorldStands}
 use Rattle.pc_inline.proofs.KeptLemmas.{is_item_kept}
 use Rattle.pc_inline.proofs.StateLemmas.{types_refl}
 use Rattle.pc_inline.proofs.WorldLemmas.{world_still}
@@ -105,7 +103,12 @@ module _ (g : ComponentDfg) (futures streams errors : ℕ) where
     resources = p.resources;
     imported_resources = p.imported_resources;
     unsafe_intrinsics = p.unsafe_intrinsics;
+    instances = p.instances;
+    export_items = p.export_items;
   }
+
+  pub counted_holds : (types : Types) → HoldsTypes types g → HoldsTypes types counted
+  counted_holds types h = record { options = h.options; functions = h.functions }
 
   module _ (types : Types) where
     pub counted_world : (w : World) → WorldStands types g w → WorldStands types counted w

@@ -1,18 +1,19 @@
 -- From the end of what is built to the end of the nested reading.
-use Rattle.std.proofs.Common.{◌≡◌, ℕ, List, None, refl, sym, ap, ◌∙◌, inl, inr}
-use Rattle.std.specs.Prelude.{◌⊎◌}
+use Rattle.std.proofs.Common.{◌≡◌, ℕ, List, None, sym, ◌∙◌, inl, inr}
 use Rattle.pc_types.specs.declared.error.Error.{Error}
 use Rattle.pc_types.specs.declared.error.Error.TheVariants as error
 use Rattle.pc_types.specs.declared.error.Place.{Place}
 use Rattle.pc_types.specs.declared.error.Unsupported.TheVariants as unsupported_
-use Rattle.pc_types.specs.declared.error.Unsupported.{Unsupported}
 use Rattle.pc_types.specs.declared.module_record.ModuleRecord.{ModuleRecord}
 use Rattle.pc_types.specs.declared.parsed.TypeTable.{TypeTable}
 use Rattle.pc_reading.specs.Item.{Items}
-use Rattle.pc_reading.specs.Outcome.{Fault, Outcome, bad_type, done, fault, invalid, over, unsupported}
+use Rattle.pc_reading.specs.Outcome.{Outcome, bad_type, done, fault, invalid, over, unsupported}
 use Rattle.pc_reading.specs.Reading.{Reading, reading_of}
+use Rattle.pc_inline.specs.declared.state.State.{State}
 use Rattle.pc_inline.specs.Begins.{IsBuiltEnd}
-use Rattle.pc_inline.specs.Inlines.{IsFault}
+use Rattle.pc_inline.specs.Inlines.{EndsAs, HasNoRoom, IsFault}
+use Rattle.pc_inline.specs.Points.{IsFullSomewhere}
+use Rattle.pc_inline.specs.Tables.{tables_of}
 use Rattle.pc_inline.specs.Today.{built_reading}
 use Rattle.pc_inline.proofs.TodayLemmas.{reading_today}
 
@@ -29,30 +30,41 @@ module _ (t : TypeTable) (ms : List ModuleRecord) (limit : ℕ) (body : Items) w
     | inr ends ↦ absurd (other ends.0 (sym is ∙ ends.1))
   ]
 
+  -- so both end with it
+  both_end : (o : Outcome Reading) → not_unbuilt o → built_reading t ms limit body ≡ o → EndsAs t ms limit body o
+  both_end o other is = (is, same_end o other is)
+
+  -- what is done as far as it is built is the nested reading
+  pub done_today : (r : Reading) → built_reading t ms limit body ≡ done r → reading_of t ms limit None body ≡ done r
+  done_today r is = same_end (done r) (λ q is. let x : ⊥ = cc in x) is
+
   -- the error that is answered is the reading's
-  pub end_today : (e : Error) → IsBuiltEnd t ms limit body e → IsFault t ms limit body e
-  end_today (error.Invalid p) h = same_end (fault invalid p) (λ q is. let x : ⊥ = cc in x) h
-  end_today (error.BadType p) h = same_end (fault bad_type p) (λ q is. let x : ⊥ = cc in x) h
-  end_today error.TooManyInstances h = same_end over (λ q is. let x : ⊥ = cc in x) h
-  end_today error.TooMany h = tt
-  end_today error.NoMemory h = tt
-  end_today (error.Unsupported unsupported_.NotBuilt p) h = h
-  end_today (error.Unsupported unsupported_.Module p) h = same_end _ (λ q is. let x : ⊥ = cc in x) h
-  end_today (error.Unsupported unsupported_.ThreadSpawn p) h = same_end _ (λ q is. let x : ⊥ = cc in x) h
-  end_today (error.Unsupported unsupported_.ContextGetType p) h = same_end _ (λ q is. let x : ⊥ = cc in x) h
-  end_today (error.Unsupported unsupported_.ContextSetType p) h = same_end _ (λ q is. let x : ⊥ = cc in x) h
-  end_today (error.Unsupported unsupported_.StreamForward p) h = same_end _ (λ q is. let x : ⊥ = cc in x) h
-  end_today (error.Unsupported unsupported_.FutureForward p) h = same_end _ (λ q is. let x : ⊥ = cc in x) h
-  end_today (error.Unsupported unsupported_.StartSection p) h = same_end _ (λ q is. let x : ⊥ = cc in x) h
-  end_today (error.Unsupported unsupported_.ComponentValue p) h = same_end _ (λ q is. let x : ⊥ = cc in x) h
-  end_today (error.Unsupported unsupported_.ComponentImport p) h = same_end _ (λ q is. let x : ⊥ = cc in x) h
-  end_today (error.Unsupported unsupported_.ReexportedFunction p) h = same_end _ (λ q is. let x : ⊥ = cc in x) h
-  end_today (error.Unsupported unsupported_.ReexportedIntrinsic p) h = same_end _ (λ q is. let x : ⊥ = cc in x) h
-  end_today (error.Unsupported unsupported_.ReexportedIntrinsics p) h = same_end _ (λ q is. let x : ⊥ = cc in x) h
-  end_today (error.Unsupported unsupported_.ExportedComponent p) h = same_end _ (λ q is. let x : ⊥ = cc in x) h
-  end_today (error.Malformed p) h = absurd h
-  end_today (error.BadTable p) h = absurd h
-  end_today (error.BadIntrinsics p) h = absurd h
-  end_today (error.UnknownIntrinsic p) h = absurd h
-  end_today (error.DefinedTwice p) h = absurd h
-  end_today (error.BadOptions p) h = absurd h
+  pub end_today : (st : State) → (IsFullSomewhere (tables_of st) → HasNoRoom st.types body) → (e : Error)
+      → IsBuiltEnd t ms limit body st e → IsFault t ms limit body st.types e
+  end_today st room (error.Invalid p) h = both_end (fault invalid p) (λ q is. let x : ⊥ = cc in x) h
+  end_today st room (error.BadType p) h = both_end (fault bad_type p) (λ q is. let x : ⊥ = cc in x) h
+  end_today st room error.TooManyInstances h = both_end over (λ q is. let x : ⊥ = cc in x) h
+  end_today st room error.TooMany h = room h
+  end_today st room error.NoMemory h = tt
+  end_today st room (error.Unsupported unsupported_.NotBuilt p) h = h
+  end_today st room (error.Unsupported unsupported_.Module p) h = both_end _ (λ q is. let x : ⊥ = cc in x) h
+  end_today st room (error.Unsupported unsupported_.ThreadSpawn p) h = both_end _ (λ q is. let x : ⊥ = cc in x) h
+  end_today st room (error.Unsupported unsupported_.ContextGetType p) h = both_end _ (λ q is. let x : ⊥ = cc in x) h
+  end_today st room (error.Unsupported unsupported_.ContextSetType p) h = both_end _ (λ q is. let x : ⊥ = cc in x) h
+  end_today st room (error.Unsupported unsupported_.StreamForward p) h = both_end _ (λ q is. let x : ⊥ = cc in x) h
+  end_today st room (error.Unsupported unsupported_.FutureForward p) h = both_end _ (λ q is. let x : ⊥ = cc in x) h
+  end_today st room (error.Unsupported unsupported_.StartSection p) h = both_end _ (λ q is. let x : ⊥ = cc in x) h
+  end_today st room (error.Unsupported unsupported_.ComponentValue p) h = both_end _ (λ q is. let x : ⊥ = cc in x) h
+  end_today st room (error.Unsupported unsupported_.ComponentImport p) h = both_end _ (λ q is. let x : ⊥ = cc in x) h
+  end_today st room (error.Unsupported unsupported_.ReexportedFunction p) h = both_end _ (λ q is. let x : ⊥ = cc in x) h
+  end_today st room (error.Unsupported unsupported_.ReexportedIntrinsic p) h =
+      both_end _ (λ q is. let x : ⊥ = cc in x) h
+  end_today st room (error.Unsupported unsupported_.ReexportedIntrinsics p) h =
+      both_end _ (λ q is. let x : ⊥ = cc in x) h
+  end_today st room (error.Unsupported unsupported_.ExportedComponent p) h = both_end _ (λ q is. let x : ⊥ = cc in x) h
+  end_today st room (error.Malformed p) h = absurd h
+  end_today st room (error.BadTable p) h = absurd h
+  end_today st room (error.BadIntrinsics p) h = absurd h
+  end_today st room (error.UnknownIntrinsic p) h = absurd h
+  end_today st room (error.DefinedTwice p) h = absurd h
+  end_today st room (error.BadOptions p) h = absurd h

@@ -1,7 +1,7 @@
 -- One export of the root, refused or made.
 use Rattle.std.proofs.Common.{◌≡◌, ◌<◌, ℕ, List, [], ◌∷◌, ◌++◌, length, Some, Result, Ok, Err, refl, sym, subst, ◌∙◌}
 use Rattle.std.specs.Prelude.{⊤, slice_get}
-use Rattle.std.specs.Result.{IsErr, IsErrAnd}
+use Rattle.std.specs.Result.{IsErrAnd}
 use Rattle.pc_types.specs.declared.error.Error.{Error}
 use Rattle.pc_types.specs.declared.error.Error.TheVariants as error
 use Rattle.pc_types.specs.declared.error.Place.TheVariants as place
@@ -101,7 +101,8 @@ module _ (t : TypeTable) (ms : List ModuleRecord) (st : State) (e : NamedExport)
     }
 
     -- the root has one node more
-    pub root_named : (f : Frame) (s : Scope) (w : World) (nodes : List (NamedNode Mark)) → RootStands t ms st f s w nodes
+    pub root_named : (f : Frame) (s : Scope) (w : World) (nodes : List (NamedNode Mark))
+        → RootStands t ms st f s w nodes
         → IsOrdered exported → (x : NamedNode Mark) → NameStands st.types st.graph e x
         → RootStands t ms after f s w (nodes ++ x ∷ [])
     root_named f s w nodes root ordered x named = record {
@@ -115,6 +116,8 @@ module _ (t : TypeTable) (ms : List ModuleRecord) (st : State) (e : NamedExport)
           resources = root.sound.plain.resources;
           imported_resources = root.sound.plain.imported_resources;
           unsafe_intrinsics = root.sound.plain.unsafe_intrinsics;
+          instances = root.sound.plain.instances;
+          export_items = root.sound.plain.export_items;
         };
         used = record {
           room = root.sound.used.room;
@@ -122,9 +125,11 @@ module _ (t : TypeTable) (ms : List ModuleRecord) (st : State) (e : NamedExport)
           others = root.sound.used.others;
         };
         numbers = root.sound.numbers;
+        held = record { options = root.sound.held.options; functions = root.sound.held.functions };
       };
       frame = frame_kept ms (tables_of st) (tables_of after) (graph_grown (tables_of st) exported grows) f s root.frame;
-      world = world_still st.types st.types st.graph exported (types_refl st.types) grows refl refl refl refl refl refl w
+      world = world_still st.types st.types st.graph exported (types_refl st.types) grows refl refl refl refl refl
+          refl w
           root.world;
       exports = zip_push (NameStands st.types exported) st.graph.exports nodes e x
           (zip_more (NameStands st.types st.graph) (NameStands st.types exported)
@@ -151,7 +156,8 @@ exports_made t ms st name item label d label_is d_is g rest put grows ordered n 
     let made : exported t ms st (label, (item, d)) ≡ g = sym (rest ∙ (λ j. record st.graph { exports = put j })) in
     let stands = h.2 in
     let root = h.3 in
-    let below = item_below st.graph (λ m. function_mark (record { 0 = 0 })) item.0 _ (stands.means (λ m. function_mark (record { 0 = 0 }))) in (
+    let below = item_below st.graph (λ m. function_mark (record { 0 = 0 })) item.0 _
+    (stands.means (λ m. function_mark (record { 0 = 0 }))) in (
       h.0,
       h.1,
       subst (λ y. RootStands t ms (record st { graph = y }) f s w (nodes ++ node_named t ms name h.0 ∷ [])) made

@@ -1,6 +1,6 @@
 -- The step of an export.
-use Rattle.std.proofs.Common.{◌≡◌, ℕ, List, [], ◌∷◌, ◌++◌, true, false, Option, None, Some, Result, Ok, Err, refl, sym, ap, subst, ◌∙◌}
-use Rattle.std.specs.Prelude.{⊤, option_map, slice_get}
+use Rattle.std.proofs.Common.{◌≡◌, ℕ, List, [], ◌∷◌, ◌++◌, false, None, Some, Result, Ok, Err, refl}
+use Rattle.std.specs.Prelude.{⊤, slice_get}
 use Rattle.pc_types.specs.declared.error.Unsupported.TheVariants.{NotBuilt}
 use Rattle.pc_types.specs.declared.module_record.ModuleRecord.{ModuleRecord}
 use Rattle.pc_types.specs.declared.parsed.TypeTable.{TypeTable}
@@ -8,7 +8,7 @@ use Rattle.pc_parsed.specs.declared.payload.ExternName.{ExternName}
 use Rattle.pc_parsed.specs.declared.payload.ItemKind.{ItemKind}
 use Rattle.pc_parsed.specs.declared.payload.ItemKind.TheVariants as kind
 use Rattle.pc_reading.specs.Instances.{read_export}
-use Rattle.pc_reading.specs.Item.{ExportOf, Item, export_item}
+use Rattle.pc_reading.specs.Item.{Item, export_item}
 use Rattle.pc_reading.specs.Items.{value_at}
 use Rattle.pc_reading.specs.Outcome.{Fault, invalid, unsupported}
 use Rattle.pc_reading.specs.Rows.{read_row}
@@ -20,7 +20,7 @@ use Rattle.pc_inline.specs.declared.error.ItemFault.TheVariants as item_fault
 use Rattle.pc_inline.specs.declared.frame.Frame.{Frame}
 use Rattle.pc_inline.specs.declared.state.State.{State}
 use Rattle.pc_inline.specs.Frames.{FuncStands}
-use Rattle.pc_inline.specs.Points.{Goes, PointStands, Steps, StepsItem}
+use Rattle.pc_inline.specs.Points.{Goes, PointStands, StepsItem}
 use Rattle.pc_inline.specs.Tables.{tables_of}
 use Rattle.pc_inline.specs.Today.{built_row, is_built, is_built_kind}
 use Rattle.pc_inline.proofs.FrameLemmas.{framed_point, func_framed}

@@ -1,5 +1,6 @@
 -- What a core instance has under a name, against what the reading finds there.
-use Rattle.std.proofs.Common.{◌≡◌, ℕ, Bool, true, false, List, [], ◌∷◌, ◌++◌, Option, Some, None, if◌then◌else◌, refl, sym, ap, subst, ◌∙◌}
+use Rattle.std.proofs.Common.{◌≡◌, ℕ, Bool, true, false, List, [], ◌∷◌, ◌++◌, Option, Some, None, if◌then◌else◌, refl}
+use Rattle.std.proofs.Common.{sym, ap, subst}
 use Rattle.std.specs.Prelude.{slice_get, option_and_then}
 use Rattle.std.specs.List.{AllZip, list_all}
 use Rattle.std.specs.Str.{bytes_eq}
@@ -31,7 +32,8 @@ use Rattle.pc_inline.specs.declared.frame.CoreInstance.{CoreInstance}
 use Rattle.pc_inline.specs.declared.frame.Frame.{Frame}
 use Rattle.pc_inline.specs.Bags.{argument_item, entity_of_kind, export_item, known_of_kind}
 use Rattle.pc_inline.specs.Found.{FoundThere, ItemFound, SameValues, entity_found, known_found}
-use Rattle.pc_inline.specs.Frames.{BagItemStands, Both, CoreInstanceStands, FrameStands, bag_stands, both, made_stands, neither}
+use Rattle.pc_inline.specs.Frames.{BagItemStands, Both, CoreInstanceStands, FrameStands, bag_stands, both, made_stands}
+use Rattle.pc_inline.specs.Frames.{neither}
 use Rattle.pc_inline.specs.Points.{IsInput}
 use Rattle.pc_inline.specs.Stands.{ItemStands}
 use Rattle.pc_inline.specs.Tables.{Tables}
@@ -88,8 +90,10 @@ module _ (t : TypeTable) (ms : List ModuleRecord) (input : IsInput t ms) (b : Ta
   made_export : (k : CoreKind) (name : List ℕ) (i : InstanceId) (m : StaticModuleIndex) (args : List CoreDef)
       → slice_get b.graph.instances i.0 ≡ Some (source.Static m args)
       → Both (ItemFound ms b k)
-      (option_and_then (entity_of_kind i k) (option_and_then (λ (r : ModuleRecord). export_of r name) (slice_get ms m.0)))
-      (option_and_then (record_item i.0 k) (option_and_then (λ (r : ModuleRecord). export_of r name) (slice_get ms m.0)))
+      (option_and_then (entity_of_kind i k) (option_and_then (λ (r : ModuleRecord). export_of r name)
+      (slice_get ms m.0)))
+      (option_and_then (record_item i.0 k) (option_and_then (λ (r : ModuleRecord). export_of r name)
+      (slice_get ms m.0)))
   made_export k name i m args made = by (slice_get ms m.0) refl
     where
       entity : (r : ModuleRecord) → slice_get ms m.0 ≡ Some r → (e : EntityIndex) → export_of r name ≡ Some e

@@ -1,8 +1,9 @@
 -- What a core instance has under a name: as an argument of a core module, and as a core item of the table.
-use Rattle.std.proofs.Common.{◌≡◌, ◌≤◌, ◌⊎◌, inl, inr, ℕ, List, [], ◌∷◌, ◌++◌, length, Result, Ok, Err, Option, Some, None, refl, sym, ap, subst, ◌∙◌}
+use Rattle.std.proofs.Common.{◌≡◌, ◌≤◌, ◌⊎◌, inl, inr, List, [], ◌∷◌, ◌++◌, length, Result, Ok, Err, Some, refl, sym}
+use Rattle.std.proofs.Common.{ap, subst, ◌∙◌}
 use Rattle.std.specs.Prelude.{slice_get, IfErr, IfOk, OnErr, OnOk}
 use Rattle.std.proofs.lemmas.Option.{same_Some}
-use Rattle.pc_entity.proofs.Growing.{append_kept, slice_get-append_seam}
+use Rattle.pc_entity.proofs.Growing.{slice_get-append_seam}
 use Rattle.pc_intern.specs.declared.ids.InstanceId.{InstanceId}
 use Rattle.pc_numbers.specs.declared.entity_index.EntityIndex.{EntityIndex}
 use Rattle.pc_types.specs.declared.module_record.ModuleRecord.{ModuleRecord}
@@ -96,7 +97,8 @@ unfolding LacksRoom
 core_refused old new (Ok x) same full none = tt
 core_refused {A} old new (Err e) same full none = by e full none
   where
-    by : (e : ItemError) → (◌≡◌ {A = Result A ItemError} (Err e) (Err item_error.TooMany) → 4294967295 ≤ length old.cores)
+    by : (e : ItemError) → (◌≡◌ {A = Result A ItemError} (Err e) (Err item_error.TooMany)
+        → 4294967295 ≤ length old.cores)
         → (e ≡ item_error.TooMany) ⊎ (e ≡ item_error.NoMemory) → LacksRoom new e
     by (item_error.Fault k) full (inl is) = cc
     by (item_error.Fault k) full (inr is) = cc

@@ -1,5 +1,5 @@
 -- A component instance with one item more.
-use Rattle.std.proofs.Common.{◌≡◌, ℕ, List, [], ◌∷◌, ◌++◌, sym, ◌∙◌}
+use Rattle.std.proofs.Common.{◌≡◌, List, [], ◌∷◌, ◌++◌, sym, ◌∙◌}
 use Rattle.std.specs.List.{AllZip}
 use Rattle.pc_types.specs.declared.module_record.ModuleRecord.{ModuleRecord}
 use Rattle.pc_types.specs.declared.parsed.CoreKind.{CoreKind}
@@ -9,13 +9,15 @@ use Rattle.pc_semantics.specs.CoreValue.{CoreValue}
 use Rattle.pc_parsed.specs.Mark.{Mark}
 use Rattle.pc_reading.specs.Scope as reading
 use Rattle.pc_reading.specs.Scope.{Moment, Scope, with_core, with_core_instance, with_value}
-use Rattle.pc_reading.specs.Value.{Function, Module, func_value, module_value}
+use Rattle.pc_reading.specs.Value.{Component, Function, Instance, Module, component_value, func_value, instance_value}
+use Rattle.pc_reading.specs.Value.{module_value}
 use Rattle.pc_inline.specs.declared.definition.CoreId.{CoreId}
 use Rattle.pc_inline.specs.declared.definition.DefinitionId.{DefinitionId}
 use Rattle.pc_inline.specs.declared.frame.CoreInstance.{CoreInstance}
 use Rattle.pc_inline.specs.declared.frame.Frame.{Frame}
 use Rattle.pc_inline.specs.declared.state.State.{State}
-use Rattle.pc_inline.specs.Frames.{CoreInstanceStands, FrameStands, FuncStands, ItemsStand, ModuleStands}
+use Rattle.pc_inline.specs.Frames.{ComponentStands, CoreInstanceStands, FrameStands, FuncStands, InstanceStands}
+use Rattle.pc_inline.specs.Frames.{ItemsStand, ModuleStands}
 use Rattle.pc_inline.specs.Lists.{with_core_id}
 use Rattle.pc_inline.specs.Points.{PointStands}
 use Rattle.pc_inline.specs.Stands.{ItemStands}
@@ -24,7 +26,8 @@ use Rattle.pc_inline.proofs.ZipLemmas.{zip_push}
 
 module _ (ms : List ModuleRecord) (b : Tables) (f : Frame) (s : Scope) (h : FrameStands ms b f s) where
   -- with other core items
-  framed : (funcs memories tables globals tags : List CoreId) (vfuncs vmemories vtables vglobals vtags : List (CoreValue Mark))
+  framed : (funcs memories tables globals tags : List CoreId)
+      (vfuncs vmemories vtables vglobals vtags : List (CoreValue Mark))
       → ItemsStand ms b core.Func funcs vfuncs → ItemsStand ms b core.Memory memories vmemories
       → ItemsStand ms b core.Table tables vtables → ItemsStand ms b core.Global globals vglobals
       → ItemsStand ms b core.Tag tags vtags
@@ -57,9 +60,11 @@ module _ (ms : List ModuleRecord) (b : Tables) (f : Frame) (s : Scope) (h : Fram
   core_framed core.Table n v x =
       framed _ _ _ _ _ _ _ _ _ _ h.core_funcs h.memories (zip_push _ f.tables s.tables n v h.tables x) h.globals h.tags
   core_framed core.Memory n v x =
-      framed _ _ _ _ _ _ _ _ _ _ h.core_funcs (zip_push _ f.memories s.memories n v h.memories x) h.tables h.globals h.tags
+      framed _ _ _ _ _ _ _ _ _ _ h.core_funcs (zip_push _ f.memories s.memories n v h.memories x) h.tables h.globals
+      h.tags
   core_framed core.Global n v x =
-      framed _ _ _ _ _ _ _ _ _ _ h.core_funcs h.memories h.tables (zip_push _ f.globals s.globals n v h.globals x) h.tags
+      framed _ _ _ _ _ _ _ _ _ _ h.core_funcs h.memories h.tables (zip_push _ f.globals s.globals n v h.globals x)
+      h.tags
   core_framed core.Tag n v x =
       framed _ _ _ _ _ _ _ _ _ _ h.core_funcs h.memories h.tables h.globals (zip_push _ f.tags s.tags n v h.tags x)
 
@@ -103,6 +108,39 @@ module _ (ms : List ModuleRecord) (b : Tables) (f : Frame) (s : Scope) (h : Fram
       → FrameStands ms b (record f { core_instances = f.core_instances ++ i ∷ [] }) (with_core_instance s x)
   instance_framed i x y =
       others_framed _ _ _ _ _ _ h.modules h.funcs (zip_push _ f.core_instances s.core_instances i x h.core_instances y)
+
+  -- with other components and component instances
+  nested_framed : (components instances : List DefinitionId) (vcomponents : List Component) (vinstances : List Instance)
+      → AllZip (ComponentStands ms b) components vcomponents → AllZip (InstanceStands ms b) instances vinstances
+      → FrameStands ms b (record f { components = components; instances = instances })
+      (record s { components = vcomponents; instances = vinstances })
+  nested_framed _ _ _ _ components instances = record {
+    core_funcs = h.core_funcs;
+    memories = h.memories;
+    tables = h.tables;
+    globals = h.globals;
+    tags = h.tags;
+    modules = h.modules;
+    funcs = h.funcs;
+    core_instances = h.core_instances;
+    instances = instances;
+    components = components;
+    arguments = h.arguments;
+    known = h.known;
+    component_instance = h.component_instance;
+    begun = h.begun;
+  }
+
+  -- with one component more
+  pub component_framed : (n : DefinitionId) (c : Component) → ComponentStands ms b n c
+      → FrameStands ms b (record f { components = f.components ++ n ∷ [] }) (with_value s (component_value c))
+  component_framed n c x =
+      nested_framed _ _ _ _ (zip_push _ f.components s.components n c h.components x) h.instances
+
+  -- with one component instance more
+  pub made_framed : (n : DefinitionId) (i : Instance) → InstanceStands ms b n i
+      → FrameStands ms b (record f { instances = f.instances ++ n ∷ [] }) (with_value s (instance_value i))
+  made_framed n i x = nested_framed _ _ _ _ h.components (zip_push _ f.instances s.instances n i h.instances x)
 
 -- a moment at which the component instance alone is another
 pub framed_point : (t : TypeTable) (ms : List ModuleRecord) (st : State) (f g : Frame) (now : Moment) (u : Scope)

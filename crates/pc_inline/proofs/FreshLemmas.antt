@@ -1,8 +1,7 @@
 -- Where nothing was read yet but that the root has begun.
-use Rattle.std.proofs.Common.{◌≡◌, ◌<◌, ℕ, List, [], ◌∷◌, length, map, false, Option, None, Some, refl, sym, ap, subst, ◌∙◌, arith}
-use Rattle.std.specs.Prelude.{slice_get, Contains}
+use Rattle.std.proofs.Common.{◌≡◌, ◌<◌, ℕ, List, [], Some, refl, sym, ap, subst, ◌∙◌, arith}
+use Rattle.std.specs.Prelude.{slice_get}
 use Rattle.std.proofs.lemmas.Option.{none-some}
-use Rattle.pc_intern.specs.declared.ids.OptionsId.{OptionsId}
 use Rattle.pc_interned.specs.Types.{Types}
 use Rattle.pc_numbers.specs.declared.runtime.RuntimeComponentInstanceIndex.{RuntimeComponentInstanceIndex}
 use Rattle.pc_types.specs.declared.module_record.ModuleRecord.{ModuleRecord}
@@ -17,11 +16,10 @@ use Rattle.pc_dfg.specs.Ordered.{IsOrdered}
 use Rattle.pc_dfg.specs.Pushed.{with_component_instance}
 use Rattle.pc_inline.specs.declared.frame.Frame.{Frame}
 use Rattle.pc_inline.specs.declared.state.State.{State}
-use Rattle.pc_inline.specs.Frames.{FrameStands, neither}
-use Rattle.pc_inline.specs.Points.{IsSoundState, PointStands}
-use Rattle.pc_inline.specs.Tables.{tables_of}
+use Rattle.pc_inline.specs.Frames.{neither}
+use Rattle.pc_inline.specs.Points.{PointStands}
 use Rattle.pc_inline.specs.Typed.{AreNumbers}
-use Rattle.pc_inline.specs.Worlds.{AreUsed, HasItems, HasNoExports, IsPlain, WorldStands, paths_needed}
+use Rattle.pc_inline.specs.Worlds.{AreUsed, HasItems, HoldsTypes, IsPlain, WorldStands, paths_needed}
 use Rattle.pc_inline.proofs.RootLemmas.{first_moment, first_world}
 
 -- the graph of a root that has begun
@@ -51,6 +49,14 @@ first_plain = record {
   resources = refl;
   imported_resources = refl;
   unsafe_intrinsics = refl;
+  instances = λ i x at. absurd (none-some x at);
+  export_items = λ n x at. absurd (none-some x at);
+}
+
+first_holds : (types : Types) → HoldsTypes types first_graph
+first_holds types = record {
+  options = λ k x at. absurd (none-some x at);
+  functions = λ n ty f o at. absurd (none-some _ at);
 }
 
 first_used : AreUsed first_graph []
@@ -67,6 +73,7 @@ first_done types = record {
   order = refl;
   are_declared = λ k x at. absurd (none-some x at);
   trampolines = λ v entry. let below : entry.0 < 0 = entry.1 in absurd (omega (arith, below));
+  few_trampolines = omega arith;
   import_types = tt;
   imports = refl;
   imported_resources = refl;
@@ -86,6 +93,8 @@ first_frame c = record {
   tags = [];
   modules = [];
   funcs = [];
+  components = [];
+  instances = [];
   core_instances = [];
   arguments = [];
   component_instance = c;
@@ -103,6 +112,7 @@ first_point t ms st c graph ordered used zero resources numbers = record {
     plain = subst IsPlain (sym graph) first_plain;
     used = subst (λ us. AreUsed st.graph us) (sym used) (subst (λ g. AreUsed g []) (sym graph) first_used);
     numbers = numbers;
+    held = subst (HoldsTypes st.types) (sym graph) (first_holds st.types);
   };
   here = resources ∙ (λ i. record { known = []; current = record { 0 = sym zero i } });
   frame = record {
@@ -114,8 +124,8 @@ first_point t ms st c graph ordered used zero resources numbers = record {
     modules = tt;
     funcs = tt;
     core_instances = tt;
-    instances = refl;
-    components = refl;
+    instances = tt;
+    components = tt;
     arguments = λ name. neither;
     known = refl;
     component_instance = sym zero;

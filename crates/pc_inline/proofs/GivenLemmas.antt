@@ -1,37 +1,31 @@
 -- An import of the root that the host gives: the next of the imports, and an argument of the root.
-use Rattle.std.proofs.Common.{◌≡◌, ◌≢◌, ◌<◌, ◌+◌, ◌⊎◌, inl, inr, if◌then◌else◌, Ok, Err, ℕ, Bool, true, false, List, [], ◌∷◌, ◌++◌, length, map, Option, Some, None, Vec, Global, refl, sym, ap, subst, ◌∙◌, zero, suc, arith}
+use Rattle.std.proofs.Common.{◌≡◌, ◌≢◌, ◌<◌, ◌+◌, ◌⊎◌, inl, inr, if◌then◌else◌, Ok, Err, ℕ, Bool, true, false, List, []}
+use Rattle.std.proofs.Common.{◌∷◌, ◌++◌, length, map, Option, Some, None, refl, sym, ap, subst, ◌∙◌, zero, suc, arith}
 use Rattle.std.specs.Prelude.{slice_get, is_some}
-use Rattle.std.specs.List.{AllZip, list_any}
+use Rattle.std.specs.List.{list_any}
 use Rattle.std.proofs.lemmas.Bool.Decides.{eqb_tells}
 use Rattle.std.proofs.lemmas.List.{length-append}
-use Rattle.std.proofs.lemmas.Option.{none-some, same_Some, slice_get_within}
+use Rattle.std.proofs.lemmas.Option.{none-some}
 use Rattle.pc_entity.specs.FirstValues.{with_first}
 use Rattle.pc_entity.specs.Lists.{value_of}
-use Rattle.pc_entity.proofs.Growing.{slice_get-append}
-use Rattle.pc_interned.specs.Types.{Types}
-use Rattle.pc_interned.specs.Trees.{HasTree}
 use Rattle.pc_numbers.specs.declared.runtime.ImportIndex.{ImportIndex}
-use Rattle.pc_numbers.specs.declared.runtime.ResourceIndex.{ResourceIndex}
 use Rattle.pc_numbers.specs.declared.runtime.RuntimeImportIndex.{RuntimeImportIndex}
 use Rattle.pc_types.specs.declared.error.Unsupported.TheVariants.{NotBuilt}
 use Rattle.pc_types.specs.declared.module_record.ModuleRecord.{ModuleRecord}
 use Rattle.pc_types.specs.declared.parsed.Entity.{Entity}
 use Rattle.pc_types.specs.declared.parsed.Entity.TheVariants as entity
 use Rattle.pc_types.specs.declared.parsed.TypeTable.{TypeTable}
-use Rattle.pc_types.specs.declared.type_index.TypeFuncIndex.{TypeFuncIndex}
 use Rattle.pc_types.specs.declared.types.ComponentExtern.{ComponentExtern}
-use Rattle.pc_types.specs.declared.types.TypeDef.TheVariants as type
 use Rattle.pc_types.specs.Table.{is_func}
-use Rattle.pc_types.specs.TypeTree.{Identity, Path, TypeTree}
+use Rattle.pc_types.specs.TypeTree.{Path, TypeTree}
 use Rattle.pc_parsed.specs.declared.payload.ExternName.{ExternName}
 use Rattle.pc_reading.specs.Imports.{import_resources, prepare, with_given}
-use Rattle.pc_reading.specs.Outcome.{bad_type, unsupported}
+use Rattle.pc_reading.specs.Outcome.{bad_type}
 use Rattle.pc_reading.specs.Resource.{resource_paths}
 use Rattle.pc_reading.specs.SameTypes.{same_path}
-use Rattle.pc_reading.specs.Scope.{Moment, Scope}
+use Rattle.pc_reading.specs.Scope.{Moment}
 use Rattle.pc_reading.specs.Types.{has_entry, type_tree}
 use Rattle.pc_reading.specs.Value.{Value, func_value, host_function}
-use Rattle.pc_reading.specs.World.{HostImport, World}
 use Rattle.pc_dfg.specs.declared.dfg.ComponentDfg.{ComponentDfg}
 use Rattle.pc_dfg.specs.Held.{HoldsEntry}
 use Rattle.pc_dfg.specs.Lists as list
@@ -42,10 +36,10 @@ use Rattle.pc_inline.specs.declared.error.ItemFault.TheVariants as item_fault
 use Rattle.pc_inline.specs.declared.frame.Frame.{Frame}
 use Rattle.pc_inline.specs.declared.state.State.{State}
 use Rattle.pc_inline.specs.Frames.{SameNames}
-use Rattle.pc_inline.specs.Points.{PointStands, Steps}
+use Rattle.pc_inline.specs.Points.{Steps}
 use Rattle.pc_inline.specs.Stands.{Stands}
 use Rattle.pc_inline.specs.Tables.{Tables}
-use Rattle.pc_inline.specs.Today.{built_prepare, is_built_entity}
+use Rattle.pc_inline.specs.Today.{built_prepare}
 use Rattle.pc_inline.specs.Worlds.{AreUsed, import_path, path_of}
 use Rattle.pc_inline.proofs.BagLemmas.{names_again, names_push}
 use Rattle.pc_inline.proofs.CoreInstanceLemmas.{found_in_push}
@@ -53,7 +47,8 @@ use Rattle.pc_inline.proofs.StepLemmas.{steps_stuck}
 use Rattle.pc_inline.proofs.TakenLemmas.{not_built}
 
 -- arguments with one more, of which the first of a name counts on both sides
-pub argument_given : (ms : List ModuleRecord) (b : Tables) (xs : List (List ℕ × DefinitionId)) (ys : List (List ℕ × Value))
+pub argument_given : (ms : List ModuleRecord) (b : Tables) (xs : List (List ℕ × DefinitionId))
+    (ys : List (List ℕ × Value))
     (name : List ℕ) (id : DefinitionId) (v : Value) → SameNames (Stands ms b) xs ys → Stands ms b id v
     → SameNames (Stands ms b) (with_first xs (name, id)) (ys ++ (name, v) ∷ [])
 argument_given ms b xs ys name id v same held = by (is_some (value_of name xs)) refl
@@ -106,7 +101,8 @@ used_given g h used x ordered imports types u = record {
         | inr last ↦ absurd (none-some r last)
       ]);
   others = λ i at. ap (λ is. list_any (same_path (import_path i)) (map path_of is)) imports
-      ∙ (elim (push_place used None i None at) as (λ _. list_any (same_path (import_path i)) (map path_of g.imports) ≡ false) [
+      ∙ (elim (push_place used None i None at) as
+      (λ _. list_any (same_path (import_path i)) (map path_of g.imports) ≡ false) [
         | inl before ↦ u.others i before
         | inr last ↦ imports_below g.imports i (λ r y there. subst (λ n. y.0.0 < n) (sym (last ∙ u.room))
             (ordered.held list.imports r y there))

@@ -1,5 +1,6 @@
 -- Tables that have grown in one list.
-use Rattle.std.proofs.Common.{◌≡◌, ◌≤◌, ◌+◌, List, [], ◌∷◌, ◌++◌, length, Result, Ok, Err, sym, subst, ap, ◌∙◌, arith}
+use Rattle.std.proofs.Common.{◌≡◌, ◌≤◌, ◌+◌, ℕ, List, [], ◌∷◌, ◌++◌, length, Result, Ok, Err, refl, sym, subst, ap, ◌∙◌}
+use Rattle.std.proofs.Common.{arith}
 use Rattle.std.specs.Prelude.{OnErr, OnOk}
 use Rattle.std.proofs.lemmas.List.{length-append}
 use Rattle.pc_entity.specs.Lists.{Kept}
@@ -9,7 +10,9 @@ use Rattle.pc_dfg.specs.declared.dfg.ComponentDfg.{ComponentDfg}
 use Rattle.pc_dfg.specs.Grows as graph
 use Rattle.pc_dfg.specs.Lists.{ListName, entries_of}
 use Rattle.pc_dfg.proofs.GrowLemmas as graph_growth
+use Rattle.pc_inline.specs.declared.closure.Closure.{Closure}
 use Rattle.pc_inline.specs.declared.definition.Definition.{Definition}
+use Rattle.pc_inline.specs.declared.definition.DefinitionId.{DefinitionId}
 use Rattle.pc_inline.specs.Points.{IsFullSomewhere, full_graph}
 use Rattle.pc_inline.specs.Tables.{Keeps, Tables}
 use Rattle.pc_inline.proofs.StateLemmas.{types_refl}
@@ -28,6 +31,9 @@ module _ (b : Tables) where
     graph = graph_growth.grows_refl b.graph;
     cores = kept;
     definitions = kept_refl b.definitions;
+    closures = kept_refl b.closures;
+    instances = kept_refl b.instances;
+    bodies = refl;
   }
 
   -- the table of definitions has grown
@@ -37,6 +43,34 @@ module _ (b : Tables) where
     graph = graph_growth.grows_refl b.graph;
     cores = kept_refl b.cores;
     definitions = kept;
+    closures = kept_refl b.closures;
+    instances = kept_refl b.instances;
+    bodies = refl;
+  }
+
+  -- what components captured has grown
+  pub closures_grown : (cs : List Closure) → Kept b.closures cs → Keeps b (record b { closures = cs })
+  closures_grown cs kept = record {
+    types = types_refl b.types;
+    graph = graph_growth.grows_refl b.graph;
+    cores = kept_refl b.cores;
+    definitions = kept_refl b.definitions;
+    closures = kept;
+    instances = kept_refl b.instances;
+    bodies = refl;
+  }
+
+  -- what instances export has grown
+  pub instances_grown : (is : List (List (List ℕ × DefinitionId))) → Kept b.instances is
+      → Keeps b (record b { instances = is })
+  instances_grown is kept = record {
+    types = types_refl b.types;
+    graph = graph_growth.grows_refl b.graph;
+    cores = kept_refl b.cores;
+    definitions = kept_refl b.definitions;
+    closures = kept_refl b.closures;
+    instances = kept;
+    bodies = refl;
   }
 
   -- the graph has grown
@@ -46,6 +80,9 @@ module _ (b : Tables) where
     graph = grows;
     cores = kept_refl b.cores;
     definitions = kept_refl b.definitions;
+    closures = kept_refl b.closures;
+    instances = kept_refl b.instances;
+    bodies = refl;
   }
 
   -- a list that was full is

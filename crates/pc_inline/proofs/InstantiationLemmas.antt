@@ -1,7 +1,7 @@
 -- How the step of a core instance ends, against its row.
-use Rattle.std.proofs.Common.{◌≡◌, ℕ, Bool, true, false, List, [], ◌∷◌, ◌++◌, length, Result, Ok, Err, Option, Some, None, if◌then◌else◌, refl, sym, ap, subst, ◌∙◌}
+use Rattle.std.proofs.Common.{◌≡◌, ℕ, Bool, true, false, List, [], ◌∷◌, ◌++◌, length, Ok, Err, Option, Some, None}
+use Rattle.std.proofs.Common.{if◌then◌else◌, refl, sym, ap, subst, ◌∙◌}
 use Rattle.std.specs.Prelude.{⊤, slice_get, option_and_then}
-use Rattle.std.specs.List.{AllZip}
 use Rattle.std.proofs.lemmas.Option.{none-some, same_Some}
 use Rattle.pc_entity.specs.Lists.{map_all}
 use Rattle.pc_entity.proofs.Growing.{slice_get-append_seam}
@@ -17,7 +17,7 @@ use Rattle.pc_parsed.specs.Mark.{Mark}
 use Rattle.pc_reading.specs.Arguments.{has_instances, static_argument, static_arguments}
 use Rattle.pc_reading.specs.Item.{instantiate_module_item}
 use Rattle.pc_reading.specs.Modules.{add_static, instantiate_module, next_order, read_core_instance}
-use Rattle.pc_reading.specs.Outcome.{Fault, found, invalid}
+use Rattle.pc_reading.specs.Outcome.{found, invalid}
 use Rattle.pc_reading.specs.Rows.{read_row}
 use Rattle.pc_reading.specs.Scope.{Moment, Scope, add_entry, of_module, with_core_instance}
 use Rattle.pc_reading.specs.Value.{Module, Value, module_value, static_module}
@@ -39,7 +39,8 @@ use Rattle.pc_inline.specs.Definitions.{module_index}
 use Rattle.pc_inline.specs.Found.{ArgumentStands, ArgumentsStand}
 use Rattle.pc_inline.specs.Frames.{Both, FrameStands, ModuleStands, made_stands}
 use Rattle.pc_inline.specs.Points.{PointStands, StepsItem}
-use Rattle.pc_inline.specs.Stands.{DefinitionStands, Stands, stands, stands_host, stands_lifted, stands_static}
+use Rattle.pc_inline.specs.Stands.{DefinitionStands, stands, stands_component, stands_host, stands_instance}
+use Rattle.pc_inline.specs.Stands.{stands_lifted, stands_static}
 use Rattle.pc_inline.specs.Tables.{Tables, tables_of}
 use Rattle.pc_inline.proofs.CoreInstanceLemmas.{made_point}
 use Rattle.pc_inline.proofs.FrameLemmas.{framed_point, instance_framed}
@@ -52,6 +53,8 @@ module _ (ms : List ModuleRecord) (b : Tables) where
       → (m : StaticModuleIndex) × (tree : TypeTree) × (module_index d ≡ Some m) × (x ≡ static_module m.0 tree)
   entry_static d v x (stands_host below) is = absurd (let k : ⊥ = cc in k)
   entry_static d v x (stands_lifted ty func options) is = absurd (let k : ⊥ = cc in k)
+  entry_static d v x (stands_component tr body leaving closure modules components) is = absurd (let k : ⊥ = cc in k)
+  entry_static d v x (stands_instance held _) is = absurd (let k : ⊥ = cc in k)
   entry_static d v x (stands_static {m = m} {tree = tree}) is = (m, tree, refl, cc)
 
   -- a module by number is one that was handed in
@@ -141,7 +144,8 @@ module _ (t : TypeTable) (ms : List ModuleRecord) (st : State) (f : Frame) (n : 
           → f' ≡ record f { core_instances = f.core_instances ++ instance.Made i m ∷ [] }
           → StepsItem t ms (instantiate_module_item n args) st f (record st { graph = g }) f' (Ok r)
       module_made ds g f' i r given made grows ordered number framed =
-          subst (λ (h : ComponentDfg). StepsItem t ms (instantiate_module_item n args) st f (record st { graph = h }) f' (Ok r))
+          subst (λ (h : ComponentDfg). StepsItem t ms (instantiate_module_item n args) st f (record st { graph = h })
+          f' (Ok r))
           (sym made) (steps_on t ms _ st f _ f' r (λ now at.
           let vs = both_there (ArgumentsStand ms (tables_of st)) (Some ds) _ ds (given now.scope at.frame) refl in
           let x = given_record ms now.scope args (slice_get ms m.0) vs.0 vs.1 in

@@ -1,14 +1,11 @@
 -- What numbers stand for they stand for when the tables have grown.
-use Rattle.std.proofs.Common.{◌≡◌, ◌<◌, ℕ, List, Option, Some, None, refl, sym, ap, subst, ◌∙◌, arith}
+use Rattle.std.proofs.Common.{◌≡◌, ℕ, List, [], ◌∷◌, Option, Some, sym, subst, ◌∙◌, arith}
 use Rattle.std.specs.Prelude.{slice_get}
-use Rattle.std.specs.List.{AllZip}
 use Rattle.pc_entity.specs.Lists.{value_of}
 use Rattle.pc_types.specs.declared.module_record.ModuleRecord.{ModuleRecord}
 use Rattle.pc_types.specs.declared.parsed.CoreKind.{CoreKind}
 use Rattle.pc_types.specs.declared.parsed.CoreKind.TheVariants as core
-use Rattle.pc_types.specs.declared.type_index.TypeFuncIndex.{TypeFuncIndex}
 use Rattle.pc_types.specs.declared.types.TypeDef.TheVariants as type
-use Rattle.pc_types.specs.TypeTree.{TypeTree}
 use Rattle.pc_interned.specs.Types.{Types}
 use Rattle.pc_interned.specs.Types as builder
 use Rattle.pc_builder.proofs.TreeLemmas.{tree_grows}
@@ -17,9 +14,11 @@ use Rattle.pc_numbers.specs.declared.entity_index.EntityIndex.{EntityIndex}
 use Rattle.pc_semantics.specs.CoreValue as value
 use Rattle.pc_semantics.specs.CoreValue.{CoreValue, MaybeValue, map_value}
 use Rattle.pc_parsed.specs.Mark.{Mark}
+use Rattle.pc_reading.specs.Item.{Lent, a_component, a_module}
 use Rattle.pc_reading.specs.Scope as reading
 use Rattle.pc_reading.specs.Scope.{CoreItem, Scope}
-use Rattle.pc_reading.specs.Value.{Function, Module, Value, func_value, module_value}
+use Rattle.pc_reading.specs.Value.{Chain, NamedValues, Value, component_value, func_value, instance_value, module_value}
+use Rattle.pc_local.specs.Standing.{BodyStands}
 use Rattle.pc_dfg.specs.declared.core_def.CoreDef.{CoreDef}
 use Rattle.pc_dfg.specs.declared.dfg.ComponentDfg.{ComponentDfg}
 use Rattle.pc_dfg.specs.declared.instance.Instance.TheVariants as source
@@ -36,8 +35,13 @@ use Rattle.pc_inline.specs.declared.definition.DefinitionId.{DefinitionId}
 use Rattle.pc_inline.specs.declared.definition.Options.{Options}
 use Rattle.pc_inline.specs.declared.frame.CoreInstance.{CoreInstance}
 use Rattle.pc_inline.specs.declared.frame.Frame.{Frame}
-use Rattle.pc_inline.specs.Frames.{BagItemStands, Both, CoreInstanceStands, FrameStands, FuncStands, ModuleStands, SameNames, bag_stands, made_stands}
-use Rattle.pc_inline.specs.Stands.{CoreStands, DefinitionStands, ItemStands, MaybeStands, ModelStands, OptionsStand, Stands, gc_stands, linear_stands, none_stands, options_stand, some_stands, stands, stands_host, stands_lifted, stands_static}
+use Rattle.pc_inline.specs.Frames.{BagItemStands, ComponentStands, CoreInstanceStands, FrameStands, FuncStands}
+use Rattle.pc_inline.specs.Frames.{InstanceStands, ModuleStands, bag_stands, made_stands}
+use Rattle.pc_inline.specs.Stands.{Captured, CoreStands, DefinitionStands, ItemStands, MaybeStands, MembersStand}
+use Rattle.pc_inline.specs.Stands.{ModelStands, OptionsStand, Stands, captures_more, captures_none, gc_stands}
+use Rattle.pc_inline.specs.Stands.{linear_stands, new_member, no_members, none_stands, old_member, options_stand}
+use Rattle.pc_inline.specs.Stands.{some_stands, stands, stands_component, stands_host, stands_instance, stands_lifted}
+use Rattle.pc_inline.specs.Stands.{stands_static}
 use Rattle.pc_inline.specs.Tables.{HasEntity, IsItem, Keeps, Tables, is_entity, is_trampoline}
 use Rattle.pc_inline.specs.Typed.{number_of, whole_of}
 use Rattle.pc_inline.proofs.MarkLemmas.{still, value_twice}
@@ -104,18 +108,44 @@ module _ (ms : List ModuleRecord) (b c : Tables) (keeps : Keeps b c) where
       (maybe_kept core.Func o.callback x callback) (maybe_kept core.Func o.post_return y post_return)
       (model_kept o.data_model m model)
 
-  definition_kept : (d : Definition) (v : Value) → DefinitionStands ms b d v → DefinitionStands ms c d v
-  definition_kept d v (stands_host {i = i} below) =
-      stands_host (within b.graph c.graph keeps.graph list.import_types i.0 below)
-  definition_kept d v (stands_lifted {ty = ty} {func = f} {o = o} {tree = tree} {v = w} {os = os} is_func func options) =
-      stands_lifted
-      (λ who. tree_grows b.types c.types keeps.types who (type.ComponentFunc ty) tree (is_func who))
-      (item_kept core.Func f w func) (options_kept o os options)
-  definition_kept d v stands_static = stands_static
+  mutual
+    -- an entry of the table of definitions
+    definition_kept : (d : Definition) (v : Value) → DefinitionStands ms b d v → DefinitionStands ms c d v
+    definition_kept d v (stands_host {i = i} below) =
+        stands_host (within b.graph c.graph keeps.graph list.import_types i.0 below)
+    definition_kept d v (stands_lifted {ty = ty} {func = f} {o = o} {tree = tree} {v = w} {os = os} is_func func
+        options) =
+        stands_lifted
+        (λ who. tree_grows b.types c.types keeps.types who (type.ComponentFunc ty) tree (is_func who))
+        (item_kept core.Func f w func) (options_kept o os options)
+    definition_kept d v stands_static = stands_static
+    definition_kept d v (stands_component {s = s} {k = k} {tr = tr} {inner = inner} {body = body} {closure = closure}
+        {chain = chain} there body_stands leaving held modules components) =
+        stands_component (subst (λ bs. slice_get bs s.0 ≡ Some tr) (sym keeps.bodies) there)
+        (subst (λ bs. BodyStands bs inner tr body) (sym keeps.bodies) body_stands) leaving
+        (keeps.closures k.0 closure held) (captured_kept a_module closure.modules inner.modules chain modules)
+        (captured_kept a_component closure.components inner.components chain components)
+    definition_kept d v (stands_instance {n = n} {es = es} {vs = vs} held members) =
+        stands_instance (keeps.instances n.0 es held) (members_kept [] es vs members)
 
-  -- a definition by number
-  pub stands_kept : (n : DefinitionId) (v : Value) → Stands ms b n v → Stands ms c n v
-  stands_kept n v (stands {d = d} held x) = stands (keeps.definitions n.0 d held) (definition_kept d v x)
+    -- a definition by number
+    pub stands_kept : (n : DefinitionId) (v : Value) → Stands ms b n v → Stands ms c n v
+    stands_kept n v (stands {d = d} held x) = stands (keeps.definitions n.0 d held) (definition_kept d v x)
+
+    -- captured variables
+    pub captured_kept : (k : Lent) (ids : List DefinitionId) (names : List (ℕ × ℕ)) (chain : Chain)
+        → Captured ms b k ids names chain → Captured ms c k ids names chain
+    captured_kept k ids names chain captures_none = captures_none
+    captured_kept k ids names chain (captures_more {id = id} {ids = rest} {names = others} {v = v} lent x more) =
+        captures_more lent (stands_kept id v x) (captured_kept k rest others chain more)
+
+    -- what an instance exports
+    pub members_kept : (seen : List (List ℕ)) (es : List (List ℕ × DefinitionId)) (vs : NamedValues)
+        → MembersStand ms b seen es vs → MembersStand ms c seen es vs
+    members_kept seen es vs no_members = no_members
+    members_kept seen es vs (new_member {name = name} {id = id} {v = v} {es = rest} {vs = others} new x more) =
+        new_member new (stands_kept id v x) (members_kept (name.name ∷ seen) rest others more)
+    members_kept seen es vs (old_member {vs = others} old more) = old_member old (members_kept seen es others more)
 
   bag_kept : (x : CoreKind × CoreId) (i : CoreItem) → BagItemStands ms b x i → BagItemStands ms c x i
   bag_kept x i h = record { kind = h.kind; item = item_kept x.0 x.1 i.value h.item }
@@ -145,8 +175,11 @@ module _ (ms : List ModuleRecord) (b c : Tables) (keeps : Keeps b c) where
     funcs = zip_more (FuncStands ms b) (FuncStands ms c) (λ n x. stands_kept n (func_value x)) f.funcs s.funcs h.funcs;
     core_instances = zip_more (CoreInstanceStands ms b) (CoreInstanceStands ms c) instance_kept f.core_instances
         s.core_instances h.core_instances;
-    instances = h.instances;
-    components = h.components;
+    instances = zip_more (InstanceStands ms b) (InstanceStands ms c) (λ n i. stands_kept n (instance_value i))
+        f.instances
+        s.instances h.instances;
+    components = zip_more (ComponentStands ms b) (ComponentStands ms c) (λ n x. stands_kept n (component_value x))
+        f.components s.components h.components;
     arguments = λ name. both_more (Stands ms b) (Stands ms c) stands_kept (value_of name f.arguments)
         (value_of name s.arguments) (h.arguments name);
     known = h.known;

@@ -8,6 +8,9 @@ mod WorldLemmas
 mod StateLemmas
 mod RefusedLemmas
 mod GrowthLemmas
+mod AddsPushLemmas
+mod AddsLemmas
+mod FewLemmas
 mod WrittenLemmas
 mod StepLemmas
 mod PassedLemmas
@@ -15,6 +18,8 @@ mod FrameLemmas
 mod ExportLemmas
 mod FoundLemmas
 mod BagLemmas
+mod CaptureLemmas
+mod ComponentLemmas
 mod CoreExportsLemmas
 mod ExportedLemmas
 mod CoreAliasLemmas
@@ -38,6 +43,7 @@ mod TakenLemmas
 mod GivenLemmas
 mod PreparedLemmas
 mod CoreInstanceLemmas
+mod HoldsLemmas
 mod InstantiationLemmas
 mod ModuleArgumentsLemmas
 mod CountLemmas
@@ -49,6 +55,13 @@ mod EndLemmas
 mod ThereLemmas
 mod RootKeptLemmas
 mod ReachLemmas
+mod ExportAddsLemmas
+mod ExportAllLemmas
 mod UnbuiltLemmas
 mod LocalLemmas
+mod SkipLemmas
+mod LoopAddsLemmas
 mod DriverLemmas
+mod InlineLemmas
+mod RootFewLemmas
+mod RunLemmas

@@ -1,5 +1,5 @@
 -- The step of a lift.
-use Rattle.std.proofs.Common.{◌≡◌, ℕ, List, [], ◌∷◌, ◌++◌, length, Option, None, Some, Result, Ok, Err, refl, sym, ap, subst, ◌∙◌}
+use Rattle.std.proofs.Common.{◌≡◌, ℕ, List, [], ◌∷◌, ◌++◌, length, None, Some, Result, Ok, Err, refl}
 use Rattle.std.specs.Prelude.{⊤, slice_get}
 use Rattle.pc_numbers.specs.declared.module_entity.ModuleInternedTypeIndex.{ModuleInternedTypeIndex}
 use Rattle.pc_types.specs.declared.module_record.ModuleRecord.{ModuleRecord}
@@ -30,8 +30,8 @@ use Rattle.pc_inline.specs.declared.error.ItemError.TheVariants as item_error
 use Rattle.pc_inline.specs.declared.error.ItemFault.TheVariants as item_fault
 use Rattle.pc_inline.specs.declared.frame.Frame.{Frame}
 use Rattle.pc_inline.specs.declared.state.State.{State}
-use Rattle.pc_inline.specs.Frames.{Both, FuncStands}
-use Rattle.pc_inline.specs.Points.{Goes, PointStands, Steps, StepsItem}
+use Rattle.pc_inline.specs.Frames.{Both}
+use Rattle.pc_inline.specs.Points.{Goes, PointStands, StepsItem}
 use Rattle.pc_inline.specs.Prepares.{Converts}
 use Rattle.pc_inline.specs.Refused.{LacksRoomOr}
 use Rattle.pc_inline.specs.Stands.{ItemStands, OptionsStand, stands_lifted}
@@ -41,7 +41,7 @@ use Rattle.pc_inline.specs.Typed.{AreOfFunction, HasNoFunction}
 use Rattle.pc_inline.specs.Written.{options_in}
 use Rattle.pc_inline.proofs.DefinitionLemmas.{definition_added}
 use Rattle.pc_inline.proofs.FrameLemmas.{framed_point, func_framed}
-use Rattle.pc_inline.proofs.KeptLemmas.{frame_kept, item_kept, options_kept}
+use Rattle.pc_inline.proofs.KeptLemmas.{item_kept, options_kept}
 use Rattle.pc_inline.proofs.OptionLemmas.{options_in_stand}
 use Rattle.pc_inline.proofs.PassedLemmas.{steps_lacking}
 use Rattle.pc_inline.proofs.StateLemmas.{converts_prepares, definition_prepares}
@@ -95,7 +95,8 @@ module _ (t : TypeTable) (ms : List ModuleRecord) (func ty core : ℕ) (opts : L
       lift_unfound none =
           let missing = both_missing (ItemStands ms (tables_of st') kind.Func) (slice_get f.core_funcs func)
           (slice_get now.scope.core_funcs func)
-          (zip_at (ItemStands ms (tables_of st') kind.Func) f.core_funcs now.scope.core_funcs func still.frame.core_funcs)
+          (zip_at (ItemStands ms (tables_of st') kind.Func) f.core_funcs now.scope.core_funcs func
+          still.frame.core_funcs)
           none in
           row_stuck t ms now lift invalid refl (rw (there.is_tree, there.is_signature, missing) refl)
 
@@ -158,7 +159,8 @@ module _ (t : TypeTable) (ms : List ModuleRecord) (func ty core : ℕ) (opts : L
     lift_misses_option id found_it none =
         steps_stuck t ms reads st f st' f item_fault.Invalid (λ now at. lift_unsound now at id found_it none)
 
-    pub lift_steps : (id : CoreId) → slice_get f.core_funcs func ≡ Some id → (o : Options) → options_in f i opts ≡ Some o
+    pub lift_steps : (id : CoreId) → slice_get f.core_funcs func ≡ Some id → (o : Options)
+        → options_in f i opts ≡ Some o
         → (key : DefinitionId) → key.0 ≡ length st'.definitions → (r : ⊤)
         → StepsItem t ms lift st f (record st' { definitions = st'.definitions ++ definition.LiftedFunc n id o ∷ [] })
         (record f { funcs = f.funcs ++ key ∷ [] }) (Ok r)

@@ -1,5 +1,6 @@
 -- The step of a lower: of a host function, or of a lifted one, which isn't built yet.
-use Rattle.std.proofs.Common.{◌≡◌, ◌<◌, ◌||◌, ℕ, Bool, true, false, true≢false, List, [], ◌∷◌, ◌++◌, length, Option, None, Some, Result, Ok, Err, if◌then◌else◌, refl, sym, ap, subst, ◌∙◌}
+use Rattle.std.proofs.Common.{◌≡◌, ◌<◌, ◌||◌, ℕ, Bool, true, false, true≢false, List, [], ◌∷◌, length, None, Some}
+use Rattle.std.proofs.Common.{Result, Ok, Err, if◌then◌else◌, refl, sym, ap, subst, ◌∙◌}
 use Rattle.std.specs.Prelude.{⊤, slice_get, option_and_then}
 use Rattle.std.specs.List.{list_any}
 use Rattle.std.proofs.lemmas.List.Folds.{list_any-append}
@@ -31,7 +32,6 @@ use Rattle.pc_reading.specs.Types.{signature_at, tree_if}
 use Rattle.pc_reading.specs.Value.{Function, Value, func_value, host_function, lifted_function}
 use Rattle.pc_inline.specs.declared.definition.CoreId.{CoreId}
 use Rattle.pc_inline.specs.declared.definition.Definition.{Definition}
-use Rattle.pc_inline.specs.declared.definition.Definition.TheVariants as definition
 use Rattle.pc_inline.specs.declared.definition.DefinitionId.{DefinitionId}
 use Rattle.pc_inline.specs.declared.definition.Options.{Options}
 use Rattle.pc_inline.specs.declared.error.ItemError.{ItemError}
@@ -47,7 +47,8 @@ use Rattle.pc_inline.specs.Definitions.{host_import}
 use Rattle.pc_inline.specs.Hosts.{Lowers}
 use Rattle.pc_inline.specs.Lists.{with_core_id}
 use Rattle.pc_inline.specs.Slots.{OptionsThere}
-use Rattle.pc_inline.specs.Stands.{DefinitionStands, OptionsStand, Stands, stands, stands_host, stands_lifted, stands_static}
+use Rattle.pc_inline.specs.Stands.{DefinitionStands, OptionsStand, Stands, stands, stands_component, stands_host}
+use Rattle.pc_inline.specs.Stands.{stands_instance, stands_lifted, stands_static}
 use Rattle.pc_inline.specs.Tables.{Tables, tables_of}
 use Rattle.pc_inline.specs.Worlds.{import_path}
 use Rattle.pc_inline.specs.Today.{built_row, is_built, is_made}
@@ -111,10 +112,16 @@ module _ (ms : List ModuleRecord) (b : Tables) where
       → (x ≡ host_function (import_path i.0)) × (i.0 < length b.graph.import_types)
   host_entry d v x (stands_host {i = j} below) is i host =
       let same : j ≡ i = same_Some j i host in
-      let value : host_function (import_path j.0) ≡ x = cc in
-      (sym value ∙ ap (λ k. host_function (import_path k.0)) same, subst (λ k. k.0 < length b.graph.import_types) same below)
+      let value : host_function (import_path j.0) ≡ x = cc in (
+        sym value ∙ ap (λ k. host_function (import_path k.0)) same,
+        subst (λ k. k.0 < length b.graph.import_types) same
+            below,
+      )
   host_entry d v x (stands_lifted ty func options) is i host = absurd (none-some i host)
   host_entry d v x stands_static is i host = absurd (none-some i host)
+  host_entry d v x (stands_component tr body leaving closure modules components) is i host =
+      absurd (none-some i host)
+  host_entry d v x (stands_instance held _) is i host = absurd (none-some i host)
 
   pub host_is : (n : DefinitionId) (x : Function) → Stands ms b n (func_value x) → (i : ImportIndex)
       → option_and_then host_import (slice_get b.definitions n.0) ≡ Some i
@@ -129,6 +136,9 @@ module _ (ms : List ModuleRecord) (b : Tables) where
   lifted_entry d v x (stands_host below) is none = absurd (none-some _ (sym none))
   lifted_entry d v x (stands_lifted {tree = tree} {v = w} {os = os} ty func options) is none = (tree, w, os, cc)
   lifted_entry d v x stands_static is none = absurd (let k : ⊥ = cc in k)
+  lifted_entry d v x (stands_component tr body leaving closure modules components) is none =
+      absurd (let k : ⊥ = cc in k)
+  lifted_entry d v x (stands_instance held _) is none = absurd (let k : ⊥ = cc in k)
 
   pub lifted_is : (n : DefinitionId) (x : Function) → Stands ms b n (func_value x)
       → option_and_then host_import (slice_get b.definitions n.0) ≡ None
@@ -186,7 +196,8 @@ module _ (t : TypeTable) (ms : List ModuleRecord) (func ty core : ℕ) (opts : L
 
       module _ (id : DefinitionId) (found_it : slice_get f.funcs func ≡ Some id) where
         function : (x : Function) × (slice_get now.scope.funcs func ≡ Some x) × FuncStands ms (tables_of st') id x
-        function = both_there (FuncStands ms (tables_of st')) (slice_get f.funcs func) (slice_get now.scope.funcs func) id
+        function = both_there (FuncStands ms (tables_of st')) (slice_get f.funcs func)
+            (slice_get now.scope.funcs func) id
             (zip_at (FuncStands ms (tables_of st')) f.funcs now.scope.funcs func still.frame.funcs) found_it
 
         options_stand : Both (OptionsStand ms (tables_of st')) (options_in f i opts)
@@ -215,7 +226,8 @@ module _ (t : TypeTable) (ms : List ModuleRecord) (func ty core : ℕ) (opts : L
               let x = lifted_is ms (tables_of st') id function.0 function.2 none in
               let a = adapter (of_type x.0) x.2 (of_type there.tree) options.0 x.1 in
               row_adapts t ms now (add_core (making now a) kind.Func a) lower refl
-              (lower_read now there.tree there.signature function.0 options.0 there.is_tree there.is_signature function.1
+              (lower_read now there.tree there.signature function.0 options.0 there.is_tree there.is_signature
+              function.1
               options.1 ∙ ap (λ y. Ok (lower_to now y there.tree there.signature options.0)) x.3)
               (making_some now a at.world.no_adapters)
 
@@ -231,7 +243,8 @@ module _ (t : TypeTable) (ms : List ModuleRecord) (func ty core : ℕ) (opts : L
               let next = lower_to now (host_function (import_path j.0)) there.tree there.signature options.0 in
               record {
                 now = next;
-                stands = framed_point t ms end f (with_core_id f kind.Func key) _ (with_core now.scope kind.Func v) went.0
+                stands = framed_point t ms end f (with_core_id f kind.Func key) _ (with_core now.scope kind.Func v)
+                    went.0
                     refl (core_framed ms (tables_of end) f now.scope went.0.frame kind.Func key v went.1);
                 done = row_goes t ms now next lower refl
                     (lower_read now there.tree there.signature function.0 options.0 there.is_tree there.is_signature
@@ -248,8 +261,12 @@ module _ (t : TypeTable) (ms : List ModuleRecord) (func ty core : ℕ) (opts : L
         let now = point.0 in
         let at = point.1 in
         let x = function now at id found_it in
-        let os = options now at id found_it o sound in
-        ((still now at).sound, (host_is ms (tables_of st') id x.0 x.2 j host).1, options_there ms (tables_of st') o os.0 os.2)
+        let os = options now at id found_it o sound in (
+          (still now at).sound,
+          (host_is ms (tables_of st') id x.0 x.2 j host).1,
+          options_there ms (tables_of st') o
+              os.0 os.2,
+        )
 
     -- the steps of these
     pub lower_misses : slice_get f.funcs func ≡ None

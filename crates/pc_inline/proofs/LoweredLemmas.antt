@@ -1,11 +1,13 @@
 -- A host function that is lowered: its trampoline, and what it leaves of the state.
-use Rattle.std.proofs.Common.{◌≡◌, ◌⊎◌, inl, inr, ◌<◌, ℕ, List, [], ◌∷◌, ◌++◌, length, Option, Some, Result, Ok, Err, refl, sym, ap, subst, ◌∙◌}
+use Rattle.std.proofs.Common.{◌≡◌, inl, inr, ◌<◌, ℕ, List, [], ◌∷◌, ◌++◌, length, Some, Result, Ok, Err, refl, sym, ap}
+use Rattle.std.proofs.Common.{subst, ◌∙◌}
 use Rattle.std.specs.Prelude.{IfOk, OnOk, slice_get}
 use Rattle.std.specs.List.{AllZip}
 use Rattle.std.proofs.lemmas.List.{append-nil}
 use Rattle.std.proofs.lemmas.List.Elements.{Contains-push, filter_map-append}
 use Rattle.std.proofs.lemmas.Option.{slice_get_within}
 use Rattle.pc_entity.proofs.Growing.{slice_get-append_seam}
+use Rattle.pc_entity.proofs.LookupLemmas.{kept_within}
 use Rattle.pc_interned.specs.Types.{Types}
 use Rattle.pc_interned.proofs.Growth.{grows_trans}
 use Rattle.pc_builder.proofs.TreeLemmas.{tree_grows}
@@ -33,13 +35,12 @@ use Rattle.pc_trampoline.specs.Parts.{parts_of}
 use Rattle.pc_parsed.specs.Mark.{Mark, of_type}
 use Rattle.pc_reading.specs.Scope.{Moment, add_entry}
 use Rattle.pc_reading.specs.World.{World, logging}
-use Rattle.pc_dfg.specs.declared.core_def.CoreDef.{CoreDef}
 use Rattle.pc_dfg.specs.declared.core_def.CoreDef.TheVariants as def
 use Rattle.pc_dfg.specs.declared.dfg.ComponentDfg.{ComponentDfg}
 use Rattle.pc_dfg.specs.Grows as graph
 use Rattle.pc_dfg.specs.Held.{HeldTrampoline}
 use Rattle.pc_dfg.specs.Lists as list
-use Rattle.pc_dfg.specs.Means.{HasPath, MeansOptions, means_lowered, means_trampoline}
+use Rattle.pc_dfg.specs.Means.{HasPath, means_lowered, means_trampoline}
 use Rattle.pc_dfg.specs.Numbers.{SignedTrampoline, slots_of, trampoline_entry}
 use Rattle.pc_dfg.specs.Ordered.{IsOrdered}
 use Rattle.pc_dfg.specs.Pushed.{IsPut}
@@ -54,14 +55,16 @@ use Rattle.pc_inline.specs.declared.error.ItemError.{ItemError}
 use Rattle.pc_inline.specs.declared.frame.Frame.{Frame}
 use Rattle.pc_inline.specs.declared.state.State.{State}
 use Rattle.pc_inline.specs.Hosts.{Lowers, Uses, lowering}
-use Rattle.pc_inline.specs.Points.{IsSoundState, PointStands}
+use Rattle.pc_inline.specs.Points.{PointStands}
 use Rattle.pc_inline.specs.Prepares.{Prepares}
 use Rattle.pc_inline.specs.Slots.{EntryStands, ModelThere, OptionsThere}
-use Rattle.pc_inline.specs.Stands.{CoreStands, IsFunc, ItemStands, OptionsStand}
+use Rattle.pc_inline.specs.Stands.{CoreStands, ItemStands, OptionsStand, options_stand}
 use Rattle.pc_inline.specs.Tables.{IsItem, Keeps, Tables, is_trampoline, tables_of}
 use Rattle.pc_inline.specs.Typed.{Holds, Numbered}
-use Rattle.pc_inline.specs.Worlds.{EffectStands, HasItems, HasTrampoline, IsDeclared, WorldStands, import_path, slot_kind}
-use Rattle.pc_inline.proofs.GrowthLemmas.{cores_grown, graph_grown}
+use Rattle.pc_inline.specs.Worlds.{EffectStands, HasTrampoline, IsDeclared, IsSigned, WorldStands, import_path}
+use Rattle.pc_inline.specs.Worlds.{slot_kind}
+use Rattle.pc_inline.proofs.AddsPushLemmas.{changes_few}
+use Rattle.pc_inline.proofs.GrowthLemmas.{graph_grown}
 use Rattle.pc_inline.proofs.KeptLemmas.{begun_kept, frame_kept, is_item_kept}
 use Rattle.pc_inline.proofs.KeptLemmas.{options_kept as options_still}
 use Rattle.pc_inline.proofs.LogLemmas.{declared_on, paths-push, trace-push, world_on}
@@ -81,6 +84,7 @@ module _ (ms : List ModuleRecord) (b c : Tables) (keeps : Keeps b c) where
   pub options_there_kept : (o : OptionsOf) → OptionsThere ms b o → OptionsThere ms c o
   options_there_kept o there = record {
     component_instance = begun_kept b.graph c.graph keeps.graph o.instance.0 there.component_instance;
+    signature = kept_within b.types.signatures c.types.signatures keeps.types.signatures o.core_type.0 there.signature;
     callback = there_kept ms b c keeps core.Func o.callback there.callback;
     post_return = there_kept ms b c keeps core.Func o.post_return there.post_return;
     model = model_there_kept o.data_model there.model;
@@ -96,6 +100,12 @@ typed types ty tree func = record {
   holds = func;
 }
 
+-- options have the core signature of what is lowered with them
+lowering_signed : (ms : List ModuleRecord) (b : Tables) (o : OptionsOf) (p : Path) (ty : Mark) (os : Options Mark)
+    (x : SignedTrampoline) → x.0 ≡ o.core_type → OptionsStand ms b o os → IsSigned b.types x (value.lowered p ty os)
+lowering_signed ms b o p ty os x same (options_stand {signature = s} begun signed callback post_return model) =
+    (s, ap (λ (n : ModuleInternedTypeIndex). slice_get b.types.signatures n.0) same ∙ signed, refl)
+
 -- the slots of a graph with other trampolines
 lowered_slots : (g : ComponentDfg) (ts : List SignedTrampoline) (k : plan.SlotKind)
     → slots_of (record g { trampolines = ts }) k ≡ slots_of g k
@@ -106,7 +116,8 @@ lowered_slots g ts plan.realloc = refl
 lowered_slots g ts plan.callback = refl
 lowered_slots g ts plan.post_return = refl
 
-module _ (t : TypeTable) (ms : List ModuleRecord) (st : State) (ts : List SignedTrampoline) (s : ModuleInternedTypeIndex)
+module _ (t : TypeTable) (ms : List ModuleRecord) (st : State) (ts : List SignedTrampoline)
+    (s : ModuleInternedTypeIndex)
     (r : RuntimeImportIndex) (ty : TypeFuncIndex) (o : OptionsId) where
   -- the graph with these trampolines
   abbrev lowered_in : ComponentDfg
@@ -142,10 +153,11 @@ module _ (t : TypeTable) (ms : List ModuleRecord) (st : State) (ts : List Signed
     }
 
     -- the world in which it is declared
-    lowered_world : IsPut st.graph.trampolines ts lowering_of → (n : TrampolineIndex)
+    lowered_world : IsSigned st.types lowering_of (value.lowered p (of_type tree) os)
+        → IsPut st.graph.trampolines ts lowering_of → (n : TrampolineIndex)
         → slice_get ts n.0 ≡ Some lowering_of → (w : World) → WorldStands st.types st.graph w
         → WorldStands st.types lowered_in (logging w (declared (value.lowered p (of_type tree) os)))
-    lowered_world put n at w stands =
+    lowered_world signed put n at w stands =
         let v = value.lowered p (of_type tree) os in
         let e = declared v in
         world_on st.types st.graph lowered_in grows w e stands
@@ -162,21 +174,24 @@ module _ (t : TypeTable) (ms : List ModuleRecord) (st : State) (ts : List Signed
             value = v;
             entry = Contains-push w.log e;
             stands = lowered_stands k (found ∙ ap Some (sym here));
+            signed = subst (λ y. IsSigned st.types y v) here signed;
           }
         ])
         (λ w' is. subst (λ x. HasTrampoline st.types lowered_in x) (same v w' is)
         (record { trampoline = n; stands = lowered_stands n.0 at }))
+        (changes_few st.graph.trampolines ts lowering_of put.0)
         (stands.imports ∙ sym (paths-push w.log e)) refl refl refl
       where
         same : (a b : CoreValue Mark) → declared a ≡ declared b → a ≡ b
         same a b is = cc
 
     -- so it is where the reading is then
-    lowered_point : (IsOrdered st.graph → IsOrdered lowered_in) → IsPut st.graph.trampolines ts lowering_of
+    lowered_point : (IsOrdered st.graph → IsOrdered lowered_in)
+        → IsSigned st.types lowering_of (value.lowered p (of_type tree) os) → IsPut st.graph.trampolines ts lowering_of
         → (n : TrampolineIndex) → slice_get ts n.0 ≡ Some lowering_of → (f : Frame) (now : Moment)
         → PointStands t ms st f now
         → PointStands t ms lowered_to f (add_entry now (declared (value.lowered p (of_type tree) os)))
-    lowered_point ordered put n at f now point = record {
+    lowered_point ordered signed put n at f now point = record {
       sound = record {
         ordered = ordered point.sound.ordered;
         items = record {
@@ -189,7 +204,8 @@ module _ (t : TypeTable) (ms : List ModuleRecord) (st : State) (ts : List Signed
                 (λ d x. (x.0, is_item_kept ms st.graph lowered_in grows x.0 d x.1)) args old.3,
           );
           slots = λ k i d found. is_item_kept ms st.graph lowered_in grows (slot_kind k) d
-              (point.sound.items.slots k i d (subst (λ xs. slice_get xs i ≡ Some d) (lowered_slots st.graph ts k) found));
+              (point.sound.items.slots k i d (subst (λ xs. slice_get xs i ≡ Some d) (lowered_slots st.graph ts k)
+              found));
           exports = λ i x y d found. is_item_kept ms st.graph lowered_in grows _ d
               (point.sound.items.exports i x y d found);
         };
@@ -200,6 +216,8 @@ module _ (t : TypeTable) (ms : List ModuleRecord) (st : State) (ts : List Signed
           resources = point.sound.plain.resources;
           imported_resources = point.sound.plain.imported_resources;
           unsafe_intrinsics = point.sound.plain.unsafe_intrinsics;
+          instances = point.sound.plain.instances;
+          export_items = point.sound.plain.export_items;
         };
         used = record {
           room = point.sound.used.room;
@@ -207,11 +225,13 @@ module _ (t : TypeTable) (ms : List ModuleRecord) (st : State) (ts : List Signed
           others = point.sound.used.others;
         };
         numbers = point.sound.numbers;
+        held = record { options = point.sound.held.options; functions = point.sound.held.functions };
       };
       here = point.here;
-      frame = frame_kept ms (tables_of st) (tables_of lowered_to) (graph_grown (tables_of st) lowered_in grows) f now.scope
+      frame = frame_kept ms (tables_of st) (tables_of lowered_to) (graph_grown (tables_of st) lowered_in grows) f
+          now.scope
           point.frame;
-      world = lowered_world put n at now.world point.world;
+      world = lowered_world signed put n at now.world point.world;
       unexported = record { exports = point.unexported.exports; items = point.unexported.items };
     }
 
@@ -236,7 +256,8 @@ module _ (t : TypeTable) (ms : List ModuleRecord) (a b c : State) (h : Component
   ended = record c { graph = h }
 
   -- the answer is a core function that the host function is lowered to
-  pub lowers_all : (s : ModuleInternedTypeIndex) (d : State) (result : Result CoreId ItemError)
+  pub lowers_all : (s : ModuleInternedTypeIndex) → s ≡ options.core_type → (d : State)
+      → (result : Result CoreId ItemError)
       → Keeps (tables_of a) (tables_of b) → Uses t ms a b i r → Prepares t ms b c
       → ((v : Options Mark) → OptionsStand ms (tables_of b) options v → EntryStands (tables_of c) o.0 v)
       → o.0 < length c.graph.options → graph.Grows c.graph h → h ≡ record c.graph { trampolines = h.trampolines }
@@ -247,20 +268,25 @@ module _ (t : TypeTable) (ms : List ModuleRecord) (a b c : State) (h : Component
       → OnOk result (d ≡ record ended { cores = c.cores ++ def.Trampoline n ∷ [] })
       → IfOk result (Lowers t ms a d i ty options)
   unfolding Lowers
-  lowers_all s d (Err e) keeps uses prepares entry held grows rest ordered put at number is = tt
-  lowers_all s d (Ok id) keeps uses prepares entry held grows rest ordered put at number is =
+  lowers_all s of_options d (Err e) keeps uses prepares entry held grows rest ordered put at number is = tt
+  lowers_all s of_options d (Ok id) keeps uses prepares entry held grows rest ordered put at number is =
       λ f now tree os point func opts.
       let p = import_path i.0 in
       let used = uses.stands f now point in
       let ready = point_kept t ms b c prepares f (add_entry now (needed p)) used in
       let path = kept b.graph c.graph prepares.keeps.graph list.imports _ _ uses.path in
       let typed_there = λ (who : ResourceIndex → Identity). tree_grows a.types c.types
-      (grows_trans a.types b.types c.types keeps.types prepares.keeps.types) who (type.ComponentFunc ty) tree (func who) in
-      let e = entry os (options_still ms (tables_of a) (tables_of b) keeps options os opts) in
+      (grows_trans a.types b.types c.types keeps.types prepares.keeps.types) who (type.ComponentFunc ty) tree
+      (func who) in
+      let opts_used = options_still ms (tables_of a) (tables_of b) keeps options os opts in
+      let e = entry os opts_used in
+      let signed = lowering_signed ms (tables_of c) options p (of_type tree) os
+      (lowering_of t ms c h.trampolines s r ty o) of_options
+      (options_still ms (tables_of b) (tables_of c) prepares.keeps options os opts_used) in
       let more = subst (graph.Grows c.graph) rest grows in
       let order = λ (x : IsOrdered c.graph). subst IsOrdered rest
       (ordered (lowering_held t ms c h.trampolines s r ty o p path held) x) in
-      let after = lowered_point t ms c h.trampolines s r ty o more p tree os path typed_there e order put n at f
+      let after = lowered_point t ms c h.trampolines s r ty o more p tree os path typed_there e order signed put n at f
       (add_entry now (needed p)) ready in
       let end_state = record (lowered_to t ms c h.trampolines s r ty o) { cores = c.cores ++ def.Trampoline n ∷ [] } in
       let final = point_kept t ms (lowered_to t ms c h.trampolines s r ty o) end_state

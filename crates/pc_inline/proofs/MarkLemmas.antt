@@ -1,17 +1,17 @@
 -- Values whose marks are mapped twice, and marks that a builder still holds when it has grown.
 use Rattle.std.proofs.Common.{◌≡◌, List, [], ◌∷◌, map, refl}
-use Rattle.pc_numbers.specs.declared.runtime.ResourceIndex.{ResourceIndex}
-use Rattle.pc_types.specs.TypeTree.{Identity}
 use Rattle.pc_interned.specs.Types.{Grows, Types}
 use Rattle.pc_builder.proofs.TreeLemmas.{tree_grows}
 use Rattle.pc_trampoline.specs.declared.part.Mark.{Mark}
 use Rattle.pc_trampoline.specs.declared.part.Mark.TheVariants as mark
 use Rattle.pc_parsed.specs.Mark as reading
 use Rattle.pc_semantics.specs.CoreValue as value
-use Rattle.pc_semantics.specs.CoreValue.{CoreValue, Options, DataModel, MaybeValue, Parts, Part, map_value, map_options, map_model, map_maybe, map_parts, map_part}
+use Rattle.pc_semantics.specs.CoreValue.{CoreValue, Options, DataModel, MaybeValue, Parts, Part, map_value, map_options}
+use Rattle.pc_semantics.specs.CoreValue.{map_model, map_maybe, map_parts, map_part}
 use Rattle.pc_semantics.specs.ExportNode as node
 use Rattle.pc_semantics.specs.ExportNode.{ExportNode, ExportNodes, map_node, map_nodes}
-use Rattle.pc_semantics.specs.Log.{Entry, Instantiation, NamedArgument, declared, declared_resource, instantiated, made, map_argument, map_entry, map_instantiation, needed, of_host, of_static}
+use Rattle.pc_semantics.specs.Log.{Entry, Instantiation, NamedArgument, declared, declared_resource, instantiated, made}
+use Rattle.pc_semantics.specs.Log.{map_argument, map_entry, map_instantiation, needed, of_host, of_static}
 use Rattle.pc_inline.specs.Typed.{Holds, Numbered}
 
 module _ {τ υ ω : Type 0} (f : τ → υ) (h : υ → ω) where

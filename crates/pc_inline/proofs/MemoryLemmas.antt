@@ -1,5 +1,6 @@
 -- Memories in slots of the graph.
-use Rattle.std.proofs.Common.{◌≡◌, ◌⊎◌, inl, inr, ◌≤◌, ℕ, zero, suc, List, [], ◌∷◌, length, map, Option, Some, None, refl, sym, ap, subst, ◌∙◌}
+use Rattle.std.proofs.Common.{◌≡◌, ◌⊎◌, inl, inr, ◌≤◌, ℕ, zero, suc, List, [], ◌∷◌, length, map, Some, refl, sym, ap}
+use Rattle.std.proofs.Common.{subst, ◌∙◌}
 use Rattle.std.specs.Prelude.{slice_get}
 use Rattle.std.proofs.lemmas.List.{length-map}
 use Rattle.std.proofs.lemmas.Option.{none-some, same_Some}
@@ -55,7 +56,7 @@ module _ (t : TypeTable) (ms : List ModuleRecord) (st : State) (h : ComponentDfg
   memory_prepares x item rest put ordered =
       subst (λ (g : ComponentDfg). Prepares t ms st (record st { graph = g })) (sym rest)
       (slots_prepare t ms st h.memories st.graph.reallocs st.graph.callbacks st.graph.post_returns st.graph.options
-      (subst (graph.Grows st.graph) rest grows)
+      (λ held. held.options) (subst (graph.Grows st.graph) rest grows)
       (λ o. subst IsOrdered rest (ordered (item_held ms st.graph core.Memory (memory_def x) item) o)) slots)
     where
       slots : (k : plan.SlotKind) (n : ℕ) (d : CoreDef)

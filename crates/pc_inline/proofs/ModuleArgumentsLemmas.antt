@@ -1,19 +1,17 @@
 -- The arguments of a core module, with those that no import asks for.
-use Rattle.std.proofs.Common.{◌≡◌, ℕ, Bool, true, false, List, [], ◌∷◌, length, Result, Ok, Err, Option, Some, None, if◌then◌else◌, refl, sym, ap, subst, ◌∙◌}
+use Rattle.std.proofs.Common.{◌≡◌, ℕ, true, false, List, Result, Ok, Err, Option, Some, None, refl, sym, ap, subst, ◌∙◌}
 use Rattle.std.specs.Prelude.{IfOk, slice_get, option_and_then, nat_lt}
-use Rattle.std.specs.List.{AllZip, list_all}
+use Rattle.std.specs.List.{list_all}
 use Rattle.pc_numbers.specs.declared.no_memory.NoMemory.{NoMemory}
 use Rattle.pc_entity.specs.Lists.{map_all}
 use Rattle.pc_types.specs.declared.module_record.ModuleRecord.{ModuleRecord}
 use Rattle.pc_types.specs.declared.parsed.CoreEntity.{CoreEntity}
-use Rattle.pc_semantics.specs.CoreValue.{CoreValue}
-use Rattle.pc_parsed.specs.Mark.{Mark}
 use Rattle.pc_reading.specs.Arguments.{has_instances, static_argument, static_arguments}
 use Rattle.pc_reading.specs.Scope.{Scope}
 use Rattle.pc_dfg.specs.declared.core_def.CoreDef.{CoreDef}
 use Rattle.pc_inline.specs.declared.frame.Frame.{Frame}
 use Rattle.pc_inline.specs.Found.{ArgumentsStand, SameValues, knows_instances}
-use Rattle.pc_inline.specs.Frames.{Both, CoreInstanceStands, FrameStands, neither}
+use Rattle.pc_inline.specs.Frames.{Both, CoreInstanceStands, FrameStands}
 use Rattle.pc_inline.specs.Tables.{Tables}
 use Rattle.pc_inline.proofs.ZipLemmas.{zip_length}
 

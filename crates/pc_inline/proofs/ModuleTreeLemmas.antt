@@ -1,6 +1,7 @@
 -- Each module type of a sound table has a tree.
-use Rattle.std.proofs.Common.{◌≡◌, ℕ, ◌+◌, zero, suc, List, [], ◌∷◌, ◌++◌, length, Option, Some, None, Bool, true, false, refl, sym, ap, ◌∙◌, subst, arith, true≢false, zero-add}
-use Rattle.std.specs.Prelude.{slice_get, option_and_then, option_map, if◌then◌else◌}
+use Rattle.std.proofs.Common.{◌≡◌, ℕ, ◌+◌, zero, suc, List, [], ◌∷◌, ◌++◌, length, Option, Some, None, Bool, true}
+use Rattle.std.proofs.Common.{false, refl, sym, ap, ◌∙◌, subst, arith, true≢false, zero-add}
+use Rattle.std.specs.Prelude.{slice_get, option_and_then, if◌then◌else◌}
 use Rattle.std.specs.List.{list_all}
 use Rattle.std.proofs.lemmas.Bool.{ltb-true}
 use Rattle.std.proofs.lemmas.List.{length-append}
@@ -17,8 +18,11 @@ use Rattle.pc_types.specs.declared.parsed.DeclType.{DeclType}
 use Rattle.pc_types.specs.declared.parsed.DeclType.TheVariants as entry
 use Rattle.pc_types.specs.declared.parsed.TypeTable.{TypeTable}
 use Rattle.pc_types.specs.Record.{is_typed}
-use Rattle.pc_types.specs.Table.{bad_entry, value_entry, fault_from, fault_or, holds_value, is_module, is_some_and, is_sound_entry, table_fault}
-use Rattle.pc_types.specs.TypeTree.{Identity, TypeTree, CoreTree, core_tree, entry_tree, module_export_tree, module_import_tree, tree_of, trees_from, module_of, core_func, core_table, core_memory, core_global, core_tag}
+use Rattle.pc_types.specs.Table.{bad_entry, value_entry, fault_from, fault_or, holds_value, is_module, is_some_and}
+use Rattle.pc_types.specs.Table.{is_sound_entry, table_fault}
+use Rattle.pc_types.specs.TypeTree.{Identity, TypeTree, CoreTree, core_tree, entry_tree, module_export_tree}
+use Rattle.pc_types.specs.TypeTree.{module_import_tree, tree_of, trees_from, module_of, core_func, core_table}
+use Rattle.pc_types.specs.TypeTree.{core_memory, core_global, core_tag}
 
 module _ (known : List (ℕ × Identity)) (c : ℕ) (t : TypeTable) where
   -- the trees of earlier entries stay

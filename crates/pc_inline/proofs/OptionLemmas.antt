@@ -1,6 +1,7 @@
 -- The options that the code picks stand for those of the reading.
-use Rattle.std.proofs.Common.{◌≡◌, ℕ, List, [], ◌∷◌, length, true, false, Bool, Option, None, Some, refl, sym, ap, subst, ◌∙◌, if◌then◌else◌, true≢false}
-use Rattle.std.specs.Prelude.{◌&&◌, nat_lt, option_and_then, slice_get, unwrap_or}
+use Rattle.std.proofs.Common.{◌≡◌, ℕ, List, [], ◌∷◌, length, true, false, Bool, Option, None, Some, refl, sym, ap}
+use Rattle.std.proofs.Common.{subst, if◌then◌else◌, true≢false}
+use Rattle.std.specs.Prelude.{◌&&◌, nat_lt, slice_get, unwrap_or}
 use Rattle.std.specs.List.{AllZip, list_all, list_any}
 use Rattle.pc_numbers.specs.declared.module_entity.ModuleInternedTypeIndex.{ModuleInternedTypeIndex}
 use Rattle.pc_types.specs.declared.encoding.StringEncoding.TheVariants as encoding
@@ -13,13 +14,14 @@ use Rattle.pc_semantics.specs.CoreValue.{CoreValue}
 use Rattle.pc_parsed.specs.declared.canon.CanonOption.{CanonOption}
 use Rattle.pc_parsed.specs.declared.canon.CanonOption.TheVariants as option
 use Rattle.pc_parsed.specs.Mark.{Mark, of_signature}
-use Rattle.pc_reading.specs.Options.{callback_in, chosen, encoding_in, is_async, is_gc, is_sound_option, last_of, maybe, memory_in, model_of, options_of, post_return_in, realloc_in, the_options}
+use Rattle.pc_reading.specs.Options.{callback_in, chosen, encoding_in, is_async, is_gc, is_sound_option, last_of, maybe}
+use Rattle.pc_reading.specs.Options.{memory_in, model_of, options_of, post_return_in, realloc_in, the_options}
 use Rattle.pc_reading.specs.Scope.{Scope}
 use Rattle.pc_inline.specs.declared.definition.CoreId.{CoreId}
-use Rattle.pc_inline.specs.declared.definition.Options.{Options}
 use Rattle.pc_inline.specs.declared.frame.Frame.{Frame}
 use Rattle.pc_inline.specs.Frames.{Both, FrameStands, both, neither}
-use Rattle.pc_inline.specs.Stands.{ItemStands, MaybeStands, ModelStands, OptionsStand, gc_stands, linear_stands, none_stands, options_stand, some_stands}
+use Rattle.pc_inline.specs.Stands.{ItemStands, MaybeStands, ModelStands, OptionsStand, gc_stands, linear_stands}
+use Rattle.pc_inline.specs.Stands.{none_stands, options_stand, some_stands}
 use Rattle.pc_inline.specs.Tables.{Tables}
 use Rattle.pc_inline.specs.Written.{is_sound_in, options_in, picked, picked_model, picked_options, written}
 use Rattle.pc_inline.proofs.ZipLemmas.{zip_at, zip_length}
@@ -69,7 +71,8 @@ module _ (ms : List ModuleRecord) (b : Tables) where
     model_stands os = by (list_any is_gc os)
       where
         by : (gc : Bool) → ModelStands ms b
-            (if gc then picked_model f (record (written os) { gc = true }) else picked_model f (record (written os) { gc = false }))
+            (if gc then picked_model f (record (written os) { gc = true }) else picked_model f
+            (record (written os) { gc = false }))
             (if gc then value.gc else value.linear (chosen s.memories (last_of memory_in os))
             (chosen s.core_funcs (last_of realloc_in os)))
         by true = gc_stands

@@ -1,10 +1,10 @@
 -- Options as entries of the graph.
-use Rattle.std.proofs.Common.{◌≡◌, ◌⊎◌, inl, inr, ◌≤◌, ◌<◌, ℕ, List, length, Option, Some, None, refl, sym, ap, subst, ◌∙◌}
-use Rattle.std.specs.Prelude.{slice_get, option_map}
+use Rattle.std.proofs.Common.{◌≡◌, ◌⊎◌, inl, ◌≤◌, ◌<◌, ℕ, List, length, Option, Some, None, refl, sym, ap, subst, ◌∙◌}
+use Rattle.std.specs.Prelude.{slice_get}
 use Rattle.std.proofs.lemmas.Option.{slice_get_within}
+use Rattle.pc_entity.proofs.LookupLemmas.{kept_within}
+use Rattle.pc_numbers.specs.declared.module_entity.ModuleInternedTypeIndex.{ModuleInternedTypeIndex}
 use Rattle.pc_interned.specs.Types.{Types}
-use Rattle.pc_intern.specs.declared.ids.CallbackId.{CallbackId}
-use Rattle.pc_intern.specs.declared.ids.PostReturnId.{PostReturnId}
 use Rattle.pc_numbers.specs.declared.runtime.RuntimeComponentInstanceIndex.{RuntimeComponentInstanceIndex}
 use Rattle.pc_types.specs.declared.module_record.ModuleRecord.{ModuleRecord}
 use Rattle.pc_types.specs.declared.parsed.CoreFuncSig.{CoreFuncSig}
@@ -23,25 +23,26 @@ use Rattle.pc_dfg.specs.declared.options.CanonicalOptions.{CanonicalOptions}
 use Rattle.pc_dfg.specs.Grows as graph
 use Rattle.pc_dfg.specs.Held.{HasBegun, HeldModel, HeldOptions, HeldSlot}
 use Rattle.pc_dfg.specs.Lists as list
-use Rattle.pc_dfg.specs.Means.{MeansModel, MeansSlot, means_entry, means_gc, means_linear, means_no_slot, means_options, means_slot}
+use Rattle.pc_dfg.specs.Means.{MeansModel, MeansSlot, means_entry, means_gc, means_linear, means_no_slot, means_options}
+use Rattle.pc_dfg.specs.Means.{means_slot}
 use Rattle.pc_dfg.specs.Numbers.{options_entry, slots_of}
 use Rattle.pc_dfg.specs.Ordered.{IsOrdered}
 use Rattle.pc_dfg.specs.Pushed.{IsPut}
 use Rattle.pc_dfg.proofs.GrowLemmas.{kept, within}
 use Rattle.pc_dfg.proofs.KeptLemmas.{means_kept}
 use Rattle.pc_inline.specs.declared.definition.CoreId.{CoreId}
-use Rattle.pc_inline.specs.declared.definition.DataModel.{DataModel}
 use Rattle.pc_inline.specs.declared.definition.DataModel.TheVariants as model
 use Rattle.pc_inline.specs.declared.definition.Options.{Options}
 use Rattle.pc_inline.specs.declared.state.State.{State}
 use Rattle.pc_inline.specs.Points.{IsFullSomewhere}
 use Rattle.pc_inline.specs.Prepares.{Prepares}
-use Rattle.pc_inline.specs.Slots.{EntryStands, IsThere, MaybeThere, ModelThere, OptionsThere, SlotModelStands, SlotStands}
+use Rattle.pc_inline.specs.Slots.{EntryStands, MaybeThere, OptionsThere, SlotModelStands, SlotStands}
 use Rattle.pc_inline.specs.Stands.{MaybeStands, ModelStands, OptionsStand, gc_stands, linear_stands, options_stand}
 use Rattle.pc_inline.specs.Tables.{IsItem, Keeps, Tables, tables_of}
 use Rattle.pc_inline.specs.Worlds.{slot_kind}
 use Rattle.pc_inline.specs.Typed.{Holds, Numbered, number_of, whole_of}
 use Rattle.pc_inline.proofs.GrowthLemmas.{graph_crowded, graph_grown}
+use Rattle.pc_inline.proofs.HoldsLemmas.{options_put}
 use Rattle.pc_inline.proofs.KeptLemmas.{begun_kept, is_item_kept, maybe_kept}
 use Rattle.pc_inline.proofs.MarkLemmas.{maybe_twice, model_twice, still}
 use Rattle.pc_inline.proofs.SlotLemmas.{slots_prepare}
@@ -149,14 +150,16 @@ pub entry_stands : (ms : List ModuleRecord) (b c : Tables) → Keeps b c → (o 
     → (v : value.Options Mark) → OptionsStand ms b o v → EntryStands c n v
 unfolding signed
 entry_stands ms b c keeps o x n at instance encoding is_async core_type callback post_return model v
-    (options_stand {signature = s} {callback = p} {post_return = q} {where_values_lie = r} begun signature first second third) =
+    (options_stand {signature = s} {callback = p} {post_return = q} {where_values_lie = r} begun signature first
+    second third) =
     let a = callback p first in
     let d = post_return q second in
     let m = model r third in
     let held : slice_get c.types.signatures x.core_type.0 ≡ Some s =
     ap (λ k. slice_get c.types.signatures k.0) core_type ∙ keeps.types.signatures o.core_type.0 s signature in
     record {
-      numbered = value.options x.instance.0 x.string_encoding x.async_ (signed c.types (record o { core_type = x.core_type }) s held)
+      numbered = value.options x.instance.0 x.string_encoding x.async_
+          (signed c.types (record o { core_type = x.core_type }) s held)
           a.numbered d.numbered m.numbered;
       means = means_options at (means_entry a.means d.means m.means);
       is = λ i. value.options (instance i).0 (encoding i) (is_async i) (of_signature s) (a.is i) (d.is i) (m.is i);
@@ -165,13 +168,15 @@ entry_stands ms b c keeps o x n at instance encoding is_async core_type callback
 module _ (t : TypeTable) (ms : List ModuleRecord) (st : State) (h : ComponentDfg) (grows : graph.Grows st.graph h) where
   -- one more entry of options at most
   pub options_prepares : (x : CanonicalOptions) → HeldOptions st.graph (options_entry x)
+      → x.core_type.0 < length st.types.signatures → IsPut st.graph.options h.options x
       → h ≡ record st.graph { options = h.options }
       → (HeldOptions st.graph (options_entry x) → IsOrdered st.graph → IsOrdered h)
       → Prepares t ms st (record st { graph = h })
   unfolding slots_of
-  options_prepares x held rest ordered =
+  options_prepares x held signed_below put rest ordered =
       subst (λ (g : ComponentDfg). Prepares t ms st (record st { graph = g })) (sym rest)
       (slots_prepare t ms st st.graph.memories st.graph.reallocs st.graph.callbacks st.graph.post_returns h.options
+      (λ before. options_put st.types st.graph.options h.options x put signed_below before.options)
       (subst (graph.Grows st.graph) rest grows) (λ o. subst IsOrdered rest (ordered held o)) slots)
     where
       slots : (k : plan.SlotKind) (n : ℕ) (d : CoreDef)
@@ -204,7 +209,8 @@ module _ (t : TypeTable) (ms : List ModuleRecord) (a b c d : State) (first : Pre
   all_prepared = prepares_trans t ms a b d first later
 
   -- what the entry names is held
-  pub entry_ready : OptionsThere ms (tables_of a) o → x.instance ≡ o.instance → HeldModel b.graph (options_entry x).model
+  pub entry_ready : OptionsThere ms (tables_of a) o → x.instance ≡ o.instance
+      → HeldModel b.graph (options_entry x).model
       → HeldSlot c.graph plan.callback (options_entry x).callback
       → HeldSlot d.graph plan.post_return (options_entry x).post_return → HeldOptions d.graph (options_entry x)
   entry_ready there same model callback post_return = record {
@@ -215,13 +221,22 @@ module _ (t : TypeTable) (ms : List ModuleRecord) (a b c d : State) (first : Pre
     model = held_model_kept ms (tables_of b) (tables_of d) later.keeps (options_entry x).model model;
   }
 
+  -- its signature is held
+  pub entry_signed : OptionsThere ms (tables_of a) o → x.core_type ≡ o.core_type
+      → x.core_type.0 < length d.types.signatures
+  entry_signed there same =
+      kept_within a.types.signatures d.types.signatures all_prepared.keeps.types.signatures x.core_type.0
+      (subst (λ (n : ModuleInternedTypeIndex). n.0 < length a.types.signatures) (sym same) there.signature)
+
   module _ (h : ComponentDfg) (grows : graph.Grows d.graph h) where
     -- with the entry
-    pub entry_prepares : HeldOptions d.graph (options_entry x) → h ≡ record d.graph { options = h.options }
+    pub entry_prepares : HeldOptions d.graph (options_entry x) → x.core_type.0 < length d.types.signatures
+        → IsPut d.graph.options h.options x → h ≡ record d.graph { options = h.options }
         → (HeldOptions d.graph (options_entry x) → IsOrdered d.graph → IsOrdered h)
         → Prepares t ms a (record d { graph = h })
-    entry_prepares held rest ordered =
-        prepares_trans t ms a d (record d { graph = h }) all_prepared (options_prepares t ms d h grows x held rest ordered)
+    entry_prepares held signed_below put rest ordered =
+        prepares_trans t ms a d (record d { graph = h }) all_prepared
+        (options_prepares t ms d h grows x held signed_below put rest ordered)
 
     -- the entry stands for the options
     pub entry_after : (n : ℕ) → slice_get h.options n ≡ Some x → x.instance ≡ o.instance

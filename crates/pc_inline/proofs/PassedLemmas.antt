@@ -1,5 +1,5 @@
 -- Steps that end with an error that a call handed on.
-use Rattle.std.proofs.Common.{◌≡◌, List, Result, Ok, Err, refl, sym, subst}
+use Rattle.std.proofs.Common.{◌≡◌, List, Result, Ok, Err, sym, subst}
 use Rattle.std.specs.Prelude.{⊤}
 use Rattle.std.specs.Result.{IsErrAnd}
 use Rattle.pc_types.specs.declared.module_record.ModuleRecord.{ModuleRecord}
@@ -12,9 +12,8 @@ use Rattle.pc_inline.specs.declared.error.ItemFault.{ItemFault}
 use Rattle.pc_inline.specs.declared.frame.Frame.{Frame}
 use Rattle.pc_inline.specs.declared.state.State.{State}
 use Rattle.pc_inline.specs.Faults.{fault_of}
-use Rattle.pc_inline.specs.Points.{Follows, IsFullSomewhere, PointStands, Steps}
+use Rattle.pc_inline.specs.Points.{Follows, PointStands, Steps}
 use Rattle.pc_inline.specs.Refused.{LacksRoom, LacksRoomOr}
-use Rattle.pc_inline.specs.Tables.{tables_of}
 use Rattle.pc_inline.proofs.StepLemmas.{steps_crowded, steps_unfed}
 
 module _ (t : TypeTable) (ms : List ModuleRecord) (reads : Moment → Result Moment Fault) (st : State) (f : Frame)

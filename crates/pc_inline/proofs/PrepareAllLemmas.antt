@@ -1,23 +1,18 @@
 -- The imports of the root, one after the other.
-use Rattle.std.proofs.Common.{◌≡◌, ◌+◌, ℕ, List, Result, Ok, Err, refl}
+use Rattle.std.proofs.Common.{◌≡◌, ◌+◌, ℕ, List, refl}
 use Rattle.pc_types.specs.declared.module_record.ModuleRecord.{ModuleRecord}
 use Rattle.pc_types.specs.declared.parsed.TypeTable.{TypeTable}
-use Rattle.pc_reading.specs.Item
-use Rattle.pc_reading.specs.Item.{Item, Items, and_item, import_item, no_items}
-use Rattle.pc_reading.specs.Outcome.{Fault, Outcome, and_then, at_item, done}
+use Rattle.pc_reading.specs.Item.{Item, Items, and_item, no_items}
+use Rattle.pc_reading.specs.Outcome.{and_then, at_item, done}
 use Rattle.pc_reading.specs.Scope.{Moment}
-use Rattle.pc_inline.specs.Today.{built_prepare, built_prepare_all}
+use Rattle.pc_inline.specs.StepsLocal.{prepare_row}
+use Rattle.pc_inline.specs.Today.{built_prepare_all}
 
 module _ (t : TypeTable) (ms : List ModuleRecord) where
-  -- what preparing makes of an item: an import is prepared, and another item is passed over
-  abbrev pub prepare_row : Item → Moment → Result Moment Fault
-  prepare_row (import_item name e) now = built_prepare t ms name e now
-  prepare_row i now = Ok now
-
   -- an item of the root, and the rest
   pub prepare_first : (n : ℕ) (i : Item) (is : Items) (now : Moment)
       → built_prepare_all t ms n (and_item i is) now
-      ≡ and_then (at_item now.scope.component_instance n (prepare_row i now)) (built_prepare_all t ms (n + 1) is)
+      ≡ and_then (at_item now.scope.component_instance n (prepare_row t ms i now)) (built_prepare_all t ms (n + 1) is)
   unfolding built_prepare_all
   prepare_first n (Item.import_item a b) is now = refl
   prepare_first n Item.intrinsics_import is now = refl

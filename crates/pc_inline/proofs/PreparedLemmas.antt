@@ -1,70 +1,49 @@
 -- The moment after an import of the root was prepared.
-use Rattle.std.proofs.Common.{◌≡◌, ◌≢◌, ◌<◌, ◌+◌, ◌⊎◌, inl, inr, if◌then◌else◌, Ok, Err, ℕ, Bool, true, false, List, [], ◌∷◌, ◌++◌, length, map, Option, Some, None, Vec, Global, refl, sym, ap, subst, ◌∙◌, zero, suc, arith}
-use Rattle.std.specs.Prelude.{slice_get, is_some}
-use Rattle.std.specs.List.{AllZip, list_any}
-use Rattle.std.proofs.lemmas.Bool.Decides.{eqb_tells}
+use Rattle.std.proofs.Common.{◌≡◌, ◌<◌, ◌+◌, Ok, ℕ, true, List, [], ◌∷◌, ◌++◌, length, Option, Some, None, Vec, Global}
+use Rattle.std.proofs.Common.{refl, sym, ap, subst, ◌∙◌, arith}
+use Rattle.std.specs.Prelude.{slice_get}
 use Rattle.std.proofs.lemmas.List.{length-append}
-use Rattle.std.proofs.lemmas.Option.{none-some, same_Some, slice_get_within}
 use Rattle.pc_entity.specs.FirstValues.{with_first}
-use Rattle.pc_entity.specs.Lists.{value_of}
-use Rattle.pc_entity.proofs.Growing.{slice_get-append}
-use Rattle.pc_interned.specs.Types.{Types}
 use Rattle.pc_interned.specs.Trees.{HasTree}
 use Rattle.pc_numbers.specs.declared.runtime.ImportIndex.{ImportIndex}
 use Rattle.pc_numbers.specs.declared.runtime.ResourceIndex.{ResourceIndex}
 use Rattle.pc_numbers.specs.declared.runtime.RuntimeImportIndex.{RuntimeImportIndex}
-use Rattle.pc_types.specs.declared.error.Unsupported.TheVariants.{NotBuilt}
 use Rattle.pc_types.specs.declared.module_record.ModuleRecord.{ModuleRecord}
-use Rattle.pc_types.specs.declared.parsed.Entity.{Entity}
 use Rattle.pc_types.specs.declared.parsed.Entity.TheVariants as entity
 use Rattle.pc_types.specs.declared.parsed.TypeTable.{TypeTable}
 use Rattle.pc_types.specs.declared.type_index.TypeFuncIndex.{TypeFuncIndex}
 use Rattle.pc_types.specs.declared.types.ComponentExtern.{ComponentExtern}
 use Rattle.pc_types.specs.declared.types.TypeDef.TheVariants as type
 use Rattle.pc_types.specs.Table.{is_func}
-use Rattle.pc_types.specs.TypeTree.{Identity, Path, TypeTree}
+use Rattle.pc_types.specs.TypeTree.{Identity, TypeTree}
 use Rattle.pc_parsed.specs.declared.payload.ExternName.{ExternName}
-use Rattle.pc_reading.specs.Imports.{import_resources, prepare, with_given}
-use Rattle.pc_reading.specs.Outcome.{bad_type, unsupported}
-use Rattle.pc_reading.specs.Resource.{resource_paths}
-use Rattle.pc_reading.specs.SameTypes.{same_path}
-use Rattle.pc_reading.specs.Scope.{Moment, Scope}
-use Rattle.pc_reading.specs.Types.{has_entry, type_tree}
-use Rattle.pc_reading.specs.Value.{Value, func_value, host_function}
-use Rattle.pc_reading.specs.World.{HostImport, World}
+use Rattle.pc_reading.specs.Imports.{with_given}
+use Rattle.pc_reading.specs.Scope.{Moment}
+use Rattle.pc_reading.specs.Types.{has_entry}
+use Rattle.pc_reading.specs.Value.{func_value, host_function}
+use Rattle.pc_reading.specs.World.{World}
 use Rattle.pc_dfg.specs.declared.dfg.ComponentDfg.{ComponentDfg}
-use Rattle.pc_dfg.specs.Held.{HoldsEntry}
-use Rattle.pc_dfg.specs.Lists as list
 use Rattle.pc_dfg.specs.Ordered.{IsOrdered}
 use Rattle.pc_inline.specs.declared.definition.DefinitionId.{DefinitionId}
-use Rattle.pc_inline.specs.declared.error.ItemError.TheVariants as item_error
-use Rattle.pc_inline.specs.declared.error.ItemFault.TheVariants as item_fault
 use Rattle.pc_inline.specs.declared.frame.Frame.{Frame}
 use Rattle.pc_inline.specs.declared.state.State.{State}
-use Rattle.pc_inline.specs.Frames.{SameNames}
 use Rattle.pc_inline.specs.Points.{PointStands, Steps}
 use Rattle.pc_inline.specs.Prepares.{Converts}
 use Rattle.pc_inline.specs.Stands.{Stands}
-use Rattle.pc_inline.specs.Tables.{Tables}
-use Rattle.pc_inline.specs.Today.{built_prepare, is_built_entity}
-use Rattle.pc_inline.specs.Worlds.{AreUsed, import_path, path_of}
+use Rattle.pc_inline.specs.Today.{built_prepare}
+use Rattle.pc_inline.specs.Worlds.{AreUsed, import_path}
 use Rattle.pc_inline.proofs.StepLemmas.{steps_on}
-use Rattle.std.specs.Prelude.{⊤, All}
+use Rattle.std.specs.Prelude.{⊤}
 use Rattle.pc_entity.proofs.Growing.{append_kept, kept_refl, slice_get-append_seam}
-use Rattle.pc_numbers.specs.declared.component_entity.StaticModuleIndex.{StaticModuleIndex}
 use Rattle.pc_types.specs.declared.parsed.CoreKind.{CoreKind}
 use Rattle.pc_semantics.specs.PlanView as plan
 use Rattle.pc_semantics.specs.Log.{trace}
-use Rattle.pc_trampoline.specs.declared.part.Mark.TheVariants as mark
-use Rattle.pc_parsed.specs.Mark.{of_type}
 use Rattle.pc_reading.specs.Nodes.{extern_data}
 use Rattle.pc_builder.specs.Trees.{IsEntry}
-use Rattle.pc_dfg.specs.declared.core_def.CoreDef.{CoreDef}
 use Rattle.pc_dfg.specs.Grows as graph
 use Rattle.pc_dfg.specs.Numbers.{slots_of}
 use Rattle.pc_dfg.proofs.AllLemmas.{all_more}
 use Rattle.pc_inline.specs.declared.definition.Definition.TheVariants as definition
-use Rattle.pc_inline.specs.Frames.{FrameStands}
 use Rattle.pc_inline.specs.Stands.{stands, stands_host}
 use Rattle.pc_inline.specs.Tables.{IsItem, Keeps, tables_of}
 use Rattle.pc_inline.specs.Typed.{Holds}
@@ -107,6 +86,9 @@ module _ (t : TypeTable) (ms : List ModuleRecord) (st : State) (f : Frame) (name
       graph = grows;
       cores = kept_refl st.cores;
       definitions = append_kept st.definitions (definition.HostFunc i ∷ []);
+      closures = kept_refl st.closures;
+      instances = kept_refl st.instances;
+      bodies = refl;
     }
 
     module _ (tree : TypeTree) (n : TypeFuncIndex) (typed : x.ty ≡ type.ComponentFunc n)
@@ -128,13 +110,16 @@ module _ (t : TypeTable) (ms : List ModuleRecord) (st : State) (f : Frame) (name
             (effect_still st.types st.types st.graph given_in (types_refl st.types) grows) st.graph.side_effects
             (trace w.log) s.effects;
         order = s.order;
-        are_declared = λ k y at. declared_still st.types st.types st.graph given_in (types_refl st.types) grows w.log k y
+        are_declared = λ k y at. declared_still st.types st.types st.graph given_in (types_refl st.types) grows w.log
+            k y
             (s.are_declared k y at);
         trampolines = λ v entry. trampoline_still st.types st.types st.graph given_in (types_refl st.types) grows v
             (s.trampolines v entry);
+        few_trampolines = s.few_trampolines;
         import_types = zip_push (ImportStands st.types given_in) st.graph.import_types w.imports (name.name, x) _
             (zip_more (ImportStands st.types st.graph) (ImportStands st.types given_in)
-            (import_still st.types st.types st.graph given_in (types_refl st.types) grows) st.graph.import_types w.imports
+            (import_still st.types st.types st.graph given_in (types_refl st.types) grows) st.graph.import_types
+            w.imports
             s.import_types) given_import;
         imports = s.imports;
         imported_resources = s.imported_resources;
@@ -157,7 +142,8 @@ module _ (t : TypeTable) (ms : List ModuleRecord) (st : State) (f : Frame) (name
           length-append st.graph.import_types ((name.name, x) ∷ []) in
           let below : i.0 < length given_in.import_types = omega (arith, number, longer) in
           let host = subst (λ k. Stands ms (tables_of given_to) id (func_value (host_function (import_path k)))) place
-          (stands (ap (slice_get given_to.definitions) last ∙ slice_get-append_seam st.definitions (definition.HostFunc i) [])
+          (stands (ap (slice_get given_to.definitions) last
+          ∙ slice_get-append_seam st.definitions (definition.HostFunc i) [])
           (stands_host below)) in
           record {
             sound = record {
@@ -184,10 +170,13 @@ module _ (t : TypeTable) (ms : List ModuleRecord) (st : State) (f : Frame) (name
                 resources = at.sound.plain.resources;
                 imported_resources = at.sound.plain.imported_resources;
                 unsafe_intrinsics = at.sound.plain.unsafe_intrinsics;
+                instances = at.sound.plain.instances;
+                export_items = at.sound.plain.export_items;
               };
               used = subst (AreUsed given_in) (sym more)
                   (used_given st.graph given_in st.used.items (name.name, x) at.sound.ordered refl refl at.sound.used);
               numbers = at.sound.numbers;
+              held = record { options = at.sound.held.options; functions = at.sound.held.functions };
             };
             here = at.here;
             frame = record {
@@ -216,14 +205,16 @@ pub prepare_steps : (t : TypeTable) (ms : List ModuleRecord) (before : State) (f
     → Converts t before st → (name : ExternName) (ty : ℕ) (n : TypeFuncIndex) → has_entry t is_func ty ≡ true
     → IsEntry st.types t ty (type.ComponentFunc n) → (x : ComponentExtern) → x.ty ≡ type.ComponentFunc n
     → x.data_ ≡ extern_data name → (i : ImportIndex) (h : ComponentDfg) → graph.Grows st.graph h
-    → h ≡ record st.graph { import_types = h.import_types } → h.import_types ≡ st.graph.import_types ++ (name.name, x) ∷ []
+    → h ≡ record st.graph { import_types = h.import_types }
+    → h.import_types ≡ st.graph.import_types ++ (name.name, x) ∷ []
     → (IsOrdered st.graph → IsOrdered h) → i.0 ≡ length st.graph.import_types
     → (u : Vec (Option RuntimeImportIndex) Global) → u.items ≡ st.used.items ++ None ∷ [] → (end : State)
     → end ≡ record st { graph = h; used = u; definitions = st.definitions ++ definition.HostFunc i ∷ [] }
     → (id : DefinitionId) → id.0 ≡ length st.definitions → (f' : Frame)
     → f' ≡ record f { arguments = with_first f.arguments (name.name, id) } → (r : ⊤)
     → Steps t ms (built_prepare t ms name (entity.Func ty)) before f end f' (Ok r)
-prepare_steps t ms before f st converts name ty n typed entry x is_func_type meta i h grows rest more ordered number u unused
+prepare_steps t ms before f st converts name ty n typed entry x is_func_type meta i h grows rest more ordered number u
+    unused
     end ended id last f' framed r = steps_on t ms _ before f end f' r (λ now at.
     let known : st.types.resources.known ≡ [] = ap (λ k. k.known) (converts.grows.resources ∙ at.here) in
     let e = entry_tree st.types t ty (type.ComponentFunc n) known entry in

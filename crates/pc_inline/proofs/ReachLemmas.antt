@@ -1,7 +1,7 @@
 -- A function that the root exports, as an item of the graph.
-use Rattle.std.proofs.Common.{◌≡◌, ◌≤◌, ◌<◌, ℕ, List, [], ◌∷◌, ◌++◌, length, All, Option, None, Some, Result, Ok, Err, refl, sym, ap, subst, ◌∙◌, inl, inr}
-use Rattle.std.specs.Prelude.{◌⊎◌, IfErr, slice_get}
-use Rattle.std.specs.List.{AllZip}
+use Rattle.std.proofs.Common.{◌≡◌, ◌<◌, List, [], ◌∷◌, ◌++◌, length, None, Some, Result, Ok, Err, refl, sym, ap, subst}
+use Rattle.std.proofs.Common.{◌∙◌, inl, inr}
+use Rattle.std.specs.Prelude.{IfErr, slice_get}
 use Rattle.std.specs.Result.{IsErr}
 use Rattle.std.proofs.lemmas.Option.{same_Some, slice_get_within}
 use Rattle.pc_entity.proofs.Growing.{slice_get-append_seam}
@@ -25,7 +25,7 @@ use Rattle.pc_semantics.specs.ExportNode as node
 use Rattle.pc_semantics.specs.ExportNode.{ExportNode, NamedNode}
 use Rattle.pc_semantics.specs.PlanView as plan
 use Rattle.pc_parsed.specs.Mark.{Mark, of_type}
-use Rattle.pc_reading.specs.Nodes.{Reached, function_node, leaf, reached, refused}
+use Rattle.pc_reading.specs.Nodes.{function_node, leaf, reached}
 use Rattle.pc_reading.specs.Scope.{Scope}
 use Rattle.pc_reading.specs.Value.{Function, host_function, lifted_function}
 use Rattle.pc_reading.specs.World.{World}
@@ -35,8 +35,7 @@ use Rattle.pc_dfg.specs.declared.dfg.ComponentDfg.{ComponentDfg}
 use Rattle.pc_dfg.specs.declared.export.Export.{Export}
 use Rattle.pc_dfg.specs.declared.export.Export.TheVariants as export
 use Rattle.pc_dfg.specs.Grows as graph
-use Rattle.pc_dfg.specs.Held.{HeldExport, IsHeld}
-use Rattle.pc_dfg.specs.Means.{MeansOptions}
+use Rattle.pc_dfg.specs.Held.{HeldExport}
 use Rattle.pc_dfg.specs.Nodes.{means_item, means_lifted}
 use Rattle.pc_dfg.specs.Numbers.{slots_of}
 use Rattle.pc_dfg.specs.Ordered.{IsOrdered}
@@ -55,16 +54,16 @@ use Rattle.pc_inline.specs.declared.state.State.{State}
 use Rattle.pc_inline.specs.Exporting.{ReachesNode, RootStands}
 use Rattle.pc_inline.specs.Exports.{NameStands, NodeStands}
 use Rattle.pc_inline.specs.Frames.{FuncStands}
-use Rattle.pc_inline.specs.Points.{IsSoundState}
 use Rattle.pc_inline.specs.Prepares.{Prepares}
 use Rattle.pc_inline.specs.Refused.{LacksRoom}
 use Rattle.pc_inline.specs.Slots.{EntryStands}
 use Rattle.pc_inline.specs.Stands.{CoreStands, IsFunc, ItemStands, OptionsStand}
-use Rattle.pc_inline.specs.Tables.{IsItem, Keeps, Tables, tables_of}
-use Rattle.pc_inline.specs.Typed.{Holds, Numbered, number_of, whole_of}
-use Rattle.pc_inline.specs.Worlds.{HasItems, IsPlain}
+use Rattle.pc_inline.specs.Tables.{IsItem, Keeps, tables_of}
+use Rattle.pc_inline.specs.Typed.{Holds, Numbered}
+use Rattle.pc_inline.specs.Worlds.{HasItems}
 use Rattle.pc_inline.proofs.CoreInstanceLemmas.{found_in_push, item_held}
 use Rattle.pc_inline.proofs.GrowthLemmas.{graph_grown}
+use Rattle.pc_inline.proofs.HoldsLemmas.{func_below, functions_push, lifted_push}
 use Rattle.pc_inline.proofs.KeptLemmas.{core_kept, frame_kept, is_item_kept, item_kept}
 use Rattle.pc_inline.proofs.RootKeptLemmas.{name_still, root_kept}
 use Rattle.pc_inline.proofs.StateLemmas.{types_refl}
@@ -153,7 +152,8 @@ module _ (t : TypeTable) (ms : List ModuleRecord) (st : State) (ty : TypeFuncInd
     }
 
     module _ (f : Frame) (s : Scope) (w : World) (nodes : List (NamedNode Mark)) (root : RootStands t ms st f s w nodes)
-        (ordered : IsOrdered exported) (is : IsItem ms st.graph core.Func d) where
+        (ordered : IsOrdered exported) (is : IsItem ms st.graph core.Func d)
+        (below : ty.0 < length st.types.funcs) where
       -- the root stands as it did
       root_exported : RootStands t ms after f s w nodes
       root_exported = record {
@@ -167,6 +167,8 @@ module _ (t : TypeTable) (ms : List ModuleRecord) (st : State) (ty : TypeFuncInd
             resources = root.sound.plain.resources;
             imported_resources = root.sound.plain.imported_resources;
             unsafe_intrinsics = root.sound.plain.unsafe_intrinsics;
+            instances = root.sound.plain.instances;
+            export_items = lifted_push st.graph.export_items ty d o root.sound.plain.export_items;
           };
           used = record {
             room = root.sound.used.room;
@@ -174,9 +176,14 @@ module _ (t : TypeTable) (ms : List ModuleRecord) (st : State) (ty : TypeFuncInd
             others = root.sound.used.others;
           };
           numbers = root.sound.numbers;
+          held = record {
+            options = root.sound.held.options;
+            functions = functions_push st.types st.graph.export_items ty d o below root.sound.held.functions;
+          };
         };
         frame = frame_kept ms (tables_of st) (tables_of after) keeps f s root.frame;
-        world = world_still st.types st.types st.graph exported (types_refl st.types) grows refl refl refl refl refl refl w
+        world = world_still st.types st.types st.graph exported (types_refl st.types) grows refl refl refl refl refl
+            refl w
             root.world;
         exports = zip_more (NameStands st.types st.graph) (NameStands st.types exported)
             (name_still st.types st.types st.graph exported (types_refl st.types) grows) st.graph.exports nodes
@@ -247,9 +254,11 @@ module _ (t : TypeTable) (ms : List ModuleRecord) (old st : State) (p : Prepares
       let root_now = root_kept t ms old st f s w nodes root p in
       let made : exported t ms st ty d id ≡ g = sym (rest ∙ (λ j. record st.graph { export_items = put j })) in
       let grown = subst (graph.Grows st.graph) (sym made) grows in
+      let typed_now : IsFunc ms (tables_of st) ty l.tree =
+      λ who. tree_grows old.types st.types p.keeps.types who (type.ComponentFunc ty) l.tree (l.is_func who) in
       let now_ordered = subst IsOrdered (sym made)
       (ordered (item_held ms st.graph core.Func d usable, below) root_now.sound.ordered) in
       subst (λ h. ReachesNode t ms (record st { graph = h }) f s w nodes x (Ok e)) made
-      (reaches_lifted t ms st ty d id grown f s w nodes root_now now_ordered usable e last l.tree l.callee l.options x l.is
-      (λ who. tree_grows old.types st.types p.keeps.types who (type.ComponentFunc ty) l.tree (l.is_func who))
+      (reaches_lifted t ms st ty d id grown f s w nodes root_now now_ordered usable
+      (func_below st.types ty l.tree typed_now) e last l.tree l.callee l.options x l.is typed_now
       (subst (λ y. CoreStands st.types st.graph y l.callee) same i.stands) (entry l.options l.stand))

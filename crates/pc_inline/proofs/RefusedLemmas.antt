@@ -13,7 +13,8 @@ use Rattle.pc_inline.specs.declared.error.ItemFault.{ItemFault}
 use Rattle.pc_inline.specs.declared.error.ItemFault.TheVariants as item_fault
 use Rattle.pc_inline.specs.declared.state.State.{State}
 use Rattle.pc_inline.specs.Faults.{of_push_error, of_type_error}
-use Rattle.pc_inline.specs.Points.{IsFullSomewhere, full_cores, full_definitions, full_types}
+use Rattle.pc_inline.specs.Points.{IsFullSomewhere, full_closures, full_cores, full_definitions, full_exports}
+use Rattle.pc_inline.specs.Points.{full_types}
 use Rattle.pc_inline.specs.Refused.{LacksRoom, LacksRoomOr}
 use Rattle.pc_inline.specs.Tables.{tables_of}
 
@@ -83,7 +84,17 @@ pub cores_lack : (st : State) → 4294967295 ≤ length st.cores → LacksRoom s
 unfolding LacksRoom
 cores_lack st full = full_cores full
 
--- the other one
+-- so is that of definitions
 pub definitions_lack : (st : State) → 4294967295 ≤ length st.definitions → LacksRoom st item_error.TooMany
 unfolding LacksRoom
 definitions_lack st full = full_definitions full
+
+-- that of what components captured
+pub closures_lack : (st : State) → 4294967295 ≤ length st.closures → LacksRoom st item_error.TooMany
+unfolding LacksRoom
+closures_lack st full = full_closures full
+
+-- and that of what instances export
+pub instances_lack : (st : State) → 4294967295 ≤ length st.instances → LacksRoom st item_error.TooMany
+unfolding LacksRoom
+instances_lack st full = full_exports full

@@ -1,5 +1,5 @@
 -- The root keeps its exports as the graph grows.
-use Rattle.std.proofs.Common.{◌≡◌, ℕ, List, refl, sym, ap, subst, ◌∙◌}
+use Rattle.std.proofs.Common.{ℕ, List, sym, subst, ◌∙◌}
 use Rattle.std.specs.List.{AllZip}
 use Rattle.pc_interned.specs.Types.{Types}
 use Rattle.pc_interned.specs.Types as builder
@@ -18,11 +18,9 @@ use Rattle.pc_inline.specs.declared.frame.Frame.{Frame}
 use Rattle.pc_inline.specs.declared.state.State.{State}
 use Rattle.pc_inline.specs.Exporting.{RootStands}
 use Rattle.pc_inline.specs.Exports.{NameStands, NodeStands}
-use Rattle.pc_inline.specs.Points.{IsSoundState}
 use Rattle.pc_inline.specs.Prepares.{Prepares}
-use Rattle.pc_inline.specs.Tables.{Keeps, tables_of}
+use Rattle.pc_inline.specs.Tables.{tables_of}
 use Rattle.pc_inline.specs.Typed.{number_of, whole_of}
-use Rattle.pc_inline.specs.Worlds.{WorldStands}
 use Rattle.pc_inline.proofs.KeptLemmas.{frame_kept}
 use Rattle.pc_inline.proofs.MarkLemmas.{node_twice, still}
 use Rattle.pc_inline.proofs.WorldLemmas.{world_still}
@@ -34,7 +32,8 @@ module _ (old new : Types) (g h : ComponentDfg) (types : builder.Grows old new) 
   node_still n x s = record {
     numbered = map_node (still old new types) s.numbered;
     means = λ converted. subst (MeansItem h converted n)
-        (sym (node_twice (still old new types) (number_of new) s.numbered)) (item_kept g h grows converted (s.means converted));
+        (sym (node_twice (still old new types) (number_of new) s.numbered))
+        (item_kept g h grows converted (s.means converted));
     is = node_twice (still old new types) (whole_of new) s.numbered ∙ s.is;
   }
 

@@ -1,37 +1,28 @@
 -- The root: it begins, its imports are prepared, its items are read, and it exports.
-use Rattle.std.proofs.Common.{◌≡◌, ◌<◌, ◌≤◌, ◌+◌, ℕ, zero, suc, List, [], ◌∷◌, ◌++◌, length, map, true, false, Bool, Option, None, Some, Result, Ok, Err, refl, sym, ap, subst, ◌∙◌, arith}
-use Rattle.std.specs.Prelude.{⊤, nat_lt, slice_get}
+use Rattle.std.proofs.Common.{◌≡◌, ◌<◌, ◌≤◌, ℕ, List, [], None, Ok, Err, refl, sym, ap, subst, ◌∙◌, arith}
 use Rattle.std.proofs.lemmas.Bool.{lt-ltb}
 use Rattle.std.specs.List.{AllZip}
-use Rattle.pc_numbers.specs.declared.runtime.RuntimeComponentInstanceIndex.{RuntimeComponentInstanceIndex}
 use Rattle.pc_types.specs.declared.error.Error.{Error}
 use Rattle.pc_types.specs.declared.error.Error.TheVariants as error
 use Rattle.pc_types.specs.declared.module_record.ModuleRecord.{ModuleRecord}
 use Rattle.pc_types.specs.declared.parsed.TypeTable.{TypeTable}
-use Rattle.pc_parsed.specs.Mark.{Mark}
-use Rattle.pc_semantics.specs.ExportNode.{NamedNode}
 use Rattle.pc_reading.specs.Item.{Items, exports_in}
 use Rattle.pc_reading.specs.Nodes.{Finish}
-use Rattle.pc_reading.specs.Outcome.{Outcome, and_then, bad_type, done, fault, invalid, over, unsupported}
+use Rattle.pc_reading.specs.Outcome.{Outcome, and_then, done, over}
 use Rattle.pc_reading.specs.Reading.{Reading, begun_in, result_of}
 use Rattle.pc_reading.specs.Scope.{Moment}
-use Rattle.pc_reading.specs.Section.{named_item}
 use Rattle.pc_reading.specs.Value.{outermost}
 use Rattle.pc_reading.specs.World.{World, new_world}
-use Rattle.pc_local.specs.declared.item.Translation.{Translation}
-use Rattle.pc_local.specs.Standing.{BodyStands, no_names}
-use Rattle.pc_dfg.specs.declared.dfg.ComponentDfg.{ComponentDfg}
-use Rattle.pc_dfg.specs.Empty.{empty_graph}
-use Rattle.pc_dfg.specs.Pushed.{with_component_instance}
 use Rattle.pc_inline.specs.declared.frame.Frame.{Frame}
 use Rattle.pc_inline.specs.declared.state.State.{State}
 use Rattle.pc_inline.specs.Begins.{IsBuiltEnd, RootRead}
-use Rattle.pc_inline.specs.Exporting.{Exports, ExportsEnd, RootStands}
-use Rattle.pc_inline.specs.Exports.{ExportsStand, NameStands}
+use Rattle.pc_inline.specs.Exporting.{ExportsEnd, RootStands}
+use Rattle.pc_inline.specs.Exports.{ExportsStand, NameStands, NumbersExports}
 use Rattle.pc_inline.specs.Inlines.{last_world}
-use Rattle.pc_inline.specs.Points.{IsFullSomewhere, PointStands}
-use Rattle.pc_inline.specs.Reads.{Ends, Passes, Prepared, Read}
-use Rattle.pc_inline.specs.Today.{built_enter, built_exports, built_items, built_prepare_all, built_reading, built_result}
+use Rattle.pc_inline.specs.Points.{PointStands}
+use Rattle.pc_inline.specs.Reads.{Ends}
+use Rattle.pc_inline.specs.Today.{built_enter, built_exports, built_items, built_prepare_all, built_reading}
+use Rattle.pc_inline.specs.Today.{built_result}
 use Rattle.pc_inline.specs.Worlds.{WorldStands}
 
 -- the world in which the root begins
@@ -63,13 +54,13 @@ module _ (t : TypeTable) (ms : List ModuleRecord) (limit : ℕ) (body : Items) w
 
   -- an error of a pass is one of what is read of it
   pub pass_fails : (st : State) (f : Frame) (o : Outcome Moment) (go : Moment → Outcome Reading) (e : Error)
-      → built_reading t ms limit body ≡ and_then o go → Ends t ms st f o (Err e) → IsBuiltEnd t ms limit body e
+      → built_reading t ms limit body ≡ and_then o go → Ends t ms st f o (Err e) → IsBuiltEnd t ms limit body st e
   unfolding Ends
   pass_fails st f o go (error.Invalid p) is ends = is ∙ ap (λ x. and_then x go) ends
   pass_fails st f o go (error.BadType p) is ends = is ∙ ap (λ x. and_then x go) ends
   pass_fails st f o go (error.Unsupported u p) is ends = is ∙ ap (λ x. and_then x go) ends
   pass_fails st f o go error.TooManyInstances is ends = is ∙ ap (λ x. and_then x go) ends
-  pass_fails st f o go error.TooMany is ends = tt
+  pass_fails st f o go error.TooMany is ends = ends
   pass_fails st f o go error.NoMemory is ends = tt
   pass_fails st f o go (error.Malformed p) is ends = absurd ends
   pass_fails st f o go (error.BadTable p) is ends = absurd ends
@@ -82,11 +73,11 @@ module _ (t : TypeTable) (ms : List ModuleRecord) (limit : ℕ) (body : Items) w
   pub exports_fail : (st : State) (f : Frame) (now : Moment) (e : Error)
       → built_reading t ms limit body ≡ built_result t body now
       → ExportsEnd t ms st f now.scope now.world [] (built_exports t now.scope (exports_in body) 0 now.world) (Err e)
-      → IsBuiltEnd t ms limit body e
+      → IsBuiltEnd t ms limit body st e
   unfolding ExportsEnd built_result
   exports_fail st f now (error.Unsupported u p) is ends =
       is ∙ ap (λ x. and_then x (λ (f : Finish). done (result_of f.0 f.1))) ends
-  exports_fail st f now error.TooMany is ends = tt
+  exports_fail st f now error.TooMany is ends = ends
   exports_fail st f now error.NoMemory is ends = tt
   exports_fail st f now (error.Invalid p) is ends = absurd ends
   exports_fail st f now (error.BadType p) is ends = absurd ends
@@ -100,11 +91,11 @@ module _ (t : TypeTable) (ms : List ModuleRecord) (limit : ℕ) (body : Items) w
 
   -- the root was read and exports
   pub root_read : (st : State) (f : Frame) (now : Moment) → built_reading t ms limit body ≡ built_result t body now
-      → now.world.total ≡ None
+      → now.world.total ≡ None → NumbersExports st.graph
       → ExportsEnd t ms st f now.scope now.world [] (built_exports t now.scope (exports_in body) 0 now.world) (Ok tt)
       → RootRead t ms limit body st
   unfolding ExportsEnd built_result ExportsStand
-  root_read st f now is total ends =
+  root_read st f now is total numbers ends =
       let w = now.world in
       let same : w ≡ last_world (result_of ends.0 w) = λ i. record w { total = total i } in
       record {
@@ -113,6 +104,7 @@ module _ (t : TypeTable) (ms : List ModuleRecord) (limit : ℕ) (body : Items) w
         sound = ends.2.sound;
         world = subst (WorldStands st.types st.graph) same ends.2.world;
         exports = ends.2.exports;
+        numbers = numbers;
       }
 
 -- after its items the root exports nothing yet

@@ -1,6 +1,6 @@
 -- Core items in slots of the graph.
-use Rattle.std.proofs.Common.{◌≡◌, ◌⊎◌, inl, inr, ◌≤◌, ℕ, List, [], ◌∷◌, ◌++◌, length, map, Contains, Option, Some, None, refl, sym, ap, subst, ◌∙◌}
-use Rattle.std.specs.Prelude.{slice_get, option_map}
+use Rattle.std.proofs.Common.{◌≡◌, ◌⊎◌, inl, inr, ◌≤◌, ◌<◌, ℕ, List, length, Some, None, refl, sym, ap, subst, ◌∙◌}
+use Rattle.std.specs.Prelude.{slice_get}
 use Rattle.std.proofs.lemmas.Option.{same_Some, slice_get_within}
 use Rattle.pc_numbers.specs.declared.module_entity.MemoryIndex.{MemoryIndex}
 use Rattle.pc_types.specs.declared.module_record.ModuleRecord.{ModuleRecord}
@@ -25,19 +25,20 @@ use Rattle.pc_dfg.specs.Pushed.{IsPut}
 use Rattle.pc_dfg.proofs.AllLemmas.{all_more}
 use Rattle.pc_inline.specs.declared.definition.CoreId.{CoreId}
 use Rattle.pc_inline.specs.declared.state.State.{State}
-use Rattle.pc_inline.specs.Points.{IsFullSomewhere, IsSoundState}
+use Rattle.pc_inline.specs.Points.{IsFullSomewhere}
 use Rattle.pc_inline.specs.Prepares.{Prepares}
-use Rattle.pc_inline.specs.Slots.{IsThere, MaybeThere, SlotStands}
-use Rattle.pc_inline.specs.Stands.{CoreStands, ItemStands, MaybeStands, none_stands, some_stands}
+use Rattle.pc_inline.specs.Slots.{IsThere, SlotStands}
+use Rattle.pc_inline.specs.Stands.{CoreStands, MaybeStands, none_stands, some_stands}
 use Rattle.pc_inline.specs.Tables.{IsItem, Tables, tables_of}
-use Rattle.pc_inline.specs.Worlds.{slot_kind}
+use Rattle.pc_inline.specs.Worlds.{HoldsTypes, slot_kind}
 use Rattle.pc_inline.proofs.CoreInstanceLemmas.{found_in_push, item_held}
 use Rattle.pc_inline.proofs.GrowthLemmas.{graph_crowded, graph_grown}
 use Rattle.pc_inline.proofs.KeptLemmas.{core_kept, is_item_kept}
 use Rattle.pc_inline.proofs.StateLemmas.{types_refl}
 
 -- what is found in a list into which an entry was put was there, or is the entry
-pub found_in_put : {A : Type 0} (old new : List A) (x : A) → IsPut old new x → (n : ℕ) (y : A) → slice_get new n ≡ Some y
+pub found_in_put : {A : Type 0} (old new : List A) (x : A) → IsPut old new x → (n : ℕ) (y : A)
+    → slice_get new n ≡ Some y
     → (slice_get old n ≡ Some y) ⊎ (x ≡ y)
 found_in_put old new x put n y at = elim put.0 as (λ _. (slice_get old n ≡ Some y) ⊎ (x ≡ y)) [
   | inl same ↦ inl (subst (λ l. slice_get l n ≡ Some y) same at)
@@ -53,7 +54,8 @@ module _ (ms : List ModuleRecord) (b c : Tables) (j : CoreKind) (k : plan.SlotKi
   where
     -- a core item whose definition is in a slot is in it
     pub slot_some : slice_get b.cores id.0 ≡ Some d → slice_get (slots_of c.graph k) n ≡ Some d
-        → ((v : CoreValue Mark) → CoreStands b.types b.graph d v → CoreStands c.types c.graph d v) → (v : MaybeValue Mark)
+        → ((v : CoreValue Mark) → CoreStands b.types b.graph d v → CoreStands c.types c.graph d v)
+        → (v : MaybeValue Mark)
         → MaybeStands ms b j (Some id) v → SlotStands c k (Some n) v
     slot_some held at kept v (some_stands {v = w} item) =
         let s = kept w (subst (λ x. CoreStands b.types b.graph x w) (same_Some item.definition d (sym item.held ∙ held))
@@ -83,11 +85,13 @@ module _ (t : TypeTable) (ms : List ModuleRecord) (st : State) (memories : List 
   }
 
   -- a graph in which slots and options alone are more does what it did
-  pub slots_prepare : graph.Grows st.graph slotted → (IsOrdered st.graph → IsOrdered slotted)
+  pub slots_prepare : (HoldsTypes st.types st.graph → (k : ℕ) (x : CanonicalOptions) → slice_get options k ≡ Some x
+      → x.core_type.0 < length st.types.signatures)
+      → graph.Grows st.graph slotted → (IsOrdered st.graph → IsOrdered slotted)
       → ((k : plan.SlotKind) (n : ℕ) (d : CoreDef) → slice_get (slots_of slotted k) n ≡ Some d
       → (slice_get (slots_of st.graph k) n ≡ Some d) ⊎ IsItem ms st.graph (slot_kind k) d)
       → Prepares t ms st (record st { graph = slotted })
-  slots_prepare grows ordered slots = record {
+  slots_prepare held grows ordered slots = record {
     keeps = graph_grown (tables_of st) slotted grows;
     sound = λ s. record {
       ordered = ordered s.ordered;
@@ -97,7 +101,8 @@ module _ (t : TypeTable) (ms : List ModuleRecord) (st : State) (memories : List 
           old.1,
           old.2,
           all_more (λ d. (k : CoreKind) × IsItem ms st.graph k d)
-              (λ d. (k : CoreKind) × IsItem ms slotted k d) (λ d x. (x.0, is_item_kept ms st.graph slotted grows x.0 d x.1))
+              (λ d. (k : CoreKind) × IsItem ms slotted k d)
+              (λ d x. (x.0, is_item_kept ms st.graph slotted grows x.0 d x.1))
               args old.3,
         );
         slots = λ k n d at. is_item_kept ms st.graph slotted grows (slot_kind k) d
@@ -114,9 +119,12 @@ module _ (t : TypeTable) (ms : List ModuleRecord) (st : State) (memories : List 
         resources = s.plain.resources;
         imported_resources = s.plain.imported_resources;
         unsafe_intrinsics = s.plain.unsafe_intrinsics;
+        instances = s.plain.instances;
+        export_items = s.plain.export_items;
       };
       used = record { room = s.used.room; numbers = s.used.numbers; others = s.used.others };
       numbers = s.numbers;
+      held = record { options = held s.held; functions = s.held.functions };
     };
     side_effects = refl;
     instances = refl;
@@ -137,10 +145,12 @@ module _ (t : TypeTable) (ms : List ModuleRecord) (st : State) (h : ComponentDfg
   unfolding slots_of
   realloc_prepares d item rest put ordered =
       subst (λ (g : ComponentDfg). Prepares t ms st (record st { graph = g })) (sym rest)
-      (slots_prepare t ms st st.graph.memories h.reallocs st.graph.callbacks st.graph.post_returns st.graph.options (subst (graph.Grows st.graph) rest grows)
+      (slots_prepare t ms st st.graph.memories h.reallocs st.graph.callbacks st.graph.post_returns st.graph.options
+      (λ held. held.options) (subst (graph.Grows st.graph) rest grows)
       (λ o. subst IsOrdered rest (ordered (item_held ms st.graph core.Func d item) o)) slots)
     where
-      slots : (k : plan.SlotKind) (n : ℕ) (x : CoreDef) → slice_get (slots_of (record st.graph { reallocs = h.reallocs }) k) n ≡ Some x
+      slots : (k : plan.SlotKind) (n : ℕ) (x : CoreDef)
+          → slice_get (slots_of (record st.graph { reallocs = h.reallocs }) k) n ≡ Some x
           → (slice_get (slots_of st.graph k) n ≡ Some x) ⊎ IsItem ms st.graph (slot_kind k) x
       slots plan.realloc n x at = elim (found_in_put st.graph.reallocs h.reallocs d put n x at)
           as (λ _. (slice_get st.graph.reallocs n ≡ Some x) ⊎ IsItem ms st.graph core.Func x) [
@@ -153,16 +163,19 @@ module _ (t : TypeTable) (ms : List ModuleRecord) (st : State) (h : ComponentDfg
       slots plan.post_return n x at = inl at
 
   -- one more callback at most
-  pub callback_prepares : (d : CoreDef) → IsItem ms st.graph core.Func d → h ≡ record st.graph { callbacks = h.callbacks }
+  pub callback_prepares : (d : CoreDef) → IsItem ms st.graph core.Func d
+      → h ≡ record st.graph { callbacks = h.callbacks }
       → IsPut st.graph.callbacks h.callbacks d → (IsHeld st.graph d → IsOrdered st.graph → IsOrdered h)
       → Prepares t ms st (record st { graph = h })
   unfolding slots_of
   callback_prepares d item rest put ordered =
       subst (λ (g : ComponentDfg). Prepares t ms st (record st { graph = g })) (sym rest)
-      (slots_prepare t ms st st.graph.memories st.graph.reallocs h.callbacks st.graph.post_returns st.graph.options (subst (graph.Grows st.graph) rest grows)
+      (slots_prepare t ms st st.graph.memories st.graph.reallocs h.callbacks st.graph.post_returns st.graph.options
+      (λ held. held.options) (subst (graph.Grows st.graph) rest grows)
       (λ o. subst IsOrdered rest (ordered (item_held ms st.graph core.Func d item) o)) slots)
     where
-      slots : (k : plan.SlotKind) (n : ℕ) (x : CoreDef) → slice_get (slots_of (record st.graph { callbacks = h.callbacks }) k) n ≡ Some x
+      slots : (k : plan.SlotKind) (n : ℕ) (x : CoreDef)
+          → slice_get (slots_of (record st.graph { callbacks = h.callbacks }) k) n ≡ Some x
           → (slice_get (slots_of st.graph k) n ≡ Some x) ⊎ IsItem ms st.graph (slot_kind k) x
       slots plan.callback n x at = elim (found_in_put st.graph.callbacks h.callbacks d put n x at)
           as (λ _. (slice_get st.graph.callbacks n ≡ Some x) ⊎ IsItem ms st.graph core.Func x) [
@@ -175,16 +188,19 @@ module _ (t : TypeTable) (ms : List ModuleRecord) (st : State) (h : ComponentDfg
       slots plan.post_return n x at = inl at
 
   -- one more post-return at most
-  pub post_return_prepares : (d : CoreDef) → IsItem ms st.graph core.Func d → h ≡ record st.graph { post_returns = h.post_returns }
+  pub post_return_prepares : (d : CoreDef) → IsItem ms st.graph core.Func d
+      → h ≡ record st.graph { post_returns = h.post_returns }
       → IsPut st.graph.post_returns h.post_returns d → (IsHeld st.graph d → IsOrdered st.graph → IsOrdered h)
       → Prepares t ms st (record st { graph = h })
   unfolding slots_of
   post_return_prepares d item rest put ordered =
       subst (λ (g : ComponentDfg). Prepares t ms st (record st { graph = g })) (sym rest)
-      (slots_prepare t ms st st.graph.memories st.graph.reallocs st.graph.callbacks h.post_returns st.graph.options (subst (graph.Grows st.graph) rest grows)
+      (slots_prepare t ms st st.graph.memories st.graph.reallocs st.graph.callbacks h.post_returns st.graph.options
+      (λ held. held.options) (subst (graph.Grows st.graph) rest grows)
       (λ o. subst IsOrdered rest (ordered (item_held ms st.graph core.Func d item) o)) slots)
     where
-      slots : (k : plan.SlotKind) (n : ℕ) (x : CoreDef) → slice_get (slots_of (record st.graph { post_returns = h.post_returns }) k) n ≡ Some x
+      slots : (k : plan.SlotKind) (n : ℕ) (x : CoreDef)
+          → slice_get (slots_of (record st.graph { post_returns = h.post_returns }) k) n ≡ Some x
           → (slice_get (slots_of st.graph k) n ≡ Some x) ⊎ IsItem ms st.graph (slot_kind k) x
       slots plan.post_return n x at = elim (found_in_put st.graph.post_returns h.post_returns d put n x at)
           as (λ _. (slice_get st.graph.post_returns n ≡ Some x) ⊎ IsItem ms st.graph core.Func x) [
@@ -203,25 +219,30 @@ module _ (ms : List ModuleRecord) (st : State) (h : ComponentDfg) (grows : graph
   slot_keeps v = core_kept st.types st.types st.graph h (types_refl st.types) grows d v
 
   -- it is in its realloc slot
-  pub realloc_stands : slice_get h.reallocs n ≡ Some d → (v : MaybeValue Mark) → MaybeStands ms (tables_of st) core.Func (Some id) v
+  pub realloc_stands : slice_get h.reallocs n ≡ Some d → (v : MaybeValue Mark)
+      → MaybeStands ms (tables_of st) core.Func (Some id) v
       → SlotStands (tables_of (record st { graph = h })) plan.realloc (Some n) v
   unfolding slots_of
   realloc_stands at =
       slot_some ms (tables_of st) (tables_of (record st { graph = h })) core.Func plan.realloc id d n held at slot_keeps
 
   -- it is in its callback slot
-  pub callback_stands : slice_get h.callbacks n ≡ Some d → (v : MaybeValue Mark) → MaybeStands ms (tables_of st) core.Func (Some id) v
+  pub callback_stands : slice_get h.callbacks n ≡ Some d → (v : MaybeValue Mark)
+      → MaybeStands ms (tables_of st) core.Func (Some id) v
       → SlotStands (tables_of (record st { graph = h })) plan.callback (Some n) v
   unfolding slots_of
   callback_stands at =
-      slot_some ms (tables_of st) (tables_of (record st { graph = h })) core.Func plan.callback id d n held at slot_keeps
+      slot_some ms (tables_of st) (tables_of (record st { graph = h })) core.Func plan.callback id d n held at
+      slot_keeps
 
   -- it is in its post-return slot
-  pub post_return_stands : slice_get h.post_returns n ≡ Some d → (v : MaybeValue Mark) → MaybeStands ms (tables_of st) core.Func (Some id) v
+  pub post_return_stands : slice_get h.post_returns n ≡ Some d → (v : MaybeValue Mark)
+      → MaybeStands ms (tables_of st) core.Func (Some id) v
       → SlotStands (tables_of (record st { graph = h })) plan.post_return (Some n) v
   unfolding slots_of
   post_return_stands at =
-      slot_some ms (tables_of st) (tables_of (record st { graph = h })) core.Func plan.post_return id d n held at slot_keeps
+      slot_some ms (tables_of st) (tables_of (record st { graph = h })) core.Func plan.post_return id d n held at
+      slot_keeps
 
 module _ (st : State) (g : ComponentDfg) (grows : graph.Grows g st.graph) where
   -- there is no room for one more realloc
@@ -251,16 +272,19 @@ unfolding HeldSlot
 slot_held g k n d at = slice_get_within (slots_of g k) n d at
 
 -- that of a realloc
-pub realloc_held : (g : ComponentDfg) (n : ℕ) (d : CoreDef) → slice_get g.reallocs n ≡ Some d → HeldSlot g plan.realloc (Some n)
+pub realloc_held : (g : ComponentDfg) (n : ℕ) (d : CoreDef) → slice_get g.reallocs n ≡ Some d
+    → HeldSlot g plan.realloc (Some n)
 unfolding slots_of
 realloc_held g n d at = slot_held g plan.realloc n d at
 
 -- that of a callback
-pub callback_held : (g : ComponentDfg) (n : ℕ) (d : CoreDef) → slice_get g.callbacks n ≡ Some d → HeldSlot g plan.callback (Some n)
+pub callback_held : (g : ComponentDfg) (n : ℕ) (d : CoreDef) → slice_get g.callbacks n ≡ Some d
+    → HeldSlot g plan.callback (Some n)
 unfolding slots_of
 callback_held g n d at = slot_held g plan.callback n d at
 
 -- that of a post-return
-pub post_return_held : (g : ComponentDfg) (n : ℕ) (d : CoreDef) → slice_get g.post_returns n ≡ Some d → HeldSlot g plan.post_return (Some n)
+pub post_return_held : (g : ComponentDfg) (n : ℕ) (d : CoreDef) → slice_get g.post_returns n ≡ Some d
+    → HeldSlot g plan.post_return (Some n)
 unfolding slots_of
 post_return_held g n d at = slot_held g plan.post_return n d at

@@ -1,18 +1,21 @@
 -- What grows and does nothing: tables, types.
-use Rattle.std.proofs.Common.{◌≡◌, ℕ, List, [], ◌∷◌, ◌++◌, refl, sym, ap, subst, ◌∙◌}
+use Rattle.std.proofs.Common.{List, [], ◌∷◌, ◌++◌, refl, sym, subst, ◌∙◌}
 use Rattle.pc_entity.proofs.Growing.{append_kept, kept_refl, kept_trans}
+use Rattle.pc_entity.proofs.LookupLemmas.{kept_within}
 use Rattle.pc_types.specs.declared.module_record.ModuleRecord.{ModuleRecord}
 use Rattle.pc_types.specs.declared.parsed.TypeTable.{TypeTable}
 use Rattle.pc_interned.specs.Types.{Types}
 use Rattle.pc_interned.specs.Types as builder
 use Rattle.pc_interned.proofs.Growth as builder_growth
 use Rattle.pc_dfg.specs.declared.core_def.CoreDef.{CoreDef}
+use Rattle.pc_dfg.specs.declared.dfg.ComponentDfg.{ComponentDfg}
 use Rattle.pc_dfg.proofs.GrowLemmas as graph_growth
+use Rattle.pc_inline.specs.declared.closure.Closure.{Closure}
 use Rattle.pc_inline.specs.declared.definition.Definition.{Definition}
 use Rattle.pc_inline.specs.declared.state.State.{State}
-use Rattle.pc_inline.specs.Points.{IsSoundState}
 use Rattle.pc_inline.specs.Prepares.{Converts, Prepares}
 use Rattle.pc_inline.specs.Tables.{Keeps, Tables, tables_of}
+use Rattle.pc_inline.specs.Worlds.{HoldsTypes}
 
 -- a builder has only grown where it is as it was
 pub types_refl : (b : Types) → builder.Grows b b
@@ -44,6 +47,9 @@ keeps_refl b = record {
   graph = graph_growth.grows_refl b.graph;
   cores = kept_refl b.cores;
   definitions = kept_refl b.definitions;
+  closures = kept_refl b.closures;
+  instances = kept_refl b.instances;
+  bodies = refl;
 }
 
 -- and where they grew twice
@@ -53,7 +59,21 @@ keeps_trans a b c first second = record {
   graph = graph_growth.grows_trans a.graph b.graph c.graph first.graph second.graph;
   cores = kept_trans a.cores b.cores c.cores first.cores second.cores;
   definitions = kept_trans a.definitions b.definitions c.definitions first.definitions second.definitions;
+  closures = kept_trans a.closures b.closures c.closures first.closures second.closures;
+  instances = kept_trans a.instances b.instances c.instances first.instances second.instances;
+  bodies = second.bodies ∙ first.bodies;
 }
+
+-- a builder that has grown holds what it held
+pub holds_grow : (old new : Types) → builder.Grows old new → (g : ComponentDfg) → HoldsTypes old g → HoldsTypes new g
+holds_grow old new grows g holds = record {
+  options = λ k x at. kept_within old.signatures new.signatures grows.signatures x.core_type.0 (holds.options k x at);
+  functions = λ n ty f o at. kept_within old.funcs new.funcs grows.funcs ty.0 (holds.functions n ty f o at);
+}
+
+-- no type was converted
+pub converts_refl : (t : TypeTable) (a : State) → Converts t a a
+converts_refl t a = record { grows = types_refl a.types; numbers = λ n. n; rest = refl }
 
 -- types were converted twice
 pub converts_trans : (t : TypeTable) (a b c : State) → Converts t a b → Converts t b c → Converts t a c
@@ -104,6 +124,9 @@ module _ (t : TypeTable) (ms : List ModuleRecord) where
       graph = graph_growth.grows_refl st.graph;
       cores = append_kept st.cores (d ∷ []);
       definitions = kept_refl st.definitions;
+      closures = kept_refl st.closures;
+      instances = kept_refl st.instances;
+      bodies = refl;
     };
     sound = λ s. record {
       ordered = s.ordered;
@@ -111,6 +134,7 @@ module _ (t : TypeTable) (ms : List ModuleRecord) where
       plain = s.plain;
       used = s.used;
       numbers = s.numbers;
+      held = s.held;
     };
     side_effects = refl;
     instances = refl;
@@ -132,6 +156,9 @@ module _ (t : TypeTable) (ms : List ModuleRecord) where
       graph = graph_growth.grows_refl st.graph;
       cores = kept_refl st.cores;
       definitions = append_kept st.definitions (d ∷ []);
+      closures = kept_refl st.closures;
+      instances = kept_refl st.instances;
+      bodies = refl;
     };
     sound = λ s. record {
       ordered = s.ordered;
@@ -139,6 +166,39 @@ module _ (t : TypeTable) (ms : List ModuleRecord) where
       plain = s.plain;
       used = s.used;
       numbers = s.numbers;
+      held = s.held;
+    };
+    side_effects = refl;
+    instances = refl;
+    trampolines = refl;
+    imports = refl;
+    import_types = refl;
+    begun = refl;
+    exports = refl;
+    export_items = refl;
+    used = refl;
+  }
+
+  -- what one more component captured
+  pub closure_prepares : (st : State) (d : Closure)
+      → Prepares t ms st (record st { closures = st.closures ++ d ∷ [] })
+  closure_prepares st d = record {
+    keeps = record {
+      types = types_refl st.types;
+      graph = graph_growth.grows_refl st.graph;
+      cores = kept_refl st.cores;
+      definitions = kept_refl st.definitions;
+      closures = append_kept st.closures (d ∷ []);
+      instances = kept_refl st.instances;
+      bodies = refl;
+    };
+    sound = λ s. record {
+      ordered = s.ordered;
+      items = s.items;
+      plain = s.plain;
+      used = s.used;
+      numbers = s.numbers;
+      held = s.held;
     };
     side_effects = refl;
     instances = refl;
@@ -159,6 +219,9 @@ module _ (t : TypeTable) (ms : List ModuleRecord) where
       graph = graph_growth.grows_refl old.graph;
       cores = kept_refl old.cores;
       definitions = kept_refl old.definitions;
+      closures = kept_refl old.closures;
+      instances = kept_refl old.instances;
+      bodies = refl;
     };
     sound = λ s. record {
       ordered = s.ordered;
@@ -166,6 +229,7 @@ module _ (t : TypeTable) (ms : List ModuleRecord) where
       plain = s.plain;
       used = s.used;
       numbers = c.numbers s.numbers;
+      held = holds_grow old.types new.types c.grows old.graph s.held;
     };
     side_effects = refl;
     instances = refl;

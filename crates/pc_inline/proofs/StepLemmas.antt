@@ -1,5 +1,5 @@
 -- How the step of an item ends: where its row is stuck, where there is no room, and where it goes on.
-use Rattle.std.proofs.Common.{◌≡◌, true, false, List, Result, Ok, Err, refl, sym, subst, if◌then◌else◌}
+use Rattle.std.proofs.Common.{◌≡◌, true, false, List, Result, Ok, Err, refl, sym, subst}
 use Rattle.std.specs.Prelude.{⊤}
 use Rattle.std.specs.List.{list_any}
 use Rattle.std.specs.Result.{IsErrAnd}
@@ -8,7 +8,7 @@ use Rattle.pc_dfg.specs.declared.push_error.PushError.TheVariants as push_error
 use Rattle.pc_types.specs.declared.module_record.ModuleRecord.{ModuleRecord}
 use Rattle.pc_types.specs.declared.parsed.TypeTable.{TypeTable}
 use Rattle.pc_reading.specs.Item.{Item}
-use Rattle.pc_reading.specs.Outcome.{Fault, after}
+use Rattle.pc_reading.specs.Outcome.{Fault}
 use Rattle.pc_reading.specs.Rows.{read_row}
 use Rattle.pc_reading.specs.Scope.{Moment}
 use Rattle.pc_inline.specs.declared.error.ItemError.{ItemError}
@@ -17,10 +17,10 @@ use Rattle.pc_inline.specs.declared.error.ItemFault.{ItemFault}
 use Rattle.pc_inline.specs.declared.frame.Frame.{Frame}
 use Rattle.pc_inline.specs.declared.state.State.{State}
 use Rattle.pc_inline.specs.Faults.{fault_of, of_push_error}
-use Rattle.pc_inline.specs.Points.{Follows, Goes, IsFullSomewhere, PointStands, Steps, StepsItem}
+use Rattle.pc_inline.specs.Points.{Follows, Goes, IsFullSomewhere, PointStands, Steps}
 use Rattle.pc_inline.specs.Refused.{LacksRoom}
 use Rattle.pc_inline.specs.Tables.{tables_of}
-use Rattle.pc_inline.specs.Today.{built_row, is_built, is_made, without_adapters}
+use Rattle.pc_inline.specs.Today.{built_row, is_built, is_made}
 use Rattle.pc_inline.proofs.RefusedLemmas.{push_lacks}
 
 module _ (t : TypeTable) (ms : List ModuleRecord) where

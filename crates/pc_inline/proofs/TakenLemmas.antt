@@ -1,7 +1,6 @@
 -- An import that takes its argument, against its row.
-use Rattle.std.proofs.Common.{◌≡◌, ℕ, Bool, true, false, List, [], ◌∷◌, ◌++◌, Result, Ok, Err, Option, Some, None, refl, sym, ap, subst, ◌∙◌}
+use Rattle.std.proofs.Common.{◌≡◌, ℕ, true, false, List, [], ◌∷◌, ◌++◌, Ok, Err, Some, None, refl, sym, ap, subst, ◌∙◌}
 use Rattle.std.specs.Prelude.{⊤, slice_get}
-use Rattle.std.proofs.lemmas.Option.{none-some, same_Some}
 use Rattle.pc_entity.specs.Lists.{value_of}
 use Rattle.pc_types.specs.declared.error.Unsupported.TheVariants.{NotBuilt}
 use Rattle.pc_types.specs.declared.module_record.ModuleRecord.{ModuleRecord}
@@ -9,11 +8,10 @@ use Rattle.pc_types.specs.declared.parsed.Entity.{Entity}
 use Rattle.pc_types.specs.declared.parsed.Entity.TheVariants as entity
 use Rattle.pc_types.specs.declared.parsed.TypeTable.{TypeTable}
 use Rattle.pc_types.specs.Table.{is_func as is_func_type, is_some_and}
-use Rattle.pc_types.specs.TypeTree.{Identity}
 use Rattle.pc_parsed.specs.declared.payload.ExternName.{ExternName}
 use Rattle.pc_reading.specs.Imports.{is_of_entity, read_import, take_if}
 use Rattle.pc_reading.specs.Item.{import_item}
-use Rattle.pc_reading.specs.Outcome.{bad_type, held, invalid, unsupported}
+use Rattle.pc_reading.specs.Outcome.{bad_type, held, invalid}
 use Rattle.pc_reading.specs.Resource.{registered, resource_paths}
 use Rattle.pc_reading.specs.Rows.{read_row}
 use Rattle.pc_reading.specs.Scope.{Moment, add_value, with_value}
@@ -27,7 +25,8 @@ use Rattle.pc_inline.specs.declared.frame.Frame.{Frame}
 use Rattle.pc_inline.specs.declared.state.State.{State}
 use Rattle.pc_inline.specs.Definitions.{is_func}
 use Rattle.pc_inline.specs.Points.{PointStands, StepsItem}
-use Rattle.pc_inline.specs.Stands.{DefinitionStands, Stands, stands, stands_host, stands_lifted, stands_static}
+use Rattle.pc_inline.specs.Stands.{DefinitionStands, Stands, stands, stands_component, stands_host, stands_instance}
+use Rattle.pc_inline.specs.Stands.{stands_lifted, stands_static}
 use Rattle.pc_inline.specs.Tables.{Tables, tables_of}
 use Rattle.pc_inline.specs.Today.{built_row, is_built_entity}
 use Rattle.pc_inline.proofs.FrameLemmas.{framed_point, func_framed}
@@ -49,6 +48,8 @@ func_entry : (ms : List ModuleRecord) (b : Tables) (ty : ℕ) (d : Definition) (
 func_entry ms b ty d v (stands_host below) = refl
 func_entry ms b ty d v (stands_lifted is_func func options) = refl
 func_entry ms b ty d v stands_static = refl
+func_entry ms b ty d v (stands_component tr body leaving closure modules components) = refl
+func_entry ms b ty d v (stands_instance held _) = refl
 
 func_stands : (ms : List ModuleRecord) (b : Tables) (ty : ℕ) (id : DefinitionId) (v : Value) → Stands ms b id v
     → is_some_and is_func (slice_get b.definitions id.0) ≡ is_of_entity (entity.Func ty) v
@@ -61,6 +62,9 @@ func_of : (ms : List ModuleRecord) (b : Tables) (ty : ℕ) (id : DefinitionId) (
 func_of ms b ty id v (stands held (stands_host below)) is = (_, refl)
 func_of ms b ty id v (stands held (stands_lifted is_func func options)) is = (_, refl)
 func_of ms b ty id v (stands held stands_static) is = absurd (let k : ⊥ = cc in k)
+func_of ms b ty id v (stands held (stands_component tr body leaving closure modules components)) is =
+    absurd (let k : ⊥ = cc in k)
+func_of ms b ty id v (stands held (stands_instance _ _)) is = absurd (let k : ⊥ = cc in k)
 
 -- a value of another kind isn't taken
 take_other : (t : TypeTable) (now : Moment) (e : Entity) (v : Value) → is_of_entity e v ≡ false

@@ -1,5 +1,6 @@
 -- What stands for a value of the reading is there.
-use Rattle.std.proofs.Common.{◌≡◌, ◌<◌, ℕ, List, [], length, Option, None, Some, refl, sym, ap, subst, ◌∙◌}
+use Rattle.std.proofs.Common.{◌≡◌, ◌<◌, ◌⊎◌, inl, inr, ℕ, true≢false, false, List, [], length, Option, Some, refl, sym}
+use Rattle.std.proofs.Common.{ap, subst, ◌∙◌}
 use Rattle.std.specs.Prelude.{slice_get}
 use Rattle.std.proofs.lemmas.Option.{same_Some, slice_get_within}
 use Rattle.pc_types.specs.declared.module_record.ModuleRecord.{ModuleRecord}
@@ -7,21 +8,27 @@ use Rattle.pc_types.specs.declared.parsed.CoreKind.{CoreKind}
 use Rattle.pc_types.specs.declared.parsed.CoreKind.TheVariants as core
 use Rattle.pc_types.specs.declared.type_index.TypeFuncIndex.{TypeFuncIndex}
 use Rattle.pc_types.specs.TypeTree.{TypeTree}
+use Rattle.pc_numbers.specs.declared.component_entity.StaticComponentIndex.{StaticComponentIndex}
 use Rattle.pc_numbers.specs.declared.component_entity.StaticModuleIndex.{StaticModuleIndex}
 use Rattle.pc_numbers.specs.declared.runtime.ImportIndex.{ImportIndex}
 use Rattle.pc_semantics.specs.CoreValue as value
 use Rattle.pc_semantics.specs.CoreValue.{CoreValue, MaybeValue}
 use Rattle.pc_parsed.specs.Mark.{Mark}
 use Rattle.pc_reading.specs.Value.{Function, Value, func_value, host_function, lifted_function}
+use Rattle.pc_inline.specs.declared.definition.ClosureId.{ClosureId}
 use Rattle.pc_inline.specs.declared.definition.CoreId.{CoreId}
 use Rattle.pc_inline.specs.declared.definition.DataModel.{DataModel}
 use Rattle.pc_inline.specs.declared.definition.Definition.{Definition}
 use Rattle.pc_inline.specs.declared.definition.Definition.TheVariants as definition
 use Rattle.pc_inline.specs.declared.definition.DefinitionId.{DefinitionId}
+use Rattle.pc_inline.specs.declared.definition.ExportsId.{ExportsId}
 use Rattle.pc_inline.specs.declared.definition.Options.{Options}
+use Rattle.pc_inline.specs.Definitions.{is_func}
 use Rattle.pc_inline.specs.Frames.{FuncStands}
 use Rattle.pc_inline.specs.Slots.{IsThere, MaybeThere, ModelThere, OptionsThere}
-use Rattle.pc_inline.specs.Stands.{DefinitionStands, IsFunc, ItemStands, MaybeStands, ModelStands, OptionsStand, Stands, gc_stands, linear_stands, none_stands, options_stand, some_stands, stands, stands_host, stands_lifted, stands_static}
+use Rattle.pc_inline.specs.Stands.{DefinitionStands, IsFunc, ItemStands, MaybeStands, ModelStands, OptionsStand}
+use Rattle.pc_inline.specs.Stands.{gc_stands, linear_stands, none_stands, options_stand, some_stands, stands}
+use Rattle.pc_inline.specs.Stands.{stands_component, stands_host, stands_instance, stands_lifted, stands_static}
 use Rattle.pc_inline.specs.Tables.{Tables}
 
 module _ (ms : List ModuleRecord) (b : Tables) where
@@ -40,10 +47,11 @@ module _ (ms : List ModuleRecord) (b : Tables) where
 
   -- options
   pub options_there : (o : Options) (v : value.Options Mark) → OptionsStand ms b o v → OptionsThere ms b o
-  options_there o v (options_stand {callback = x} {post_return = y} {where_values_lie = m} begun signed callback
-      post_return model) =
+  options_there o v (options_stand {signature = g} {callback = x} {post_return = y} {where_values_lie = m} begun signed
+      callback post_return model) =
       record {
         component_instance = begun;
+        signature = slice_get_within b.types.signatures o.core_type.0 g signed;
         callback = maybe_there core.Func o.callback x callback;
         post_return = maybe_there core.Func o.post_return y post_return;
         model = model_there o.data_model m model;
@@ -63,7 +71,11 @@ module _ (ms : List ModuleRecord) (b : Tables) where
       → DefinitionStands ms b d v → d ≡ definition.LiftedFunc ty fn o → v ≡ func_value x → LiftedAs ty fn o x
   lifted_as d v ty fn o x (stands_host below) is value = absurd (let x : ⊥ = cc in x)
   lifted_as d v ty fn o x stands_static is value = absurd (let x : ⊥ = cc in x)
-  lifted_as d v ty fn o x (stands_lifted {ty = ty'} {func = fn'} {o = o'} {tree = tree} {v = w} {os = os} f i s) is value =
+  lifted_as d v ty fn o x (stands_component tr body leaving closure modules components) is value =
+      absurd (let x : ⊥ = cc in x)
+  lifted_as d v ty fn o x (stands_instance held _) is value = absurd (let x : ⊥ = cc in x)
+  lifted_as d v ty fn o x (stands_lifted {ty = ty'} {func = fn'} {o = o'} {tree = tree} {v = w} {os = os} f i s) is
+      value =
       let same_ty : ty' ≡ ty = cc in
       let same_fn : fn' ≡ fn = cc in
       let same_o : o' ≡ o = cc in
@@ -95,6 +107,9 @@ module _ (ms : List ModuleRecord) (b : Tables) where
       )
   host_as d v i x stands_static is value = absurd (let x : ⊥ = cc in x)
   host_as d v i x (stands_lifted f j s) is value = absurd (let x : ⊥ = cc in x)
+  host_as d v i x (stands_component tr body leaving closure modules components) is value =
+      absurd (let x : ⊥ = cc in x)
+  host_as d v i x (stands_instance held _) is value = absurd (let x : ⊥ = cc in x)
 
   -- a function of the host, as the reading has it
   pub host_there : (n : DefinitionId) (i : ImportIndex) (x : Function)
@@ -103,14 +118,26 @@ module _ (ms : List ModuleRecord) (b : Tables) where
   host_there n i x at (stands {d = d} held y) =
       host_as d (func_value x) i x y (same_Some d (definition.HostFunc i) (sym held ∙ at)) refl
 
-  module_as : (d : Definition) (v : Value) (m : StaticModuleIndex) (ty : ℕ) (x : Function) → DefinitionStands ms b d v
-      → d ≡ definition.StaticModule m ty → v ≡ func_value x → ⊥
-  module_as d v m ty x (stands_host below) is value = let x : ⊥ = cc in x
-  module_as d v m ty x stands_static is value = let x : ⊥ = cc in x
-  module_as d v m ty x (stands_lifted f j s) is value = let x : ⊥ = cc in x
+  other_as : (d : Definition) (v : Value) (x : Function) → DefinitionStands ms b d v → is_func d ≡ false
+      → v ≡ func_value x → ⊥
+  other_as d v x (stands_host below) other value = absurd (true≢false other)
+  other_as d v x (stands_lifted f j s) other value = absurd (true≢false other)
+  other_as d v x stands_static other value = let x : ⊥ = cc in x
+  other_as d v x (stands_component tr body leaving closure modules components) other value = let x : ⊥ = cc in x
+  other_as d v x (stands_instance held _) other value = let x : ⊥ = cc in x
 
-  -- no function is a module
-  pub no_module : (n : DefinitionId) (m : StaticModuleIndex) (ty : ℕ) (x : Function)
-      → slice_get b.definitions n.0 ≡ Some (definition.StaticModule m ty) → FuncStands ms b n x → ⊥
-  no_module n m ty x at (stands {d = d} held y) =
-      module_as d (func_value x) m ty x y (same_Some d (definition.StaticModule m ty) (sym held ∙ at)) refl
+  -- what is no function has no function's value
+  pub no_other : (n : DefinitionId) (d : Definition) (x : Function) → slice_get b.definitions n.0 ≡ Some d
+      → is_func d ≡ false → FuncStands ms b n x → ⊥
+  no_other n d x at other (stands {d = e} held y) =
+      other_as e (func_value x) x y (subst (λ k. is_func k ≡ false) (same_Some d e (sym at ∙ held)) other) refl
+
+-- a core module, a component or an instance is no function
+pub is_no_func : (d : Definition)
+    → ((x : StaticModuleIndex) × (y : ℕ) × (d ≡ definition.StaticModule x y))
+    ⊎ (((x : StaticComponentIndex) × (y : ClosureId) × (d ≡ definition.Component x y))
+    ⊎ ((x : ExportsId) × (d ≡ definition.Instance x)))
+    → is_func d ≡ false
+is_no_func d (inl h) = ap is_func h.2
+is_no_func d (inr (inl h)) = ap is_func h.2
+is_no_func d (inr (inr h)) = ap is_func h.1

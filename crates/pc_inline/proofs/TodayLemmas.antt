@@ -1,5 +1,6 @@
 -- What is built is the nested reading, or ends where something isn't built.
-use Rattle.std.proofs.Common.{◌≡◌, ◌+◌, ℕ, List, [], ◌∷◌, Bool, true, false, Option, None, Some, Result, Ok, Err, refl, sym, ap, subst, ◌∙◌, inl, inr, if◌then◌else◌}
+use Rattle.std.proofs.Common.{◌≡◌, ◌+◌, ℕ, List, [], ◌∷◌, Bool, true, false, Option, None, Some, Result, Ok, Err, refl}
+use Rattle.std.proofs.Common.{sym, ap, subst, inl, inr, if◌then◌else◌}
 use Rattle.std.specs.Prelude.{◌⊎◌, nat_lt}
 use Rattle.std.specs.List.{cons_option, filter_map, list_any}
 use Rattle.pc_types.specs.declared.error.Place.{Place}
@@ -10,18 +11,20 @@ use Rattle.pc_types.specs.declared.parsed.Entity.{Entity}
 use Rattle.pc_types.specs.declared.parsed.TypeTable.{TypeTable}
 use Rattle.pc_parsed.specs.declared.payload.ExternName.{ExternName}
 use Rattle.pc_reading.specs.Imports.{prepare, prepare_all}
-use Rattle.pc_reading.specs.Item
-use Rattle.pc_reading.specs.Item.{ExportOf, Item, Items, and_item, import_item, no_items, exports_in}
+use Rattle.pc_reading.specs.Item.{ExportOf, Item, Items, and_item, no_items, exports_in}
 use Rattle.pc_reading.specs.Items.{exported_value, exports_at}
-use Rattle.pc_reading.specs.Nodes.{Finish, Reached, at_export, in_front, named_node, passed, reached, refused, root_nodes, value_node}
+use Rattle.pc_reading.specs.Nodes.{Finish, Reached, at_export, in_front, named_node, passed, reached, refused}
+use Rattle.pc_reading.specs.Nodes.{root_nodes, value_node}
 use Rattle.pc_reading.specs.Outcome.{Fault, Outcome, after, and_then, at_item, done, fault, over, past, unsupported}
-use Rattle.pc_reading.specs.Reading.{Enter, Reading, Return, begun_in, enter_at, finishing, read_item, read_items, read_root, reading_of, result_of, returning}
+use Rattle.pc_reading.specs.Reading.{Enter, Reading, begun_in, enter_at, finishing, read_item, read_items, read_root}
+use Rattle.pc_reading.specs.Reading.{reading_of, result_of, returning}
 use Rattle.pc_reading.specs.Rows.{read_row}
 use Rattle.pc_reading.specs.Scope.{Moment, Scope}
 use Rattle.pc_reading.specs.Value.{NamedValue, outermost}
 use Rattle.pc_reading.specs.World.{World, new_world}
-use Rattle.pc_inline.specs.Today.{built_enter, built_exports, built_item, built_items, built_prepare, built_prepare_all, built_reading, built_result, built_row, exporting, is_built, is_built_entity, is_built_kind, is_made, without_adapters}
-use Rattle.pc_inline.proofs.PrepareAllLemmas.{prepare_first, prepare_row}
+use Rattle.pc_inline.specs.Today.{built_enter, built_exports, built_item, built_items, built_prepare, built_prepare_all}
+use Rattle.pc_inline.specs.Today.{built_reading, built_result, built_row, exporting, is_built, is_built_entity}
+use Rattle.pc_inline.specs.Today.{is_built_kind, is_made, without_adapters}
 use Rattle.pc_inline.proofs.ReadLemmas.{item_is_row}
 
 -- it ends where something isn't built
@@ -80,7 +83,8 @@ module _ (t : TypeTable) (ms : List ModuleRecord) where
   unfolding built_row
   row_today now i = by (is_built i)
     where
-      by : (b : Bool) → IsTodayRow (if b then after (read_row t ms now i) without_adapters else Err (unsupported NotBuilt))
+      by : (b : Bool) → IsTodayRow (if b then after (read_row t ms now i) without_adapters else Err
+          (unsupported NotBuilt))
           (read_row t ms now i)
       by true = after_today (read_row t ms now i)
       by false = inr refl
@@ -118,7 +122,8 @@ module _ (t : TypeTable) (ms : List ModuleRecord) where
     item_today n (Item.outer_item a b d) now = row_item n (Item.outer_item a b d) now
     item_today n (Item.export_item a) now = row_item n (Item.export_item a) now
 
-    items_today : (n : ℕ) (is : Items) (now : Moment) → IsToday (built_items t ms e n is now) (read_items t ms f n is now)
+    items_today : (n : ℕ) (is : Items) (now : Moment)
+        → IsToday (built_items t ms e n is now) (read_items t ms f n is now)
     unfolding built_items read_items
     items_today n no_items now = inl refl
     items_today n (and_item i is) now =
@@ -130,7 +135,8 @@ module _ (t : TypeTable) (ms : List ModuleRecord) where
   unfolding built_prepare
   prepare_today name e now = by (is_built_entity e)
     where
-      by : (b : Bool) → IsTodayRow (if b then prepare t name e now else Err (unsupported NotBuilt)) (prepare t name e now)
+      by : (b : Bool) → IsTodayRow (if b then prepare t name e now else Err (unsupported NotBuilt))
+          (prepare t name e now)
       by true = inl refl
       by false = inr refl
 
@@ -211,10 +217,12 @@ module _ (t : TypeTable) (ms : List ModuleRecord) (limit : ℕ) (body : Items) w
 
   read_today : (now : Moment)
       → IsToday (and_then (built_items t ms (built_enter t ms limit limit) 0 body now) (built_result t body))
-      (and_then (and_then (read_items t ms (enter_at t ms limit limit) 0 body now) (returning t ms limit body)) (finishing t ms limit))
+      (and_then (and_then (read_items t ms (enter_at t ms limit limit) 0 body now) (returning t ms limit body))
+      (finishing t ms limit))
   read_today now =
       subst (IsToday (and_then (built_items t ms (built_enter t ms limit limit) 0 body now) (built_result t body)))
-      (sym (then_then (read_items t ms (enter_at t ms limit limit) 0 body now) (returning t ms limit body) (finishing t ms limit)))
+      (sym (then_then (read_items t ms (enter_at t ms limit limit) 0 body now) (returning t ms limit body)
+      (finishing t ms limit)))
       (then_today (built_items t ms (built_enter t ms limit limit) 0 body now)
       (read_items t ms (enter_at t ms limit limit) 0 body now) (built_result t body)
       (λ x. and_then (returning t ms limit body x) (finishing t ms limit))
@@ -224,12 +232,14 @@ module _ (t : TypeTable) (ms : List ModuleRecord) (limit : ℕ) (body : Items) w
       → IsToday (and_then (built_prepare_all t ms 0 body (start v)) (λ (now : Moment).
       and_then (built_items t ms (built_enter t ms limit limit) 0 body now) (built_result t body)))
       (and_then (and_then (prepare_all t 0 body (start v)) (λ (now : Moment).
-      and_then (read_items t ms (enter_at t ms limit limit) 0 body now) (returning t ms limit body))) (finishing t ms limit))
+      and_then (read_items t ms (enter_at t ms limit limit) 0 body now) (returning t ms limit body)))
+      (finishing t ms limit))
   root_today v =
       subst (IsToday (and_then (built_prepare_all t ms 0 body (start v)) (λ (now : Moment).
       and_then (built_items t ms (built_enter t ms limit limit) 0 body now) (built_result t body))))
       (sym (then_then (prepare_all t 0 body (start v)) (λ (now : Moment).
-      and_then (read_items t ms (enter_at t ms limit limit) 0 body now) (returning t ms limit body)) (finishing t ms limit)))
+      and_then (read_items t ms (enter_at t ms limit limit) 0 body now) (returning t ms limit body))
+      (finishing t ms limit)))
       (then_today (built_prepare_all t ms 0 body (start v)) (prepare_all t 0 body (start v))
       (λ (now : Moment). and_then (built_items t ms (built_enter t ms limit limit) 0 body now) (built_result t body))
       (λ (now : Moment). and_then (and_then (read_items t ms (enter_at t ms limit limit) 0 body now)
@@ -244,7 +254,8 @@ module _ (t : TypeTable) (ms : List ModuleRecord) (limit : ℕ) (body : Items) w
       by : (b : Bool)
           → IsToday
           (if b then and_then (built_prepare_all t ms 0 body (start (record (new_world None) { begun = 1 })))
-          (λ (now : Moment). and_then (built_items t ms (built_enter t ms limit limit) 0 body now) (built_result t body))
+          (λ (now : Moment). and_then (built_items t ms (built_enter t ms limit limit) 0 body now)
+          (built_result t body))
           else over)
           (and_then (if b
           then and_then (prepare_all t 0 body (start (record (new_world None) { begun = 1 }))) (λ (now : Moment).

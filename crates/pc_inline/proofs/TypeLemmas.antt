@@ -1,7 +1,8 @@
 -- Types of functions as the builder and as the reading have them.
-use Rattle.std.proofs.Common.{◌≡◌, ℕ, List, [], true, false, Bool, Option, None, Some, Result, Ok, Err, refl, sym, ap, subst, ◌∙◌, if◌then◌else◌, inl, inr}
+use Rattle.std.proofs.Common.{◌≡◌, ℕ, List, [], Option, None, Some, Result, Err, refl, sym, ap, subst, ◌∙◌}
+use Rattle.std.proofs.Common.{if◌then◌else◌, inl, inr}
 use Rattle.std.proofs.lemmas.Option.{same_Some}
-use Rattle.std.specs.Prelude.{◌⊎◌, slice_get}
+use Rattle.std.specs.Prelude.{slice_get}
 use Rattle.pc_numbers.specs.declared.module_entity.ModuleInternedTypeIndex.{ModuleInternedTypeIndex}
 use Rattle.pc_numbers.specs.declared.runtime.ResourceIndex.{ResourceIndex}
 use Rattle.pc_types.specs.declared.module_record.ModuleRecord.{ModuleRecord}
@@ -92,7 +93,8 @@ pub no_function : (t : TypeTable) (s : Scope) (ty core : ℕ) (go : TypeTree →
     → HasNoFunction t ty core
     → found bad_type (tree_if t is_func s ty) (λ tree. found bad_type (signature_at t core) (go tree)) ≡ Err bad_type
 unfolding tree_if signature_at
-no_function t s ty core go h = elim h as (λ _. found bad_type (if has_entry t is_func ty then type_tree t s ty else None)
+no_function t s ty core go h = elim h as (λ _. found bad_type
+    (if has_entry t is_func ty then type_tree t s ty else None)
     (λ tree. found bad_type (slice_get t.core_funcs core) (go tree)) ≡ Err bad_type) [
       | inl none ↦ rw (none) refl
       | inr there ↦ rw (there.0, there.1) (by (type_tree t s ty))

@@ -1,5 +1,5 @@
 -- Which local items are of built kinds, and those of the reading that they stand for.
-use Rattle.std.proofs.Common.{ℕ, ◌≡◌, List, Bool, true, false, Option, Some, None, refl, ap, sym, ◌∙◌}
+use Rattle.std.proofs.Common.{ℕ, ◌≡◌, List, Bool, true, false, Option, Some, None, refl, ap}
 use Rattle.std.proofs.lemmas.Option.{none-some, same_Some}
 use Rattle.pc_types.specs.declared.parsed.WasmValType.TheVariants.{I32}
 use Rattle.pc_parsed.specs.declared.canon.CanonItem.{CanonItem}
@@ -12,6 +12,8 @@ use Rattle.pc_local.specs.declared.item.LocalInitializer.TheVariants as local
 use Rattle.pc_local.specs.declared.item.Translation.{Translation}
 use Rattle.pc_local.specs.Plain.{context_of, if_builtin, if_error_context, if_waitable, plain_item}
 use Rattle.pc_local.specs.Standing.{ItemStands, Names, stands_component, stands_module, stands_nested, stands_plain}
+use Rattle.pc_local.specs.declared.item.ClosedOverVars.{ClosedOverVars}
+use Rattle.pc_numbers.specs.declared.component_entity.StaticComponentIndex.{StaticComponentIndex}
 use Rattle.pc_numbers.specs.declared.component_entity.StaticModuleIndex.{StaticModuleIndex}
 use Rattle.pc_numbers.specs.declared.entity_index.EntityIndex.{EntityIndex}
 use Rattle.pc_types.specs.declared.parsed.CoreKind.{CoreKind}
@@ -29,6 +31,7 @@ is_built_local (local.Lower func ty signature opts) = true
 is_built_local (local.ModuleStatic index ty) = true
 is_built_local (local.ModuleInstantiate m args) = true
 is_built_local (local.ModuleSynthetic items) = true
+is_built_local (local.ComponentStatic index vars) = true
 is_built_local (local.AliasCoreExport k n name) = true
 is_built_local (local.Export name k n) = is_built_kind k
 is_built_local _ = false
@@ -96,14 +99,16 @@ pub none_of_these : (l : LocalInitializer)
     → ((index : StaticModuleIndex) (ty : ℕ) → ¬ (l ≡ local.ModuleStatic index ty))
     → ((m : ℕ) (args : List (List ℕ × ℕ)) → ¬ (l ≡ local.ModuleInstantiate m args))
     → ((items : List (List ℕ × EntityIndex)) → ¬ (l ≡ local.ModuleSynthetic items))
+    → ((index : StaticComponentIndex) (vars : ClosedOverVars) → ¬ (l ≡ local.ComponentStatic index vars))
     → ((k : CoreKind) (n : ℕ) (name : List ℕ) → ¬ (l ≡ local.AliasCoreExport k n name))
     → ((name : ExternName) (k : ItemKind) (n : ℕ) → ¬ (l ≡ local.Export name k n)) → is_built_local l ≡ false
-none_of_these (local.Import name ty) a b c d e f g h = absurd (a name ty refl)
-none_of_these (local.Lift func ty core opts) a b c d e f g h = absurd (b func ty core opts refl)
-none_of_these (local.Lower func ty core opts) a b c d e f g h = absurd (c func ty core opts refl)
-none_of_these (local.ModuleStatic index ty) a b c d e f g h = absurd (d index ty refl)
-none_of_these (local.ModuleInstantiate m args) a b c d e f g h = absurd (e m args refl)
-none_of_these (local.ModuleSynthetic items) a b c d e f g h = absurd (f items refl)
-none_of_these (local.AliasCoreExport k n name) a b c d e f g h = absurd (g k n name refl)
-none_of_these (local.Export name k n) a b c d e f g h = absurd (h name k n refl)
-none_of_these l a b c d e f g h = refl
+none_of_these (local.Import name ty) a b c d e f m g h = absurd (a name ty refl)
+none_of_these (local.Lift func ty core opts) a b c d e f m g h = absurd (b func ty core opts refl)
+none_of_these (local.Lower func ty core opts) a b c d e f m g h = absurd (c func ty core opts refl)
+none_of_these (local.ModuleStatic index ty) a b c d e f m g h = absurd (d index ty refl)
+none_of_these (local.ModuleInstantiate n args) a b c d e f m g h = absurd (e n args refl)
+none_of_these (local.ModuleSynthetic items) a b c d e f m g h = absurd (f items refl)
+none_of_these (local.AliasCoreExport k n name) a b c d e f m g h = absurd (g k n name refl)
+none_of_these (local.Export name k n) a b c d e f m g h = absurd (h name k n refl)
+none_of_these (local.ComponentStatic index vars) a b c d e f m g h = absurd (m index vars refl)
+none_of_these l a b c d e f m g h = refl

@@ -1,10 +1,11 @@
 -- An import of the host that is used: the first time it gets a number, and later it has it.
-use Rattle.std.proofs.Common.{◌≡◌, ◌≢◌, ◌<◌, ◌+◌, ◌||◌, ◌⊎◌, inl, inr, ℕ, zero, suc, Bool, true, false, List, [], ◌∷◌, ◌++◌, length, map, Option, Some, None, if◌then◌else◌, refl, sym, ap, subst, ◌∙◌, arith}
+use Rattle.std.proofs.Common.{◌≡◌, ◌≢◌, ◌<◌, ◌≤◌, ◌+◌, ◌||◌, inl, inr, ℕ, zero, suc, Bool, true, false, List, [], ◌∷◌}
+use Rattle.std.proofs.Common.{◌++◌, length, map, Option, Some, refl, sym, ap, subst, ◌∙◌, arith}
 use Rattle.std.specs.Prelude.{slice_get, slice_set}
 use Rattle.std.specs.List.{AllZip, list_any}
 use Rattle.std.proofs.lemmas.Bool.{eq-eqb}
 use Rattle.std.proofs.lemmas.Bool.Decides.{eqb_tells}
-use Rattle.std.proofs.lemmas.List.{append-nil, length-append, map_push}
+use Rattle.std.proofs.lemmas.List.{append-nil, map_push}
 use Rattle.std.proofs.lemmas.List.Elements.{filter_map-append}
 use Rattle.std.proofs.lemmas.List.Folds.{list_any-append}
 use Rattle.std.proofs.lemmas.Option.{none-some, same_Some}
@@ -18,8 +19,7 @@ use Rattle.pc_reading.specs.SameTypes.{same_path}
 use Rattle.pc_reading.specs.World.{World, logging}
 use Rattle.pc_dfg.specs.declared.dfg.ComponentDfg.{ComponentDfg}
 use Rattle.pc_dfg.specs.Grows as graph
-use Rattle.pc_dfg.specs.Numbers.{SignedTrampoline}
-use Rattle.pc_inline.specs.Worlds.{AreUsed, EffectStands, WorldStands, import_path, path_of, paths_needed, with_path}
+use Rattle.pc_inline.specs.Worlds.{AreUsed, EffectStands, WorldStands, import_path, path_of, with_path}
 use Rattle.pc_inline.proofs.LogLemmas.{declared_on, paths-push, trace-push, world_on}
 use Rattle.pc_inline.proofs.StateLemmas.{types_refl}
 use Rattle.pc_inline.proofs.WorldLemmas.{effect_still}
@@ -66,7 +66,11 @@ needed_world types g h grows p effects instances trampolines import_types begun 
     ∙ ap length (sym instances))
     (λ k x at. declared_on types g h grows w (needed p) s k x (subst (λ ts. slice_get ts k ≡ Some x) trampolines at))
     (λ v is. absurd (let k : ⊥ = cc in k))
+    (few (ap length trampolines))
     (paths ∙ ap (λ ps. with_path ps p) s.imports ∙ sym (paths-push w.log (needed p))) import_types begun refl
+  where
+    few : {a b : ℕ} → a ≡ b → a ≤ b + 0
+    few is = omega (arith, is)
 
 -- a path that is one of the host items adds none
 pub path_known : (is : List (ImportIndex × List (List ℕ))) (r i : ℕ) → slice_get is r ≡ Some (record { 0 = i }, [])
@@ -96,7 +100,8 @@ used_more g h old new i r imports types set same number below used = record {
         | inr apart ↦ slice_get-append g.imports ((i, []) ∷ []) s.0 (record { 0 = j }, []) (used.numbers j s
             (sym (slice_get-set_other old i.0 j (Some r) apart.1) ∙ sym (ap (λ l. slice_get l j) set) ∙ at))
       ]);
-  others = λ j at. ap (list_any (same_path (import_path j))) (ap (map path_of) imports ∙ map_push path_of g.imports (i, []))
+  others = λ j at. ap (list_any (same_path (import_path j)))
+      (ap (map path_of) imports ∙ map_push path_of g.imports (i, []))
       ∙ list_any-append (same_path (import_path j)) (map path_of g.imports) (import_path i.0 ∷ [])
       ∙ (elim (eqb_tells j i.0) as (λ _. (list_any (same_path (import_path j)) (map path_of g.imports)
       || (same_path (import_path j) (import_path i.0) || false)) ≡ false) [

@@ -1,29 +1,24 @@
 -- The use of an import of the host, and what it leaves of the state.
-use Rattle.std.proofs.Common.{◌≡◌, ◌<◌, ℕ, List, [], ◌∷◌, ◌++◌, length, All, Option, Some, None, Vec, Global, refl, sym, ap, subst, ◌∙◌}
+use Rattle.std.proofs.Common.{◌≡◌, ◌<◌, ℕ, List, [], ◌∷◌, ◌++◌, length, Option, Some, None, Vec, Global, refl, sym, ap}
+use Rattle.std.proofs.Common.{subst, ◌∙◌}
 use Rattle.std.specs.Prelude.{slice_get, slice_set}
-use Rattle.pc_entity.proofs.Growing.{kept_refl, slice_get-append_seam}
-use Rattle.pc_numbers.specs.declared.component_entity.StaticModuleIndex.{StaticModuleIndex}
+use Rattle.pc_entity.proofs.Growing.{slice_get-append_seam}
 use Rattle.pc_numbers.specs.declared.runtime.ImportIndex.{ImportIndex}
 use Rattle.pc_numbers.specs.declared.runtime.RuntimeImportIndex.{RuntimeImportIndex}
 use Rattle.pc_types.specs.declared.module_record.ModuleRecord.{ModuleRecord}
 use Rattle.pc_types.specs.declared.parsed.CoreKind.{CoreKind}
 use Rattle.pc_types.specs.declared.parsed.TypeTable.{TypeTable}
-use Rattle.pc_semantics.specs.Log.{needed}
 use Rattle.pc_semantics.specs.PlanView as plan
-use Rattle.pc_reading.specs.Scope.{Moment, add_entry}
-use Rattle.pc_dfg.specs.declared.core_def.CoreDef.{CoreDef}
 use Rattle.pc_dfg.specs.declared.dfg.ComponentDfg.{ComponentDfg}
 use Rattle.pc_dfg.specs.Grows as graph
-use Rattle.pc_dfg.specs.Means.{HasPath}
 use Rattle.pc_dfg.specs.Numbers.{slots_of}
 use Rattle.pc_dfg.specs.Ordered.{IsOrdered}
 use Rattle.pc_dfg.proofs.AllLemmas.{all_more}
 use Rattle.pc_dfg.proofs.GrowLemmas.{grows_refl}
-use Rattle.pc_inline.specs.declared.frame.Frame.{Frame}
 use Rattle.pc_inline.specs.declared.state.State.{State}
 use Rattle.pc_inline.specs.Hosts.{Uses}
-use Rattle.pc_inline.specs.Points.{IsSoundState, PointStands}
-use Rattle.pc_inline.specs.Tables.{IsItem, Keeps, tables_of}
+use Rattle.pc_inline.specs.Points.{IsSoundState}
+use Rattle.pc_inline.specs.Tables.{IsItem, tables_of}
 use Rattle.pc_inline.specs.Worlds.{HasItems, import_path, slot_kind}
 use Rattle.pc_inline.proofs.GrowthLemmas.{graph_grown}
 use Rattle.pc_inline.proofs.KeptLemmas.{frame_kept, is_item_kept}
@@ -50,7 +45,8 @@ module _ (t : TypeTable) (ms : List ModuleRecord) (st : State) (i : ImportIndex)
           sound = p.sound;
           here = p.here;
           frame = p.frame;
-          world = needed_world st.types st.graph st.graph (grows_refl st.graph) (import_path i.0) refl refl refl refl refl
+          world = needed_world st.types st.graph st.graph (grows_refl st.graph) (import_path i.0) refl refl refl refl
+              refl
               (path_known st.graph.imports r.0 i.0 there) now.world p.world;
           unexported = p.unexported;
         };
@@ -99,12 +95,16 @@ module _ (t : TypeTable) (ms : List ModuleRecord) (st : State) (i : ImportIndex)
               resources = p.sound.plain.resources;
               imported_resources = p.sound.plain.imported_resources;
               unsafe_intrinsics = p.sound.plain.unsafe_intrinsics;
+              instances = p.sound.plain.instances;
+              export_items = p.sound.plain.export_items;
             };
             used = used_more st.graph imported st.used.items u.items i r refl refl set same number below p.sound.used;
             numbers = p.sound.numbers;
+            held = record { options = p.sound.held.options; functions = p.sound.held.functions };
           };
           here = p.here;
-          frame = frame_kept ms (tables_of st) (tables_of using_it) (graph_grown (tables_of st) imported grows) f now.scope
+          frame = frame_kept ms (tables_of st) (tables_of using_it) (graph_grown (tables_of st) imported grows) f
+              now.scope
               p.frame;
           world = needed_world st.types st.graph imported grows (import_path i.0) refl refl refl refl refl
               (path_new st.graph.imports i (p.sound.used.others i.0 unused)) now.world p.world;
@@ -122,5 +122,6 @@ module _ (t : TypeTable) (ms : List ModuleRecord) (st : State) (i : ImportIndex)
   used_new u h grows rest more ordered typed number set same unused below =
       let made : h ≡ imported u = rest ∙ (λ j. record st.graph { imports = more j }) in
       subst (λ (g : ComponentDfg). Uses t ms st (record st { graph = g; used = u }) i r) (sym made)
-      (used_first u (subst (graph.Grows st.graph) made grows) (λ o. subst IsOrdered made (ordered typed o)) number set same
+      (used_first u (subst (graph.Grows st.graph) made grows) (λ o. subst IsOrdered made (ordered typed o)) number set
+      same
       unused below)

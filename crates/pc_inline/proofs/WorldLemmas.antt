@@ -1,6 +1,6 @@
 -- What was done stays done as the tables grow, where the graph does nothing more.
-use Rattle.std.proofs.Common.{◌≡◌, ◌<◌, ℕ, List, map, length, Option, Some, None, Contains, refl, sym, ap, subst, ◌∙◌}
-use Rattle.std.specs.Prelude.{slice_get}
+use Rattle.std.proofs.Common.{◌≡◌, ℕ, List, map, length, Some, sym, ap, subst, ◌∙◌}
+use Rattle.std.specs.Prelude.{◌≤◌, count_by, slice_get}
 use Rattle.std.specs.List.{AllZip}
 use Rattle.pc_types.specs.declared.module_record.ModuleRecord.{ModuleRecord}
 use Rattle.pc_types.specs.declared.parsed.TypeTable.{TypeTable}
@@ -8,7 +8,7 @@ use Rattle.pc_types.specs.declared.types.ComponentExtern.{ComponentExtern}
 use Rattle.pc_interned.specs.Types.{Types}
 use Rattle.pc_interned.specs.Types as builder
 use Rattle.pc_semantics.specs.CoreValue.{CoreValue}
-use Rattle.pc_semantics.specs.Log.{Entry, declared, map_entry, trace}
+use Rattle.pc_semantics.specs.Log.{Entry, map_entry, trace}
 use Rattle.pc_trampoline.specs.declared.part.Mark.TheVariants as mark
 use Rattle.pc_parsed.specs.Mark.{Mark, of_type}
 use Rattle.pc_reading.specs.Scope.{Moment}
@@ -26,7 +26,8 @@ use Rattle.pc_inline.specs.Points.{PointStands}
 use Rattle.pc_inline.specs.Prepares.{Prepares}
 use Rattle.pc_inline.specs.Tables.{tables_of}
 use Rattle.pc_inline.specs.Typed.{number_of, whole_of}
-use Rattle.pc_inline.specs.Worlds.{EffectStands, HasTrampoline, ImportStands, IsDeclared, WorldStands, path_of, paths_needed}
+use Rattle.pc_inline.specs.Worlds.{EffectStands, HasTrampoline, ImportStands, IsDeclared, WorldStands, is_declared}
+use Rattle.pc_inline.specs.Worlds.{path_of}
 use Rattle.pc_inline.proofs.KeptLemmas.{core_kept, frame_kept}
 use Rattle.pc_inline.proofs.MarkLemmas.{entry_twice, holds_still, still}
 use Rattle.pc_inline.proofs.ZipLemmas.{zip_more}
@@ -56,6 +57,7 @@ module _ (old new : Types) (g h : ComponentDfg) (types : builder.Grows old new) 
     value = d.value;
     entry = d.entry;
     stands = core_kept old new g h types grows (def.Trampoline (record { 0 = k })) d.value d.stands;
+    signed = (d.signed.0, types.signatures x.0.0 d.signed.0 d.signed.1, d.signed.2);
   }
 
   -- what is declared is a trampoline
@@ -77,6 +79,7 @@ module _ (old new : Types) (g h : ComponentDfg) (types : builder.Grows old new) 
     are_declared = λ k x at. declared_still w.log k x
         (s.are_declared k x (subst (λ ts. slice_get ts k ≡ Some x) trampolines at));
     trampolines = λ v entry. trampoline_still v (s.trampolines v entry);
+    few_trampolines = subst (λ ts. length ts ≤ count_by is_declared w.log) (sym trampolines) s.few_trampolines;
     import_types = subst (λ is. AllZip (ImportStands new h) is w.imports) (sym import_types)
         (zip_more (ImportStands old g) (ImportStands new h) import_still g.import_types w.imports s.import_types);
     imports = ap (map path_of) imports ∙ s.imports;

@@ -1,11 +1,12 @@
 -- Options read one after the other.
-use Rattle.std.proofs.Common.{◌≡◌, ◌<◌, ◌+◌, ℕ, List, [], ◌∷◌, ◌++◌, length, take, Bool, true, false, Option, None, Some, refl, sym, ap, subst, ◌∙◌}
+use Rattle.std.proofs.Common.{◌≡◌, List, [], ◌∷◌, ◌++◌, Bool, true, false, Option, None, Some, refl, sym, ap, ◌∙◌}
 use Rattle.std.specs.Prelude.{◌||◌}
 use Rattle.std.specs.List.{list_any}
 use Rattle.std.specs.Option.{option_or}
 use Rattle.std.proofs.lemmas.List.Folds.{list_any-append}
 use Rattle.pc_parsed.specs.declared.canon.CanonOption.{CanonOption}
-use Rattle.pc_reading.specs.Options.{callback_in, encoding_in, is_async, is_gc, last_of, memory_in, post_return_in, realloc_in}
+use Rattle.pc_reading.specs.Options.{callback_in, encoding_in, is_async, is_gc, last_of, memory_in, post_return_in}
+use Rattle.pc_reading.specs.Options.{realloc_in}
 use Rattle.pc_inline.specs.declared.options.Written.{Written}
 use Rattle.pc_inline.specs.Written.{written}
 

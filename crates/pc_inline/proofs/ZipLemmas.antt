@@ -1,5 +1,5 @@
 -- Lists whose items stand so, place by place.
-use Rattle.std.proofs.Common.{◌≡◌, ◌<◌, ℕ, zero, suc, List, [], ◌∷◌, ◌++◌, length, map, Option, None, Some, refl, sym, subst, ap}
+use Rattle.std.proofs.Common.{◌≡◌, ℕ, zero, suc, List, [], ◌∷◌, ◌++◌, length, Option, None, Some, refl, sym, subst, ap}
 use Rattle.std.specs.Prelude.{slice_get}
 use Rattle.std.specs.List.{AllZip}
 use Rattle.std.proofs.lemmas.Option.{none-some, same_Some}
@@ -52,7 +52,8 @@ both_missing R None (Some b) m h = elim m [ ]
 both_missing R (Some a) w m h = absurd (none-some a (sym h))
 
 -- a relation that follows from another
-pub both_more : {A B : Type 0} (R S : A → B → Type 0) → ((x : A) (y : B) → R x y → S x y) → (o : Option A) (w : Option B)
+pub both_more : {A B : Type 0} (R S : A → B → Type 0) → ((x : A) (y : B) → R x y → S x y)
+    → (o : Option A) (w : Option B)
     → Both R o w → Both S o w
 both_more R S f None None m = neither
 both_more R S f None (Some b) m = elim m [ ]

@@ -10,6 +10,8 @@ abbrev pub is_func : Definition → Bool
 is_func (definition.HostFunc i) = true
 is_func (definition.LiftedFunc ty func o) = true
 is_func (definition.StaticModule m ty) = false
+is_func (definition.Component s k) = false
+is_func (definition.Instance n) = false
 
 -- the import that a function of the host is
 abbrev pub host_import : Definition → Option ImportIndex

@@ -1,5 +1,5 @@
 -- The exports of the root while they are made, against the nodes of the reading.
-use Rattle.std.specs.Prelude.{◌≡◌, ⊤, ℕ, true, List, [], ◌∷◌, ◌++◌, map, take, drop, Result, Ok, Err}
+use Rattle.std.specs.Prelude.{◌≡◌, ◌≤◌, ◌*◌, ⊤, ℕ, true, List, [], ◌∷◌, ◌++◌, map, take, drop, Result, Ok, Err}
 use Rattle.std.specs.List.{AllZip}
 use Rattle.pc_numbers.specs.declared.runtime.ExportIndex.{ExportIndex}
 use Rattle.pc_types.specs.declared.error.Error.{Error}
@@ -24,16 +24,14 @@ use Rattle.pc_inline.specs.declared.error.ItemError.TheVariants as item_error
 use Rattle.pc_inline.specs.declared.error.ItemFault.TheVariants as item_fault
 use Rattle.pc_inline.specs.declared.frame.Frame.{Frame}
 use Rattle.pc_inline.specs.declared.state.State.{State}
-use Rattle.pc_inline.specs.Exports.{NameStands, NodeStands}
+use Rattle.pc_inline.specs.Adds.{Adds}
+use Rattle.pc_inline.specs.Exports.{NameStands, NodeStands, NumbersExports}
 use Rattle.pc_inline.specs.Frames.{FrameStands}
+use Rattle.pc_inline.specs.Inlines.{export_name}
 use Rattle.pc_inline.specs.Points.{IsFullSomewhere, IsSoundState}
 use Rattle.pc_inline.specs.Tables.{Keeps, tables_of}
 use Rattle.pc_inline.specs.Today.{built_exports}
 use Rattle.pc_inline.specs.Worlds.{WorldStands}
-
--- the name of an export
-abbrev pub export_name : ExternName × ItemKind × ℕ → List ℕ
-export_name e = e.0.name
 
 module _ (t : TypeTable) (ms : List ModuleRecord) where
   -- the root after its items, in a world, with the nodes of its exports so far
@@ -64,7 +62,8 @@ module _ (t : TypeTable) (ms : List ModuleRecord) where
   ExportsFunc new f s w nodes name n x (Ok end) =
       (node : ExportNode Mark) × (function_node x w ≡ reached node w)
       × RootStands new f s w (nodes ++ node_named name node ∷ [])
-  ExportsFunc new f s w nodes name n x (Err (error.Unsupported u p)) = (function_node x w ≡ refused u) × (p ≡ place.Export n)
+  ExportsFunc new f s w nodes name n x (Err (error.Unsupported u p)) =
+      (function_node x w ≡ refused u) × (p ≡ place.Export n)
   ExportsFunc new f s w nodes name n x (Err error.TooMany) = IsFullSomewhere (tables_of new)
   ExportsFunc new f s w nodes name n x (Err error.NoMemory) = Unit {0}
   ExportsFunc new f s w nodes name n x (Err e) = ⊥
@@ -77,13 +76,16 @@ module _ (t : TypeTable) (ms : List ModuleRecord) where
   pub record ExportedSoFar (es : List (ExternName × ItemKind × ℕ)) (i n : ℕ) (old : State) (f : Frame) (new : State)
       : Type 0 where
     pub root : (s : Scope) × (w : World) × RootStands old f s w []
+    pub few : n ≤ i
     pub keeps : Keeps (tables_of old) (tables_of new)
+    pub adds : Adds t 0 (8 * i) (tables_of old) (tables_of new)
     pub names : (name : List ℕ) → has_name (names_of new.graph.exports) name ≡ true
-        → has_name (take i (map export_name es)) name ≡ true
+        → has_name (map export_name (take i es)) name ≡ true
+    pub numbers : NumbersExports new.graph
     pub goes : (s : Scope) (w : World) → RootStands old f s w []
         → (nodes : List (NamedNode Mark)) × RootStands new f s w nodes
         × (built_exports t s (map named_item es) 0 w
-        ≡ and_then (built_exports t s (drop i (map named_item es)) n w) (behind nodes))
+        ≡ and_then (built_exports t s (map named_item (drop i es)) n w) (behind nodes))
 
   -- how the exports of the root end: they are made, with the nodes so far in front, or one is refused
   unfoldable pub ExportsEnd : State → Frame → Scope → World → (so_far : List (NamedNode Mark)) → Outcome Finish

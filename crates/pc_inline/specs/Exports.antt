@@ -1,5 +1,5 @@
 -- What the root exports, against the nodes of the reading.
-use Rattle.std.specs.Prelude.{◌≡◌, ℕ, List}
+use Rattle.std.specs.Prelude.{◌≡◌, ℕ, List, Some, length, slice_get}
 use Rattle.std.specs.List.{AllZip}
 use Rattle.pc_interned.specs.Types.{Types}
 use Rattle.pc_semantics.specs.ExportNode.{ExportNode, NamedNode, map_node}
@@ -26,3 +26,8 @@ module _ (types : Types) (g : ComponentDfg) where
   -- the exports, in order
   unfoldable pub ExportsStand : List (NamedNode Mark) → Type 0
   ExportsStand nodes = AllZip NameStands g.exports nodes
+
+-- a graph has as many names as export items, and each name has the item of its place
+pub record NumbersExports (g : ComponentDfg) : Type 0 where
+  pub as_many : length g.exports ≡ length g.export_items
+  pub in_order : (n : ℕ) (e : NamedExport) → slice_get g.exports n ≡ Some e → e.1.0.0 ≡ n

@@ -1,5 +1,5 @@
 -- What a core instance has under a name, and the arguments of a core module.
-use Rattle.std.specs.Prelude.{◌≡◌, ℕ, Bool, List, Option, nat_lt, length}
+use Rattle.std.specs.Prelude.{◌≡◌, ℕ, Bool, List, nat_lt, length}
 use Rattle.std.specs.List.{AllZip, list_all}
 use Rattle.pc_entity.specs.Lists.{value_of}
 use Rattle.pc_intern.specs.declared.ids.InstanceId.{InstanceId}

@@ -11,7 +11,8 @@ use Rattle.pc_semantics.specs.CoreValue.{CoreValue}
 use Rattle.pc_parsed.specs.Mark.{Mark}
 use Rattle.pc_reading.specs.Scope as reading
 use Rattle.pc_reading.specs.Scope.{CoreItem, Scope}
-use Rattle.pc_reading.specs.Value.{Function, Module, Value, func_value, module_value}
+use Rattle.pc_reading.specs.Value.{Component, Function, Instance, Module, component_value, func_value, instance_value}
+use Rattle.pc_reading.specs.Value.{module_value}
 use Rattle.pc_dfg.specs.declared.core_def.CoreDef.{CoreDef}
 use Rattle.pc_dfg.specs.declared.instance.Instance.TheVariants as source
 use Rattle.pc_dfg.specs.Held.{HasBegun}
@@ -50,7 +51,7 @@ module _ (ms : List ModuleRecord) (b : Tables) where
     bag_stands : {xs : List (List ℕ × (CoreKind × CoreId))} {items : List (List ℕ × CoreItem)}
         → SameNames BagItemStands xs items → CoreInstanceStands (instance.Bag xs) (reading.bag items)
 
-  -- a function and a module, by number
+  -- a function, by number
   abbrev pub FuncStands : DefinitionId → Function → Type 0
   FuncStands n f = Stands ms b n (func_value f)
 
@@ -58,7 +59,15 @@ module _ (ms : List ModuleRecord) (b : Tables) where
   abbrev pub ModuleStands : DefinitionId → Module → Type 0
   ModuleStands n m = Stands ms b n (module_value m)
 
-  -- a component instance that knows no resources, and no component instances and components
+  -- of a component
+  abbrev pub ComponentStands : DefinitionId → Component → Type 0
+  ComponentStands n c = Stands ms b n (component_value c)
+
+  -- and of a component instance
+  abbrev pub InstanceStands : DefinitionId → Instance → Type 0
+  InstanceStands n i = Stands ms b n (instance_value i)
+
+  -- a component instance that knows no resources
   pub record FrameStands (f : Frame) (s : Scope) : Type 0 where
     pub core_funcs : ItemsStand core.Func f.core_funcs s.core_funcs
     pub memories : ItemsStand core.Memory f.memories s.memories
@@ -68,8 +77,8 @@ module _ (ms : List ModuleRecord) (b : Tables) where
     pub modules : AllZip ModuleStands f.modules s.modules
     pub funcs : AllZip FuncStands f.funcs s.funcs
     pub core_instances : AllZip CoreInstanceStands f.core_instances s.core_instances
-    pub instances : s.instances ≡ []
-    pub components : s.components ≡ []
+    pub instances : AllZip InstanceStands f.instances s.instances
+    pub components : AllZip ComponentStands f.components s.components
     pub arguments : SameNames (Stands ms b) f.arguments s.arguments
     pub known : s.known ≡ []
     pub component_instance : s.component_instance ≡ f.component_instance.0

@@ -1,6 +1,5 @@
 -- What is done for host functions: an import is used, a lowering is declared.
-use Rattle.std.specs.Prelude.{◌≡◌, ◌<◌, ℕ, [], length, List, Some, slice_get}
-use Rattle.pc_numbers.specs.declared.module_entity.ModuleInternedTypeIndex.{ModuleInternedTypeIndex}
+use Rattle.std.specs.Prelude.{List}
 use Rattle.pc_numbers.specs.declared.runtime.ImportIndex.{ImportIndex}
 use Rattle.pc_numbers.specs.declared.runtime.RuntimeImportIndex.{RuntimeImportIndex}
 use Rattle.pc_types.specs.declared.module_record.ModuleRecord.{ModuleRecord}

@@ -1,20 +1,27 @@
 -- What an instantiation answers: the graph that stands for the reading, or why there is none.
-use Rattle.std.specs.Prelude.{◌≡◌, ℕ, List, length, None, Result, Ok, Err}
-use Rattle.pc_interned.specs.Types.{Types}
+use Rattle.std.specs.Prelude.{◌≡◌, ◌≤◌, ◌⊎◌, ℕ, List, length, None, Result, Ok, Err}
+use Rattle.pc_interned.specs.Types.{IsFull, Types}
 use Rattle.pc_types.specs.declared.error.Error.{Error}
 use Rattle.pc_types.specs.declared.error.Error.TheVariants as error
 use Rattle.pc_types.specs.declared.error.Unsupported.TheVariants.{NotBuilt}
 use Rattle.pc_types.specs.declared.module_record.ModuleRecord.{ModuleRecord}
 use Rattle.pc_types.specs.declared.parsed.TypeTable.{TypeTable}
+use Rattle.pc_parsed.specs.declared.payload.ExternName.{ExternName}
+use Rattle.pc_parsed.specs.declared.payload.ItemKind.{ItemKind}
 use Rattle.pc_reading.specs.Item.{Items}
-use Rattle.pc_reading.specs.Outcome.{bad_type, done, fault, invalid, over, unsupported}
+use Rattle.pc_reading.specs.Outcome.{Outcome, bad_type, done, fault, invalid, over, unsupported}
 use Rattle.pc_reading.specs.Reading.{Reading, reading_of}
 use Rattle.pc_reading.specs.World.{World}
 use Rattle.pc_dfg.specs.declared.dfg.ComponentDfg.{ComponentDfg}
 use Rattle.pc_dfg.specs.Ordered.{IsOrdered}
-use Rattle.pc_inline.specs.Exports.{ExportsStand}
+use Rattle.pc_inline.specs.Adds.{item_count, most_items}
+use Rattle.pc_inline.specs.Exports.{ExportsStand, NumbersExports}
 use Rattle.pc_inline.specs.Today.{built_reading}
-use Rattle.pc_inline.specs.Worlds.{HasItems, IsPlain, WorldStands}
+use Rattle.pc_inline.specs.Worlds.{HasItems, HoldsTypes, IsPlain, WorldStands}
+
+-- the name of an export
+abbrev pub export_name : ExternName × ItemKind × ℕ → List ℕ
+export_name e = e.0.name
 
 -- the world at the end of a reading; no total is counted
 abbrev pub last_world : Reading → World
@@ -33,10 +40,13 @@ pub record GraphStands (ms : List ModuleRecord) (types : Types) (g : ComponentDf
   pub world : WorldStands types g (last_world r)
   -- and so are its exports
   pub exports : ExportsStand types g r.nodes
+  pub numbers : NumbersExports g
   -- it is ordered, and its definitions are items of the modules' instances
   pub ordered : IsOrdered g
   pub items : HasItems ms g
   pub plain : IsPlain g
+  -- the types and signatures that it names are there
+  pub held : HoldsTypes types g
   -- it counts the tables that the builder holds
   pub future_tables : g.num_future_tables ≡ length types.future_tables
   pub stream_tables : g.num_stream_tables ≡ length types.stream_tables
@@ -47,20 +57,32 @@ pub record StandsForReading (t : TypeTable) (ms : List ModuleRecord) (limit : �
     (g : ComponentDfg) : Type 0 where
   pub result : Reading
   pub outcome : reading_of t ms limit None body ≡ done result
+  -- so it is as far as it is built: each item was
+  pub built : built_reading t ms limit body ≡ done result
   pub stands : GraphStands ms types g result
 
--- the reading ends with this fault at its place; or as far as it is built it ends where something isn't built
-abbrev pub IsFault : TypeTable → List ModuleRecord → (limit : ℕ) → Items → Error → Type 0
-IsFault t ms limit body (error.Invalid p) = reading_of t ms limit None body ≡ fault invalid p
-IsFault t ms limit body (error.BadType p) = reading_of t ms limit None body ≡ fault bad_type p
-IsFault t ms limit body (error.Unsupported NotBuilt p) = built_reading t ms limit body ≡ fault (unsupported NotBuilt) p
-IsFault t ms limit body (error.Unsupported u p) = reading_of t ms limit None body ≡ fault (unsupported u) p
-IsFault t ms limit body error.TooManyInstances = reading_of t ms limit None body ≡ over
-IsFault t ms limit body error.TooMany = Unit {0}
-IsFault t ms limit body error.NoMemory = Unit {0}
-IsFault t ms limit body e = ⊥
+-- the builder is full, or the body has so many items that a list of the graph may be
+abbrev pub HasNoRoom : Types → Items → Type 0
+HasNoRoom types body = IsFull types ⊎ (most_items ≤ item_count body)
 
--- the answer is the graph that stands for the reading, or the reading's end; want of memory and full lists are free
-unfoldable pub Inlines : TypeTable → List ModuleRecord → (limit : ℕ) → Items → Types → Result ComponentDfg Error → Type 0
+-- the reading ends so, and as far as it is built it does too
+abbrev pub EndsAs : TypeTable → List ModuleRecord → (limit : ℕ) → Items → Outcome Reading → Type 0
+EndsAs t ms limit body o = (built_reading t ms limit body ≡ o) × (reading_of t ms limit None body ≡ o)
+
+-- the reading ends with this fault at its place; or as far as it is built it ends where something isn't built
+abbrev pub IsFault : TypeTable → List ModuleRecord → (limit : ℕ) → Items → Types → Error → Type 0
+IsFault t ms limit body types (error.Invalid p) = EndsAs t ms limit body (fault invalid p)
+IsFault t ms limit body types (error.BadType p) = EndsAs t ms limit body (fault bad_type p)
+IsFault t ms limit body types (error.Unsupported NotBuilt p) =
+    built_reading t ms limit body ≡ fault (unsupported NotBuilt) p
+IsFault t ms limit body types (error.Unsupported u p) = EndsAs t ms limit body (fault (unsupported u) p)
+IsFault t ms limit body types error.TooManyInstances = EndsAs t ms limit body over
+IsFault t ms limit body types error.TooMany = HasNoRoom types body
+IsFault t ms limit body types error.NoMemory = Unit {0}
+IsFault t ms limit body types e = ⊥
+
+-- the answer is the graph that stands for the reading, or the reading's end; want of memory is free
+unfoldable pub Inlines : TypeTable → List ModuleRecord → (limit : ℕ) → Items → Types → Result ComponentDfg Error
+    → Type 0
 Inlines t ms limit body types (Ok g) = StandsForReading t ms limit body types g
-Inlines t ms limit body types (Err e) = IsFault t ms limit body e
+Inlines t ms limit body types (Err e) = IsFault t ms limit body types e

@@ -3,6 +3,7 @@ pub mod Typed
 pub mod Faults
 pub mod Today
 pub mod Tables
+pub mod Adds
 pub mod Stands
 pub mod Worlds
 pub mod Exports
@@ -16,9 +17,11 @@ pub mod Written
 pub mod Prepares
 pub mod Refused
 pub mod Slots
+pub mod AddsEach
 pub mod Definitions
 pub mod Hosts
 pub mod Bags
+pub mod Captures
 pub mod Found
 pub mod StepsLocal
 pub mod Exporting

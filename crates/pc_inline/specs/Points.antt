@@ -1,12 +1,12 @@
 -- A moment of the code against a moment of the reading, and what the code makes of an item.
-use Rattle.std.specs.Prelude.{◌≡◌, ◌≤◌, ⊤, ℕ, true, [], length, List, Result, Ok, Err, Option, None, Some}
+use Rattle.std.specs.Prelude.{◌≡◌, ◌≤◌, ⊤, true, [], length, List, Result, Ok, Err, None}
 use Rattle.std.specs.List.{list_all}
 use Rattle.pc_interned.specs.Types.{IsFull}
 use Rattle.pc_types.specs.declared.module_record.ModuleRecord.{ModuleRecord}
 use Rattle.pc_types.specs.declared.parsed.TypeTable.{TypeTable}
 use Rattle.pc_types.specs.Record.{is_sound}
 use Rattle.pc_types.specs.Table.{table_fault}
-use Rattle.pc_dfg.specs.Lists.{ListName, EntryOf, entries_of}
+use Rattle.pc_dfg.specs.Lists.{ListName, entries_of}
 use Rattle.pc_dfg.specs.Ordered.{IsOrdered}
 use Rattle.pc_reading.specs.Item.{Item}
 use Rattle.pc_reading.specs.Outcome.{Fault}
@@ -17,10 +17,10 @@ use Rattle.pc_inline.specs.declared.frame.Frame.{Frame}
 use Rattle.pc_inline.specs.declared.state.State.{State}
 use Rattle.pc_inline.specs.Faults.{fault_of}
 use Rattle.pc_inline.specs.Frames.{FrameStands}
-use Rattle.pc_inline.specs.Tables.{Keeps, Tables, tables_of}
+use Rattle.pc_inline.specs.Tables.{Tables, tables_of}
 use Rattle.pc_inline.specs.Today.{built_row}
 use Rattle.pc_inline.specs.Typed.{AreNumbers}
-use Rattle.pc_inline.specs.Worlds.{AreUsed, HasItems, HasNoExports, IsPlain, WorldStands}
+use Rattle.pc_inline.specs.Worlds.{AreUsed, HasItems, HasNoExports, HoldsTypes, IsPlain, WorldStands}
 
 -- a list of what all component instances share is full
 pub data IsFullSomewhere (b : Tables) : Type 0 where
@@ -29,6 +29,8 @@ pub data IsFullSomewhere (b : Tables) : Type 0 where
   full_instances : 4294967295 ≤ b.graph.num_runtime_component_instances → IsFullSomewhere b
   full_cores : 4294967295 ≤ length b.cores → IsFullSomewhere b
   full_definitions : 4294967295 ≤ length b.definitions → IsFullSomewhere b
+  full_closures : 4294967295 ≤ length b.closures → IsFullSomewhere b
+  full_exports : 4294967295 ≤ length b.instances → IsFullSomewhere b
 
 module _ (t : TypeTable) (ms : List ModuleRecord) where
   -- what is asked of the input: a sound table, and sound records of the modules that were handed in
@@ -43,6 +45,7 @@ module _ (t : TypeTable) (ms : List ModuleRecord) where
     pub plain : IsPlain st.graph
     pub used : AreUsed st.graph st.used.items
     pub numbers : AreNumbers st.types t st.numbers
+    pub held : HoldsTypes st.types st.graph
 
   -- a component instance in the code at a moment of the reading: types are converted in it, and no resource is known
   pub record PointStands (st : State) (f : Frame) (now : Moment) : Type 0 where

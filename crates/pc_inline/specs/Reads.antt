@@ -10,7 +10,7 @@ use Rattle.pc_reading.specs.Reading.{Enter}
 use Rattle.pc_reading.specs.Scope.{Moment}
 use Rattle.pc_local.specs.declared.item.LocalInitializer.{LocalInitializer}
 use Rattle.pc_local.specs.declared.item.Translation.{Translation}
-use Rattle.pc_local.specs.Standing.{ItemsStand, Names}
+use Rattle.pc_local.specs.Standing.{ItemsStand, no_names}
 use Rattle.pc_inline.specs.declared.frame.Frame.{Frame}
 use Rattle.pc_inline.specs.declared.state.State.{State}
 use Rattle.pc_inline.specs.Points.{IsFullSomewhere, IsPoint, PointStands}
@@ -23,9 +23,9 @@ items_from zero is = is
 items_from (suc n) no_items = no_items
 items_from (suc n) (and_item i is) = items_from n is
 
--- local items stand for the items of some body
-abbrev pub AreItems : List LocalInitializer → Type 0
-AreItems ls = (bodies : List Translation) × (names : Names) × (is : Items) × ItemsStand bodies names ls is
+-- among these bodies, local items of the root stand for the items of some body
+abbrev pub AreItems : (bodies : List Translation) → List LocalInitializer → Type 0
+AreItems bodies ls = (is : Items) × ItemsStand bodies no_names ls is
 
 module _ (t : TypeTable) (ms : List ModuleRecord) where
   -- a pass over items ends at a moment, or with the error of an item
@@ -43,8 +43,8 @@ module _ (t : TypeTable) (ms : List ModuleRecord) where
   unfoldable pub Passes : (Items → Moment → Outcome Moment) → List LocalInitializer → (old : State) → Frame
       → (new : State) → Frame → Result ⊤ Error → Type 0
   Passes reads ls old f new f' r =
-      (bodies : List Translation) (names : Names) (is : Items) (now : Moment) → ItemsStand bodies names ls is
-      → PointStands t ms old f now → Ends new f' (reads is now) r
+      (is : Items) (now : Moment) → ItemsStand old.bodies.now no_names ls is → PointStands t ms old f now
+      → Ends new f' (reads is now) r
 
   -- a pass over items so far, from item n on: what is left goes on from where the code is
   pub record SoFar (reads : ℕ → Items → Moment → Outcome Moment) (ls : List LocalInitializer) (n : ℕ) (old : State)
@@ -52,8 +52,7 @@ module _ (t : TypeTable) (ms : List ModuleRecord) where
     pub point : IsPoint t ms new g
     pub place : g.component_instance ≡ f.component_instance
     pub keeps : Keeps (tables_of old) (tables_of new)
-    pub goes : (bodies : List Translation) (names : Names) (is : Items) (now : Moment) → ItemsStand bodies names ls is
-        → PointStands t ms old f now
+    pub goes : (is : Items) (now : Moment) → ItemsStand old.bodies.now no_names ls is → PointStands t ms old f now
         → (here : Moment) × PointStands t ms new g here × (reads 0 is now ≡ reads n (items_from n is) here)
 
   -- the imports of the root are prepared

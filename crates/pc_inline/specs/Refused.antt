@@ -1,5 +1,5 @@
 -- Errors that say no more than that there was no room.
-use Rattle.std.specs.Prelude.{◌≡◌, Result, Ok, Err}
+use Rattle.std.specs.Prelude.{◌≡◌}
 use Rattle.pc_inline.specs.declared.error.ItemError.{ItemError}
 use Rattle.pc_inline.specs.declared.error.ItemError.TheVariants as item_error
 use Rattle.pc_inline.specs.declared.error.ItemFault.{ItemFault}

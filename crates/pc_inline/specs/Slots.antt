@@ -1,5 +1,5 @@
 -- What the slots and options entries of a graph stand for, and which core items can be put there.
-use Rattle.std.specs.Prelude.{◌≡◌, ℕ, List, Bool, true, false, Option, None, Some, slice_get}
+use Rattle.std.specs.Prelude.{◌≡◌, ◌<◌, ℕ, length, List, Bool, true, false, Option, None, Some, slice_get}
 use Rattle.pc_numbers.specs.declared.entity_index.EntityIndex.TheVariants as entity
 use Rattle.pc_types.specs.declared.module_record.ModuleRecord.{ModuleRecord}
 use Rattle.pc_types.specs.declared.parsed.CoreKind.{CoreKind}
@@ -52,6 +52,7 @@ module _ (ms : List ModuleRecord) (b : Tables) where
   -- the same of options
   pub record OptionsThere (o : Options) : Type 0 where
     pub component_instance : HasBegun b.graph o.instance.0
+    pub signature : o.core_type.0 < length b.types.signatures
     pub callback : MaybeThere core.Func o.callback
     pub post_return : MaybeThere core.Func o.post_return
     pub model : ModelThere o.data_model

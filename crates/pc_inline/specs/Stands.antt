@@ -1,6 +1,6 @@
 -- What the numbers of the tables stand for: the values of the reading, with whole types.
-use Rattle.std.specs.Prelude.{◌≡◌, ◌<◌, ℕ, [], length, List, Option, None, Some, slice_get}
-use Rattle.std.specs.List.{AllZip}
+use Rattle.std.specs.Prelude.{◌≡◌, ◌<◌, ℕ, true, false, [], ◌∷◌, length, List, Option, None, Some, slice_get}
+use Rattle.pc_numbers.specs.declared.component_entity.StaticComponentIndex.{StaticComponentIndex}
 use Rattle.pc_numbers.specs.declared.component_entity.StaticModuleIndex.{StaticModuleIndex}
 use Rattle.pc_numbers.specs.declared.runtime.ImportIndex.{ImportIndex}
 use Rattle.pc_numbers.specs.declared.runtime.ResourceIndex.{ResourceIndex}
@@ -10,6 +10,7 @@ use Rattle.pc_types.specs.declared.parsed.CoreKind.{CoreKind}
 use Rattle.pc_types.specs.declared.parsed.CoreKind.TheVariants as core
 use Rattle.pc_types.specs.declared.type_index.TypeFuncIndex.{TypeFuncIndex}
 use Rattle.pc_types.specs.declared.types.TypeDef.TheVariants as type
+use Rattle.pc_types.specs.Names.{has_name}
 use Rattle.pc_types.specs.TypeTree.{Identity, TypeTree}
 use Rattle.pc_interned.specs.Types.{Types}
 use Rattle.pc_interned.specs.Trees.{HasTree}
@@ -19,14 +20,23 @@ use Rattle.pc_dfg.specs.declared.core_def.CoreDef.{CoreDef}
 use Rattle.pc_dfg.specs.declared.dfg.ComponentDfg.{ComponentDfg}
 use Rattle.pc_dfg.specs.Held.{HasBegun}
 use Rattle.pc_dfg.specs.Means.{Means}
+use Rattle.pc_parsed.specs.declared.payload.ExternName.{ExternName}
 use Rattle.pc_parsed.specs.Mark.{Mark, of_signature}
-use Rattle.pc_reading.specs.Value.{Value, func_value, module_value, host_function, lifted_function, static_module}
+use Rattle.pc_reading.specs.Item.{Items, Lent, a_component, a_module}
+use Rattle.pc_reading.specs.Value.{Chain, NamedValues, Value, and_value, closed, component_value, func_value}
+use Rattle.pc_reading.specs.Value.{host_function, instance_value, lent_in, lifted_function, made_instance, module_value}
+use Rattle.pc_reading.specs.Value.{no_values, static_module}
+use Rattle.pc_local.specs.declared.item.Translation.{Translation}
+use Rattle.pc_local.specs.Standing.{BodyStands, Names, OnlyLeaving}
+use Rattle.pc_inline.specs.declared.closure.Closure.{Closure}
+use Rattle.pc_inline.specs.declared.definition.ClosureId.{ClosureId}
 use Rattle.pc_inline.specs.declared.definition.CoreId.{CoreId}
 use Rattle.pc_inline.specs.declared.definition.DataModel.{DataModel}
 use Rattle.pc_inline.specs.declared.definition.DataModel.TheVariants as model
 use Rattle.pc_inline.specs.declared.definition.Definition.{Definition}
 use Rattle.pc_inline.specs.declared.definition.Definition.TheVariants as definition
 use Rattle.pc_inline.specs.declared.definition.DefinitionId.{DefinitionId}
+use Rattle.pc_inline.specs.declared.definition.ExportsId.{ExportsId}
 use Rattle.pc_inline.specs.declared.definition.Options.{Options}
 use Rattle.pc_inline.specs.Tables.{IsItem, Tables}
 use Rattle.pc_inline.specs.Typed.{Numbered, number_of, whole_of}
@@ -86,3 +96,30 @@ module _ (ms : List ModuleRecord) (b : Tables) where
           → DefinitionStands (definition.LiftedFunc ty func o) (func_value (lifted_function tree v os))
       stands_static : {m : StaticModuleIndex} {ty : ℕ} {tree : TypeTree}
           → DefinitionStands (definition.StaticModule m ty) (module_value (static_module m.0 tree))
+      stands_component : {s : StaticComponentIndex} {k : ClosureId} {tr : Translation} {inner : Names} {body : Items}
+          {closure : Closure} {chain : Chain} → slice_get b.bodies s.0 ≡ Some tr → BodyStands b.bodies inner tr body
+          → OnlyLeaving inner body → slice_get b.closures k.0 ≡ Some closure
+          → Captured a_module closure.modules inner.modules chain
+          → Captured a_component closure.components inner.components chain
+          → DefinitionStands (definition.Component s k) (component_value (closed body chain))
+      stands_instance : {n : ExportsId} {es : List (List ℕ × DefinitionId)} {vs : NamedValues} {tree : TypeTree}
+          → slice_get b.instances n.0 ≡ Some es → MembersStand [] es vs
+          → DefinitionStands (definition.Instance n) (instance_value (made_instance vs tree))
+
+    -- captured variables, by the counts and indices that name them in a chain
+    pub data Captured : Lent → List DefinitionId → List (ℕ × ℕ) → Chain → Type 0 where
+      captures_none : {k : Lent} {chain : Chain} → Captured k [] [] chain
+      captures_more : {k : Lent} {id : DefinitionId} {ids : List DefinitionId} {c n : ℕ} {names : List (ℕ × ℕ)}
+          {chain : Chain} {v : Value} → lent_in chain k c n ≡ Some v → Stands id v → Captured k ids names chain
+          → Captured k (id ∷ ids) ((c, n) ∷ names) chain
+
+    -- what an instance exports, where these names stood before: of a name that stands twice the first counts
+    pub data MembersStand : (seen : List (List ℕ)) → List (List ℕ × DefinitionId) → NamedValues → Type 0 where
+      no_members : {seen : List (List ℕ)} → MembersStand seen [] no_values
+      new_member : {seen : List (List ℕ)} {name : ExternName} {id : DefinitionId} {v : Value}
+          {es : List (List ℕ × DefinitionId)} {vs : NamedValues} → has_name seen name.name ≡ false → Stands id v
+          → MembersStand (name.name ∷ seen) es vs
+          → MembersStand seen ((name.name, id) ∷ es) (and_value name v vs)
+      old_member : {seen : List (List ℕ)} {name : ExternName} {v : Value} {es : List (List ℕ × DefinitionId)}
+          {vs : NamedValues} → has_name seen name.name ≡ true → MembersStand seen es vs
+          → MembersStand seen es (and_value name v vs)

@@ -1,4 +1,4 @@
--- What numbers are looked up in: the types builder, the graph, and the two tables.
+-- What numbers are looked up in: the types builder, the graph, and the tables of what items are.
 use Rattle.std.specs.Prelude.{◌≡◌, ◌<◌, ℕ, true, List, length, Some, slice_get}
 use Rattle.pc_entity.specs.Lists.{Kept}
 use Rattle.pc_intern.specs.declared.ids.InstanceId.{InstanceId}
@@ -17,20 +17,34 @@ use Rattle.pc_dfg.specs.declared.core_def.CoreDef.TheVariants as def
 use Rattle.pc_dfg.specs.declared.dfg.ComponentDfg.{ComponentDfg}
 use Rattle.pc_dfg.specs.declared.instance.Instance.TheVariants as source
 use Rattle.pc_dfg.specs.Grows as graph
+use Rattle.pc_local.specs.declared.item.Translation.{Translation}
+use Rattle.pc_inline.specs.declared.closure.Closure.{Closure}
 use Rattle.pc_inline.specs.declared.definition.Definition.{Definition}
+use Rattle.pc_inline.specs.declared.definition.DefinitionId.{DefinitionId}
 use Rattle.pc_inline.specs.declared.state.State.{State}
 
--- the types builder, the graph so far, and the tables of core items and of definitions
+-- the types builder, the graph so far, and the tables: core items, definitions, what components captured, what
+-- instances export, and the bodies of the program
 pub record Tables : Type 0 where
   pub types : Types
   pub graph : ComponentDfg
   pub cores : List CoreDef
   pub definitions : List Definition
+  pub closures : List Closure
+  pub instances : List (List (List ℕ × DefinitionId))
+  pub bodies : List Translation
 
 -- those of a state
 abbrev pub tables_of : State → Tables
-tables_of st =
-    record { types = st.types; graph = st.graph; cores = st.cores; definitions = st.definitions }
+tables_of st = record {
+  types = st.types;
+  graph = st.graph;
+  cores = st.cores;
+  definitions = st.definitions;
+  closures = st.closures;
+  instances = st.instances;
+  bodies = st.bodies.now;
+}
 
 -- each number still names what it named
 pub record Keeps (old new : Tables) : Type 0 where
@@ -38,6 +52,9 @@ pub record Keeps (old new : Tables) : Type 0 where
   pub graph : graph.Grows old.graph new.graph
   pub cores : Kept old.cores new.cores
   pub definitions : Kept old.definitions new.definitions
+  pub closures : Kept old.closures new.closures
+  pub instances : Kept old.instances new.instances
+  pub bodies : new.bodies ≡ old.bodies
 
 -- Where the core modules that were handed in have these records.
 module _ (ms : List ModuleRecord) where

@@ -1,6 +1,7 @@
 -- The reading as far as it is built: an item of a kind that isn't built yet is refused where it is read. So is the first
 -- item that makes an adapter. Else it is the nested reading.
-use Rattle.std.specs.Prelude.{ℕ, zero, suc, ◌+◌, Bool, true, false, List, [], ◌∷◌, Option, None, Some, Result, Ok, Err, if◌then◌else◌}
+use Rattle.std.specs.Prelude.{ℕ, zero, suc, ◌+◌, Bool, true, false, List, [], ◌∷◌, Option, None, Some, Result, Ok, Err}
+use Rattle.std.specs.Prelude.{if◌then◌else◌}
 use Rattle.std.specs.List.{list_any}
 use Rattle.pc_types.specs.declared.error.Place.TheVariants as place
 use Rattle.pc_types.specs.declared.error.Unsupported.TheVariants.{NotBuilt}
@@ -15,11 +16,14 @@ use Rattle.pc_parsed.specs.declared.payload.ItemKind.{ItemKind}
 use Rattle.pc_parsed.specs.declared.payload.ItemKind.TheVariants as kind
 use Rattle.pc_parsed.specs.Mark.{Mark}
 use Rattle.pc_reading.specs.Imports.{prepare}
-use Rattle.pc_reading.specs.Item.{ExportOf, Item, Items, no_items, and_item, import_item, lift_item, lower_item, module_item, instantiate_module_item, core_exports_item, core_alias_item, instantiate_component_item, export_item, exports_in}
+use Rattle.pc_reading.specs.Item.{ExportOf, Item, Items, no_items, and_item, import_item, lift_item, lower_item}
+use Rattle.pc_reading.specs.Item.{component_item, module_item, instantiate_module_item, core_exports_item}
+use Rattle.pc_reading.specs.Item.{core_alias_item}
+use Rattle.pc_reading.specs.Item.{instantiate_component_item, export_item, exports_in}
 use Rattle.pc_reading.specs.Items.{exported_value}
 use Rattle.pc_reading.specs.Nodes.{Finish, at_export, in_front, named_node, value_node}
 use Rattle.pc_reading.specs.Outcome.{Fault, Outcome, done, fault, over, unsupported, after, and_then, at_item}
-use Rattle.pc_reading.specs.Reading.{Enter, Reading, Return, beginning, begun_in, enter_at, instantiate, result_of, returning}
+use Rattle.pc_reading.specs.Reading.{Enter, Reading, Return, beginning, begun_in, instantiate, result_of, returning}
 use Rattle.pc_reading.specs.Rows.{read_row}
 use Rattle.pc_reading.specs.Scope.{Moment, Scope}
 use Rattle.pc_reading.specs.Total.{body_weight, prepared_weight}
@@ -44,6 +48,7 @@ is_built (lower_item func ty signature opts) = true
 is_built (module_item number ty) = true
 is_built (instantiate_module_item n args) = true
 is_built (core_exports_item items) = true
+is_built (component_item body) = true
 is_built (core_alias_item k n name) = true
 is_built (export_item e) = is_built_kind e.kind
 is_built _ = false

@@ -1,12 +1,13 @@
 -- The options of an item as they are written, in one pass, and what they pick among the core items.
-use Rattle.std.specs.Prelude.{◌≡◌, ℕ, Bool, List, Option, None, Some, slice_get, option_and_then, unwrap_or, if◌then◌else◌, nat_lt, length, true}
+use Rattle.std.specs.Prelude.{ℕ, Bool, List, Option, None, Some, slice_get, option_and_then, unwrap_or, if◌then◌else◌}
+use Rattle.std.specs.Prelude.{nat_lt, length, true}
 use Rattle.std.specs.List.{list_all, list_any}
 use Rattle.pc_numbers.specs.declared.module_entity.ModuleInternedTypeIndex.{ModuleInternedTypeIndex}
-use Rattle.pc_types.specs.declared.encoding.StringEncoding.{StringEncoding}
 use Rattle.pc_types.specs.declared.encoding.StringEncoding.TheVariants.{Utf8}
 use Rattle.pc_parsed.specs.declared.canon.CanonOption.{CanonOption}
 use Rattle.pc_parsed.specs.declared.canon.CanonOption.TheVariants as option
-use Rattle.pc_reading.specs.Options.{callback_in, encoding_in, is_async, is_gc, last_of, memory_in, post_return_in, realloc_in}
+use Rattle.pc_reading.specs.Options.{callback_in, encoding_in, is_async, is_gc, last_of, memory_in, post_return_in}
+use Rattle.pc_reading.specs.Options.{realloc_in}
 use Rattle.pc_inline.specs.declared.definition.CoreId.{CoreId}
 use Rattle.pc_inline.specs.declared.definition.DataModel.{DataModel}
 use Rattle.pc_inline.specs.declared.definition.DataModel.TheVariants as model

@@ -6,6 +6,7 @@ ghost use Rattle.pc_semantics.specs.CoreValue.{CoreValue};
 ghost use Rattle.pc_parsed.specs.Mark.{Mark};
 ghost use Rattle.pc_dfg.specs.declared.core_def.CoreDef.TheVariants as def;
 ghost use Rattle.pc_info.specs.declared.core_def.ExportItem.TheVariants as item;
+ghost use Rattle.pc_inline.specs.AddsEach.{AddsEach, nowhere};
 ghost use Rattle.pc_inline.specs.Bags.{bag_item, export_item};
 ghost use Rattle.pc_inline.specs.Found.{ArgumentStands, FoundThere, ItemFound};
 ghost use Rattle.pc_inline.specs.Prepares.{Prepares};
@@ -54,7 +55,12 @@ fn bag_item(items: &TextMap<(CoreKind, CoreId)>, kind: CoreKind, name: &str) -> 
 
 impl<'a> Context<'a> {
     /// What a core instance has under a name, if it is of a kind.
-    pub fn export(&self, instance: &CoreInstance, kind: CoreKind, name: &str) -> Option<CoreItem>
+    pub(crate) fn export(
+        &self,
+        instance: &CoreInstance,
+        kind: CoreKind,
+        name: &str,
+    ) -> Option<CoreItem>
         ensures { result ≡ export_item self.now.modules kind name.now instance.now }
     {
         match instance {
@@ -74,7 +80,7 @@ impl<'a> Context<'a> {
     }
 
     /// The definition of what was found.
-    pub fn found_def(&self, state: &State, item: CoreItem) -> Result<CoreDef, NoMemory>
+    pub(crate) fn found_def(&self, state: &State<'_>, item: CoreItem) -> Result<CoreDef, NoMemory>
         requires there { FoundThere self.now.modules (tables_of state.now) item }
         ensures { IfOk result (λ d. (k : CoreKind) (v : CoreValue Mark)
             → ItemFound self.now.modules (tables_of state.now) k item v
@@ -87,8 +93,13 @@ impl<'a> Context<'a> {
     }
 
     /// The number of what was found in the table of core items.
-    pub fn found_id(&self, state: &mut State, item: CoreItem) -> Result<CoreId, ItemError>
+    pub(crate) fn found_id(
+        &self,
+        state: &mut State<'_>,
+        item: CoreItem,
+    ) -> Result<CoreId, ItemError>
         ensures prepares { Prepares self.now.table.now self.now.modules state.old state.new }
+        ensures adds { AddsEach nowhere 1 0 (tables_of state.old) (tables_of state.new) }
         ensures id { IfOk result (λ id. (k : CoreKind) (v : CoreValue Mark)
             → ItemFound self.now.modules (tables_of state.old) k item v
             → ItemStands self.now.modules (tables_of state.new) k id v) }

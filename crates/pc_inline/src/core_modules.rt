@@ -39,7 +39,10 @@ impl<'a> Model for CoreModules<'a> {
 }
 
 impl<'a> CoreModules<'a> {
-    pub fn new(alloc: Global, records: &'a [ModuleRecord]) -> Result<CoreModules<'a>, NoMemory>
+    pub(crate) fn new(
+        alloc: Global,
+        records: &'a [ModuleRecord],
+    ) -> Result<CoreModules<'a>, NoMemory>
         ensures { IfOk result (λ modules. modules ≡ records.now) }
     {
         let mut exports = Vec::with_capacity(alloc, records.len())?;
@@ -50,14 +53,14 @@ impl<'a> CoreModules<'a> {
     }
 
     /// The record of a module.
-    pub fn record_(&self, core_module: StaticModuleIndex) -> Option<&ModuleRecord>
+    pub(crate) fn record_(&self, core_module: StaticModuleIndex) -> Option<&ModuleRecord>
         ensures { option_copied result ≡ slice_get self.now core_module.0 }
     {
         self.records.get(core_module.0 as usize)
     }
 
     /// The entity that a module exports under a name.
-    pub fn export(&self, core_module: StaticModuleIndex, name: &str) -> Option<EntityIndex>
+    pub(crate) fn export(&self, core_module: StaticModuleIndex, name: &str) -> Option<EntityIndex>
         ensures { result ≡ option_and_then (λ r. export_of r name.now) (slice_get self.now core_module.0) }
     {
         match map_at(self.exports.as_slice(), core_module) {

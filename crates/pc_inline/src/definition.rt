@@ -1,4 +1,4 @@
-//! What the items of a component are, in two tables that only grow. An entry names earlier entries alone, by number.
+//! What the items of a component are, in tables that only grow. An entry names earlier entries alone, by number.
 
 ghost use Rattle.std.specs.Prelude.{◌≡◌};
 ghost use Rattle.std.proofs.Common.{refl, rules};
@@ -6,7 +6,7 @@ ghost use Rattle.pc_inline.specs.Definitions.{is_func};
 
 use pc_entity::{
     EntityRef, ImportIndex, ModuleInternedTypeIndex, RuntimeComponentInstanceIndex,
-    StaticModuleIndex,
+    StaticComponentIndex, StaticModuleIndex,
 };
 use pc_types::{StringEncoding, TypeFuncIndex};
 
@@ -58,6 +58,54 @@ impl EntityRef for DefinitionId {
     }
 }
 
+/// The number of what a component captured in the table of closures.
+#[derive(Clone, Copy, PartialEq, Eq, PartialOrd, Ord, Hash)]
+pub struct ClosureId(pub u32);
+
+impl EntityRef for ClosureId {
+    ghost number = { λ k. k.0 };
+
+    ghost of_number = { λ n. record { 0 = n } };
+
+    ghost number_of_number = { λ _. refl };
+
+    ghost of_number_number = { λ _. refl };
+
+    ghost exact = { Prim.search rules };
+
+    fn from_u32(n: u32) -> ClosureId {
+        ClosureId(n)
+    }
+
+    fn as_u32(self) -> u32 {
+        self.0
+    }
+}
+
+/// The number of what an instance exports in the table of instances.
+#[derive(Clone, Copy, PartialEq, Eq, PartialOrd, Ord, Hash)]
+pub struct ExportsId(pub u32);
+
+impl EntityRef for ExportsId {
+    ghost number = { λ k. k.0 };
+
+    ghost of_number = { λ n. record { 0 = n } };
+
+    ghost number_of_number = { λ _. refl };
+
+    ghost of_number_number = { λ _. refl };
+
+    ghost exact = { Prim.search rules };
+
+    fn from_u32(n: u32) -> ExportsId {
+        ExportsId(n)
+    }
+
+    fn as_u32(self) -> u32 {
+        self.0
+    }
+}
+
 /// An item of a component that isn't a core item.
 #[derive(Clone, Copy)]
 pub enum Definition {
@@ -74,16 +122,25 @@ pub enum Definition {
         index: StaticModuleIndex,
         ty: u32,
     },
+    /// A nested component, with what it captured where it was defined.
+    Component {
+        index: StaticComponentIndex,
+        closure: ClosureId,
+    },
+    /// A component instance, by what it exports.
+    Instance(ExportsId),
 }
 
 impl Definition {
     /// Whether it is a function.
-    pub fn is_func(&self) -> bool
+    pub(crate) fn is_func(&self) -> bool
         ensures { result ≡ is_func self.now }
     {
         match self {
             Definition::HostFunc(_) | Definition::LiftedFunc { .. } => true,
-            Definition::StaticModule { .. } => false,
+            Definition::StaticModule { .. }
+            | Definition::Component { .. }
+            | Definition::Instance(_) => false,
         }
     }
 }

@@ -65,7 +65,7 @@ impl From<TypeError> for ItemError {
 }
 
 /// The error of an item that wasn't read, or of an export that is refused.
-pub fn error_at(error: ItemError, place: Place) -> Error
+pub(crate) fn error_at(error: ItemError, place: Place) -> Error
     ensures { result ≡ error_of error place }
 {
     match error {

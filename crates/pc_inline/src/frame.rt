@@ -1,12 +1,13 @@
 //! A component instance while its items are read.
 
 ghost use Rattle.std.specs.Prelude.{◌≡◌, [], OnOk, OnErr};
+ghost use Rattle.pc_types.specs.declared.error.Place.TheVariants as place;
 ghost use Rattle.pc_inline.specs.Lists.{core_ids, with_core_id};
 
 use crate::definition::{CoreId, DefinitionId};
 use pc_entity::{NoMemory, RuntimeComponentInstanceIndex, Seq, StaticModuleIndex, TextMap};
 use pc_intern::InstanceId;
-use pc_types::CoreKind;
+use pc_types::{CoreKind, Place};
 use std::alloc::Global;
 
 /// A core instance, as its component instance knows it.
@@ -30,6 +31,8 @@ pub struct Frame {
     pub tags: Seq<CoreId>,
     pub modules: Seq<DefinitionId>,
     pub funcs: Seq<DefinitionId>,
+    pub components: Seq<DefinitionId>,
+    pub instances: Seq<DefinitionId>,
     pub core_instances: Seq<CoreInstance>,
     pub arguments: TextMap<DefinitionId>,
     pub component_instance: RuntimeComponentInstanceIndex,
@@ -37,7 +40,7 @@ pub struct Frame {
 
 impl Frame {
     /// A component instance in which nothing was read yet.
-    pub fn new(alloc: Global, component_instance: RuntimeComponentInstanceIndex) -> Frame
+    pub(crate) fn new(alloc: Global, component_instance: RuntimeComponentInstanceIndex) -> Frame
         ensures { result ≡ record {
           core_funcs = [];
           memories = [];
@@ -46,6 +49,8 @@ impl Frame {
           tags = [];
           modules = [];
           funcs = [];
+          components = [];
+          instances = [];
           core_instances = [];
           arguments = [];
           component_instance = component_instance;
@@ -59,14 +64,26 @@ impl Frame {
             tags: Seq::new(alloc),
             modules: Seq::new(alloc),
             funcs: Seq::new(alloc),
+            components: Seq::new(alloc),
+            instances: Seq::new(alloc),
             core_instances: Seq::new(alloc),
             arguments: TextMap::new(alloc),
             component_instance,
         }
     }
 
+    /// The place of an item of the component instance.
+    pub(crate) fn place_of(&self, item: usize) -> Place
+        ensures { result ≡ place.Reading self.now.component_instance.0 item }
+    {
+        Place::Reading {
+            instance: self.component_instance.0,
+            item: item as u64,
+        }
+    }
+
     /// The core items of a kind.
-    pub fn core_ids(&self, kind: CoreKind) -> &[CoreId]
+    pub(crate) fn core_ids(&self, kind: CoreKind) -> &[CoreId]
         ensures { result.now ≡ core_ids self.now kind }
     {
         match kind {
@@ -79,7 +96,7 @@ impl Frame {
     }
 
     /// Adds a core item of a kind.
-    pub fn push_core(&mut self, kind: CoreKind, id: CoreId) -> Result<(), NoMemory>
+    pub(crate) fn push_core(&mut self, kind: CoreKind, id: CoreId) -> Result<(), NoMemory>
         ensures ok { OnOk result (self.new ≡ with_core_id self.old kind id) }
         ensures err { OnErr result (self.new ≡ self.old) }
     {
@@ -104,12 +121,15 @@ impl Drop for Frame {
             tags,
             modules,
             funcs,
+            components,
+            instances,
             core_instances,
             arguments,
             component_instance: _,
         } = self;
         drop_core_items(core_funcs, memories, tables, globals, tags);
-        drop_items(modules, funcs, core_instances, arguments);
+        drop_items(modules, funcs, components, instances);
+        drop_named(core_instances, arguments);
     }
 }
 
@@ -124,6 +144,8 @@ fn drop_core_items(
 fn drop_items(
     _modules: Seq<DefinitionId>,
     _funcs: Seq<DefinitionId>,
-    _core_instances: Seq<CoreInstance>,
-    _arguments: TextMap<DefinitionId>,
+    _components: Seq<DefinitionId>,
+    _instances: Seq<DefinitionId>,
 ) {}
+
+fn drop_named(_core_instances: Seq<CoreInstance>, _arguments: TextMap<DefinitionId>) {}

@@ -2,6 +2,7 @@
 
 ghost use Rattle.std.specs.Prelude.{◌≡◌};
 ghost use Rattle.pc_reading.specs.Item.{lift_item, lower_item};
+ghost use Rattle.pc_inline.specs.Adds.{Adds};
 ghost use Rattle.pc_inline.specs.Points.{IsInput, IsPoint, StepsItem};
 ghost use Rattle.pc_inline.specs.Tables.{Keeps, tables_of};
 
@@ -17,9 +18,9 @@ use pc_types::Unsupported;
 
 impl<'a> Context<'a> {
     /// A core function, lifted.
-    pub fn step_lift(
+    pub(crate) fn step_lift(
         &self,
-        state: &mut State,
+        state: &mut State<'_>,
         frame: &mut Frame,
         func: u32,
         ty: u32,
@@ -29,6 +30,7 @@ impl<'a> Context<'a> {
         requires input { IsInput self.now.table.now self.now.modules }
         requires here { IsPoint self.now.table.now self.now.modules state.old frame.old }
         ensures keeps { Keeps (tables_of state.old) (tables_of state.new) }
+        ensures adds { Adds self.now.table.now 1 4 (tables_of state.old) (tables_of state.new) }
         ensures same { frame.new.component_instance ≡ frame.old.component_instance }
         ensures steps { StepsItem self.now.table.now self.now.modules (lift_item func ty core opts.now)
             state.old frame.old state.new frame.new result }
@@ -46,9 +48,9 @@ impl<'a> Context<'a> {
     }
 
     /// A function, lowered. That of a lifted function isn't built yet.
-    pub fn step_lower(
+    pub(crate) fn step_lower(
         &self,
-        state: &mut State,
+        state: &mut State<'_>,
         frame: &mut Frame,
         func: u32,
         ty: u32,
@@ -58,6 +60,7 @@ impl<'a> Context<'a> {
         requires input { IsInput self.now.table.now self.now.modules }
         requires here { IsPoint self.now.table.now self.now.modules state.old frame.old }
         ensures keeps { Keeps (tables_of state.old) (tables_of state.new) }
+        ensures adds { Adds self.now.table.now 1 4 (tables_of state.old) (tables_of state.new) }
         ensures same { frame.new.component_instance ≡ frame.old.component_instance }
         ensures steps { StepsItem self.now.table.now self.now.modules (lower_item func ty core opts.now)
             state.old frame.old state.new frame.new result }

@@ -2,10 +2,9 @@
 
 ghost use Rattle.std.specs.Prelude.{◌≡◌, IfOk, OnErr, OnOk};
 ghost use Rattle.pc_entity.specs.FirstValues.{with_first};
-ghost use Rattle.pc_types.specs.declared.parsed.Entity.TheVariants as entity;
 ghost use Rattle.pc_reading.specs.Item.{import_item};
 ghost use Rattle.pc_reading.specs.Nodes.{extern_data};
-ghost use Rattle.pc_reading.specs.Types.{names_entry};
+ghost use Rattle.pc_inline.specs.Adds.{Adds};
 ghost use Rattle.pc_inline.specs.Points.{IsInput, IsPoint, Steps, StepsItem};
 ghost use Rattle.pc_inline.specs.Tables.{Keeps, tables_of};
 ghost use Rattle.pc_inline.specs.Today.{built_prepare};
@@ -15,23 +14,14 @@ use crate::definition::{Definition, DefinitionId};
 use crate::error::{ItemError, ItemFault};
 use crate::frame::Frame;
 use crate::state::State;
+use crate::types::is_func_type;
 use pc_entity::{NoMemory, TryClone};
 use pc_parsed::ExternName;
-use pc_types::{ComponentExtern, ComponentExternData, Entity, TypeDef, TypeTable, Unsupported};
+use pc_types::{ComponentExtern, ComponentExternData, Entity, TypeDef, Unsupported};
 use std::alloc::Global;
 
-/// Whether a function import names a function type.
-fn is_func_type(table: &TypeTable, ty: u32) -> bool
-    ensures { result ≡ names_entry table.now (entity.Func ty) }
-{
-    match table.entry(ty) {
-        Some(entry) => entry.is_func(),
-        None => false,
-    }
-}
-
 /// What a name says of itself.
-pub fn extern_data(alloc: Global, name: &ExternName) -> Result<ComponentExternData, NoMemory>
+pub(crate) fn extern_data(alloc: Global, name: &ExternName) -> Result<ComponentExternData, NoMemory>
     ensures { IfOk result (λ data_. data_ ≡ extern_data name.now) }
 {
     let implements = name.implements.try_clone(alloc)?;
@@ -63,9 +53,9 @@ impl Frame {
 
 impl<'a> Context<'a> {
     /// An import of the root is prepared: it is the next in the order of the imports, and an argument of the root.
-    pub fn prepare(
+    pub(crate) fn prepare(
         &self,
-        state: &mut State,
+        state: &mut State<'_>,
         frame: &mut Frame,
         name: &ExternName,
         entity: Entity,
@@ -73,6 +63,7 @@ impl<'a> Context<'a> {
         requires input { IsInput self.now.table.now self.now.modules }
         requires here { IsPoint self.now.table.now self.now.modules state.old frame.old }
         ensures keeps { Keeps (tables_of state.old) (tables_of state.new) }
+        ensures adds { Adds self.now.table.now 1 4 (tables_of state.old) (tables_of state.new) }
         ensures same { frame.new.component_instance ≡ frame.old.component_instance }
         ensures steps { Steps self.now.table.now self.now.modules
             (built_prepare self.now.table.now self.now.modules name.now entity)
@@ -96,9 +87,9 @@ impl<'a> Context<'a> {
     }
 
     /// An import takes its argument.
-    pub fn step_import(
+    pub(crate) fn step_import(
         &self,
-        state: &State,
+        state: &State<'_>,
         frame: &mut Frame,
         name: &ExternName,
         entity: Entity,

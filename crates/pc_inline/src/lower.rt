@@ -1,6 +1,8 @@
 //! Host functions, lowered.
 
 ghost use Rattle.std.specs.Prelude.{◌≡◌, ◌<◌, length, IfErr, IfOk};
+ghost use Rattle.pc_inline.specs.Adds.{Adds};
+ghost use Rattle.pc_inline.specs.AddsEach.{AddsEach, in_imports};
 ghost use Rattle.pc_inline.specs.Hosts.{Lowers, Uses};
 ghost use Rattle.pc_inline.specs.Points.{IsSoundState};
 ghost use Rattle.pc_inline.specs.Refused.{LacksRoom};
@@ -17,14 +19,15 @@ use pc_types::TypeFuncIndex;
 
 impl<'a> Context<'a> {
     /// The number of an import among the host items that are used. It gets one the first time.
-    pub fn use_import(
+    pub(crate) fn use_import(
         &self,
-        state: &mut State,
+        state: &mut State<'_>,
         import: ImportIndex,
     ) -> Result<RuntimeImportIndex, ItemError>
         requires sound { IsSoundState self.now.table.now self.now.modules state.old }
         requires there { import.0 < length state.old.graph.import_types }
         ensures keeps { Keeps (tables_of state.old) (tables_of state.new) }
+        ensures adds { AddsEach in_imports 0 0 (tables_of state.old) (tables_of state.new) }
         ensures uses { IfOk result (Uses self.now.table.now self.now.modules state.old state.new import) }
         ensures err { IfErr result (LacksRoom state.new) }
     {
@@ -37,9 +40,9 @@ impl<'a> Context<'a> {
     }
 
     /// The core function that a host function is lowered to.
-    pub fn lower_host(
+    pub(crate) fn lower_host(
         &self,
-        state: &mut State,
+        state: &mut State<'_>,
         import: ImportIndex,
         ty: TypeFuncIndex,
         options: Options,
@@ -48,6 +51,7 @@ impl<'a> Context<'a> {
         requires there { import.0 < length state.old.graph.import_types }
         requires options { OptionsThere self.now.modules (tables_of state.old) options }
         ensures keeps { Keeps (tables_of state.old) (tables_of state.new) }
+        ensures adds { Adds self.now.table.now 0 4 (tables_of state.old) (tables_of state.new) }
         ensures lowers { IfOk result
             (Lowers self.now.table.now self.now.modules state.old state.new import ty options) }
         ensures err { IfErr result (LacksRoom state.new) }

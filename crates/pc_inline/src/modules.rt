@@ -10,6 +10,7 @@ ghost use Rattle.pc_reading.specs.Item.{core_alias_item, core_exports_item, inst
 ghost use Rattle.pc_reading.specs.Modules.{bag_entry};
 ghost use Rattle.pc_reading.specs.Scope.{Scope};
 ghost use Rattle.pc_reading.specs.Types.{has_entry};
+ghost use Rattle.pc_inline.specs.Adds.{Adds};
 ghost use Rattle.pc_inline.specs.Bags.{argument_item};
 ghost use Rattle.pc_inline.specs.Found.{ArgumentsStand, SameValues, knows_instances};
 ghost use Rattle.pc_inline.specs.Frames.{BagItemStands, Both, FrameStands, SameNames};
@@ -71,7 +72,7 @@ fn bag_of(
 
 impl Frame {
     /// A core instance from items of the component instance.
-    pub fn step_core_exports(
+    pub(crate) fn step_core_exports(
         &mut self,
         alloc: Global,
         items: &[(Text, EntityIndex)],
@@ -89,9 +90,9 @@ impl Frame {
 
 impl<'a> Context<'a> {
     /// A core module that was handed in.
-    pub fn step_module(
+    pub(crate) fn step_module(
         &self,
-        state: &mut State,
+        state: &mut State<'_>,
         frame: &mut Frame,
         index: StaticModuleIndex,
         ty: u32,
@@ -99,6 +100,7 @@ impl<'a> Context<'a> {
         requires input { IsInput self.now.table.now self.now.modules }
         requires here { IsPoint self.now.table.now self.now.modules state.old frame.old }
         ensures keeps { Keeps (tables_of state.old) (tables_of state.new) }
+        ensures adds { Adds self.now.table.now 0 4 (tables_of state.old) (tables_of state.new) }
         ensures same { frame.new.component_instance ≡ frame.old.component_instance }
         ensures steps { StepsItem self.now.table.now self.now.modules (module_item index.0 ty)
             state.old frame.old state.new frame.new result }
@@ -128,7 +130,7 @@ impl<'a> Context<'a> {
     /// The definitions that are given for all imports in order, or nothing where one has none.
     fn arguments(
         &self,
-        state: &State,
+        state: &State<'_>,
         frame: &Frame,
         args: &TextMap<u32>,
         imports: &[(Text, Text, CoreEntity)],
@@ -153,7 +155,7 @@ impl<'a> Context<'a> {
     /// The definitions that a module is given, or nothing where it, an argument or what it imports is missing.
     fn module_arguments(
         &self,
-        state: &State,
+        state: &State<'_>,
         frame: &Frame,
         core_module: StaticModuleIndex,
         args: &[(Text, u32)],
@@ -176,9 +178,9 @@ impl<'a> Context<'a> {
     }
 
     /// A core instance of a module of the component instance, which is a side effect.
-    pub fn step_core_instance(
+    pub(crate) fn step_core_instance(
         &self,
-        state: &mut State,
+        state: &mut State<'_>,
         frame: &mut Frame,
         core_module: u32,
         args: &[(Text, u32)],
@@ -186,6 +188,7 @@ impl<'a> Context<'a> {
         requires input { IsInput self.now.table.now self.now.modules }
         requires here { IsPoint self.now.table.now self.now.modules state.old frame.old }
         ensures keeps { Keeps (tables_of state.old) (tables_of state.new) }
+        ensures adds { Adds self.now.table.now 0 4 (tables_of state.old) (tables_of state.new) }
         ensures same { frame.new.component_instance ≡ frame.old.component_instance }
         ensures steps { StepsItem self.now.table.now self.now.modules (instantiate_module_item core_module args.now)
             state.old frame.old state.new frame.new result }
@@ -209,9 +212,9 @@ impl<'a> Context<'a> {
     }
 
     /// An item of a core instance.
-    pub fn step_core_alias(
+    pub(crate) fn step_core_alias(
         &self,
-        state: &mut State,
+        state: &mut State<'_>,
         frame: &mut Frame,
         kind: CoreKind,
         instance: u32,
@@ -220,6 +223,7 @@ impl<'a> Context<'a> {
         requires input { IsInput self.now.table.now self.now.modules }
         requires here { IsPoint self.now.table.now self.now.modules state.old frame.old }
         ensures keeps { Keeps (tables_of state.old) (tables_of state.new) }
+        ensures adds { Adds self.now.table.now 0 4 (tables_of state.old) (tables_of state.new) }
         ensures same { frame.new.component_instance ≡ frame.old.component_instance }
         ensures steps { StepsItem self.now.table.now self.now.modules (core_alias_item kind instance name.now)
             state.old frame.old state.new frame.new result }

@@ -19,7 +19,7 @@ pub struct Numbers {
 
 impl Numbers {
     /// None was asked for yet.
-    pub fn new(alloc: Global, table: &TypeTable) -> Result<Numbers, NoMemory>
+    pub(crate) fn new(alloc: Global, table: &TypeTable) -> Result<Numbers, NoMemory>
         ensures { IfOk result (λ numbers. (types : Types) → AreNumbers types table.now numbers) }
     {
         let converted = Converted::new(alloc, table)?;

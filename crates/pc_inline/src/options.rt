@@ -4,7 +4,8 @@ ghost use Rattle.std.specs.Prelude.{◌≡◌, ◌||◌, ℕ, List};
 ghost use Rattle.std.specs.List.{list_all};
 ghost use Rattle.std.specs.Option.{option_or};
 ghost use Rattle.pc_inline.specs.Written.{is_sound_in, options_in, picked, picked_model, picked_options, written};
-ghost use Rattle.pc_reading.specs.Options.{callback_in, encoding_in, is_async, is_gc, memory_in, post_return_in, realloc_in};
+ghost use Rattle.pc_reading.specs.Options.{callback_in, encoding_in, is_async, is_gc, memory_in, post_return_in};
+ghost use Rattle.pc_reading.specs.Options.{realloc_in};
 
 use crate::definition::{CoreId, DataModel, Options};
 use crate::frame::Frame;
@@ -116,7 +117,7 @@ fn picked_model(frame: &Frame, written: Written) -> DataModel
 
 /// The options of an item under a core signature, or nothing where an index is unsound.
 #[tactic(auto, unfolding(crate::specs::Written::options_in))]
-pub fn options_in(
+pub(crate) fn options_in(
     frame: &Frame,
     core_type: ModuleInternedTypeIndex,
     opts: &[CanonOption],

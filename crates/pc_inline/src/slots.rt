@@ -9,9 +9,12 @@ ghost use Rattle.pc_semantics.specs.PlanView as plan;
 ghost use Rattle.pc_parsed.specs.Mark.{Mark};
 ghost use Rattle.pc_dfg.specs.Held.{HeldModel, HeldSlot};
 ghost use Rattle.pc_dfg.specs.Numbers.{memory_def, model_entry};
+ghost use Rattle.pc_inline.specs.Adds.{Adds};
+ghost use Rattle.pc_inline.specs.AddsEach.{AddsEach, in_options, in_slots};
 ghost use Rattle.pc_inline.specs.Prepares.{Prepares};
 ghost use Rattle.pc_inline.specs.Refused.{LacksRoom};
-ghost use Rattle.pc_inline.specs.Slots.{EntryStands, IsThere, MaybeThere, ModelThere, OptionsThere, SlotModelStands, SlotStands, is_memory};
+ghost use Rattle.pc_inline.specs.Slots.{EntryStands, IsThere, MaybeThere, ModelThere, OptionsThere, SlotModelStands};
+ghost use Rattle.pc_inline.specs.Slots.{SlotStands, is_memory};
 ghost use Rattle.pc_inline.specs.Stands.{MaybeStands, ModelStands, OptionsStand};
 ghost use Rattle.pc_inline.specs.Tables.{tables_of};
 
@@ -43,7 +46,7 @@ fn memory_of(def: &CoreDef) -> CoreExport<MemoryIndex>
 
 impl<'a> Context<'a> {
     /// The definition of a core item of the table, once more.
-    fn definition(&self, state: &State, id: CoreId) -> Result<CoreDef, NoMemory>
+    fn definition(&self, state: &State<'_>, id: CoreId) -> Result<CoreDef, NoMemory>
         requires there { (k : CoreKind) × IsThere self.now.modules (tables_of state.now) k id }
         ensures { IfOk result (λ def. slice_get state.now.cores id.0 ≡ Some def) }
     {
@@ -53,11 +56,12 @@ impl<'a> Context<'a> {
     /// The slot of a memory that may be left out.
     fn memory_slot(
         &self,
-        state: &mut State,
+        state: &mut State<'_>,
         memory: Option<CoreId>,
     ) -> Result<Option<MemoryId>, ItemError>
         requires there { MaybeThere self.now.modules (tables_of state.old) core.Memory memory }
         ensures prepares { Prepares self.now.table.now self.now.modules state.old state.new }
+        ensures adds { AddsEach (in_slots 1) 0 0 (tables_of state.old) (tables_of state.new) }
         ensures slot { IfOk result (λ slot. (v : MaybeValue Mark)
             → MaybeStands self.now.modules (tables_of state.old) core.Memory memory v
             → SlotStands (tables_of state.new) plan.memory (option_map (λ n. n.0) slot) v) }
@@ -76,11 +80,12 @@ impl<'a> Context<'a> {
     /// The slot of a realloc that may be left out.
     fn realloc_slot(
         &self,
-        state: &mut State,
+        state: &mut State<'_>,
         realloc: Option<CoreId>,
     ) -> Result<Option<ReallocId>, ItemError>
         requires there { MaybeThere self.now.modules (tables_of state.old) core.Func realloc }
         ensures prepares { Prepares self.now.table.now self.now.modules state.old state.new }
+        ensures adds { AddsEach (in_slots 1) 0 0 (tables_of state.old) (tables_of state.new) }
         ensures slot { IfOk result (λ slot. (v : MaybeValue Mark)
             → MaybeStands self.now.modules (tables_of state.old) core.Func realloc v
             → SlotStands (tables_of state.new) plan.realloc (option_map (λ n. n.0) slot) v) }
@@ -99,11 +104,12 @@ impl<'a> Context<'a> {
     /// The slot of a callback that may be left out.
     fn callback_slot(
         &self,
-        state: &mut State,
+        state: &mut State<'_>,
         callback: Option<CoreId>,
     ) -> Result<Option<CallbackId>, ItemError>
         requires there { MaybeThere self.now.modules (tables_of state.old) core.Func callback }
         ensures prepares { Prepares self.now.table.now self.now.modules state.old state.new }
+        ensures adds { AddsEach (in_slots 1) 0 0 (tables_of state.old) (tables_of state.new) }
         ensures slot { IfOk result (λ slot. (v : MaybeValue Mark)
             → MaybeStands self.now.modules (tables_of state.old) core.Func callback v
             → SlotStands (tables_of state.new) plan.callback (option_map (λ n. n.0) slot) v) }
@@ -122,11 +128,12 @@ impl<'a> Context<'a> {
     /// The slot of a post-return function that may be left out.
     fn post_return_slot(
         &self,
-        state: &mut State,
+        state: &mut State<'_>,
         post_return: Option<CoreId>,
     ) -> Result<Option<PostReturnId>, ItemError>
         requires there { MaybeThere self.now.modules (tables_of state.old) core.Func post_return }
         ensures prepares { Prepares self.now.table.now self.now.modules state.old state.new }
+        ensures adds { AddsEach (in_slots 1) 0 0 (tables_of state.old) (tables_of state.new) }
         ensures slot { IfOk result (λ slot. (v : MaybeValue Mark)
             → MaybeStands self.now.modules (tables_of state.old) core.Func post_return v
             → SlotStands (tables_of state.new) plan.post_return (option_map (λ n. n.0) slot) v) }
@@ -145,11 +152,12 @@ impl<'a> Context<'a> {
     /// Where values lie, over slots.
     fn data_model(
         &self,
-        state: &mut State,
+        state: &mut State<'_>,
         model: DataModel,
     ) -> Result<CanonicalOptionsDataModel, ItemError>
         requires there { ModelThere self.now.modules (tables_of state.old) model }
         ensures prepares { Prepares self.now.table.now self.now.modules state.old state.new }
+        ensures adds { AddsEach (in_slots 2) 0 0 (tables_of state.old) (tables_of state.new) }
         ensures model { IfOk result (λ model'. (v : value.DataModel Mark)
             → ModelStands self.now.modules (tables_of state.old) model v
             → SlotModelStands (tables_of state.new) (model_entry model') v) }
@@ -167,9 +175,15 @@ impl<'a> Context<'a> {
     }
 
     /// The options entry of these options.
-    pub fn options_entry(&self, state: &mut State, options: Options) -> Result<OptionsId, ItemError>
+    pub(crate) fn options_entry(
+        &self,
+        state: &mut State<'_>,
+        options: Options,
+    ) -> Result<OptionsId, ItemError>
         requires there { OptionsThere self.now.modules (tables_of state.old) options }
         ensures prepares { Prepares self.now.table.now self.now.modules state.old state.new }
+        ensures each { AddsEach in_options 0 0 (tables_of state.old) (tables_of state.new) }
+        ensures adds { Adds self.now.table.now 0 4 (tables_of state.old) (tables_of state.new) }
         ensures entry { IfOk result (λ id. (v : value.Options Mark)
             → OptionsStand self.now.modules (tables_of state.old) options v
             → EntryStands (tables_of state.new) id.0 v) }

@@ -1,40 +1,82 @@
-//! What all component instances share while they are read: the graph so far, and the two tables of what their items are.
+//! What all component instances share while they are read: the graph so far, and the tables of what their items are.
 
-ghost use Rattle.std.specs.Prelude.{◌≡◌, ◌++◌, ◌∷◌, [], length, None, Some, slice_get, option_and_then, IfOk, IfErr, OnOk, OnErr};
+ghost use Rattle.std.specs.Prelude.{◌≡◌, ◌++◌, ◌∷◌, [], length, None, Some, slice_get, option_and_then, IfOk, IfErr};
+ghost use Rattle.std.specs.Prelude.{OnOk, OnErr};
+ghost use Rattle.pc_types.specs.declared.parsed.TypeTable.{TypeTable};
 ghost use Rattle.pc_types.specs.Table.{is_some_and};
+ghost use Rattle.pc_inline.specs.AddsEach.{AddsEach, nowhere};
+ghost use Rattle.pc_inline.specs.Begins.{IsFresh, counted_tables, no_resources};
 ghost use Rattle.pc_inline.specs.Definitions.{host_import, is_func, module_index};
 ghost use Rattle.pc_inline.specs.Refused.{LacksRoom};
 ghost use Rattle.pc_inline.specs.Tables.{Keeps, tables_of};
+ghost use Rattle.pc_inline.specs.Typed.{AreNumbers};
 
-use crate::definition::{CoreId, Definition, DefinitionId};
+use crate::closure::Closure;
+use crate::definition::{ClosureId, CoreId, Definition, DefinitionId, ExportsId};
 use crate::error::ItemError;
 use crate::numbers::Numbers;
 use pc_builder::ComponentTypesBuilder;
 use pc_dfg::{ComponentDfg, CoreDef};
-use pc_entity::{ImportIndex, NoMemory, PrimaryMap, RuntimeImportIndex, StaticModuleIndex};
+use pc_entity::{
+    ImportIndex, NoMemory, PrimaryMap, RuntimeImportIndex, StaticComponentIndex, StaticModuleIndex,
+    TextMap,
+};
+use pc_local::Translation;
+use pc_types::TypeKind;
 use std::alloc::Global;
+use std::mem;
 
 /// The most entries of one table.
 const MAX_ENTRIES: usize = 4294967295;
 
-/// The types builder, the graph so far, the tables of core items and of definitions, and what was asked for once
-/// already.
-pub struct State {
+/// The types builder, the graph so far, the tables of what items are, what was asked for once already, and the bodies of
+/// the program.
+pub struct State<'a> {
     pub types: ComponentTypesBuilder,
     pub graph: ComponentDfg,
     pub cores: PrimaryMap<CoreId, CoreDef>,
     pub definitions: PrimaryMap<DefinitionId, Definition>,
+    pub closures: PrimaryMap<ClosureId, Closure>,
+    /// What the instances export. Of a name that stands twice the first counts.
+    pub instances: PrimaryMap<ExportsId, TextMap<DefinitionId>>,
     /// The number of each import of the root among the host items that are used, once it is.
     pub used: Vec<Option<RuntimeImportIndex>>,
     pub numbers: Numbers,
+    pub bodies: &'a PrimaryMap<StaticComponentIndex, Translation>,
 }
 
-impl State {
+impl<'a> State<'a> {
+    /// Nothing was read yet.
+    pub(crate) fn new(
+        alloc: Global,
+        types: ComponentTypesBuilder,
+        numbers: Numbers,
+        bodies: &'a PrimaryMap<StaticComponentIndex, Translation>,
+    ) -> State<'a>
+        ensures types { result.types ≡ types }
+        ensures bodies { result.bodies.now ≡ bodies.now }
+        ensures fresh { (t : TypeTable) → types.resources ≡ no_resources → AreNumbers types t numbers
+            → IsFresh t result }
+    {
+        State {
+            types,
+            graph: ComponentDfg::new(alloc),
+            cores: PrimaryMap::new(alloc),
+            definitions: PrimaryMap::new(alloc),
+            closures: PrimaryMap::new(alloc),
+            instances: PrimaryMap::new(alloc),
+            used: Vec::new(alloc),
+            numbers,
+            bodies,
+        }
+    }
+
     /// Adds a core item, and answers its number.
-    pub fn push_core(&mut self, def: CoreDef) -> Result<CoreId, ItemError>
+    pub(crate) fn push_core(&mut self, def: CoreDef) -> Result<CoreId, ItemError>
         ensures key { IfOk result (λ id. id.0 ≡ length self.old.cores) }
         ensures ok { OnOk result (self.new ≡ record self.old { cores = self.old.cores ++ def ∷ [] }) }
         ensures keeps { Keeps (tables_of self.old) (tables_of self.new) }
+        ensures adds { AddsEach nowhere 1 0 (tables_of self.old) (tables_of self.new) }
         ensures lacks { IfErr result (LacksRoom self.new) }
         ensures err { OnErr result (self.new ≡ self.old) }
     {
@@ -45,10 +87,14 @@ impl State {
     }
 
     /// Adds a definition, and answers its number.
-    pub fn push_definition(&mut self, definition: Definition) -> Result<DefinitionId, ItemError>
+    pub(crate) fn push_definition(
+        &mut self,
+        definition: Definition,
+    ) -> Result<DefinitionId, ItemError>
         ensures key { IfOk result (λ id. id.0 ≡ length self.old.definitions) }
         ensures ok { OnOk result (self.new ≡ record self.old { definitions = self.old.definitions ++ definition ∷ [] }) }
         ensures keeps { Keeps (tables_of self.old) (tables_of self.new) }
+        ensures adds { AddsEach nowhere 0 1 (tables_of self.old) (tables_of self.new) }
         ensures lacks { IfErr result (LacksRoom self.new) }
         ensures err { OnErr result (self.new ≡ self.old) }
     {
@@ -58,8 +104,41 @@ impl State {
         Ok(self.definitions.push(definition)?)
     }
 
+    /// Adds what a component captured, and answers its number.
+    pub(crate) fn push_closure(&mut self, closure: Closure) -> Result<ClosureId, ItemError>
+        ensures key { IfOk result (λ id. id.0 ≡ length self.old.closures) }
+        ensures ok { OnOk result (self.new ≡ record self.old { closures = self.old.closures ++ closure ∷ [] }) }
+        ensures keeps { Keeps (tables_of self.old) (tables_of self.new) }
+        ensures adds { AddsEach nowhere 0 1 (tables_of self.old) (tables_of self.new) }
+        ensures lacks { IfErr result (LacksRoom self.new) }
+        ensures err { OnErr result (self.new ≡ self.old) }
+    {
+        if self.closures.len() >= MAX_ENTRIES {
+            return Err(ItemError::TooMany);
+        }
+        Ok(self.closures.push(closure)?)
+    }
+
+    /// Adds what an instance exports, and answers its number.
+    pub(crate) fn push_instance(
+        &mut self,
+        exports: TextMap<DefinitionId>,
+    ) -> Result<ExportsId, ItemError>
+        ensures key { IfOk result (λ id. id.0 ≡ length self.old.instances) }
+        ensures ok { OnOk result (self.new ≡ record self.old { instances = self.old.instances ++ exports ∷ [] }) }
+        ensures keeps { Keeps (tables_of self.old) (tables_of self.new) }
+        ensures adds { AddsEach nowhere 0 1 (tables_of self.old) (tables_of self.new) }
+        ensures lacks { IfErr result (LacksRoom self.new) }
+        ensures err { OnErr result (self.new ≡ self.old) }
+    {
+        if self.instances.len() >= MAX_ENTRIES {
+            return Err(ItemError::TooMany);
+        }
+        Ok(self.instances.push(exports)?)
+    }
+
     /// One import more, which isn't used yet.
-    pub fn push_unused(&mut self) -> Result<(), NoMemory>
+    pub(crate) fn push_unused(&mut self) -> Result<(), NoMemory>
         ensures ok { OnOk result (self.new.used.items ≡ self.old.used.items ++ None ∷ []) }
         ensures rest { self.new ≡ record self.old { used = self.new.used } }
         ensures err { OnErr result (self.new.used.items ≡ self.old.used.items) }
@@ -69,7 +148,7 @@ impl State {
     }
 
     /// The import that a function of the host is, or nothing where a function was lifted.
-    pub fn host_func(&self, func: DefinitionId) -> Option<ImportIndex>
+    pub(crate) fn host_func(&self, func: DefinitionId) -> Option<ImportIndex>
         ensures { result ≡ option_and_then host_import (slice_get self.now.definitions func.0) }
     {
         match self.definitions.get(func) {
@@ -79,7 +158,7 @@ impl State {
     }
 
     /// Whether a definition is a function.
-    pub fn is_func(&self, id: DefinitionId) -> bool
+    pub(crate) fn is_func(&self, id: DefinitionId) -> bool
         ensures { result ≡ is_some_and is_func (slice_get self.now.definitions id.0) }
     {
         match self.definitions.get(id) {
@@ -89,7 +168,7 @@ impl State {
     }
 
     /// The core module that a definition is.
-    pub fn core_module(&self, id: DefinitionId) -> Option<StaticModuleIndex>
+    pub(crate) fn core_module(&self, id: DefinitionId) -> Option<StaticModuleIndex>
         ensures { result ≡ option_and_then module_index (slice_get self.now.definitions id.0) }
     {
         match self.definitions.get(id) {
@@ -97,21 +176,36 @@ impl State {
             _ => None,
         }
     }
+
+    /// The graph, which counts the tables that the builder holds.
+    pub(crate) fn take_graph(&mut self, alloc: Global) -> ComponentDfg
+        ensures graph { result ≡ counted_tables self.old.graph self.old.types }
+        ensures types { self.new.types ≡ self.old.types }
+    {
+        self.graph.num_future_tables = self.types.held(TypeKind::FutureTable);
+        self.graph.num_stream_tables = self.types.held(TypeKind::StreamTable);
+        self.graph.num_error_context_tables = self.types.held(TypeKind::ErrorContextTable);
+        mem::replace(&mut self.graph, ComponentDfg::new(alloc))
+    }
 }
 
 // By hand, since a derived drop of so many lists is proved anew, and slowly, in each function that lets a state go.
-impl Drop for State {
+impl<'a> Drop for State<'a> {
     fn drop(self) {
         let State {
             types,
             graph,
             cores,
             definitions,
+            closures,
+            instances,
             used,
             numbers,
+            bodies: _,
         } = self;
         drop_graph(types, graph);
         drop_tables(cores, definitions);
+        drop_named(closures, instances);
         drop_numbers(used, numbers);
     }
 }
@@ -121,6 +215,11 @@ fn drop_graph(_types: ComponentTypesBuilder, _graph: ComponentDfg) {}
 fn drop_tables(
     _cores: PrimaryMap<CoreId, CoreDef>,
     _definitions: PrimaryMap<DefinitionId, Definition>,
+) {}
+
+fn drop_named(
+    _closures: PrimaryMap<ClosureId, Closure>,
+    _instances: PrimaryMap<ExportsId, TextMap<DefinitionId>>,
 ) {}
 
 fn drop_numbers(_used: Vec<Option<RuntimeImportIndex>>, _numbers: Numbers) {}

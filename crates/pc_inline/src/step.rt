@@ -6,6 +6,7 @@ ghost use Rattle.pc_types.specs.declared.module_record.ModuleRecord.{ModuleRecor
 ghost use Rattle.pc_types.specs.declared.parsed.TypeTable.{TypeTable};
 ghost use Rattle.pc_parsed.specs.declared.payload.ExternName.{ExternName};
 ghost use Rattle.pc_inline.specs.declared.state.State.{State};
+ghost use Rattle.pc_inline.specs.Adds.{Adds, functions_in};
 ghost use Rattle.pc_inline.specs.Points.{IsInput, IsPoint, StepsItem};
 ghost use Rattle.pc_inline.specs.StepsLocal.{StepsLocal};
 ghost use Rattle.pc_inline.specs.Tables.{Keeps, tables_of};
@@ -22,7 +23,7 @@ use pc_types::Unsupported;
 impl Frame {
     /// A function of the component instance is exported, which puts it at the end of the functions once more. Other kinds
     /// aren't built yet.
-    pub fn step_export(&mut self, kind: ItemKind, index: u32) -> Result<(), ItemError>
+    pub(crate) fn step_export(&mut self, kind: ItemKind, index: u32) -> Result<(), ItemError>
         ensures same { self.new.component_instance ≡ self.old.component_instance }
         ensures steps { (t : TypeTable) (ms : List ModuleRecord) (st : State) (name : ExternName)
             → StepsItem t ms (export_item (record { name = name; kind = kind; index = index }))
@@ -40,15 +41,16 @@ impl Frame {
 
 impl<'a> Context<'a> {
     /// One item of a body.
-    pub fn step(
+    pub(crate) fn step(
         &self,
-        state: &mut State,
+        state: &mut State<'_>,
         frame: &mut Frame,
         item: &LocalInitializer,
     ) -> Result<(), ItemError>
         requires input { IsInput self.now.table.now self.now.modules }
         requires here { IsPoint self.now.table.now self.now.modules state.old frame.old }
         ensures keeps { Keeps (tables_of state.old) (tables_of state.new) }
+        ensures adds { Adds self.now.table.now (functions_in item.now) 4 (tables_of state.old) (tables_of state.new) }
         ensures same { frame.new.component_instance ≡ frame.old.component_instance }
         ensures steps { StepsLocal self.now.table.now self.now.modules item.now
             state.old frame.old state.new frame.new result }
@@ -75,6 +77,9 @@ impl<'a> Context<'a> {
             }
             LocalInitializer::ModuleSynthetic(items) => {
                 frame.step_core_exports(self.alloc, items.as_slice())
+            }
+            LocalInitializer::ComponentStatic { index, vars } => {
+                self.step_component(state, frame, *index, vars)
             }
             LocalInitializer::AliasCoreExport {
                 kind,

@@ -1,5 +1,5 @@
-use Rattle.std.proofs.Common.{◌≡◌, ◌+◌, ◌<◌, ◌++◌, ◌∷◌, [], List, Some, None, take, length, refl, ap, sym, subst, ◌∙◌, arith}
-use Rattle.std.specs.Prelude.{is_some, slice_get}
+use Rattle.std.proofs.Common.{◌≡◌, ◌<◌, ◌++◌, ◌∷◌, [], Some, None, take, length, refl, ap, sym, subst, ◌∙◌, arith}
+use Rattle.std.specs.Prelude.{is_some}
 use Rattle.std.proofs.lemmas.Option.{slice_get-get_or, slice_get_past, slice_get_read}
 use Rattle.std.proofs.lemmas.List.{take_all}
 use Rattle.pc_entity.specs.Lists.{map_all, value_of}
@@ -16,11 +16,13 @@ returns-in_default c ms b s stands =
     let at = slice_get-get_or c.args.items.now c.loop-item.item-index _ within ∙ ap Some (sym c.item-item.is) in
     let missing = entry_missing ms b c.args.frame.now s stands c.item-item.result _ _ _ c.of-kind.ensures
     c.core_ids.ensures c.entity_number.ensures (slice_get_past _ _ c.in_default.ensures.lookup.3) in
-    subst (λ o. Both (SameNames (BagItemStands ms b)) None o) (sym (map_all_missing (bag_entry s) _ _ _ at missing)) neither
+    subst (λ o. Both (SameNames (BagItemStands ms b)) None o) (sym (map_all_missing (bag_entry s) _ _ _ at missing))
+    neither
 
 pub loop-item-init : goal.loop-item-init
 loop-item-init c ms b s stands =
-    subst (λ bag. Both (SameNames (BagItemStands ms b)) (Some bag) (Some [])) (sym c.new-bag.ensures) (both (λ name. neither))
+    subst (λ bag. Both (SameNames (BagItemStands ms b)) (Some bag) (Some [])) (sym c.new-bag.ensures)
+    (both (λ name. neither))
 
 pub loop-item-preserved : goal.loop-item-preserved
 loop-item-preserved c ms b s stands =
@@ -37,10 +39,13 @@ loop-item-preserved c ms b s stands =
           let same : c.if-not-contains.bag ≡ c.loop-item.bag ++ (x.0, (c.of-kind.result, c.in-Some.id)) ∷ [] =
           w.bag-is ∙ w.in_ok-push.ensures.ok
           ∙ (λ i. c.loop-item.bag ++ (w.in_ok-try_clone.ensures i, (c.of-kind.result, c.in-Some.id-is i)) ∷ []) in
-          subst (λ bag. Both (SameNames (BagItemStands ms b)) (Some bag) (map_all (bag_entry s) (take c.loop-item.item-index c.args.items.now ++ x ∷ [])))
-          (sym same) (bag_push (BagItemStands ms b) (bag_entry s) c.loop-item.bag _ x x.0 (c.of-kind.result, c.in-Some.id) y.0 before y.1 y.2)
+          subst (λ bag. Both (SameNames (BagItemStands ms b)) (Some bag)
+          (map_all (bag_entry s) (take c.loop-item.item-index c.args.items.now ++ x ∷ [])))
+          (sym same) (bag_push (BagItemStands ms b) (bag_entry s) c.loop-item.bag _ x x.0
+          (c.of-kind.result, c.in-Some.id) y.0 before y.1 y.2)
       | else-not-contains w ↦
-          subst (λ bag. Both (SameNames (BagItemStands ms b)) (Some bag) (map_all (bag_entry s) (take c.loop-item.item-index c.args.items.now ++ x ∷ [])))
+          subst (λ bag. Both (SameNames (BagItemStands ms b)) (Some bag)
+          (map_all (bag_entry s) (take c.loop-item.item-index c.args.items.now ++ x ∷ [])))
           (sym w.bag-is) (bag_again (BagItemStands ms b) (bag_entry s) c.loop-item.bag _ x x.0 y.0 before y.1
           (ap (λ k. is_some (value_of k c.loop-item.bag)) (sym c.as_str.ensures) ∙ sym w.if-not-contains.ensures))
     ])

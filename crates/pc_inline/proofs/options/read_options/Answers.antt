@@ -1,4 +1,4 @@
-use Rattle.std.proofs.Common.{◌≡◌, ◌<◌, ◌+◌, ◌++◌, ◌∷◌, [], length, take, sym, subst, ap, ◌∙◌, arith}
+use Rattle.std.proofs.Common.{◌≡◌, ◌<◌, length, take, sym, subst}
 use Rattle.std.proofs.lemmas.Grind.{take_at_read}
 use Rattle.pc_inline.specs.Written.{written}
 use Rattle.pc_inline.proofs.WrittenLemmas.{written-push}

@@ -5,8 +5,11 @@ use Rattle.pc_inline.specs.Slots.{ModelThere}
 use Rattle.pc_inline.specs.Stands.{ModelStands}
 use Rattle.pc_inline.specs.Tables.{tables_of}
 use Rattle.pc_inline.proofs.KeptLemmas.{maybe_kept}
-use Rattle.pc_inline.proofs.OptionsEntryLemmas.{gc_held, gc_slots, held_kept, linear_held, linear_slots, slot_kept, there_kept}
+use Rattle.pc_inline.proofs.OptionsEntryLemmas.{gc_held, gc_slots, held_kept, linear_held, linear_slots, slot_kept}
+use Rattle.pc_inline.proofs.OptionsEntryLemmas.{there_kept}
 use Rattle.pc_inline.proofs.StateLemmas.{prepares_trans}
+use Rattle.pc_inline.proofs.AddsLemmas.{each_refl, model_adds}
+use Rattle.pc_inline.specs.AddsEach.{in_slots}
 use Rattle.pc_inline.proofs.context.Context.data_model.Goals as goal
 
 pub realloc_slot-requires : goal.realloc_slot-requires
@@ -53,3 +56,21 @@ returns-in_ok-realloc-in-LinearMemory-clause-held c =
     (held_kept c.args.self.now.modules (tables_of c.memory_slot.new.state) (tables_of c.realloc_slot.new.state)
     c.realloc_slot.ensures.prepares.keeps plan.memory _ c.in_ok-memory-in-LinearMemory.ensures.held)
     c.in_ok-realloc-in-LinearMemory.ensures.held
+
+pub returns-in-Gc-clause-adds : goal.returns-in-Gc-clause-adds
+returns-in-Gc-clause-adds c = each_refl (in_slots 2) 0 0 (tables_of c.args.state.now)
+
+pub returns-in_err-memory-in-LinearMemory-clause-adds : goal.returns-in_err-memory-in-LinearMemory-clause-adds
+returns-in_err-memory-in-LinearMemory-clause-adds c =
+    model_adds (tables_of c.args.state.now) (tables_of c.memory_slot.new.state) (tables_of c.memory_slot.new.state)
+    c.memory_slot.ensures.adds (each_refl (in_slots 1) 0 0 (tables_of c.memory_slot.new.state))
+
+pub returns-in_err-realloc-in-LinearMemory-clause-adds : goal.returns-in_err-realloc-in-LinearMemory-clause-adds
+returns-in_err-realloc-in-LinearMemory-clause-adds c =
+    model_adds (tables_of c.args.state.now) (tables_of c.memory_slot.new.state) (tables_of c.realloc_slot.new.state)
+    c.memory_slot.ensures.adds c.realloc_slot.ensures.adds
+
+pub returns-in_ok-realloc-in-LinearMemory-clause-adds : goal.returns-in_ok-realloc-in-LinearMemory-clause-adds
+returns-in_ok-realloc-in-LinearMemory-clause-adds c =
+    model_adds (tables_of c.args.state.now) (tables_of c.memory_slot.new.state) (tables_of c.realloc_slot.new.state)
+    c.memory_slot.ensures.adds c.realloc_slot.ensures.adds

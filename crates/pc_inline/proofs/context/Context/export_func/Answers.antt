@@ -1,5 +1,10 @@
-use Rattle.std.proofs.Common.{Err, ap, sym, subst, ◌∙◌}
+use Rattle.std.proofs.Common.{arith, ◌++◌, ◌∷◌, [], Err, length, ap, sym, subst, ◌∙◌}
+use Rattle.pc_dfg.specs.Lists.{NamedExport}
 use Rattle.pc_inline.specs.Exporting.{ExportsFunc, ReachesNode}
+use Rattle.pc_inline.proofs.AddsLemmas.{adds_weaken}
+use Rattle.pc_inline.proofs.ExportAddsLemmas.{adds_one, name_adds}
+use Rattle.pc_inline.specs.Tables.{tables_of}
+use Rattle.pc_inline.proofs.ExportAllLemmas.{numbers_push}
 use Rattle.pc_inline.proofs.ExportLemmas.{exports_made, exports_refused, exports_unfed}
 use Rattle.pc_inline.proofs.context.Context.export_func.Goals as goal
 
@@ -37,3 +42,39 @@ returns-clause-exports c f s w nodes x root is =
     c.in_ok-push_export.ensures.ok c.push_export.ensures.grows c.push_export.ensures.ordered c.args.number f s w nodes x
     (subst (ReachesNode t ms c.reach_node.new.state f s w nodes x) c.in-Ok.is
     (c.reach_node.ensures.reaches f s w nodes x root is))
+
+pub returns-clause-numbers : goal.returns-clause-numbers
+returns-clause-numbers c old =
+    let e : NamedExport = (c.in_ok-name.name, (c.in-Ok.item, c.in_ok-data_.data_)) in
+    numbers_push c.args.state.now.graph c.push_export.new.self e old
+    (c.in_ok-push_export.ensures.ok ∙ ap (λ es. es ++ e ∷ []) c.reach_node.ensures.exports) c.in-Ok.ensures.item.0
+    (ap (λ g. length g.export_items) c.push_export.ensures.rest ∙ c.in-Ok.ensures.item.1)
+
+pub returns-in-Err-clause-adds : goal.returns-in-Err-clause-adds
+returns-in-Err-clause-adds c =
+    adds_weaken c.args.self.now.table.now 0 5 0 8 _ (tables_of c.reach_node.new.state) (omega arith) (omega arith)
+    c.reach_node.ensures.adds
+
+pub returns-in_err-data_-clause-adds : goal.returns-in_err-data_-clause-adds
+returns-in_err-data_-clause-adds c =
+    adds_weaken c.args.self.now.table.now 0 5 0 8 _ (tables_of c.reach_node.new.state) (omega arith) (omega arith)
+    c.reach_node.ensures.adds
+
+pub returns-in_err-name-clause-adds : goal.returns-in_err-name-clause-adds
+returns-in_err-name-clause-adds c =
+    adds_weaken c.args.self.now.table.now 0 5 0 8 _ (tables_of c.reach_node.new.state) (omega arith) (omega arith)
+    c.reach_node.ensures.adds
+
+pub returns-in_err-push_export-clause-adds : goal.returns-in_err-push_export-clause-adds
+returns-in_err-push_export-clause-adds c =
+    adds_one c.args.self.now.table.now 5 8 (tables_of c.args.state.now) (tables_of c.reach_node.new.state) _
+    (omega arith) c.reach_node.ensures.adds
+    (name_adds _ (tables_of c.reach_node.new.state) c.push_export.new.self c.push_export.result _
+    c.push_export.ensures.rest c.push_export.ensures.ok c.push_export.ensures.err)
+
+pub returns-clause-adds : goal.returns-clause-adds
+returns-clause-adds c =
+    adds_one c.args.self.now.table.now 5 8 (tables_of c.args.state.now) (tables_of c.reach_node.new.state) _
+    (omega arith) c.reach_node.ensures.adds
+    (name_adds _ (tables_of c.reach_node.new.state) c.push_export.new.self c.push_export.result _
+    c.push_export.ensures.rest c.push_export.ensures.ok c.push_export.ensures.err)

@@ -1,8 +1,9 @@
-use Rattle.std.proofs.Common.{◌≡◌, Err, ap, refl, sym, subst, inl, inr}
+use Rattle.std.proofs.Common.{inl, inr}
 use Rattle.pc_builder.proofs.TreeLemmas.{entry_grows}
 use Rattle.pc_inline.proofs.RefusedLemmas.{cause_lacks}
 use Rattle.pc_inline.proofs.StateLemmas.{converts_trans}
 use Rattle.pc_types.specs.declared.types.TypeDef.TheVariants as def
+use Rattle.pc_inline.proofs.AddsLemmas.{adds_func, adds_function}
 use Rattle.pc_inline.proofs.context.Context.function_types.Goals as goal
 
 pub returns-in_err-ty-clause-err : goal.returns-in_err-ty-clause-err
@@ -29,3 +30,22 @@ returns-clause-are c = record {
       c.args.self.now.table.now c.args.ty (def.ComponentFunc c.in_ok-ty.ty) c.in_ok-ty.ensures.is.1;
   signature = c.in_ok-core_type.ensures.is;
 }
+
+pub returns-in_err-ty-clause-adds : goal.returns-in_err-ty-clause-adds
+returns-in_err-ty-clause-adds c =
+    adds_func c.args.self.now.table.now c.args.state.now c.func_type.new.state c.func_type.ensures.converts
+    c.func_type.ensures.few
+
+pub returns-in_err-core_type-clause-adds : goal.returns-in_err-core_type-clause-adds
+returns-in_err-core_type-clause-adds c =
+    adds_function c.args.self.now.table.now c.args.state.now c.func_type.new.state c.signature.new.state
+    c.func_type.ensures.converts c.signature.ensures.converts
+    (converts_trans _ _ _ _ c.func_type.ensures.converts c.signature.ensures.converts) c.func_type.ensures.few
+    c.signature.ensures.few
+
+pub returns-clause-adds : goal.returns-clause-adds
+returns-clause-adds c =
+    adds_function c.args.self.now.table.now c.args.state.now c.func_type.new.state c.signature.new.state
+    c.func_type.ensures.converts c.signature.ensures.converts
+    (converts_trans _ _ _ _ c.func_type.ensures.converts c.signature.ensures.converts) c.func_type.ensures.few
+    c.signature.ensures.few

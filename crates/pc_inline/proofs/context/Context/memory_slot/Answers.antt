@@ -7,6 +7,9 @@ use Rattle.pc_inline.specs.Tables.{IsItem, tables_of}
 use Rattle.pc_inline.proofs.RefusedLemmas.{push_lacks}
 use Rattle.pc_inline.proofs.SlotLemmas.{none_held, slot_none, there_usable}
 use Rattle.pc_inline.proofs.MemoryLemmas.{memory_crowded, memory_held, memory_prepares, memory_stands}
+use Rattle.pc_inline.proofs.AddsLemmas.{each_refl}
+use Rattle.pc_inline.proofs.AddsPushLemmas.{memory_adds}
+use Rattle.pc_inline.specs.AddsEach.{in_slots}
 use Rattle.pc_inline.proofs.context.Context.memory_slot.Goals as goal
 
 pub returns-in_err-push_memory-in-Some-clause-err : goal.returns-in_err-push_memory-in-Some-clause-err
@@ -27,7 +30,8 @@ returns-in_ok-push_memory-in-Some-clause-prepares c =
 
 pub returns-in_ok-push_memory-in-Some-clause-slot : goal.returns-in_ok-push_memory-in-Some-clause-slot
 returns-in_ok-push_memory-in-Some-clause-slot c v stands =
-    memory_stands c.args.self.now.modules c.args.state.now c.push_memory.new.self c.push_memory.ensures.grows c.in-Some.id
+    memory_stands c.args.self.now.modules c.args.state.now c.push_memory.new.self c.push_memory.ensures.grows
+    c.in-Some.id
     c.index.result.now _ c.memory_of-memory.result c.index.ensures c.memory_of-memory.ensures
     c.in_ok-push_memory-in-Some.ensures.held v
     (subst (λ o. MaybeStands c.args.self.now.modules (tables_of c.args.state.now) core.Memory o v) c.in-Some.is stands)
@@ -43,3 +47,16 @@ returns-in_ok-push_memory-in-Some-clause-held c =
 
 pub returns-in-None-clause-held : goal.returns-in-None-clause-held
 returns-in-None-clause-held c = none_held c.args.state.now.graph plan.memory
+
+pub returns-in_err-push_memory-in-Some-clause-adds : goal.returns-in_err-push_memory-in-Some-clause-adds
+returns-in_err-push_memory-in-Some-clause-adds c =
+    memory_adds (tables_of c.args.state.now) c.push_memory.new.self _ c.push_memory.ensures.rest
+    c.push_memory.ensures.put
+
+pub returns-in_ok-push_memory-in-Some-clause-adds : goal.returns-in_ok-push_memory-in-Some-clause-adds
+returns-in_ok-push_memory-in-Some-clause-adds c =
+    memory_adds (tables_of c.args.state.now) c.push_memory.new.self _ c.push_memory.ensures.rest
+    c.push_memory.ensures.put
+
+pub returns-in-None-clause-adds : goal.returns-in-None-clause-adds
+returns-in-None-clause-adds c = each_refl (in_slots 1) 0 0 (tables_of c.args.state.now)

@@ -1,12 +1,12 @@
-use Rattle.std.proofs.Common.{Some, Err, ap, sym, ◌∙◌}
-use Rattle.std.specs.Prelude.{slice_get}
+use Rattle.std.proofs.Common.{arith, Some, Err, ap, sym, ◌∙◌}
 use Rattle.pc_dfg.specs.Lists as list
-use Rattle.pc_inline.specs.declared.definition.Definition.TheVariants as definition
 use Rattle.pc_inline.specs.Tables.{tables_of}
+use Rattle.pc_inline.proofs.AddsLemmas.{adds_refl, adds_weaken}
+use Rattle.pc_inline.proofs.ExportAddsLemmas.{adds_one, item_adds}
 use Rattle.pc_inline.proofs.GrowthLemmas.{graph_crowded}
 use Rattle.pc_inline.proofs.ReachLemmas.{function_held, reaches_host, reaches_item, reaches_lacking}
 use Rattle.pc_inline.proofs.RefusedLemmas.{memory_lacks, push_lacks, same_lacks}
-use Rattle.pc_inline.proofs.ThereLemmas.{host_there, lifted_there, no_module, options_there}
+use Rattle.pc_inline.proofs.ThereLemmas.{host_there, is_no_func, lifted_there, no_other, options_there}
 use Rattle.pc_inline.proofs.context.Context.reach_node.Goals as goal
 
 pub options_entry-requires : goal.options_entry-requires
@@ -14,7 +14,10 @@ options_entry-requires c =
     let l = lifted_there c.args.self.now.modules (tables_of c.args.state.now) c.args.func c.in-LiftedFunc.ty
     c.in-LiftedFunc.func c.in-LiftedFunc.options c.requires.there.0 (c.index.ensures ∙ ap Some c.in-LiftedFunc.is)
     c.requires.there.1 in
-    record { there = options_there c.args.self.now.modules (tables_of c.args.state.now) c.in-LiftedFunc.options l.options l.stand }
+    record {
+      there = options_there c.args.self.now.modules (tables_of c.args.state.now) c.in-LiftedFunc.options
+          l.options l.stand;
+    }
 
 pub returns-in_err-options-in-LiftedFunc-clause-reaches :
     goal.returns-in_err-options-in-LiftedFunc-clause-reaches
@@ -49,8 +52,8 @@ returns-in_err-push_export_item-in-LiftedFunc-clause-reaches c f s w nodes x roo
 
 pub unreachable-requires : goal.unreachable-requires
 unreachable-requires c =
-    no_module c.args.self.now.modules (tables_of c.args.state.now) c.args.func c.in-StaticModule.index
-    c.in-StaticModule.ty c.requires.there.0 (c.index.ensures ∙ ap Some c.in-StaticModule.is) c.requires.there.1
+    no_other c.args.self.now.modules (tables_of c.args.state.now) c.args.func c.index.result.now c.requires.there.0
+    c.index.ensures (is_no_func c.index.result.now c.in-StaticModule.is) c.requires.there.1
 
 pub returns-in_ok-push_export_item-in-LiftedFunc-clause-reaches :
     goal.returns-in_ok-push_export_item-in-LiftedFunc-clause-reaches
@@ -70,3 +73,32 @@ returns-in-HostFunc-clause-reaches c f s w nodes x root is =
     reaches_host c.args.state.now f s w nodes x _ _ c.in-HostFunc.field-0
     (host_there c.args.self.now.modules (tables_of c.args.state.now) c.args.func c.in-HostFunc.field-0 x
     (c.index.ensures ∙ ap Some c.in-HostFunc.is) is).0
+
+pub returns-in_err-options-in-LiftedFunc-clause-adds : goal.returns-in_err-options-in-LiftedFunc-clause-adds
+returns-in_err-options-in-LiftedFunc-clause-adds c =
+    adds_weaken c.args.self.now.table.now 0 4 0 5 _ (tables_of c.options_entry.new.state) (omega arith) (omega arith)
+    c.options_entry.ensures.adds
+
+pub returns-in_err-func-in-LiftedFunc-clause-adds : goal.returns-in_err-func-in-LiftedFunc-clause-adds
+returns-in_err-func-in-LiftedFunc-clause-adds c =
+    adds_weaken c.args.self.now.table.now 0 4 0 5 _ (tables_of c.options_entry.new.state) (omega arith) (omega arith)
+    c.options_entry.ensures.adds
+
+pub returns-in_err-push_export_item-in-LiftedFunc-clause-adds :
+    goal.returns-in_err-push_export_item-in-LiftedFunc-clause-adds
+returns-in_err-push_export_item-in-LiftedFunc-clause-adds c =
+    adds_one c.args.self.now.table.now 4 5 (tables_of c.args.state.now) (tables_of c.options_entry.new.state) _
+    (omega arith) c.options_entry.ensures.adds
+    (item_adds _ (tables_of c.options_entry.new.state) c.push_export_item.new.self c.push_export_item.result _
+    c.push_export_item.ensures.rest c.push_export_item.ensures.ok c.push_export_item.ensures.err)
+
+pub returns-in_ok-push_export_item-in-LiftedFunc-clause-adds :
+    goal.returns-in_ok-push_export_item-in-LiftedFunc-clause-adds
+returns-in_ok-push_export_item-in-LiftedFunc-clause-adds c =
+    adds_one c.args.self.now.table.now 4 5 (tables_of c.args.state.now) (tables_of c.options_entry.new.state) _
+    (omega arith) c.options_entry.ensures.adds
+    (item_adds _ (tables_of c.options_entry.new.state) c.push_export_item.new.self c.push_export_item.result _
+    c.push_export_item.ensures.rest c.push_export_item.ensures.ok c.push_export_item.ensures.err)
+
+pub returns-in-HostFunc-clause-adds : goal.returns-in-HostFunc-clause-adds
+returns-in-HostFunc-clause-adds c = adds_refl c.args.self.now.table.now 0 5 (tables_of c.args.state.now)

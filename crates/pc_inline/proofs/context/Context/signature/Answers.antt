@@ -1,9 +1,9 @@
-use Rattle.std.proofs.Common.{◌≡◌, Err, ap, refl, sym, subst, ◌∙◌}
-use Rattle.std.specs.Prelude.{option_and_then, slice_get}
+use Rattle.std.proofs.Common.{Err, ap, refl, sym, subst}
 use Rattle.pc_builder.proofs.TreeLemmas.{converted_grows}
-use Rattle.pc_inline.specs.Typed.{AreSignatures, IsSignature}
-use Rattle.pc_inline.proofs.NumberLemmas.{number_there, signatures_grow, signatures_noted}
+use Rattle.pc_inline.specs.Typed.{AreSignatures}
+use Rattle.pc_inline.proofs.NumberLemmas.{signatures_grow, signatures_noted}
 use Rattle.pc_inline.proofs.RefusedLemmas.{type_lacks}
+use Rattle.pc_inline.proofs.FewLemmas.{no_signature}
 use Rattle.pc_inline.proofs.context.Context.signature.Goals as goal
 
 pub returns-in_err-index-clause-converts : goal.returns-in_err-index-clause-converts
@@ -37,3 +37,12 @@ returns-clause-converts c = record {
   };
   rest = refl;
 }
+
+pub returns-in-Some-clause-few : goal.returns-in-Some-clause-few
+returns-in-Some-clause-few c = no_signature c.args.state.now.types
+
+pub returns-in_err-index-clause-few : goal.returns-in_err-index-clause-few
+returns-in_err-index-clause-few c = c.core_sig.ensures.few
+
+pub returns-clause-few : goal.returns-clause-few
+returns-clause-few c = c.core_sig.ensures.few

@@ -1,9 +1,11 @@
-use Rattle.std.proofs.Common.{◌≡◌, Some, None, refl, ap, sym, ◌∙◌}
+use Rattle.std.proofs.Common.{refl, ap, sym, ◌∙◌}
 use Rattle.std.specs.Prelude.{slice_get, option_and_then}
 use Rattle.std.proofs.lemmas.Option.{slice_get_past, slice_get_read}
 use Rattle.pc_inline.specs.Bags.{export_item}
 use Rattle.pc_inline.proofs.CoreAliasLemmas.{alias_made, alias_missing}
 use Rattle.pc_inline.proofs.StepLemmas.{steps_lacking, steps_memory}
+use Rattle.pc_inline.proofs.AddsLemmas.{adds_refl, core_few}
+use Rattle.pc_inline.specs.Tables.{tables_of}
 use Rattle.pc_inline.proofs.context.Context.step_core_alias.Goals as goal
 
 pub returns-in_default-clause-steps : goal.returns-in_default-clause-steps
@@ -46,3 +48,24 @@ returns-clause-steps c =
     ∙ ap (λ name. export_item c.args.self.now.modules c.args.kind name c.in-Some.instance.now) (sym c.as_str.ensures)
     ∙ sym c.export.ensures ∙ c.in-Some-export.is)
     c.in_ok-id.ensures.prepares c.in_ok-id.ensures.id c.in_ok-push_core.ensures.ok
+
+pub returns-in_default-clause-adds : goal.returns-in_default-clause-adds
+returns-in_default-clause-adds c = adds_refl c.args.self.now.table.now 0 4 (tables_of c.args.state.now)
+
+pub returns-in_default-export-clause-adds : goal.returns-in_default-export-clause-adds
+returns-in_default-export-clause-adds c = adds_refl c.args.self.now.table.now 0 4 (tables_of c.args.state.now)
+
+pub returns-in_err-id-clause-adds : goal.returns-in_err-id-clause-adds
+returns-in_err-id-clause-adds c =
+    core_few c.args.self.now.table.now (tables_of c.args.state.now) (tables_of c.found_id.new.state)
+    c.found_id.ensures.adds
+
+pub returns-in_err-push_core-clause-adds : goal.returns-in_err-push_core-clause-adds
+returns-in_err-push_core-clause-adds c =
+    core_few c.args.self.now.table.now (tables_of c.args.state.now) (tables_of c.found_id.new.state)
+    c.found_id.ensures.adds
+
+pub returns-clause-adds : goal.returns-clause-adds
+returns-clause-adds c =
+    core_few c.args.self.now.table.now (tables_of c.args.state.now) (tables_of c.found_id.new.state)
+    c.found_id.ensures.adds

@@ -1,4 +1,4 @@
-use Rattle.std.proofs.Common.{◌≡◌, Some, None, Err, refl, ap, sym, subst, ◌∙◌}
+use Rattle.std.proofs.Common.{Err, refl, ap, sym, subst, ◌∙◌}
 use Rattle.std.specs.Prelude.{slice_get}
 use Rattle.std.proofs.lemmas.Option.{slice_get_past, slice_get_read}
 use Rattle.pc_dfg.specs.Lists as list
@@ -6,6 +6,8 @@ use Rattle.pc_inline.specs.Tables.{tables_of}
 use Rattle.pc_inline.proofs.GrowthLemmas.{graph_crowded, graph_grown}
 use Rattle.pc_inline.proofs.InstantiationLemmas.{IsGiven, module_made, module_missing, module_other, module_stuck}
 use Rattle.pc_inline.proofs.StepLemmas.{steps_full, steps_memory}
+use Rattle.pc_inline.proofs.AddsLemmas.{adds_refl, everywhere_few}
+use Rattle.pc_inline.proofs.AddsPushLemmas.{instance_adds}
 use Rattle.pc_inline.proofs.context.Context.step_core_instance.Goals as goal
 
 pub returns-in_default-clause-steps : goal.returns-in_default-clause-steps
@@ -71,3 +73,33 @@ returns-clause-steps c =
     c.in-Some-core_module.core_module) c.in-Some-2.is c.in_ok-defs.ensures)
     c.in_ok-instance.ensures.ok c.push_instance.ensures.grows c.in_ok-instance.ensures.ordered
     c.in_ok-instance.ensures.key (λ i. record c.args.frame.now { core_instances = c.in_ok-push.ensures.ok i })
+
+pub returns-in_default-clause-adds : goal.returns-in_default-clause-adds
+returns-in_default-clause-adds c = adds_refl c.args.self.now.table.now 0 4 (tables_of c.args.state.now)
+
+pub returns-in_default-core_module-clause-adds : goal.returns-in_default-core_module-clause-adds
+returns-in_default-core_module-clause-adds c = adds_refl c.args.self.now.table.now 0 4 (tables_of c.args.state.now)
+
+pub returns-in_err-defs-clause-adds : goal.returns-in_err-defs-clause-adds
+returns-in_err-defs-clause-adds c = adds_refl c.args.self.now.table.now 0 4 (tables_of c.args.state.now)
+
+pub returns-in_default-2-clause-adds : goal.returns-in_default-2-clause-adds
+returns-in_default-2-clause-adds c = adds_refl c.args.self.now.table.now 0 4 (tables_of c.args.state.now)
+
+pub returns-in_err-instance-clause-adds : goal.returns-in_err-instance-clause-adds
+returns-in_err-instance-clause-adds c =
+    everywhere_few c.args.self.now.table.now (tables_of c.args.state.now) _
+    (instance_adds (tables_of c.args.state.now) c.push_instance.new.self c.push_instance.result _ _
+    c.push_instance.ensures.ok c.push_instance.ensures.err)
+
+pub returns-in_err-push-clause-adds : goal.returns-in_err-push-clause-adds
+returns-in_err-push-clause-adds c =
+    everywhere_few c.args.self.now.table.now (tables_of c.args.state.now) _
+    (instance_adds (tables_of c.args.state.now) c.push_instance.new.self c.push_instance.result _ _
+    c.push_instance.ensures.ok c.push_instance.ensures.err)
+
+pub returns-clause-adds : goal.returns-clause-adds
+returns-clause-adds c =
+    everywhere_few c.args.self.now.table.now (tables_of c.args.state.now) _
+    (instance_adds (tables_of c.args.state.now) c.push_instance.new.self c.push_instance.result _ _
+    c.push_instance.ensures.ok c.push_instance.ensures.err)

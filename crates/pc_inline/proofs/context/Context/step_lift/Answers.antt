@@ -1,11 +1,12 @@
-use Rattle.std.proofs.Common.{◌≡◌, [], ◌∷◌, ◌++◌, Ok, Some, ap, sym, subst, refl, ◌∙◌}
+use Rattle.std.proofs.Common.{[], ◌∷◌, ◌++◌, Ok, ap, sym, subst, ◌∙◌, arith}
 use Rattle.std.specs.Prelude.{slice_get}
 use Rattle.pc_reading.specs.Item.{lift_item}
 use Rattle.pc_inline.specs.declared.definition.Definition.TheVariants as definition
-use Rattle.pc_inline.specs.Written.{options_in}
 use Rattle.pc_inline.specs.Points.{StepsItem}
 use Rattle.pc_inline.proofs.LiftLemmas.{lift_lacks_types, lift_misses, lift_misses_option, lift_steps}
 use Rattle.pc_inline.proofs.PassedLemmas.{passed_lacking, passed_unfed, steps_passed}
+use Rattle.pc_inline.proofs.AddsLemmas.{adds_refl, adds_then, definition_few}
+use Rattle.pc_inline.specs.Tables.{tables_of}
 use Rattle.pc_inline.proofs.context.Context.step_lift.Goals as goal
 
 pub returns-in_err-ty-clause-steps : goal.returns-in_err-ty-clause-steps
@@ -49,3 +50,42 @@ returns-clause-steps c =
     (ap (λ l. slice_get l c.args.func) (sym c.as_slice.ensures) ∙ sym c.at.ensures ∙ c.in-Some.is)
     c.in-Some-options_in.options (sym c.options_in.ensures ∙ c.in-Some-options_in.is) c.in_ok-id.id
     c.in_ok-id.ensures.key tt))
+
+pub returns-in_err-ty-clause-adds : goal.returns-in_err-ty-clause-adds
+returns-in_err-ty-clause-adds c =
+    adds_then c.args.self.now.table.now 0 (tables_of c.args.state.now) (tables_of c.function_types.new.state)
+    (tables_of c.function_types.new.state) (omega arith) c.function_types.ensures.adds
+    (adds_refl c.args.self.now.table.now 0 0 (tables_of c.function_types.new.state))
+
+pub returns-in_default-clause-adds : goal.returns-in_default-clause-adds
+returns-in_default-clause-adds c =
+    adds_then c.args.self.now.table.now 0 (tables_of c.args.state.now) (tables_of c.function_types.new.state)
+    (tables_of c.function_types.new.state) (omega arith) c.function_types.ensures.adds
+    (adds_refl c.args.self.now.table.now 0 0 (tables_of c.function_types.new.state))
+
+pub returns-in_default-options_in-clause-adds : goal.returns-in_default-options_in-clause-adds
+returns-in_default-options_in-clause-adds c =
+    adds_then c.args.self.now.table.now 0 (tables_of c.args.state.now) (tables_of c.function_types.new.state)
+    (tables_of c.function_types.new.state) (omega arith) c.function_types.ensures.adds
+    (adds_refl c.args.self.now.table.now 0 0 (tables_of c.function_types.new.state))
+
+pub returns-in_err-id-clause-adds : goal.returns-in_err-id-clause-adds
+returns-in_err-id-clause-adds c =
+    adds_then c.args.self.now.table.now 4 (tables_of c.args.state.now) (tables_of c.function_types.new.state)
+    (tables_of c.push_definition.new.self) (omega arith) c.function_types.ensures.adds
+    (definition_few c.args.self.now.table.now (tables_of c.function_types.new.state) (tables_of
+    c.push_definition.new.self) c.push_definition.ensures.adds)
+
+pub returns-in_err-push-clause-adds : goal.returns-in_err-push-clause-adds
+returns-in_err-push-clause-adds c =
+    adds_then c.args.self.now.table.now 4 (tables_of c.args.state.now) (tables_of c.function_types.new.state)
+    (tables_of c.push_definition.new.self) (omega arith) c.function_types.ensures.adds
+    (definition_few c.args.self.now.table.now (tables_of c.function_types.new.state) (tables_of
+    c.push_definition.new.self) c.push_definition.ensures.adds)
+
+pub returns-clause-adds : goal.returns-clause-adds
+returns-clause-adds c =
+    adds_then c.args.self.now.table.now 4 (tables_of c.args.state.now) (tables_of c.function_types.new.state)
+    (tables_of c.push_definition.new.self) (omega arith) c.function_types.ensures.adds
+    (definition_few c.args.self.now.table.now (tables_of c.function_types.new.state) (tables_of
+    c.push_definition.new.self) c.push_definition.ensures.adds)

@@ -1,9 +1,11 @@
-use Rattle.std.proofs.Common.{◌≡◌, [], ◌∷◌, ◌++◌, Ok, Some, ap, sym, subst, refl, ◌∙◌}
+use Rattle.std.proofs.Common.{ap, sym, ◌∙◌, arith}
 use Rattle.std.specs.Prelude.{slice_get}
-use Rattle.pc_inline.proofs.LowerLemmas.{lower_adapts, lower_lacks_types, lower_misses, lower_misses_option, lower_ready, lower_steps}
+use Rattle.pc_inline.proofs.LowerLemmas.{lower_adapts, lower_lacks_types, lower_misses, lower_misses_option}
+use Rattle.pc_inline.proofs.LowerLemmas.{lower_ready, lower_steps}
 use Rattle.pc_inline.proofs.PassedLemmas.{passed_lacking, passed_unfed, steps_passed}
 use Rattle.pc_inline.specs.Tables.{tables_of}
 use Rattle.pc_inline.proofs.StateLemmas.{converts_prepares, keeps_trans}
+use Rattle.pc_inline.proofs.AddsLemmas.{adds_refl, adds_then}
 use Rattle.pc_inline.proofs.context.Context.step_lower.Goals as goal
 
 pub returns-in_err-ty-clause-steps : goal.returns-in_err-ty-clause-steps
@@ -34,7 +36,8 @@ returns-in_default-host_func-clause-steps c =
 
 pub lower_host-requires : goal.lower_host-requires
 lower_host-requires c =
-    let ready = lower_ready c.args.self.now.table.now c.args.self.now.modules c.args.func c.args.ty c.args.core c.args.opts.now _ c.args.frame.now _
+    let ready = lower_ready c.args.self.now.table.now c.args.self.now.modules c.args.func c.args.ty c.args.core
+    c.args.opts.now _ c.args.frame.now _
     c.in_ok-ty.ensures.converts _ _ c.in_ok-ty.ensures.are c.requires.here c.in-Some.func
     (ap (λ l. slice_get l c.args.func) (sym c.as_slice.ensures) ∙ sym c.at.ensures ∙ c.in-Some.is)
     c.in-Some-options_in.options (sym c.options_in.ensures ∙ c.in-Some-options_in.is) c.in-Some-host_func.import
@@ -74,3 +77,42 @@ returns-clause-steps c =
     c.in-Some-options_in.options (sym c.options_in.ensures ∙ c.in-Some-options_in.is) c.in-Some-host_func.import
     (sym c.host_func.ensures ∙ c.in-Some-host_func.is) c.lower_host.new.state c.in_ok-id.id c.in_ok-id.ensures.lowers _
     (λ i. record c.args.frame.now { core_funcs = c.in_ok-push.ensures.ok i }) tt
+
+pub returns-in_err-ty-clause-adds : goal.returns-in_err-ty-clause-adds
+returns-in_err-ty-clause-adds c =
+    adds_then c.args.self.now.table.now 0 (tables_of c.args.state.now) (tables_of c.function_types.new.state)
+    (tables_of c.function_types.new.state) (omega arith) c.function_types.ensures.adds
+    (adds_refl c.args.self.now.table.now 0 0 (tables_of c.function_types.new.state))
+
+pub returns-in_default-clause-adds : goal.returns-in_default-clause-adds
+returns-in_default-clause-adds c =
+    adds_then c.args.self.now.table.now 0 (tables_of c.args.state.now) (tables_of c.function_types.new.state)
+    (tables_of c.function_types.new.state) (omega arith) c.function_types.ensures.adds
+    (adds_refl c.args.self.now.table.now 0 0 (tables_of c.function_types.new.state))
+
+pub returns-in_default-options_in-clause-adds : goal.returns-in_default-options_in-clause-adds
+returns-in_default-options_in-clause-adds c =
+    adds_then c.args.self.now.table.now 0 (tables_of c.args.state.now) (tables_of c.function_types.new.state)
+    (tables_of c.function_types.new.state) (omega arith) c.function_types.ensures.adds
+    (adds_refl c.args.self.now.table.now 0 0 (tables_of c.function_types.new.state))
+
+pub returns-in_default-host_func-clause-adds : goal.returns-in_default-host_func-clause-adds
+returns-in_default-host_func-clause-adds c =
+    adds_then c.args.self.now.table.now 0 (tables_of c.args.state.now) (tables_of c.function_types.new.state)
+    (tables_of c.function_types.new.state) (omega arith) c.function_types.ensures.adds
+    (adds_refl c.args.self.now.table.now 0 0 (tables_of c.function_types.new.state))
+
+pub returns-in_err-id-clause-adds : goal.returns-in_err-id-clause-adds
+returns-in_err-id-clause-adds c =
+    adds_then c.args.self.now.table.now 4 (tables_of c.args.state.now) (tables_of c.function_types.new.state)
+    (tables_of c.lower_host.new.state) (omega arith) c.function_types.ensures.adds c.lower_host.ensures.adds
+
+pub returns-in_err-push-clause-adds : goal.returns-in_err-push-clause-adds
+returns-in_err-push-clause-adds c =
+    adds_then c.args.self.now.table.now 4 (tables_of c.args.state.now) (tables_of c.function_types.new.state)
+    (tables_of c.lower_host.new.state) (omega arith) c.function_types.ensures.adds c.lower_host.ensures.adds
+
+pub returns-clause-adds : goal.returns-clause-adds
+returns-clause-adds c =
+    adds_then c.args.self.now.table.now 4 (tables_of c.args.state.now) (tables_of c.function_types.new.state)
+    (tables_of c.lower_host.new.state) (omega arith) c.function_types.ensures.adds c.lower_host.ensures.adds

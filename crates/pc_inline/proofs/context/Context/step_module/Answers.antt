@@ -1,10 +1,11 @@
-use Rattle.std.proofs.Common.{◌≡◌, [], ◌∷◌, ◌++◌, Ok, true, false, ap, sym, subst, refl, ◌∙◌}
-use Rattle.pc_types.specs.declared.module_record.ModuleRecord.{ModuleRecord}
+use Rattle.std.proofs.Common.{[], ◌∷◌, ◌++◌, Ok, sym, subst, ◌∙◌}
 use Rattle.pc_reading.specs.Item.{module_item}
 use Rattle.pc_inline.specs.declared.definition.Definition.TheVariants as definition
 use Rattle.pc_inline.specs.Points.{StepsItem}
 use Rattle.pc_inline.proofs.ModuleLemmas.{module_misses, module_steps}
 use Rattle.pc_inline.proofs.PassedLemmas.{passed_lacking, passed_unfed}
+use Rattle.pc_inline.proofs.AddsLemmas.{adds_refl, definition_few}
+use Rattle.pc_inline.specs.Tables.{tables_of}
 use Rattle.pc_inline.proofs.context.Context.step_module.Goals as goal
 
 pub returns-then-not-is_module_type-clause-steps : goal.returns-then-not-is_module_type-clause-steps
@@ -30,4 +31,23 @@ returns-clause-steps c =
     })
     (record c.args.frame.now { modules = fs }) (Ok tt)) (sym c.in_ok-push.ensures.ok)
     (module_steps c.args.self.now.table.now c.args.self.now.modules c.args.index c.args.ty c.args.state.now
-    c.args.frame.now c.requires.input.table (sym c.is_module_type.ensures ∙ c.if-not-is_module_type.false) c.in_ok-id.id c.in_ok-id.ensures.key tt))
+    c.args.frame.now c.requires.input.table (sym c.is_module_type.ensures ∙ c.if-not-is_module_type.false)
+    c.in_ok-id.id c.in_ok-id.ensures.key tt))
+
+pub returns-then-not-is_module_type-clause-adds : goal.returns-then-not-is_module_type-clause-adds
+returns-then-not-is_module_type-clause-adds c = adds_refl c.args.self.now.table.now 0 4 (tables_of c.args.state.now)
+
+pub returns-in_err-id-clause-adds : goal.returns-in_err-id-clause-adds
+returns-in_err-id-clause-adds c =
+    definition_few c.args.self.now.table.now (tables_of c.args.state.now) (tables_of c.push_definition.new.self)
+    c.push_definition.ensures.adds
+
+pub returns-in_err-push-clause-adds : goal.returns-in_err-push-clause-adds
+returns-in_err-push-clause-adds c =
+    definition_few c.args.self.now.table.now (tables_of c.args.state.now) (tables_of c.push_definition.new.self)
+    c.push_definition.ensures.adds
+
+pub returns-clause-adds : goal.returns-clause-adds
+returns-clause-adds c =
+    definition_few c.args.self.now.table.now (tables_of c.args.state.now) (tables_of c.push_definition.new.self)
+    c.push_definition.ensures.adds

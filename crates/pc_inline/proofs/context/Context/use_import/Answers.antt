@@ -1,5 +1,4 @@
-use Rattle.std.proofs.Common.{◌≡◌, ◌<◌, ◌++◌, ◌∷◌, [], Some, Err, length, ap, sym, subst, refl, ◌∙◌}
-use Rattle.std.specs.Prelude.{slice_get}
+use Rattle.std.proofs.Common.{◌<◌, ◌++◌, ◌∷◌, [], Some, Err, ap, sym, subst, refl, ◌∙◌}
 use Rattle.std.proofs.lemmas.Option.{slice_get_read}
 use Rattle.std.proofs.lemmas.List.{length-set}
 use Rattle.pc_dfg.specs.Lists as list
@@ -7,6 +6,9 @@ use Rattle.pc_inline.proofs.GrowthLemmas.{graph_crowded}
 use Rattle.pc_inline.specs.Tables.{tables_of}
 use Rattle.pc_inline.proofs.RefusedLemmas.{push_lacks}
 use Rattle.pc_inline.proofs.UsesLemmas.{used_again, used_new}
+use Rattle.pc_inline.proofs.AddsLemmas.{each_refl}
+use Rattle.pc_inline.proofs.AddsPushLemmas.{import_adds}
+use Rattle.pc_inline.specs.AddsEach.{in_imports}
 use Rattle.pc_inline.proofs.context.Context.use_import.Goals as goal
 
 pub returns-in-Some-clause-uses : goal.returns-in-Some-clause-uses
@@ -34,3 +36,16 @@ returns-clause-uses c =
     (length-set c.args.state.now.used.items c.args.import.0 (Some c.in_ok-number.number))
     (slice_get_read c.args.state.now.used.items _ c.args.import.0 c.index.result.now refl below
     c.index.ensures ∙ ap Some c.in_default.is) below
+
+pub returns-in-Some-clause-adds : goal.returns-in-Some-clause-adds
+returns-in-Some-clause-adds c = each_refl in_imports 0 0 (tables_of c.args.state.now)
+
+pub returns-in_err-number-clause-adds : goal.returns-in_err-number-clause-adds
+returns-in_err-number-clause-adds c =
+    import_adds (tables_of c.args.state.now) c.push_import.new.self c.push_import.result _ c.push_import.ensures.rest
+    c.push_import.ensures.ok c.push_import.ensures.err
+
+pub returns-clause-adds : goal.returns-clause-adds
+returns-clause-adds c =
+    import_adds (tables_of c.args.state.now) c.push_import.new.self c.push_import.result _ c.push_import.ensures.rest
+    c.push_import.ensures.ok c.push_import.ensures.err

@@ -2,6 +2,9 @@ use Rattle.std.proofs.Common.{◌≤◌, subst}
 use Rattle.pc_inline.proofs.RefusedLemmas.{definitions_lack, memory_lacks}
 use Rattle.pc_inline.specs.Tables.{tables_of}
 use Rattle.pc_inline.proofs.GrowthLemmas.{definitions_grown, push_kept}
+use Rattle.pc_inline.proofs.AddsLemmas.{each_refl}
+use Rattle.pc_inline.proofs.AddsPushLemmas.{definition_adds}
+use Rattle.pc_inline.specs.AddsEach.{nowhere}
 use Rattle.pc_inline.proofs.state.State.push_definition.Goals as goal
 
 pub returns-clause-keeps : goal.returns-clause-keeps
@@ -15,3 +18,16 @@ returns-then-len-ge-MAX_ENTRIES-clause-lacks c =
 
 pub returns-in_err-push-clause-lacks : goal.returns-in_err-push-clause-lacks
 returns-in_err-push-clause-lacks c = memory_lacks _ _ c.from_residual.ensures.1
+
+pub returns-clause-adds : goal.returns-clause-adds
+returns-clause-adds c =
+    definition_adds (tables_of c.args.self.now) c.push.result _ c.args.definition c.push.ensures.ok
+    c.push.ensures.err
+
+pub returns-in_err-push-clause-adds : goal.returns-in_err-push-clause-adds
+returns-in_err-push-clause-adds c =
+    definition_adds (tables_of c.args.self.now) c.push.result _ c.args.definition c.push.ensures.ok
+    c.push.ensures.err
+
+pub returns-then-len-ge-MAX_ENTRIES-clause-adds : goal.returns-then-len-ge-MAX_ENTRIES-clause-adds
+returns-then-len-ge-MAX_ENTRIES-clause-adds c = each_refl nowhere 0 1 (tables_of c.args.self.now)

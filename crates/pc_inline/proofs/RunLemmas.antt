@@ -1,0 +1,114 @@
+-- From the state of an instantiation to its answer.
+use Rattle.std.proofs.Common.{◌≡◌, ℕ, List, length, Result, Ok, Err, refl, sym, subst, ◌∙◌}
+use Rattle.std.specs.Prelude.{⊤}
+use Rattle.std.specs.Result.{IsErrAnd}
+use Rattle.pc_interned.specs.Types.{Grows, KeepsTypes, Resources, Types}
+use Rattle.pc_types.specs.declared.error.Error.{Error}
+use Rattle.pc_types.specs.declared.error.Error.TheVariants as error
+use Rattle.pc_types.specs.declared.module_record.ModuleRecord.{ModuleRecord}
+use Rattle.pc_types.specs.declared.parsed.TypeTable.{TypeTable}
+use Rattle.pc_reading.specs.Item.{Items}
+use Rattle.pc_local.specs.declared.item.Translation.{Translation}
+use Rattle.pc_local.specs.Standing.{BodyStands, no_names}
+use Rattle.pc_dfg.specs.declared.dfg.ComponentDfg.{ComponentDfg}
+use Rattle.pc_inline.specs.declared.state.State.{State}
+use Rattle.pc_inline.specs.Begins.{InlinesBody, InlinesRoot, IsBuiltEnd, RootHasFew, RootRead, counted_tables}
+use Rattle.pc_inline.specs.Begins.{no_resources}
+use Rattle.pc_inline.specs.Tables.{Keeps, Tables, tables_of}
+use Rattle.pc_inline.specs.Inlines.{Inlines, IsFault, StandsForReading}
+use Rattle.pc_inline.proofs.CountLemmas.{counted_exports, counted_holds, counted_items, counted_ordered, counted_plain}
+use Rattle.pc_inline.proofs.CountLemmas.{counted_world}
+use Rattle.pc_inline.proofs.EndLemmas.{done_today, end_today}
+use Rattle.pc_inline.proofs.RootFewLemmas.{no_room}
+
+-- types keep their numbers, whichever resources were known before
+pub resources_aside : (old new : Types) (r : Resources) → Grows (record old { resources = r }) new → KeepsTypes old new
+resources_aside old new r grows = record {
+  funcs = grows.funcs;
+  tuples = grows.tuples;
+  records = grows.records;
+  variants = grows.variants;
+  lists = grows.lists;
+  options = grows.options;
+  results = grows.results;
+  flags = grows.flags;
+  enums = grows.enums;
+  resource_tables = grows.resource_tables;
+  future_tables = grows.future_tables;
+  stream_tables = grows.stream_tables;
+  error_context_tables = grows.error_context_tables;
+  instances = grows.instances;
+  components = grows.components;
+  modules = grows.modules;
+  signatures = grows.signatures;
+  resources = refl;
+}
+
+-- so does the builder that is handed back
+pub run_keeps : (old taken new : Types) (st st' : State) → taken ≡ record old { resources = no_resources }
+    → st.types ≡ taken → Keeps (tables_of st) (tables_of st') → new ≡ st'.types → KeepsTypes old new
+run_keeps old taken new st st' forgot is keeps now =
+    subst (KeepsTypes old) (sym now)
+    (resources_aside old st'.types no_resources (subst (λ x. Grows x st'.types) (is ∙ forgot) keeps.types))
+
+-- a root stands for a body among bodies that are the same
+pub stands_among : (bodies' bodies : List Translation) → bodies' ≡ bodies → (root : Translation) (body : Items)
+    → BodyStands bodies no_names root body → BodyStands bodies' no_names root body
+stands_among bodies' bodies among root body stands =
+    subst (λ bs. BodyStands bs no_names root body) (sym among) stands
+
+module _ (t : TypeTable) (ms : List ModuleRecord) (limit : ℕ) where
+  -- the graph stands for the reading, with the counts of tables
+  pub counted_reading : (body : Items) (st : State) → RootRead t ms limit body st
+      → StandsForReading t ms limit body st.types (counted_tables st.graph st.types)
+  counted_reading body st read =
+      let g = st.graph in
+      let futures = length st.types.future_tables in
+      let streams = length st.types.stream_tables in
+      let errors = length st.types.error_context_tables in
+      record {
+        result = read.result;
+        outcome = done_today t ms limit body read.result read.outcome;
+        built = read.outcome;
+        stands = record {
+          world = counted_world g futures streams errors st.types _ read.world;
+          exports = counted_exports g futures streams errors st.types _ read.exports;
+          numbers = record { as_many = read.numbers.as_many; in_order = read.numbers.in_order };
+          ordered = counted_ordered g futures streams errors read.sound.ordered;
+          items = counted_items g futures streams errors ms read.sound.items;
+          plain = counted_plain g futures streams errors read.sound.plain;
+          held = counted_holds g futures streams errors st.types read.sound.held;
+          future_tables = refl;
+          stream_tables = refl;
+          error_context_tables = refl;
+        };
+      }
+
+  module _ (given : List ModuleRecord) (same : given ≡ ms) (root : Translation) (st : State) (types : Types)
+      (now : types ≡ st.types) (bodies : List Translation) (body : Items)
+      (stands : BodyStands bodies no_names root body) where
+    -- the graph is answered
+    pub run_done : (g : ComponentDfg) → g ≡ counted_tables st.graph st.types → (end : ⊤)
+        → InlinesRoot t given limit bodies root st (Ok end) → Inlines t ms limit body types (Ok g)
+    unfolding Inlines InlinesBody
+    run_done g is end inlines =
+        subst (λ x. StandsForReading t ms limit body x g) (sym now)
+        (subst (StandsForReading t ms limit body st.types) (sym is)
+        (counted_reading body st (subst (λ xs. RootRead t xs limit body st) same (inlines body stands))))
+
+    -- or the error
+    pub run_fails : (old : Tables) → old.bodies ≡ bodies → RootHasFew t root old (tables_of st) → (e : Error)
+        → InlinesRoot t given limit bodies root st (Err e) → Inlines t ms limit body types (Err e)
+    unfolding Inlines InlinesBody
+    run_fails old among few e inlines =
+        subst (λ x. IsFault t ms limit body x e) (sym now)
+        (end_today t ms limit body st (no_room t body old st (few body (stands_among old.bodies bodies among root body
+        stands))) e
+        (subst (λ xs. IsBuiltEnd t xs limit body st e) same (inlines body stands)))
+
+  -- memory was wanting
+  pub run_unfed : (body : Items) (types : Types) (r : Result ComponentDfg Error)
+      → IsErrAnd r (λ x. x ≡ error.NoMemory) → Inlines t ms limit body types r
+  unfolding Inlines
+  run_unfed body types (Ok x) is = absurd is
+  run_unfed body types (Err x) is = subst (λ e. Inlines t ms limit body types (Err e)) (sym is) tt

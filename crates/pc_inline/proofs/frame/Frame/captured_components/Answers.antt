@@ -1,0 +1,30 @@
+use Rattle.std.proofs.Common.{◌<◌, Some, length, ap, sym, ◌∙◌, arith}
+use Rattle.std.proofs.lemmas.List.{take_all}
+use Rattle.pc_local.specs.Standing.{component_variable}
+use Rattle.pc_inline.specs.Captures.{captured_ids}
+use Rattle.pc_inline.proofs.CaptureLemmas.{captured_more, captured_none}
+use Rattle.pc_inline.proofs.frame.Frame.captured_components.Goals as goal
+
+pub returns : goal.returns
+returns c =
+    c.loop-variable.invariant ∙ ap (captured_ids component_variable c.args.self.now.components)
+    (take_all c.loop-variable.variable-index c.args.variables.now c.loop-variable-test.false)
+
+pub loop-variable-init : goal.loop-variable-init
+loop-variable-init c = ap Some c.new-ids.ensures
+
+pub loop-variable-preserved : goal.loop-variable-preserved
+loop-variable-preserved c =
+    let xs = c.args.variables.now in
+    let within : c.loop-variable.variable-index < length xs = omega (arith, c.loop-variable-test.true) in
+    ap Some c.in_ok-push.ensures.ok
+    ∙ captured_more component_variable c.args.self.now.components xs c.loop-variable.variable-index _
+    c.loop-variable.ids
+    within c.in-Some.id c.loop-variable.invariant (sym c.captured_component.ensures ∙ c.in-Some.is)
+
+pub returns-in_default : goal.returns-in_default
+returns-in_default c =
+    let xs = c.args.variables.now in
+    let within : c.loop-variable.variable-index < length xs = omega (arith, c.loop-variable-test.true) in
+    captured_none component_variable c.args.self.now.components xs c.loop-variable.variable-index _ within
+    (sym c.captured_component.ensures ∙ c.in_default.is)
