@@ -1,4 +1,4 @@
-//! Tests of how inputs are read: their form, what a payload list is translated to, and its local program.
+//! Tests of how inputs are read: their form, and the local program of a payload list.
 #![tactic(auto)]
 
 #[cfg(test)]
@@ -9,5 +9,3 @@ mod inputs;
 mod local;
 #[cfg(test)]
 mod numbered;
-#[cfg(test)]
-mod translated;

@@ -1,5 +1,6 @@
 -- One level further in on the way of an alias.
-use Rattle.std.proofs.Common.{◌≡◌, ◌⊎◌, ◌≢◌, ℕ, suc, ◌<◌, ◌+◌, List, [], ◌∷◌, ◌++◌, length, Some, refl, sym, ap, ◌∙◌, subst, inl, inr, arith, add-one, get_or, ◌-◌}
+use Rattle.std.proofs.Common.{◌≡◌, ◌⊎◌, ◌≢◌, ℕ, suc, ◌<◌, ◌+◌, List, [], ◌∷◌, ◌++◌, length, Some, refl, sym, ap, ◌∙◌}
+use Rattle.std.proofs.Common.{subst, inl, inr, arith, add-one, get_or, ◌-◌}
 use Rattle.std.specs.Prelude.{slice_get, slice_set}
 use Rattle.std.proofs.lemmas.List.{length-append, length-set}
 use Rattle.std.proofs.lemmas.Option.{slice_get_read}
@@ -10,7 +11,8 @@ use Rattle.pc_reading.specs.Item.{Item, Lent}
 use Rattle.pc_local.specs.declared.captured.Captured.{Captured}
 use Rattle.pc_local.specs.declared.captured.Variable.{Variable}
 use Rattle.pc_local.specs.declared.captured.Variable.TheVariants as variable
-use Rattle.pc_local.specs.Captured.{Captures, Grows, Linked, UsedBut, at_or, items_at, names_at, nothing, so_far, variables_at}
+use Rattle.pc_local.specs.Captured.{Captures, Grows, Linked, UsedBut, at_or, items_at, names_at, nothing, so_far}
+use Rattle.pc_local.specs.Captured.{variables_at}
 use Rattle.pc_local.specs.Standing.{Gives, Has, Leaves, Reads, name_of}
 use Rattle.pc_local.proofs.PlaceLemmas.{at_found, at_set_same, at_set_other, found_in_push, same_or_not}
 

@@ -1,5 +1,6 @@
 -- A nested body ends, and is an item of the body around it.
-use Rattle.std.proofs.Common.{◌≡◌, ℕ, suc, ◌<◌, true, ◌&&◌, List, [], ◌∷◌, ◌++◌, length, map, Some, refl, sym, ap, ◌∙◌, subst, arith, append_assoc}
+use Rattle.std.proofs.Common.{◌≡◌, ℕ, suc, ◌<◌, true, ◌&&◌, List, [], ◌∷◌, ◌++◌, length, map, Some, refl, sym, ap, ◌∙◌}
+use Rattle.std.proofs.Common.{subst, arith, append_assoc}
 use Rattle.std.specs.Prelude.{slice_get}
 use Rattle.std.specs.List.{AllZip}
 use Rattle.std.proofs.lemmas.List.{append-nil, same_from_push}
@@ -17,8 +18,10 @@ use Rattle.pc_local.specs.Open
 use Rattle.pc_local.specs.Open.{State}
 use Rattle.pc_local.specs.Standing
 use Rattle.pc_local.proofs.EntryLemmas.{LevelStands}
-use Rattle.pc_local.proofs.StandLemmas.{NamesKept, and_true, bodies_append, component_kept, counts_append, exports_append, items_append, items_kept, zip_kept, zip_push}
-use Rattle.pc_local.proofs.StateLemmas.{AroundStand, StateStands, bodies_at, around_kept, around_more, around_it, captures_ended, given_it, innermost, leaving_it, level_kept, names_same}
+use Rattle.pc_local.proofs.StandLemmas.{NamesKept, and_true, bodies_append, component_kept, counts_append}
+use Rattle.pc_local.proofs.StandLemmas.{exports_append, items_append, items_kept, zip_kept, zip_push}
+use Rattle.pc_local.proofs.StateLemmas.{AroundStand, StateStands, bodies_at, around_kept, around_more, around_it}
+use Rattle.pc_local.proofs.StateLemmas.{captures_ended, given_it, innermost, leaving_it, level_kept, names_same}
 
 -- a body stands behind those inside it, and those before
 last_body : (outside around inner : List Items) (body : Items)

@@ -1,5 +1,6 @@
 -- The entries of sections, as local items and as items of the reading.
-use Rattle.std.proofs.Common.{◌≡◌, ℕ, Bool, true, false, List, [], ◌∷◌, ◌++◌, map, Option, Some, None, refl, sym, ap, ◌∙◌, if◌then◌else◌}
+use Rattle.std.proofs.Common.{◌≡◌, ℕ, Bool, true, false, List, [], ◌∷◌, ◌++◌, map, Option, Some, None, refl, sym, ap}
+use Rattle.std.proofs.Common.{◌∙◌, if◌then◌else◌}
 use Rattle.std.specs.Prelude.{⊤}
 use Rattle.std.specs.List.{cons_option, filter_map}
 use Rattle.std.proofs.lemmas.Option.{none-some}
@@ -26,7 +27,8 @@ use Rattle.pc_local.specs.declared.item.LocalInitializer.{LocalInitializer}
 use Rattle.pc_local.specs.declared.item.LocalInitializer.TheVariants as local
 use Rattle.pc_local.specs.declared.item.Translation.{Translation}
 use Rattle.pc_local.specs.Captured.{so_far}
-use Rattle.pc_local.specs.Entries.{canon_local, component_instance_local, export_entry, export_local, import_local, instance_local, type_local}
+use Rattle.pc_local.specs.Entries.{canon_local, component_instance_local, export_entry, export_local, import_local}
+use Rattle.pc_local.specs.Entries.{instance_local, type_local}
 use Rattle.pc_local.specs.Plain.{plain_item}
 use Rattle.pc_local.specs.Standing
 use Rattle.pc_local.proofs.StandLemmas.{and_true, export_of, exports_cons}

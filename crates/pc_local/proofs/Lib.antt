@@ -10,3 +10,5 @@ mod EndLemmas
 mod PassLemmas
 mod NextLemmas
 mod RoomLemmas
+-- The layers above rest on these too.
+pub mod NameLemmas

@@ -1,5 +1,6 @@
 -- One payload further, and the end of the list.
-use Rattle.std.proofs.Common.{◌≡◌, ℕ, suc, ◌+◌, Bool, true, false, List, [], ◌∷◌, ◌++◌, length, map, Option, Some, None, refl, sym, ap, ◌∙◌, subst, arith, append_assoc, if◌then◌else◌, inl, inr}
+use Rattle.std.proofs.Common.{◌≡◌, ℕ, suc, ◌+◌, Bool, true, false, List, [], ◌∷◌, ◌++◌, length, map, Option, Some, None}
+use Rattle.std.proofs.Common.{refl, sym, ap, ◌∙◌, subst, arith, append_assoc, if◌then◌else◌, inl, inr}
 use Rattle.std.specs.Prelude.{slice_get}
 use Rattle.std.specs.Option.{option_map, option_or}
 use Rattle.pc_types.specs.Table.{table_error, table_fault}
@@ -35,16 +36,22 @@ use Rattle.pc_reading.specs.Section.{items_of, modules_of, named_item}
 use Rattle.pc_local.specs.declared.item.LocalInitializer.TheVariants as local
 use Rattle.pc_local.specs.declared.item.Translation.{Translation}
 use Rattle.pc_local.specs.Captured as cap
-use Rattle.pc_local.specs.Entries.{canon_local, component_instance_local, export_entry, export_local, import_local, instance_local, type_local}
+use Rattle.pc_local.specs.Entries.{canon_local, component_instance_local, export_entry, export_local, import_local}
+use Rattle.pc_local.specs.Entries.{instance_local, type_local}
 use Rattle.pc_local.specs.Open
 use Rattle.pc_local.specs.Open.{State}
 use Rattle.pc_local.specs.Program.{ProgramStands}
 use Rattle.pc_local.specs.Standing
-use Rattle.pc_local.proofs.EntryLemmas.{AgreeAll, LevelStands, agree_all, all_kept, canon_agrees, component_instance_agrees, entries_no_bodies, exports_no_bodies, imports_no_bodies, instance_agrees, only, type_agrees}
-use Rattle.pc_local.proofs.PassLemmas.{Passed, Placed, aliases_shown, begin_next, end_next, exports_next, idle_next, imports_next, items_next, module_next, no_error, no_fault, none_shown, plain_next, rest_cons, root_shown, section_next}
+use Rattle.pc_local.proofs.EntryLemmas.{AgreeAll, LevelStands, agree_all, all_kept, canon_agrees}
+use Rattle.pc_local.proofs.EntryLemmas.{component_instance_agrees, entries_no_bodies, exports_no_bodies}
+use Rattle.pc_local.proofs.EntryLemmas.{imports_no_bodies, instance_agrees, only, type_agrees}
+use Rattle.pc_local.proofs.PassLemmas.{Passed, Placed, aliases_shown, begin_next, end_next, exports_next, idle_next}
+use Rattle.pc_local.proofs.PassLemmas.{imports_next, items_next, module_next, no_error, no_fault, none_shown}
+use Rattle.pc_local.proofs.PassLemmas.{plain_next, rest_cons, root_shown, section_next}
 use Rattle.pc_local.proofs.ReadLemmas.{Stage, beginning, inside_one, ended, counts_exposing, seen, seen_version, shown}
 use Rattle.pc_local.proofs.StandLemmas.{exports_append, items_kept}
-use Rattle.pc_local.proofs.StateLemmas.{AroundStand, StateStands, around_kept, bodies_at, bodies_more, items_with_more, more_stands}
+use Rattle.pc_local.proofs.StateLemmas.{AroundStand, StateStands, around_kept, bodies_at, bodies_more, items_with_more}
+use Rattle.pc_local.proofs.StateLemmas.{more_stands}
 
 -- aliases export nothing
 aliases_export : (es : List AliasItem)

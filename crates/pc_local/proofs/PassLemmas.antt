@@ -1,5 +1,6 @@
 -- How far a list without a static fault has been gone through.
-use Rattle.std.proofs.Common.{◌≡◌, ℕ, zero, suc, ◌+◌, ◌-◌, true, false, List, [], ◌∷◌, ◌++◌, length, map, Option, Some, None, refl, sym, ap, ◌∙◌, subst, arith, add-one}
+use Rattle.std.proofs.Common.{◌≡◌, ℕ, zero, suc, ◌+◌, ◌-◌, true, false, List, [], ◌∷◌, ◌++◌, length, map, Option, Some}
+use Rattle.std.proofs.Common.{None, refl, sym, ap, ◌∙◌, subst, arith, add-one}
 use Rattle.std.specs.Option.{option_map}
 use Rattle.std.specs.List.{cons_option, filter_map}
 use Rattle.std.proofs.lemmas.List.{append-nil, length-append}
@@ -36,9 +37,12 @@ use Rattle.pc_local.specs.Open.{State}
 use Rattle.pc_local.specs.Plain.{plain_item}
 use Rattle.pc_local.specs.Standing
 use Rattle.pc_local.proofs.EndLemmas.{inner_ends}
-use Rattle.pc_local.proofs.EntryLemmas.{AgreeAll, LevelStands, entries_shown, entries_stand, exports_shown, exports_stand, expose, imports_stand, only}
-use Rattle.pc_local.proofs.ReadLemmas.{Stage, beginning, inside_one, ended, bodies_shown, seen, seen_begun, seen_closed, seen_ended, seen_items, shown}
-use Rattle.pc_local.proofs.StateLemmas.{AroundStand, StateStands, around_more, around_none, begun_stands, more_stands, with_more}
+use Rattle.pc_local.proofs.EntryLemmas.{AgreeAll, LevelStands, entries_shown, entries_stand, exports_shown}
+use Rattle.pc_local.proofs.EntryLemmas.{exports_stand, expose, imports_stand, only}
+use Rattle.pc_local.proofs.ReadLemmas.{Stage, beginning, inside_one, ended, bodies_shown, seen, seen_begun, seen_closed}
+use Rattle.pc_local.proofs.ReadLemmas.{seen_ended, seen_items, shown}
+use Rattle.pc_local.proofs.StateLemmas.{AroundStand, StateStands, around_more, around_none, begun_stands, more_stands}
+use Rattle.pc_local.proofs.StateLemmas.{with_more}
 
 -- where no error comes first, there is none here and none later
 pub no_error : (n : ℕ) (f : Option (ℕ × StaticFault)) (later : Option Error) → error_or n f later ≡ None

@@ -1,5 +1,6 @@
 -- Bodies that grow at their end, and bodies of a program that grows.
-use Rattle.std.proofs.Common.{◌≡◌, ℕ, Bool, true, false, ◌&&◌, Option, None, List, [], ◌∷◌, ◌++◌, Some, refl, sym, ap, ◌∙◌, append_assoc}
+use Rattle.std.proofs.Common.{◌≡◌, ℕ, Bool, true, false, ◌&&◌, Option, None, List, [], ◌∷◌, ◌++◌, Some, refl, sym, ap}
+use Rattle.std.proofs.Common.{◌∙◌, append_assoc}
 use Rattle.std.specs.List.{AllZip, cons_option}
 use Rattle.pc_entity.specs.Lists.{Kept}
 use Rattle.pc_reading.specs.Item.{Item, Items, ExportOf, and_item, before, bodies_in, bodies_of, exports_in}
@@ -152,7 +153,7 @@ exports_cons (Item.outer_item a b c) is = refl
 exports_cons (Item.export_item a) is = refl
 
 -- what may export something, in front
-option_append : (o : Option ExportOf) (xs ys : List ExportOf) → cons_option o (xs ++ ys) ≡ cons_option o xs ++ ys
+pub option_append : (o : Option ExportOf) (xs ys : List ExportOf) → cons_option o (xs ++ ys) ≡ cons_option o xs ++ ys
 option_append None xs ys = refl
 option_append (Some x) xs ys = refl
 

@@ -1,5 +1,6 @@
 -- The open bodies stand for the levels of items so far, payload by payload.
-use Rattle.std.proofs.Common.{◌≡◌, ◌⊎◌, ℕ, suc, ◌<◌, ◌≤◌, ◌+◌, List, [], ◌∷◌, ◌++◌, length, map, Some, refl, sym, ap, ◌∙◌, subst, inl, inr, arith}
+use Rattle.std.proofs.Common.{◌≡◌, ◌⊎◌, ℕ, suc, ◌<◌, ◌≤◌, ◌+◌, List, [], ◌∷◌, ◌++◌, length, map, Some, refl, sym, ap}
+use Rattle.std.proofs.Common.{◌∙◌, subst, inl, inr, arith}
 use Rattle.std.specs.Prelude.{slice_get}
 use Rattle.std.specs.List.{AllZip}
 use Rattle.std.proofs.lemmas.List.{append-nil, length-append}
@@ -7,7 +8,8 @@ use Rattle.std.proofs.lemmas.Option.{none-some}
 use Rattle.pc_entity.specs.Lists.{Kept}
 use Rattle.pc_parsed.specs.declared.payload.ExternName.{ExternName}
 use Rattle.pc_parsed.specs.declared.payload.ItemKind.{ItemKind}
-use Rattle.pc_reading.specs.Item.{Item, Items, ExportOf, Lent, a_module, a_component, bodies_in, component_item, exports_in}
+use Rattle.pc_reading.specs.Item.{Item, Items, ExportOf, Lent, a_module, a_component, bodies_in, component_item}
+use Rattle.pc_reading.specs.Item.{exports_in}
 use Rattle.pc_reading.specs.Nest.{counts_in}
 use Rattle.pc_reading.specs.Section.{named_item}
 use Rattle.pc_local.specs.declared.captured.Captured.{Captured}

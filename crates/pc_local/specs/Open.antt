@@ -12,7 +12,8 @@ use Rattle.pc_local.specs.declared.item.LocalInitializer.TheVariants as local
 use Rattle.pc_local.specs.declared.item.Translation.{Translation}
 use Rattle.pc_local.specs.declared.open.Open.{Open}
 use Rattle.pc_local.specs.Captured.{AliasesGo, nothing, part}
-use Rattle.pc_local.specs.Entries.{canon_local, component_instance_local, export_entry, export_local, import_local, instance_local, type_local}
+use Rattle.pc_local.specs.Entries.{canon_local, component_instance_local, export_entry, export_local, import_local}
+use Rattle.pc_local.specs.Entries.{instance_local, type_local}
 use Rattle.pc_local.specs.Standing.{component_variable, module_variable}
 
 -- the open bodies as lists

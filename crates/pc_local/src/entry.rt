@@ -3,7 +3,8 @@
 ghost use Rattle.std.specs.Prelude.{◌≡◌, ◌++◌, ◌∷◌, [], Option, map, IfOk, OnOk};
 ghost use Rattle.std.specs.List.{cons_option, filter_map};
 ghost use Rattle.std.specs.Option.{option_map};
-ghost use Rattle.pc_local.specs.Entries.{canon_local, component_instance_local, export_entry, export_local, import_local, instance_local, type_local};
+ghost use Rattle.pc_local.specs.Entries.{canon_local, component_instance_local, export_entry, export_local};
+ghost use Rattle.pc_local.specs.Entries.{import_local, instance_local, type_local};
 ghost use Rattle.pc_local.specs.declared.item.LocalInitializer.{LocalInitializer};
 
 use crate::item::{LocalInitializer, Translation};

@@ -1,5 +1,5 @@
--- Which errors a static fault is answered with, and why an input is refused. For the layers above too.
-use Rattle.std.proofs.Common.{◌≡◌, ℕ, Bool, true, false, ◌⊎◌, inl, inr, List, [], ◌∷◌, length, Option, Some, None, refl, subst}
+-- Which errors a static fault is answered with. For the layers above too.
+use Rattle.std.proofs.Common.{◌≡◌, ℕ, Bool, true, false, List, [], ◌∷◌, length, Option, Some, None, subst}
 use Rattle.std.specs.Prelude.{nat_eq, option_map, if◌then◌else◌, ⊤}
 use Rattle.std.specs.Option.{option_or}
 use Rattle.pc_types.specs.declared.error.Error.{Error}
@@ -8,11 +8,9 @@ use Rattle.pc_types.specs.declared.error.Place.{Place}
 use Rattle.pc_types.specs.declared.error.Place.TheVariants as place
 use Rattle.pc_types.specs.declared.parsed.TypeTable.{TypeTable}
 use Rattle.pc_types.specs.Table.{EntryFault, bad_entry, value_entry, table_error, table_fault}
-use Rattle.pc_parsed.specs.Built.{are_built}
 use Rattle.pc_parsed.specs.declared.fault.StaticFault.{StaticFault}
 use Rattle.pc_parsed.specs.declared.fault.StaticFault.TheVariants as fault
 use Rattle.pc_parsed.specs.declared.payload.Payload.{Payload}
-use Rattle.pc_parsed.specs.Program.{not_built, refusal}
 use Rattle.pc_parsed.specs.StaticFault.{around, error_or, fault_error, payload_fault, payloads_error, static_fault}
 use Rattle.pc_parsed.specs.Structure.{is_due, open_bodies}
 
@@ -79,15 +77,3 @@ static_kind t exposed ps e h = by (option_map table_error (table_fault t)) h (en
         → IsStatic e
     by None h entry = payloads_static t exposed [] ps e h
     by (Some x) h entry = entry h
-
--- an input is refused by a static fault, or, without one, by a kind that isn't built
-pub refused_by : (t : TypeTable) (exposed : Option (List ℕ)) (ps : List Payload) (e : Error)
-    → refusal t exposed ps ≡ Some e
-    → (static_fault t exposed ps ≡ Some e) ⊎ ((static_fault t exposed ps ≡ None) × (e ≡ not_built))
-refused_by t exposed ps e h = by (static_fault t exposed ps) (are_built t exposed ps) h
-  where
-    by : (o : Option Error) (b : Bool) → option_or o (if b then None else Some not_built) ≡ Some e
-        → (o ≡ Some e) ⊎ ((o ≡ None) × (e ≡ not_built))
-    by None true h = cc
-    by None false h = inr (refl, cc)
-    by (Some x) b h = inl h

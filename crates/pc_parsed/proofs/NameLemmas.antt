@@ -1,5 +1,6 @@
 -- Names that are added one after the other.
-use Rattle.std.proofs.Common.{◌≡◌, ℕ, ◌+◌, Bool, true, false, ◌||◌, List, [], ◌∷◌, ◌++◌, Option, Some, None, drop, map, refl, sym, ap, ◌∙◌, if◌then◌else◌}
+use Rattle.std.proofs.Common.{◌≡◌, ℕ, ◌+◌, Bool, true, false, ◌||◌, List, [], ◌∷◌, ◌++◌, Option, Some, None, drop, map}
+use Rattle.std.proofs.Common.{refl, sym, ap, ◌∙◌, if◌then◌else◌}
 use Rattle.std.specs.Option.{option_or}
 use Rattle.std.specs.Str.{bytes_eq}
 use Rattle.std.proofs.lemmas.List.Folds.{list_any-append}
@@ -11,7 +12,8 @@ use Rattle.pc_parsed.specs.declared.fault.StaticFault.TheVariants as fault
 use Rattle.pc_parsed.specs.declared.payload.ExportEntry.{ExportEntry}
 use Rattle.pc_parsed.specs.declared.payload.ImportItem.{ImportItem}
 use Rattle.pc_parsed.specs.Interface.{import_interface_fault}
-use Rattle.pc_parsed.specs.ItemFaults.{export_fault, export_name, exports_fault, fault_or, import_fault, import_name, imports_fault, is_value_kind, name_fault, value_fault}
+use Rattle.pc_parsed.specs.ItemFaults.{export_fault, export_name, exports_fault, fault_or, import_fault, import_name}
+use Rattle.pc_parsed.specs.ItemFaults.{imports_fault, is_value_kind, name_fault, value_fault}
 use Rattle.pc_parsed.specs.Names.{Gains, HaveSame}
 
 -- a test that is left for later may come first

@@ -1,5 +1,6 @@
 -- How far a list of payloads has been passed without a fault.
-use Rattle.std.proofs.Common.{◌≡◌, ℕ, ◌+◌, suc, add-one, Bool, true, List, [], ◌∷◌, drop, length, Option, Some, None, refl, sym, ap, ◌∙◌}
+use Rattle.std.proofs.Common.{◌≡◌, ℕ, ◌+◌, suc, add-one, Bool, true, List, [], ◌∷◌, drop, length, Option, Some, None}
+use Rattle.std.proofs.Common.{refl, sym, ap, ◌∙◌}
 use Rattle.std.specs.Prelude.{nat_eq}
 use Rattle.pc_types.specs.declared.error.Error.{Error}
 use Rattle.pc_types.specs.declared.error.Place.TheVariants as place

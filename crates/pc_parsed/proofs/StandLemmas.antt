@@ -1,5 +1,6 @@
 -- Open components as they stand for the bodies that are open behind a list of payloads.
-use Rattle.std.proofs.Common.{◌≡◌, ℕ, ◌+◌, Bool, ◌||◌, List, [], ◌∷◌, ◌++◌, length, Option, Some, None, inl, inr, refl, sym, ap, ◌∙◌, subst, arith}
+use Rattle.std.proofs.Common.{◌≡◌, ℕ, ◌+◌, Bool, ◌||◌, List, [], ◌∷◌, ◌++◌, length, Option, Some, None, inl, inr, refl}
+use Rattle.std.proofs.Common.{sym, ap, ◌∙◌, subst, arith}
 use Rattle.std.specs.Prelude.{nat_eq}
 use Rattle.std.specs.List.{flat_map}
 use Rattle.std.specs.Str.{bytes_eq}
@@ -11,8 +12,10 @@ use Rattle.pc_parsed.specs.declared.bodies.Names.{Names}
 use Rattle.pc_parsed.specs.declared.fault.StaticFault.TheVariants as fault
 use Rattle.pc_parsed.specs.declared.payload.Payload.{Payload}
 use Rattle.pc_parsed.specs.declared.payload.Payload.TheVariants as payload
-use Rattle.pc_parsed.specs.Names.{Gains, HasNames, HaveSame, Stands, StandsAt, none_open, one_more, around_names, fresh_names, gains_payload, open_then, outer_from}
-use Rattle.pc_parsed.specs.StaticFault.{around, content_fault, exported_names, exposed_at, imported_names, payload_fault}
+use Rattle.pc_parsed.specs.Names.{Gains, HasNames, HaveSame, Stands, StandsAt, none_open, one_more, around_names}
+use Rattle.pc_parsed.specs.Names.{fresh_names, gains_payload, open_then, outer_from}
+use Rattle.pc_parsed.specs.StaticFault.{around, content_fault, exported_names, exposed_at, imported_names}
+use Rattle.pc_parsed.specs.StaticFault.{payload_fault}
 use Rattle.pc_parsed.specs.ItemFaults.{fault_or}
 use Rattle.pc_parsed.specs.Structure.{nesting, open_bodies, own_payloads, structure_fault}
 use Rattle.pc_parsed.proofs.NameLemmas.{exports_same, imports_same}

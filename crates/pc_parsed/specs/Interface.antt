@@ -1,6 +1,7 @@
 -- What the root may declare the unsafe intrinsics to be: an instance whose exports are functions of their names, each
 -- with its parameters and its result.
-use Rattle.std.specs.Prelude.{ℕ, Bool, true, false, List, [], ◌∷◌, ◌++◌, map, Option, Some, None, ◌&&◌, if◌then◌else◌, slice_get, option_and_then}
+use Rattle.std.specs.Prelude.{ℕ, Bool, true, false, List, [], ◌∷◌, ◌++◌, map, Option, Some, None, ◌&&◌, if◌then◌else◌}
+use Rattle.std.specs.Prelude.{slice_get, option_and_then}
 use Rattle.std.specs.List.{list_any, zip}
 use Rattle.std.specs.Option.{option_or}
 use Rattle.std.specs.Str.{bytes_eq}

@@ -1,6 +1,5 @@
--- When a payload list has a local program, and why it has none.
-use Rattle.std.specs.Prelude.{ℕ, ◌+◌, Bool, List, [], Option, Some, None, ◌&&◌, nat_lt, is_none, sum_by, length, if◌then◌else◌}
-use Rattle.std.specs.Option.{option_or}
+-- Which inputs can be numbered, and what is answered to those that aren't built.
+use Rattle.std.specs.Prelude.{ℕ, ◌+◌, Bool, List, ◌&&◌, nat_lt, sum_by, length}
 use Rattle.pc_types.specs.declared.error.Error.{Error}
 use Rattle.pc_types.specs.declared.error.Error.TheVariants as error
 use Rattle.pc_types.specs.declared.error.Place.TheVariants as place
@@ -9,8 +8,6 @@ use Rattle.pc_types.specs.declared.module_record.ModuleRecord.{ModuleRecord}
 use Rattle.pc_types.specs.declared.parsed.TypeTable.{TypeTable}
 use Rattle.pc_parsed.specs.declared.payload.Payload.{Payload}
 use Rattle.pc_parsed.specs.declared.payload.Payload.TheVariants as payload
-use Rattle.pc_parsed.specs.Built.{are_built}
-use Rattle.pc_parsed.specs.StaticFault.{static_fault}
 
 -- how many items a payload counts as; one without a list counts as one
 abbrev pub item_count : Payload → ℕ
@@ -41,11 +38,3 @@ is_numbered t ps =
 -- the answer where something stands in an input of a kind that isn't built
 abbrev pub not_built : Error
 not_built = error.Unsupported unsupported.NotBuilt (place.Payload 0 0)
-
--- why an input is refused: by its first static fault, or else where something in it is of a kind that isn't built
-abbrev pub refusal : TypeTable → (exposed : Option (List ℕ)) → List Payload → Option Error
-refusal t exposed ps = option_or (static_fault t exposed ps) (if are_built t exposed ps then None else Some not_built)
-
--- whether a list can be translated: it has no static fault, and its kinds are built
-abbrev pub is_translatable : TypeTable → (exposed : Option (List ℕ)) → List Payload → Bool
-is_translatable t exposed ps = is_none (refusal t exposed ps)

@@ -1,6 +1,7 @@
 -- The first static fault: what is wrong with an input whatever it would do. The type table is looked at first, then the
 -- payloads from the first to the last, each item in its order, and then the end of the list.
-use Rattle.std.specs.Prelude.{ℕ, Bool, List, [], ◌∷◌, length, map, Option, Some, None, nat_eq, option_map, if◌then◌else◌}
+use Rattle.std.specs.Prelude.{ℕ, Bool, List, [], ◌∷◌, length, map, Option, Some, None, nat_eq, option_map}
+use Rattle.std.specs.Prelude.{if◌then◌else◌}
 use Rattle.std.specs.List.{flat_map}
 use Rattle.std.specs.Option.{option_or}
 use Rattle.pc_types.specs.declared.error.Error.{Error}
@@ -15,7 +16,8 @@ use Rattle.pc_parsed.specs.declared.fault.StaticFault.{StaticFault}
 use Rattle.pc_parsed.specs.declared.fault.StaticFault.TheVariants as fault
 use Rattle.pc_parsed.specs.declared.payload.Payload.{Payload}
 use Rattle.pc_parsed.specs.declared.payload.Payload.TheVariants as payload
-use Rattle.pc_parsed.specs.ItemFaults.{alias_fault, canon_fault, component_instance_fault, export_name, exports_fault, fault_or, first_item, import_name, imports_fault, instance_fault, unless}
+use Rattle.pc_parsed.specs.ItemFaults.{alias_fault, canon_fault, component_instance_fault, export_name, exports_fault}
+use Rattle.pc_parsed.specs.ItemFaults.{fault_or, first_item, import_name, imports_fault, instance_fault, unless}
 use Rattle.pc_parsed.specs.Structure.{is_due, open_bodies, own_payloads, structure_fault}
 
 -- the error of a fault at a place

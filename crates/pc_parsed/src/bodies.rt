@@ -7,7 +7,8 @@ ghost use Rattle.std.specs.Prelude.{◌≡◌, ◌+◌, ◌∷◌, [], ℕ, List
 ghost use Rattle.std.specs.Option.{option_map};
 ghost use Rattle.pc_parsed.specs.declared.payload.Payload.{Payload};
 ghost use Rattle.pc_parsed.specs.Names.{GoOnBehind, Stands, around_names, fresh_names, gains_payload, open_then};
-ghost use Rattle.pc_parsed.specs.StaticFault.{around, content_fault, end_error, exposed_at, payload_fault, payloads_error};
+ghost use Rattle.pc_parsed.specs.StaticFault.{around, content_fault, end_error, exposed_at, payload_fault};
+ghost use Rattle.pc_parsed.specs.StaticFault.{payloads_error};
 ghost use Rattle.pc_parsed.specs.ItemFaults.{fault_or, unless};
 ghost use Rattle.pc_parsed.specs.Structure.{nesting};
 ghost use Rattle.pc_parsed.specs.declared.fault.StaticFault.TheVariants as fault;

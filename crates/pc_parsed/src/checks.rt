@@ -4,7 +4,9 @@ ghost use Rattle.std.specs.Prelude.{◌≡◌, ℕ, List, Option, IfOk, map};
 ghost use Rattle.std.specs.List.{list_any};
 ghost use Rattle.std.specs.Option.{option_or};
 ghost use Rattle.pc_types.specs.Names.{distinct_names};
-ghost use Rattle.pc_parsed.specs.ItemFaults.{alias_fault, argument_name, arguments_fault, canon_fault, component_instance_fault, first_item, instance_fault, is_value_kind, item_name, items_fault, outer_fault, slot_fault, unless, value_fault};
+ghost use Rattle.pc_parsed.specs.ItemFaults.{alias_fault, argument_name, arguments_fault, canon_fault};
+ghost use Rattle.pc_parsed.specs.ItemFaults.{component_instance_fault, first_item, instance_fault, is_value_kind};
+ghost use Rattle.pc_parsed.specs.ItemFaults.{item_name, items_fault, outer_fault, slot_fault, unless, value_fault};
 ghost use Rattle.pc_parsed.specs.declared.fault.StaticFault.{StaticFault};
 
 use crate::canon::CanonItem;

@@ -1,19 +1,10 @@
-//! Why an item of a reading is stuck, and what is wrong with a payload whatever it would do.
+//! What is wrong with a payload, whatever it would do.
 
 ghost use Rattle.std.specs.Prelude.{◌≡◌};
 ghost use Rattle.pc_types.specs.declared.error.Place.TheVariants as place;
 ghost use Rattle.pc_parsed.specs.StaticFault.{fault_error};
 
 use pc_types::{Error, Place, Unsupported};
-
-/// What an item can't be read for.
-#[derive(Clone, Copy, Debug, PartialEq, Eq)]
-pub enum ItemFault {
-    /// An index, a name or a kind fits nothing.
-    Invalid,
-    /// A type number or a core signature number is missing, or of another kind.
-    BadType,
-}
 
 /// What is wrong with a payload or an item of it, whatever the list would do.
 #[derive(Clone, Copy, Debug, PartialEq, Eq)]

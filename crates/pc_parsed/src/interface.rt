@@ -6,7 +6,11 @@ ghost use Rattle.std.specs.Option.{option_copied, option_map};
 ghost use Rattle.std.specs.Str.{bytes_eq};
 ghost use Rattle.pc_types.specs.Table.{is_some_and};
 ghost use Rattle.pc_types.specs.IntrinsicType.{intrinsic_type};
-ghost use Rattle.pc_parsed.specs.Interface.{are_params, entry_prim, function_fault, has_resource, import_interface_fault, instance_type_fault, interface_fault, intrinsic_exports_fault, intrinsic_fault, intrinsics_fault, is_answer, is_integer, leads_to_resource, prim_of, prims_from, resources_from, same_integer, type_fault, type_of, unless_resource};
+ghost use Rattle.pc_parsed.specs.Interface.{are_params, entry_prim, function_fault, has_resource};
+ghost use Rattle.pc_parsed.specs.Interface.{import_interface_fault, instance_type_fault, interface_fault};
+ghost use Rattle.pc_parsed.specs.Interface.{intrinsic_exports_fault, intrinsic_fault, intrinsics_fault, is_answer};
+ghost use Rattle.pc_parsed.specs.Interface.{is_integer, leads_to_resource, prim_of, prims_from, resources_from};
+ghost use Rattle.pc_parsed.specs.Interface.{same_integer, type_fault, type_of, unless_resource};
 
 use crate::fault::StaticFault;
 use pc_entity::{NoMemory, Seq, Text};

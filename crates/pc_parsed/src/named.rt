@@ -2,7 +2,8 @@
 
 ghost use Rattle.std.specs.Prelude.{◌≡◌, ◌∷◌, [], None, IfOk, map};
 ghost use Rattle.std.specs.Option.{option_map};
-ghost use Rattle.pc_parsed.specs.ItemFaults.{export_fault, export_name, exports_fault, import_fault, import_name, imports_fault, name_fault};
+ghost use Rattle.pc_parsed.specs.ItemFaults.{export_fault, export_name, exports_fault, import_fault, import_name};
+ghost use Rattle.pc_parsed.specs.ItemFaults.{imports_fault, name_fault};
 ghost use Rattle.pc_parsed.specs.Names.{Gains};
 
 use crate::checks::{is_value_kind, value_fault};

@@ -1,14 +1,16 @@
 //! The command `context`.
 
 use crate::inputs::{SMALLEST, is_answered};
+use crate::lowerings::HOST_LOWERING;
 use crate::root::EMPTY_ROOT;
 use pc_tool::Status;
 use std::test::Fail;
 
 /// Inputs, how the command ends, and what it writes.
-const ROWS: [(&str, Status, &str); 3] = [
+const ROWS: [(&str, Status, &str); 4] = [
     (EMPTY_ROOT, Status::Done, "context 4 32\ncontext 8 48\n"),
     (SMALLEST, Status::Done, "context 4 32\ncontext 8 48\n"),
+    (HOST_LOWERING, Status::Done, "context 4 64\ncontext 8 112\n"),
     ("{", Status::Refused, "fault not-json\n"),
 ];
 

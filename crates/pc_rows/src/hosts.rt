@@ -1,23 +1,10 @@
-//! What the host gives, built-in functions and intrinsics. None is translated yet.
+//! What the host gives besides functions, built-in functions and intrinsics. None is translated yet.
 
 use crate::inputs::{are_not_built, are_refused};
 use std::test::Fail;
 
 /// Imports of the root, and exports of them.
-const IMPORTS: [(&str, &str); 6] = [
-    (
-        "host lowering",
-        r#"{"limit":100,"intrinsics":null,"types":{"core":[[["i32","i32"],[]],[["i32","i32","i32","i32"],["i32"]]],
-           "types":[{"func":{"params":[["s","string"]],"result":null,"async":false}},{"module":[[],[]]}]},
-           "payloads":["version",{"imports":[["log",["func",0]]]},
-           {"module":{"ty":1,"imports":[],"funcs":[1],"tables":0,"memories":[false],"globals":0,"tags":0,
-           "exports":[["mem","memory",0],["realloc","func",0]]}},
-           {"module":{"ty":1,"imports":[["env","log",["func",0]]],"funcs":[],"tables":0,"memories":[],"globals":0,
-           "tags":0,"exports":[]}},{"instances":[{"instantiate":[0,[]]}]},
-           {"aliases":[{"core-export":["memory",0,"mem"]},{"core-export":["func",0,"realloc"]}]},
-           {"canon":[["lower",0,0,0,[["memory",0],["realloc",0]]]]},
-           {"instances":[{"exports":[["log","func",1]]},{"instantiate":[1,[["env",1]]]}]},"end"]}"#,
-    ),
+const IMPORTS: [(&str, &str); 3] = [
     (
         "host module",
         r#"{"limit":100,"intrinsics":null,"types":{"core":[],
@@ -31,33 +18,6 @@ const IMPORTS: [(&str, &str); 6] = [
         "host resource",
         r#"{"limit":100,"intrinsics":null,"types":{"core":[],"types":["resource",{"instance":[["r",["type",0]]]}]},
            "payloads":["version",{"imports":[["i",["instance",1]]]},"end"]}"#,
-    ),
-    (
-        "realloc is a lowering",
-        r#"{"limit":100,"intrinsics":null,"types":{"core":[[["i32","i32"],[]],[["i32","i32","i32","i32"],["i32"]]],
-           "types":[{"func":{"params":[["s","string"]],"result":null,"async":false}},{"module":[[],[]]}]},
-           "payloads":["version",{"imports":[["log",["func",0]],["grow",["func",0]]]},
-           {"module":{"ty":1,"imports":[],"funcs":[1],"tables":0,"memories":[false],"globals":0,"tags":0,
-           "exports":[["mem","memory",0],["realloc","func",0]]}},
-           {"module":{"ty":1,"imports":[["env","log",["func",0]]],"funcs":[],"tables":0,"memories":[],"globals":0,
-           "tags":0,"exports":[]}},{"instances":[{"instantiate":[0,[]]}]},
-           {"aliases":[{"core-export":["memory",0,"mem"]},{"core-export":["func",0,"realloc"]}]},
-           {"canon":[["lower",1,0,0,[["memory",0],["realloc",0]]],["lower",0,0,0,[["memory",0],["realloc",1]]]]},
-           {"instances":[{"exports":[["log","func",2]]},{"instantiate":[1,[["env",1]]]}]},"end"]}"#,
-    ),
-    (
-        "re export beside lowering",
-        r#"{"limit":100,"intrinsics":null,"types":{"core":[[["i32","i32"],[]],[["i32","i32","i32","i32"],["i32"]]],
-           "types":[{"func":{"params":[["s","string"]],"result":null,"async":false}},{"module":[[],[]]}]},
-           "payloads":["version",{"imports":[["log",["func",0]]]},
-           {"module":{"ty":1,"imports":[],"funcs":[1],"tables":0,"memories":[false],"globals":0,"tags":0,
-           "exports":[["mem","memory",0],["realloc","func",0]]}},
-           {"module":{"ty":1,"imports":[["env","log",["func",0]]],"funcs":[],"tables":0,"memories":[],"globals":0,
-           "tags":0,"exports":[]}},{"instances":[{"instantiate":[0,[]]}]},
-           {"aliases":[{"core-export":["memory",0,"mem"]},{"core-export":["func",0,"realloc"]}]},
-           {"canon":[["lower",0,0,0,[["memory",0],["realloc",0]]]]},
-           {"instances":[{"exports":[["log","func",1]]},{"instantiate":[1,[["env",1]]]}]},
-           {"exports":[["again","func",0]]},"end"]}"#,
     ),
     (
         "re export from host instance",

@@ -67,8 +67,9 @@ fn source(alloc: Global, bytes: &[u8], ends: &Ends) -> Result<MemSource, AllocEr
     Ok(MemSource::new(bytes, ends.read_most.max(1), fails))
 }
 
+/// A sink with room for the longest text.
 fn sink(alloc: Global, ends: &Ends) -> Result<MemSink, AllocError> {
-    let room = Vec::with_capacity(alloc, 4096)?;
+    let room = Vec::with_capacity(alloc, 1048576)?;
     let fails = vec![in alloc; ends.write_fails]?;
     Ok(MemSink::new(room, ends.write_most.max(1), fails))
 }

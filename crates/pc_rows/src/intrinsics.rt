@@ -131,14 +131,10 @@ const OTHER: [(&str, &str, &str); 8] = [
 ];
 
 /// Payloads of an input that has one entry, an empty instance type.
-const IMPORTS: [(&str, &str); 4] = [
-    (
-        r#""version","component","version",{"imports":[["i",["func",0]]]},"end","end""#,
-        NOT_BUILT,
-    ),
+const IMPORTS: [(&str, &str); 3] = [
     (
         r#""version",{"imports":[["a",["func",0]],["b",["func",0]]]},"end""#,
-        NOT_BUILT,
+        "fault bad-type at instance 0 item 0\n",
     ),
     (
         r#""version",{"imports":[["i",["instance",0]],["i",["func",0]]]},"end""#,

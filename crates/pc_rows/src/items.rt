@@ -1,6 +1,6 @@
 //! Items that are at fault by themselves, and names that stand twice.
 
-use crate::inputs::{NOT_BUILT, payloads_are_refused};
+use crate::inputs::payloads_are_refused;
 use std::test::Fail;
 
 /// Canonical functions that are not supported, and a start section.
@@ -84,7 +84,8 @@ const LISTS: [(&str, &str); 4] = [
     ),
 ];
 
-/// Names that stand twice in a component, and names that may.
+/// Names that stand twice in a component, and names that may: there the type of an import, which is no function, is the
+/// fault, or the component within isn't built.
 const COMPONENTS: [(&str, &str); 7] = [
     (
         r#""version",{"imports":[["a",["func",0]],["a",["module",0]]]},"end""#,
@@ -96,15 +97,15 @@ const COMPONENTS: [(&str, &str); 7] = [
     ),
     (
         r#""version",{"imports":[["a",["func",0]]]},{"exports":[["a","func",0]]},"end""#,
-        NOT_BUILT,
+        "fault bad-type at instance 0 item 0\n",
     ),
     (
         r#""version",{"imports":[["a",["func",0]]]},"component","version",{"imports":[["a",["func",0]]]},"end","end""#,
-        NOT_BUILT,
+        "fault bad-type at instance 0 item 0\n",
     ),
     (
         r#""version","component","version",{"imports":[["a",["func",0]]]},"end",{"imports":[["a",["func",0]]]},"end""#,
-        NOT_BUILT,
+        "fault bad-type at instance 0 item 1\n",
     ),
     (
         r#""version",{"imports":[["a",["func",0]]]},"component","version","end",{"imports":[["a",["func",0]]]},"end""#,

@@ -16,6 +16,8 @@ mod items;
 #[cfg(test)]
 mod long;
 #[cfg(test)]
+mod lowerings;
+#[cfg(test)]
 mod nested;
 #[cfg(test)]
 mod refusals;

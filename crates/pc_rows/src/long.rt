@@ -1,6 +1,9 @@
-//! Inputs that are deep and long, each of which is read.
+//! Inputs that are deep, which are read, and a long one with its plan.
 
+use crate::inputs::is_answered;
+use crate::root::EMPTY_PLAN;
 use pc_form::decode_input;
+use pc_tool::Status;
 use std::alloc::{AllocError, Global};
 use std::test::Fail;
 
@@ -39,29 +42,108 @@ fn nested(alloc: Global, limit: &str, depth: usize, end: &str) -> Result<String,
     parts.join(alloc, "")
 }
 
-/// An input with a chain of lowered functions, each of which allocates by the one before it.
-fn chain(alloc: Global, length: usize) -> Result<String, AllocError> {
+/// Lowerings of one host function, each of which allocates by the one before it. So many allocate.
+fn lowered(alloc: Global, count: usize) -> Result<String, AllocError> {
     let mut lowered = String::from_str(alloc, r#"["lower",0,0,0,[]]"#)?;
-    for k in 0..length {
-        let next = format!(in alloc; r#",["lower",0,0,0,[["realloc",{k}]]]"#)?;
-        lowered.push_str(&next)?;
+    for k in 0..count {
+        lowered.push_str(&format!(in alloc; r#",["lower",0,0,0,[["realloc",{k}]]]"#)?)?;
     }
+    Ok(lowered)
+}
+
+/// An input with a chain of 2000 lowered functions, whose last one is given to a core instance.
+fn chain(alloc: Global) -> Result<String, AllocError> {
+    let lowered = lowered(alloc, 1999)?;
     format!(in alloc;
         r#"{{"limit":100,"intrinsics":null,"types":{{"core":[[["i32","i32"],[]],[["i32","i32","i32","i32"],["i32"]]],
            "types":[{{"func":{{"params":[["s","string"]],"result":null,"async":false}}}},{{"module":[[],[]]}}]}},
-           "payloads":["version",{{"imports":[["log",["func",0]]]}},{{"canon":[{lowered}]}},"end"]}}"#
+           "payloads":["version",{{"imports":[["log",["func",0]]]}},{{"canon":[{lowered}]}},
+           {{"module":{{"ty":1,"imports":[["env","log",["func",0]]],"funcs":[],"tables":0,"memories":[],"globals":0,
+           "tags":0,"exports":[]}}}},
+           {{"instances":[{{"exports":[["log","func",1999]]}},{{"instantiate":[0,[["env",0]]]}}]}},"end"]}}"#
+    )
+}
+
+/// The steps of its lowerings, from the outermost to the innermost.
+fn lower_lines(alloc: Global) -> Result<String, AllocError> {
+    let mut lines = String::new(alloc);
+    for k in 0..2000 {
+        lines.push_str(&format!(in alloc; "init lower {k} 0\n")?)?;
+    }
+    Ok(lines)
+}
+
+/// The steps that fill its slots, from the innermost to the outermost.
+fn realloc_lines(alloc: Global) -> Result<String, AllocError> {
+    let mut lines = String::new(alloc);
+    for k in 0..1999 {
+        lines.push_str(&format!(in alloc; "init realloc {k} trampoline({k})\n")?)?;
+    }
+    Ok(lines)
+}
+
+/// Its options, from the innermost to the outermost.
+fn options_lines(alloc: Global) -> Result<String, AllocError> {
+    let mut lines = String::from_str(alloc, "options 0 0 utf8 sync - - - -\n")?;
+    for k in 1..2000usize {
+        let slot = k.saturating_sub(1);
+        lines.push_str(&format!(in alloc; "options {k} 0 utf8 sync - - - {slot}\n")?)?;
+    }
+    Ok(lines)
+}
+
+/// Its trampolines, from the innermost to the outermost.
+fn trampoline_lines(alloc: Global) -> Result<String, AllocError> {
+    let mut lines = String::new(alloc);
+    for k in 0..2000usize {
+        let n = 1999usize.saturating_sub(k);
+        let line = format!(in alloc; "trampoline {k} component-lower-import[{n}] {n} {k}\n")?;
+        lines.push_str(&line)?;
+    }
+    Ok(lines)
+}
+
+/// Its plan.
+fn chain_plan(alloc: Global) -> Result<String, AllocError> {
+    let lowers = lower_lines(alloc)?;
+    let reallocs = realloc_lines(alloc)?;
+    let options = options_lines(alloc)?;
+    let trampolines = trampoline_lines(alloc)?;
+    format!(in alloc;
+        "plan 1
+modules 1 0
+counts 1 1 2000 0 0 1999 0 0 0 0 0 0
+import-type 0 \"log\" func
+import 0 0
+{lowers}{reallocs}init static 0 0 [trampoline(1999)]
+{options}{trampolines}"
     )
 }
 
 #[test]
-fn deep_and_long_inputs_are_read(rt: HostRuntime) -> Result<(), Fail> {
+fn deep_inputs_are_read(rt: HostRuntime) -> Result<(), Fail> {
     let alloc = rt.alloc();
     for (limit, end, payloads) in DEPTHS {
         let text = nested(alloc, limit, 2000, end)?;
         let input = decode_input(alloc, text.as_bytes())?;
         assert_eq!(rt; input.payloads.len(), payloads, "{limit}");
     }
-    let text = chain(alloc, 1999)?;
-    assert!(rt; decode_input(alloc, text.as_bytes()).is_ok());
+    Ok(())
+}
+
+#[test]
+fn deep_components_are_defined(rt: HostRuntime) -> Result<(), Fail> {
+    let input = nested(rt.alloc(), "1", 2000, r#""end","#)?;
+    let planned = is_answered(rt.alloc(), "translate", &input, Status::Done, EMPTY_PLAN)?;
+    assert!(rt; planned);
+    Ok(())
+}
+
+#[test]
+fn a_long_chain_is_planned(rt: HostRuntime) -> Result<(), Fail> {
+    let input = chain(rt.alloc())?;
+    let plan = chain_plan(rt.alloc())?;
+    let planned = is_answered(rt.alloc(), "translate", &input, Status::Done, &plan)?;
+    assert!(rt; planned);
     Ok(())
 }

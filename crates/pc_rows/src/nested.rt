@@ -1,15 +1,49 @@
-//! Components that stand in each other. None is translated yet.
+//! Components that stand in each other. They are defined, and none is instantiated yet.
 
-use crate::inputs::are_not_built;
+use crate::inputs::{are_not_built, are_planned, are_refused};
+use crate::root::EMPTY_PLAN;
 use std::test::Fail;
 
-/// Components that are instantiated, with what they are given and what they capture.
-const CHILDREN: [(&str, &str); 9] = [
+/// Components that are never instantiated: one without content, one that stands in another, and one that imports the name
+/// of the intrinsics, which is that of the root alone.
+const DEFINED: [(&str, &str); 3] = [
     (
-        "a component without content",
         r#"{"limit":100,"intrinsics":null,"types":{"core":[],"types":[]},
            "payloads":["version","component","version","end","end"]}"#,
+        EMPTY_PLAN,
     ),
+    (
+        r#"{"limit":1,"intrinsics":null,"types":{"core":[],"types":[{"instance":[]}]},
+           "payloads":["version","component","version","component","version","end",
+           {"component-instances":[{"instantiate":[7,[],0]}]},"end","end"]}"#,
+        EMPTY_PLAN,
+    ),
+    (
+        r#"{"limit":100,"intrinsics":"i","types":{"core":[],"types":[{"instance":[]}]},
+           "payloads":["version","component","version",{"imports":[["i",["func",0]]]},"end","end"]}"#,
+        EMPTY_PLAN,
+    ),
+];
+
+/// A component that captures what isn't there, which is found where it is defined, and one that captures what comes later.
+const BAD_CAPTURES: [(&str, &str); 2] = [
+    (
+        r#"{"limit":100,"intrinsics":null,"types":{"core":[],"types":[{"module":[[],[]]}]},
+           "payloads":["version",{"module":{"ty":0,"imports":[],"funcs":[],"tables":0,"memories":[],"globals":0,
+           "tags":0,"exports":[]}},{"module":{"ty":0,"imports":[],"funcs":[],"tables":0,"memories":[],"globals":0,
+           "tags":0,"exports":[]}},"component","version",{"aliases":[{"outer":["core-module",1,7]}]},"end","end"]}"#,
+        "fault invalid at instance 0 item 2\n",
+    ),
+    (
+        r#"{"limit":100,"intrinsics":null,"types":{"core":[],"types":[{"module":[[],[]]}]},
+           "payloads":["version","component","version",{"aliases":[{"outer":["component",1,0]}]},"end",
+           "component","version",{"aliases":[{"outer":["component",1,0]}]},"end","end"]}"#,
+        "fault invalid at instance 0 item 0\n",
+    ),
+];
+
+/// Components that are instantiated, with what they are given and what they capture.
+const CHILDREN: [(&str, &str); 7] = [
     (
         "component import",
         r#"{"limit":100,"intrinsics":null,"types":{"core":[],"types":[{"component":[[],[]]}]},
@@ -43,13 +77,6 @@ const CHILDREN: [(&str, &str); 9] = [
            {"types":[{"resource":[2,"i32",null]}]},{"instances":[{"instantiate":[0,[]]}]},"end",
            {"component-instances":[{"instantiate":[0,[["m","module",0]],1]},
            {"instantiate":[0,[["m","module",1]],1]}]},"end"]}"#,
-    ),
-    (
-        "bad capture never instantiated",
-        r#"{"limit":100,"intrinsics":null,"types":{"core":[],"types":[{"module":[[],[]]}]},
-           "payloads":["version",{"module":{"ty":0,"imports":[],"funcs":[],"tables":0,"memories":[],"globals":0,
-           "tags":0,"exports":[]}},{"module":{"ty":0,"imports":[],"funcs":[],"tables":0,"memories":[],"globals":0,
-           "tags":0,"exports":[]}},"component","version",{"aliases":[{"outer":["core-module",1,7]}]},"end","end"]}"#,
     ),
     (
         "capture by count two",
@@ -255,5 +282,12 @@ const TREES: [(&str, &str); 6] = [
 fn nested_components_are_not_built(rt: HostRuntime) -> Result<(), Fail> {
     are_not_built(&rt, rt.alloc(), &CHILDREN)?;
     are_not_built(&rt, rt.alloc(), &TREES)?;
+    Ok(())
+}
+
+#[test]
+fn components_are_defined(rt: HostRuntime) -> Result<(), Fail> {
+    are_planned(&rt, rt.alloc(), &DEFINED)?;
+    are_refused(&rt, rt.alloc(), &BAD_CAPTURES)?;
     Ok(())
 }

@@ -95,8 +95,79 @@ const ROWS: [(&str, &str); 15] = [
     ),
     // a kind that isn't built yet, which comes before every fault
     (
-        r#"{"instances":[{"instantiate":[1,[]]}]},{"aliases":[{"core-export":["memory",0,"f"]}]}"#,
+        r#"{"instances":[{"instantiate":[1,[]]}]},{"canon":[["task.cancel",0]]}"#,
         NOT_BUILT,
+    ),
+];
+
+/// The same with imports, lowerings, options and core items. The module is type 1, and exports a function alone.
+const LOWERINGS: [(&str, &str); 14] = [
+    // an import whose type is of another kind or isn't there, before any fault of an item
+    (
+        r#"{"imports":[["h",["func",1]]]}"#,
+        "fault bad-type at instance 0 item 1\n",
+    ),
+    (
+        r#"{"instances":[{"instantiate":[1,[]]}]},{"imports":[["h",["func",0]],["i",["func",2]]]}"#,
+        "fault bad-type at instance 0 item 3\n",
+    ),
+    // an import of another kind than a function, which isn't built yet
+    (
+        r#"{"imports":[["h",["func",1]],["i",["module",1]]]}"#,
+        NOT_BUILT,
+    ),
+    // a lowering of a function that isn't there, of another type, and under a signature that isn't there
+    (
+        r#"{"imports":[["h",["func",0]]]},{"canon":[["lower",0,0,0,[]],["lower",1,0,0,[]]]}"#,
+        "fault invalid at instance 0 item 3\n",
+    ),
+    (
+        r#"{"imports":[["h",["func",0]]]},{"canon":[["lower",1,1,0,[]]]}"#,
+        "fault bad-type at instance 0 item 2\n",
+    ),
+    (
+        r#"{"imports":[["h",["func",0]]]},{"canon":[["lower",0,0,1,[["realloc",0]]]]}"#,
+        "fault bad-type at instance 0 item 2\n",
+    ),
+    // an option whose index names nothing: a lowering can't be its own realloc; one that is overwritten is looked at
+    (
+        r#"{"imports":[["h",["func",0]]]},{"canon":[["lower",0,0,0,[["realloc",0]]]]}"#,
+        "fault invalid at instance 0 item 2\n",
+    ),
+    (
+        r#"{"imports":[["h",["func",0]]]},{"canon":[["lower",0,0,0,["gc",["memory",0]]]]}"#,
+        "fault invalid at instance 0 item 2\n",
+    ),
+    (
+        r#"{"instances":[{"instantiate":[0,[]]}]},{"aliases":[{"core-export":["func",0,"f"]}]},
+           {"canon":[["lift",0,0,0,[["post-return",1],["post-return",0]]]]}"#,
+        "fault invalid at instance 0 item 3\n",
+    ),
+    // an alias of an item of another kind, and one of a kind that a core instance from items doesn't have
+    (
+        r#"{"instances":[{"instantiate":[0,[]]}]},{"aliases":[{"core-export":["memory",0,"f"]}]}"#,
+        "fault invalid at instance 0 item 2\n",
+    ),
+    (
+        r#"{"imports":[["h",["func",0]]]},{"canon":[["lower",0,0,0,[]]]},{"instances":[{"exports":[["f","func",0]]}]},
+           {"aliases":[{"core-export":["func",0,"f"]},{"core-export":["tag",0,"f"]}]}"#,
+        "fault invalid at instance 0 item 5\n",
+    ),
+    // an item that isn't there in a core instance from items
+    (
+        r#"{"instances":[{"exports":[["f","func",0]]}]}"#,
+        "fault invalid at instance 0 item 1\n",
+    ),
+    // an import of a module that is given nothing, or an item of another kind
+    (
+        r#"{"module":{"ty":1,"imports":[["env","f",["func",0]]],"funcs":[],"tables":0,"memories":[],"globals":0,
+           "tags":0,"exports":[]}},{"instances":[{"instantiate":[0,[]]},{"instantiate":[1,[["e",0]]]}]}"#,
+        "fault invalid at instance 0 item 3\n",
+    ),
+    (
+        r#"{"module":{"ty":1,"imports":[["env","f",["table"]]],"funcs":[],"tables":0,"memories":[],"globals":0,
+           "tags":0,"exports":[]}},{"instances":[{"instantiate":[0,[]]},{"instantiate":[1,[["env",0]]]}]}"#,
+        "fault invalid at instance 0 item 3\n",
     ),
 ];
 
@@ -115,6 +186,9 @@ fn bytes_that_are_no_input_are_refused(rt: HostRuntime) -> Result<(), Fail> {
 #[test]
 fn each_fault_has_its_place(rt: HostRuntime) -> Result<(), Fail> {
     for (payloads, fault) in ROWS {
+        assert!(rt; is_refused(rt.alloc(), payloads, fault)?, "{payloads}");
+    }
+    for (payloads, fault) in LOWERINGS {
         assert!(rt; is_refused(rt.alloc(), payloads, fault)?, "{payloads}");
     }
     Ok(())

@@ -1,6 +1,6 @@
-//! A root component alone: inputs that are translated, faults of their reading, and inputs that are refused as a whole.
+//! A root component alone: inputs that are translated, faults of their reading, and static faults.
 
-use crate::inputs::{SMALLEST, SMALLEST_PLAN, are_not_built, are_planned, are_refused};
+use crate::inputs::{SMALLEST, SMALLEST_PLAN, are_planned, are_refused};
 use std::test::Fail;
 
 /// A component without content.
@@ -8,7 +8,7 @@ pub(crate) const EMPTY_ROOT: &str =
     r#"{"limit":100,"intrinsics":null,"types":{"core":[],"types":[]},"payloads":["version","end"]}"#;
 
 /// Its plan.
-const EMPTY_PLAN: &str = "plan 1
+pub(crate) const EMPTY_PLAN: &str = "plan 1
 modules 0 0
 counts 0 1 0 0 0 0 0 0 0 0 0 0
 ";
@@ -69,8 +69,17 @@ const PLANS: [(&str, &str); 4] = [
     (TWO_LIFTS, TWO_LIFTS_PLAN),
 ];
 
-/// Inputs whose reading is stuck at an item, and its fault.
-const FAULTS: [(&str, &str); 2] = [
+/// A limit that no component instance may begin under.
+const LIMIT_ZERO: &str =
+    r#"{"limit":0,"intrinsics":null,"types":{"core":[],"types":[]},"payloads":["version","end"]}"#;
+
+/// The same with an import whose type is of another kind.
+const LIMIT_ZERO_BEFORE_A_FAULT: &str =
+    r#"{"limit":0,"intrinsics":null,"types":{"core":[],"types":[{"module":[[],[]]}]},
+       "payloads":["version",{"imports":[["f",["func",0]]]},"end"]}"#;
+
+/// Inputs whose reading isn't done, and why.
+const FAULTS: [(&str, &str); 4] = [
     (
         CORE_FUNCTION_MISSING,
         "fault invalid at instance 0 item 3\n",
@@ -79,6 +88,8 @@ const FAULTS: [(&str, &str); 2] = [
         LIFT_TYPE_OF_ANOTHER_KIND,
         "fault bad-type at instance 0 item 3\n",
     ),
+    (LIMIT_ZERO, "fault too-many-instances\n"),
+    (LIMIT_ZERO_BEFORE_A_FAULT, "fault too-many-instances\n"),
 ];
 
 /// Inputs with a static fault, and its text.
@@ -129,23 +140,6 @@ const STATIC_FAULTS: [(&str, &str); 7] = [
     ),
 ];
 
-/// Inputs with a limit of 0, or an item that has no reading yet.
-const REFUSED: [(&str, &str); 2] = [
-    (
-        "limit zero",
-        r#"{"limit":0,"intrinsics":null,"types":{"core":[],"types":[]},"payloads":["version","end"]}"#,
-    ),
-    (
-        "post return",
-        r#"{"limit":100,"intrinsics":null,"types":{"core":[[["i32"],["i32"]]],
-           "types":[{"func":{"params":[["x","u32"]],"result":"u32","async":false}},{"module":[[],[]]}]},
-           "payloads":["version",{"module":{"ty":1,"imports":[],"funcs":[0],"tables":0,"memories":[],"globals":0,
-           "tags":0,"exports":[["f","func",0]]}},{"instances":[{"instantiate":[0,[]]}]},
-           {"aliases":[{"core-export":["func",0,"f"]}]},{"canon":[["lift",0,0,0,[["post-return",0]]]]},
-           {"exports":[["f","func",0]]},"end"]}"#,
-    ),
-];
-
 #[test]
 fn whole_inputs_are_answered(rt: HostRuntime) -> Result<(), Fail> {
     are_planned(&rt, rt.alloc(), &PLANS)?;
@@ -156,11 +150,5 @@ fn whole_inputs_are_answered(rt: HostRuntime) -> Result<(), Fail> {
 fn faults_have_their_place(rt: HostRuntime) -> Result<(), Fail> {
     are_refused(&rt, rt.alloc(), &FAULTS)?;
     are_refused(&rt, rt.alloc(), &STATIC_FAULTS)?;
-    Ok(())
-}
-
-#[test]
-fn other_items_are_not_built(rt: HostRuntime) -> Result<(), Fail> {
-    are_not_built(&rt, rt.alloc(), &REFUSED)?;
     Ok(())
 }

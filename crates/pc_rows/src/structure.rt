@@ -1,6 +1,7 @@
 //! The structure of a payload list, and which of two faults counts.
 
-use crate::inputs::{NOT_BUILT, entries_are_refused, payloads_are_refused};
+use crate::inputs::{are_planned, entries_are_refused, payloads_are_refused};
+use crate::root::EMPTY_PLAN;
 use std::test::Fail;
 
 /// Bodies that begin with another payload than a version.
@@ -29,7 +30,7 @@ const BEGINS: [(&str, &str); 6] = [
 ];
 
 /// Lists that end elsewhere than with the root.
-const ENDS: [(&str, &str); 7] = [
+const ENDS: [(&str, &str); 6] = [
     (r#""#, "fault malformed at payload 0 item 0\n"),
     (r#""version""#, "fault malformed at payload 1 item 0\n"),
     (
@@ -48,11 +49,10 @@ const ENDS: [(&str, &str); 7] = [
         r#""version","end","end""#,
         "fault malformed at payload 2 item 0\n",
     ),
-    (r#""version","component","version","end","end""#, NOT_BUILT),
 ];
 
 /// Outer aliases that cross more bodies than are open.
-const ALIASES: [(&str, &str); 4] = [
+const ALIASES: [(&str, &str); 3] = [
     (
         r#""version",{"aliases":[{"outer":["core-module",0,0]},{"outer":["component",1,0]}]},"end""#,
         "fault malformed at payload 1 item 1\n",
@@ -66,11 +66,11 @@ const ALIASES: [(&str, &str); 4] = [
         r#""version","component","version","end",{"aliases":[{"outer":["core-module",1,0]}]},"end""#,
         "fault malformed at payload 4 item 0\n",
     ),
-    (
-        r#""version",{"aliases":[{"outer":["type",9,0]},{"outer":["core-type",9,0]}]},"end""#,
-        NOT_BUILT,
-    ),
 ];
+
+/// Outer aliases of types, which are no items and may count as far as they will.
+const TYPE_ALIASES: &str = r#"{"limit":100,"intrinsics":null,"types":{"core":[],"types":[]},
+       "payloads":["version",{"aliases":[{"outer":["type",9,0]},{"outer":["core-type",9,0]}]},"end"]}"#;
 
 /// Lists with two faults, the earlier of which counts.
 const EARLIER: [(&str, &str); 7] = [
@@ -126,6 +126,7 @@ fn bodies_begin_and_end(rt: HostRuntime) -> Result<(), Fail> {
     payloads_are_refused(&rt, rt.alloc(), "null", &BEGINS)?;
     payloads_are_refused(&rt, rt.alloc(), "null", &ENDS)?;
     payloads_are_refused(&rt, rt.alloc(), "null", &ALIASES)?;
+    are_planned(&rt, rt.alloc(), &[(TYPE_ALIASES, EMPTY_PLAN)])?;
     Ok(())
 }
 

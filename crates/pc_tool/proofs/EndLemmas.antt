@@ -1,5 +1,6 @@
 -- How a run has ended: an answer was written or a part of it, there was none, or the usage was written.
-use Rattle.std.proofs.Common.{◌≡◌, ◌⊎◌, ◌↔◌, inl, inr, ℕ, ◌<◌, ◌≤◌, List, length, drop, Option, Some, None, Result, Ok, sym, ap, ◌∙◌, refl, subst, arith}
+use Rattle.std.proofs.Common.{◌≡◌, ◌⊎◌, ◌↔◌, inl, inr, ℕ, ◌<◌, ◌≤◌, List, length, drop, Option, Some, None, Result, Ok}
+use Rattle.std.proofs.Common.{sym, ap, ◌∙◌, refl, subst, arith}
 use Rattle.pc_stream.specs.Stream.{Takes, ShowsFault}
 use Rattle.pc_stream.specs.declared.whole.TheConstants.{MAX_INPUT}
 use Rattle.pc_text.specs.FaultText.{too_long}

@@ -1,16 +1,21 @@
 -- Bytes that have a reason to be refused have no plan.
-use Rattle.std.proofs.Common.{◌≡◌, inl, inr, ℕ, Bool, true, false, List, Option, Some, None, ap, subst}
+use Rattle.std.proofs.Common.{◌≡◌, inl, inr, ℕ, Bool, true, false, List, Option, Some, None, ap, subst, sym, ◌∙◌}
+use Rattle.std.proofs.lemmas.Option.{same_Some}
 use Rattle.serde_json.specs.Data.{Data}
-use Rattle.pc_reading.specs.Outcome.{Outcome, Fault, done, fault}
+use Rattle.pc_reading.specs.Item.{Items}
+use Rattle.pc_reading.specs.Outcome.{Outcome, Fault, done, fault, over}
 use Rattle.pc_reading.specs.Reading.{Reading}
+use Rattle.pc_types.specs.declared.error.Error.{Error}
 use Rattle.pc_types.specs.declared.error.Place.{Place}
 use Rattle.pc_form.specs.declared.input.Input.{Input}
 use Rattle.pc_form.specs.Input.{input_of, tree_of}
 use Rattle.pc_form.specs.Rules.{plain}
 use Rattle.pc_form.specs.Tree.{◌>>=◌}
-use Rattle.pc_tool.specs.Headline.{Decodes, IsNotJson, IsBadForm, IsPlanFor, IsTextOf, HasFault, IsRefused}
+use Rattle.pc_tool.specs.Headline.{Decodes, IsNotJson, IsBadForm, IsPlanFor, IsTextOf, HasFault, too_long, static}
+use Rattle.pc_tool.specs.Headline.{compound, faulty, endless, later, unbuilt, IsRefused}
 use Rattle.pc_info.specs.declared.component.ComponentTranslation.{ComponentTranslation}
 use Rattle.pc_info.specs.declared.module.ModuleTranslation.{ModuleTranslation}
+use Rattle.pc_translate.specs.Causes.{are_built}
 use Rattle.pc_translate.specs.Translation.{IsPlanOf}
 use Rattle.pc_tool.specs.declared.words.Command.{Command}
 use Rattle.pc_tool.specs.Run.{Tells}
@@ -33,18 +38,32 @@ module _ {I : Type 0} (f : Data → Option I) where
 one_input : (o : Option Input) (i j : Input) → o ≡ Some i → o ≡ Some j → i ≡ j
 one_input o i j a b = cc (a, b)
 
--- a reading that is done has no fault
+-- a reading that is done has no fault, and isn't over the limit
 done_or_fault : (o : Option (Outcome Reading)) (r : Reading) (k : Fault) (p : Place) → o ≡ Some (done r)
     → o ≡ Some (fault k p) → ⊥
 done_or_fault o r k p a b = cc (a, b)
 
+done_or_over : (o : Option (Outcome Reading)) (r : Reading) → o ≡ Some (done r) → o ≡ Some over → ⊥
+done_or_over o r a b = cc (a, b)
+
+-- a list without a static fault has none
+none_or_some : (o : Option Error) (e : Error) → o ≡ None → o ≡ Some e → ⊥
+none_or_some o e a b = cc (a, b)
+
 -- an input with a reason to be refused has no plan
 fault_excludes : (input : Input) (plan : ComponentTranslation) (modules : List ModuleTranslation) → HasFault input
     → IsPlanFor input plan modules → ⊥
-unfolding HasFault IsPlanOf
-fault_excludes input plan modules (inl many) is = false_not_true _ many is.2.numbered
-fault_excludes input plan modules (inr (inl unable)) is = false_not_true _ unable is.2.able
-fault_excludes input plan modules (inr (inr at)) is = done_or_fault _ is.2.result at.0 at.1 is.2.outcome at.2
+unfolding IsPlanOf
+fault_excludes input plan modules (too_long many) is = false_not_true _ many is.2.can_be_read.numbered
+fault_excludes input plan modules (static {e = e} at) is = none_or_some _ e is.2.can_be_read.sound at
+fault_excludes input plan modules (compound wide) is = false_not_true _ wide is.2.can_be_read.plain
+fault_excludes input plan modules (faulty {k = k} {p = p} at) is = done_or_fault _ is.2.result k p is.2.outcome at
+fault_excludes input plan modules (endless at) is = done_or_over _ is.2.result is.2.outcome at
+fault_excludes input plan modules (later x) is =
+    let b = is.2.can_be_read.built in
+    false_not_true (are_built x.0) x.2
+    (subst (λ (body : Items). are_built body ≡ true) (same_Some b.0 x.0 (sym b.1 ∙ x.1)) b.2)
+fault_excludes input plan modules (unbuilt {k = k} {p = p} at) is = done_or_fault _ is.2.result k p is.2.built at
 
 -- bytes with a reason to be refused have no text of a command
 pub refused_has_no_text : (c : Command) (bytes text : List ℕ) → IsRefused bytes → IsTextOf c bytes text → ⊥

@@ -1,6 +1,6 @@
 -- What the texts mean that answer bytes: the text of a plan that does what the nested reading says, or of a fault and
 -- its cause.
-use Rattle.std.specs.Prelude.{◌≡◌, ◌≢◌, ◌⊎◌, ℕ, false, List, Some, None}
+use Rattle.std.specs.Prelude.{◌≡◌, ◌≢◌, ◌⊎◌, ℕ, false, List, Option, Some, None}
 use Rattle.serde_json.specs.Data.{Data}
 use Rattle.pc_types.specs.declared.error.Error.{Error}
 use Rattle.pc_types.specs.declared.error.Error.TheVariants as error
@@ -13,11 +13,15 @@ use Rattle.pc_offsets.specs.Context.{context_size}
 use Rattle.pc_text.specs.ContextText.{context_text}
 use Rattle.pc_text.specs.FaultText.{fault_text, not_json, bad_form}
 use Rattle.pc_parsed.specs.Program.{is_numbered}
-use Rattle.pc_reading.specs.Outcome.{Fault, fault}
+use Rattle.pc_parsed.specs.StaticFault.{static_fault}
+use Rattle.pc_reading.specs.Outcome.{Fault, Outcome, fault, over}
+use Rattle.pc_reading.specs.Reading.{Reading}
 use Rattle.pc_form.specs.declared.input.Input.{Input}
 use Rattle.pc_form.specs.Input.{input_in, input_of, tree_of}
 use Rattle.pc_form.specs.Rules.{plain}
-use Rattle.pc_translate.specs.Translation.{IsPlanOf, IsRefusalOf, can_translate, meaning}
+use Rattle.pc_inline.specs.Adds.{is_plain_table}
+use Rattle.pc_translate.specs.Causes.{HasRoot, are_built, built_meaning, meaning}
+use Rattle.pc_translate.specs.Translation.{IsPlanOf, IsRefusalOf}
 use Rattle.pc_tool.specs.declared.words.Command.{Command}
 use Rattle.pc_tool.specs.declared.words.Command.TheVariants as command
 
@@ -42,14 +46,29 @@ IsPlanFor input plan modules =
 abbrev pub IsErrorOf : Input → Error → Type 0
 IsErrorOf input e = IsRefusalOf input.table input.intrinsics input.tunables.max_component_instances input.payloads e
 
--- an input has a reason to be refused: a list is too long for its numbers, it can't be translated, or its reading ends
--- at a fault
-unfoldable pub HasFault : Input → Type 0
-HasFault input =
-    (is_numbered input.table input.payloads ≡ false)
-    ⊎ ((can_translate input.table input.intrinsics input.tunables.max_component_instances input.payloads ≡ false)
-    ⊎ ((k : Fault) × (p : Place)
-    × (meaning input.table input.intrinsics input.tunables.max_component_instances input.payloads ≡ Some (fault k p))))
+-- what an input's payloads mean, and the same as far as it is built
+abbrev pub meaning_of : Input → Option (Outcome Reading)
+meaning_of input = meaning input.table input.intrinsics input.tunables.max_component_instances input.payloads
+
+abbrev pub built_meaning_of : Input → Option (Outcome Reading)
+built_meaning_of input =
+    built_meaning input.table input.intrinsics input.tunables.max_component_instances input.payloads
+
+-- an input has a reason to be refused
+pub data HasFault (input : Input) : Type 0 where
+  -- a list is too long for its numbers
+  too_long : is_numbered input.table input.payloads ≡ false → HasFault input
+  -- there is a static fault
+  static : {e : Error} → static_fault input.table input.intrinsics input.payloads ≡ Some e → HasFault input
+  -- a function of the table isn't over primitives
+  compound : is_plain_table input.table ≡ false → HasFault input
+  -- the reading ends at a fault, or over the limit
+  faulty : {k : Fault} {p : Place} → meaning_of input ≡ Some (fault k p) → HasFault input
+  endless : meaning_of input ≡ Some over → HasFault input
+  -- an item of the root is of a kind that isn't built
+  later : HasRoot input.intrinsics input.payloads (λ body. are_built body ≡ false) → HasFault input
+  -- an adapter is needed
+  unbuilt : {k : Fault} {p : Place} → built_meaning_of input ≡ Some (fault k p) → HasFault input
 
 -- a text is the one that a command makes of a plan and its modules
 unfoldable pub Prints : Command → ComponentTranslation → List ModuleTranslation → (text : List ℕ) → Type 0

@@ -1,190 +1,133 @@
 -- Why a translation is refused, from what its steps answer.
-use Rattle.std.proofs.Common.{◌≡◌, ℕ, ◌≤◌, ◌<◌, List, [], length, map, ◌∙◌, Bool, ◌&&◌, Option, Some, None, Result, Ok, Err, true, false, refl, sym, ap, subst, arith, ◌⊎◌, inl, inr}
-use Rattle.std.specs.Prelude.{nat_lt, is_none, sum_by, IfErr}
-use Rattle.std.specs.Result.{IsErrAnd}
-use Rattle.std.specs.List.{list_all}
-use Rattle.pc_parsed.specs.Built.{is_built_entry}
-use Rattle.std.proofs.lemmas.Bool.{ltb-true}
-use Rattle.pc_builder.specs.Types.{Types}
-use Rattle.pc_entity.proofs.Elements.{and_true, true_and}
-use Rattle.pc_info.specs.declared.component.Component.{Component}
-use Rattle.pc_info.specs.declared.component.ComponentTranslation.{ComponentTranslation}
-use Rattle.pc_info.specs.declared.module.ModuleTranslation.{ModuleTranslation}
-use Rattle.pc_parsed.specs.declared.fault.ItemFault.{ItemFault}
-use Rattle.pc_parsed.specs.declared.fault.ItemFault.TheVariants.{Invalid, BadType}
-use Rattle.pc_parsed.specs.declared.item.LocalInitializer.{LocalInitializer}
-use Rattle.pc_parsed.specs.declared.item.LocalProgram.{LocalProgram}
-use Rattle.pc_parsed.specs.declared.payload.Payload.{Payload}
-use Rattle.pc_parsed.specs.Nest.{IsProgramOf, body_items, modules_of}
-use Rattle.pc_parsed.specs.Program.{is_numbered, is_translatable, item_count, not_built, refusal}
-use Rattle.pc_parsed.specs.StaticFault.{static_fault}
-use Rattle.pc_parsed.proofs.KindLemmas.{IsStatic, refused_by, static_kind}
-use Rattle.pc_translate.proofs.GainLemmas.{frame_few}
-use Rattle.pc_translate.proofs.TranslatesLemmas.{parts, translated, faulted}
-use Rattle.pc_translate.specs.Building
-use Rattle.pc_translate.proofs.WholeLemmas.{lift_lacks, stuck_whole}
-use Rattle.pc_translate.specs.Places.{SomeLacksPlace}
-use Rattle.pc_translate.specs.declared.frame.Frame.{Frame}
-use Rattle.pc_translate.specs.Held.{FrameHeld}
-use Rattle.pc_translate.specs.Planning.{IsPlanOf, as_handed_in}
-use Rattle.pc_bridge.proofs.SizeLemmas.{sizes_alike}
-use Rattle.pc_translate.specs.Gained.{AddsTypes, items_in}
-use Rattle.pc_translate.specs.Translation.{Translates, HasCause, can_translate}
+use Rattle.std.proofs.Common.{arith, ◌≡◌, ℕ, ◌⊎◌, inl, inr, List, map, ◌∙◌, Option, Some, Ok, Err, true, refl, sym, ap}
+use Rattle.std.proofs.Common.{subst}
+use Rattle.std.proofs.lemmas.Option.{same_Some}
+use Rattle.std.proofs.lemmas.Simd.{map-map}
+use Rattle.pc_interned.specs.Types.{Types}
 use Rattle.pc_types.specs.declared.error.Error.{Error}
 use Rattle.pc_types.specs.declared.error.Error.TheVariants as error
-use Rattle.pc_types.specs.declared.error.Place.TheVariants as place
+use Rattle.pc_types.specs.declared.error.Place.{Place}
+use Rattle.pc_types.specs.declared.error.Unsupported.{Unsupported}
+use Rattle.pc_types.specs.declared.error.Unsupported.TheVariants as unsupported
 use Rattle.pc_types.specs.declared.module_record.ModuleRecord.{ModuleRecord}
 use Rattle.pc_types.specs.declared.parsed.TypeTable.{TypeTable}
-use Rattle.pc_types.specs.Table.{table_fault}
+use Rattle.pc_types.specs.Names.{distinct_names}
+use Rattle.pc_info.specs.declared.component.ComponentTranslation.{ComponentTranslation}
+use Rattle.pc_info.specs.declared.module.ModuleTranslation.{ModuleTranslation}
+use Rattle.pc_parsed.specs.declared.payload.Payload.{Payload}
+use Rattle.pc_parsed.specs.Program.{is_numbered}
+use Rattle.pc_parsed.specs.StaticFault.{static_fault}
+use Rattle.pc_parsed.proofs.KindLemmas.{IsStatic, static_kind}
+use Rattle.pc_reading.specs.Item.{ExportOf, Items, exports_in}
+use Rattle.pc_reading.specs.Nest.{root_of}
+use Rattle.pc_reading.specs.Outcome.{bad_type, fault, invalid, over}
+use Rattle.pc_reading.specs.Outcome as outcome
+use Rattle.pc_reading.specs.Section.{modules_of, named_item}
+use Rattle.pc_local.specs.declared.item.LocalProgram.{LocalProgram}
+use Rattle.pc_local.specs.Program.{ProgramStands}
+use Rattle.pc_local.specs.Standing.{BodyStands, no_names}
+use Rattle.pc_inline.specs.Adds.{AddsTypes, item_count}
+use Rattle.pc_inline.specs.Inlines.{IsFault, export_name}
+use Rattle.pc_translate.proofs.FlawLemmas.{IsFlawError, static_flaw}
+use Rattle.pc_translate.proofs.TranslatesLemmas.{root_built, root_end, translates}
+use Rattle.pc_translate.specs.Causes.{CanBeRead, HasCause, IsFirstFault}
+use Rattle.pc_translate.specs.Planning.{IsPlanOfBody, Plans, as_handed_in}
+use Rattle.pc_translate.specs.Translation.{Gains, Translates}
 
--- how many items a list has that can be numbered
-pub few_items : (t : TypeTable) (ps : List Payload) → is_numbered t ps ≡ true → sum_by item_count ps < 4294967295
-few_items t ps h = ltb-true (sum_by item_count ps) 4294967295 (and_true _ _ h).1
+-- nothing was gained
+pub gains_nothing : (exposed : Option (List ℕ)) (ps : List Payload) (types : Types) → Gains exposed ps types types
+unfolding Gains
+gains_nothing exposed ps types body root = record {
+  rest = refl;
+  funcs = omega arith;
+  tuples = omega arith;
+  signatures = omega arith;
+}
 
--- what was read of lists was read of equal lists
-pub reads_same : (types : Types) (t : TypeTable) (ms ms' : List ModuleRecord) (items items' : List LocalInitializer)
-    (r : Result Frame Error)
-    → ms' ≡ ms → items' ≡ items → Building.Reads types t ms' items' r → Building.Reads types t ms items r
-reads_same types t ms ms' items items' r same_modules same_items b =
-    subst (λ (xs : List ModuleRecord). Building.Reads types t xs items r) same_modules
-    (subst (λ (xs : List LocalInitializer). Building.Reads types t ms' xs r) same_items b)
+-- what was gained for the body of a program was gained for its payloads
+pub gains : (exposed : Option (List ℕ)) (ps : List Payload) (program : LocalProgram) (old new : Types)
+    → ProgramStands exposed ps program
+    → ((body : Items) → BodyStands program.components no_names program.root body → AddsTypes (item_count body) old new)
+    → Gains exposed ps old new
+unfolding Gains
+gains exposed ps program old new stands adds body root =
+    subst (λ (b : Items). AddsTypes (item_count b) old new) (same_Some stands.body body (sym stands.nests ∙ root))
+    (adds stands.body stands.root)
 
-module _ (t : TypeTable) (exposed : Option (List ℕ)) (limit : ℕ) (ps : List Payload) (program : LocalProgram)
-    (is_program : IsProgramOf ps program) (ok : is_translatable t exposed ps ≡ true) where
-  -- what was built of a program was built of its payloads
-  of_payloads : (types : Types) (r : Result Frame (ItemFault × ℕ))
-      → Building.BuildsAll types t program.modules 0 program.root.initializers Building.empty_frame r
-      → Building.BuildsAll types t (modules_of ps) 0 (body_items ps) Building.empty_frame r
-  of_payloads types r b =
-      subst (λ (items : List LocalInitializer). Building.BuildsAll types t
-      (modules_of ps) 0 items Building.empty_frame r) is_program.items
-      (subst (λ (ms : List ModuleRecord). Building.BuildsAll types t ms 0 program.root.initializers Building.empty_frame r) is_program.modules b)
+module _ (t : TypeTable) (exposed : Option (List ℕ)) (limit : ℕ) (ps : List Payload) (types : Types) where
+  module _ (can : CanBeRead t exposed ps) (body : Items) (root : root_of exposed ps ≡ Some body) where
+    -- what isn't supported is told at its place
+    unsupported_cause : (u : Unsupported) (p : Place)
+        → IsFault t (modules_of ps) limit body types (error.Unsupported u p)
+        → HasCause t exposed limit ps types (error.Unsupported u p)
+    unsupported_cause unsupported.NotBuilt p h =
+        inr (can, root_built t exposed limit ps body root (fault (outcome.unsupported unsupported.NotBuilt) p) h)
+    unsupported_cause u p h = inr (can, root_end t exposed limit ps body root (fault (outcome.unsupported u) p) h)
 
-  -- the entries of the table are of kinds that are supported
-  pub entries_plain : list_all is_built_entry t.types ≡ true
-  entries_plain = (parts t exposed ps ok).entries
+    -- the cause of a reading's fault
+    fault_cause : (e : Error) → IsFault t (modules_of ps) limit body types e → HasCause t exposed limit ps types e
+    fault_cause (error.Invalid p) h = (can, root_end t exposed limit ps body root (fault invalid p) h)
+    fault_cause (error.BadType p) h = (can, root_end t exposed limit ps body root (fault bad_type p) h)
+    fault_cause (error.Unsupported u p) h = unsupported_cause u p h
+    fault_cause error.TooManyInstances h = (can, root_end t exposed limit ps body root over h)
+    fault_cause error.TooMany h = inr (can, (body, root, h))
+    fault_cause error.NoMemory h = tt
+    fault_cause (error.Malformed p) h = absurd h
+    fault_cause (error.BadTable p) h = absurd h
+    fault_cause (error.BadIntrinsics p) h = absurd h
+    fault_cause (error.UnknownIntrinsic p) h = absurd h
+    fault_cause (error.DefinedTwice p) h = absurd h
+    fault_cause (error.BadOptions p) h = absurd h
 
-  -- the program has as many items as the payloads
-  as_many : length program.root.initializers ≡ sum_by items_in ps
-  as_many = ap length is_program.items ∙ sizes_alike 0 ps (parts t exposed ps ok).payloads
-
-  -- what was added for the items of the program was added for those of the payloads
-  pub adds_for : (old new : Types) → AddsTypes (length program.root.initializers) old new
-      → AddsTypes (sum_by items_in ps) old new
-  adds_for old new h = subst (λ (n : ℕ). AddsTypes n old new) as_many h
-
-  pub few_exports : (types : Types) (f : Frame)
-      → Building.Reads types t program.modules program.root.initializers (Ok f)
-      → length program.root.initializers ≤ sum_by item_count ps → is_numbered t ps ≡ true
-      → length f.exports < 4294967295
-  few_exports types f b few numbered =
-      let room = few_items t ps numbered in
-      let own = (frame_few types t program.modules program.root.initializers f b).0 in
-      omega (arith, room, own, few)
-
-  pub few_steps : (types : Types) (f : Frame) → Building.Reads types t program.modules program.root.initializers (Ok f)
-      → length program.root.initializers ≤ sum_by item_count ps → is_numbered t ps ≡ true
-      → length f.initializers < 4294967296
-  few_steps types f b few numbered =
-      let room = few_items t ps numbered in
-      let own = (frame_few types t program.modules program.root.initializers f b).1 in
-      omega (arith, room, own, few)
-
-  pub translates : (types : Types) (f : Frame) (c : Component) (plan : ComponentTranslation)
-      (mts : List ModuleTranslation) → plan ≡ record { component = c; trampolines = [] }
-      → is_numbered t ps ≡ true → nat_lt 0 limit ≡ true
-      → Building.Reads types t program.modules program.root.initializers (Ok f) → FrameHeld types f
-      → IsPlanOf f types c → mts ≡ map as_handed_in program.modules
-      → Translates t exposed limit ps types plan mts
-  translates types f c plan mts is_it numbered begins b frame_held is_plan same =
-      subst (λ (x : ComponentTranslation). Translates t exposed limit ps types x mts) (sym is_it)
-      (translated t exposed limit ps types f c mts numbered begins ok (parts t exposed ps ok)
-      (of_payloads types (Ok f) b) frame_held is_plan (same ∙ ap (map as_handed_in) is_program.modules))
-
-  -- the cause of a fault at an item
-  fault_cause : (types : Types) (k : ItemFault) (n : ℕ) → is_numbered t ps ≡ true → nat_lt 0 limit ≡ true
-      → Building.BuildsAll types t program.modules 0 program.root.initializers Building.empty_frame (Err (k, n))
-      → HasCause t exposed limit ps types (Building.fault_error k n)
-  fault_cause types Invalid n numbered begins b = (
-    numbered,
-    true_and _ _ begins ok,
-    stuck_whole t exposed limit ps ok Invalid (place.Reading 0 n) (faulted types t exposed limit ps Invalid n begins (parts t exposed ps ok)
-        (of_payloads types (Err (Invalid, n)) b)),
-  )
-  fault_cause types BadType n numbered begins b = (
-    numbered,
-    true_and _ _ begins ok,
-    stuck_whole t exposed limit ps ok BadType (place.Reading 0 n) (faulted types t exposed limit ps BadType n begins (parts t exposed ps ok)
-        (of_payloads types (Err (BadType, n)) b)),
-  )
-
-  pub read_cause : (types : Types) (e : Error) → is_numbered t ps ≡ true → nat_lt 0 limit ≡ true
-      → Building.Reads types t program.modules program.root.initializers (Err e)
-      → (e ≡ error.TooMany → SomeLacksPlace t types program.root.initializers) → HasCause t exposed limit ps types e
-  read_cause types e numbered begins h full =
-      elim h [
-        | inl memory ↦ subst (λ (x : Error). HasCause t exposed limit ps types x) (sym memory) tt
-        | inr rest ↦ elim rest [
-          | inl many ↦ subst (λ (x : Error). HasCause t exposed limit ps types x) (sym many)
-              (inr (
-                true_and _ _ begins ok,
-                lift_lacks t types ps (subst (SomeLacksPlace t types) is_program.items (full many)),
-              ))
-          | inr at ↦ subst (λ (x : Error). HasCause t exposed limit ps types x) (sym at.3)
-              (fault_cause types at.0 at.1 numbered begins at.2)
-        ]
-      ]
+    -- the cause of a program's refusal
+    pub plan_cause : (ms : List ModuleRecord) (e : Error) → ms ≡ modules_of ps
+        → Plans t ms limit body types (Err e) → HasCause t exposed limit ps types e
+    unfolding Plans
+    plan_cause ms e same h = fault_cause e (subst (λ xs. IsFault t xs limit body types e) same h)
 
 -- a static fault is its own cause
 static_cause : (t : TypeTable) (exposed : Option (List ℕ)) (limit : ℕ) (ps : List Payload) (types : Types) (e : Error)
-    → is_numbered t ps ≡ true
-    → can_translate t exposed limit ps ≡ false → static_fault t exposed ps ≡ Some e → IsStatic e
-    → HasCause t exposed limit ps types e
-static_cause t exposed limit ps types (error.Malformed p) numbered unable at known = (numbered, at)
-static_cause t exposed limit ps types (error.BadTable p) numbered unable at known = (numbered, at)
-static_cause t exposed limit ps types (error.BadIntrinsics p) numbered unable at known = (numbered, at)
-static_cause t exposed limit ps types (error.UnknownIntrinsic p) numbered unable at known = (numbered, at)
-static_cause t exposed limit ps types (error.DefinedTwice p) numbered unable at known = (numbered, at)
-static_cause t exposed limit ps types (error.Unsupported u p) numbered unable at known = (numbered, unable, inl at)
-static_cause t exposed limit ps types (error.Invalid p) numbered unable at known = absurd known
-static_cause t exposed limit ps types (error.BadType p) numbered unable at known = absurd known
-static_cause t exposed limit ps types (error.BadOptions p) numbered unable at known = absurd known
-static_cause t exposed limit ps types error.TooManyInstances numbered unable at known = absurd known
-static_cause t exposed limit ps types error.TooMany numbered unable at known = absurd known
-static_cause t exposed limit ps types error.NoMemory numbered unable at known = tt
+    → IsFirstFault t exposed ps e → IsStatic e → IsFlawError e → HasCause t exposed limit ps types e
+static_cause t exposed limit ps types (error.Malformed p) at known other = at
+static_cause t exposed limit ps types (error.BadTable p) at known other = at
+static_cause t exposed limit ps types (error.BadIntrinsics p) at known other = at
+static_cause t exposed limit ps types (error.UnknownIntrinsic p) at known other = at
+static_cause t exposed limit ps types (error.DefinedTwice p) at known other = at
+static_cause t exposed limit ps types (error.Unsupported unsupported.NotBuilt p) at known other = absurd other
+static_cause t exposed limit ps types (error.Unsupported u p) at known other = inl at
+static_cause t exposed limit ps types error.NoMemory at known other = tt
+static_cause t exposed limit ps types e at known other = absurd known
 
--- the cause of a refusal of the payloads
+-- the cause of a refusal before the reading
 pub payload_cause : (t : TypeTable) (exposed : Option (List ℕ)) (limit : ℕ) (ps : List Payload) (types : Types)
-    (e : Error) → is_numbered t ps ≡ true
-    → (e ≡ error.NoMemory) ⊎ (refusal t exposed ps ≡ Some e) → HasCause t exposed limit ps types e
+    (e : Error) → is_numbered t ps ≡ true → (e ≡ error.NoMemory) ⊎ (static_fault t exposed ps ≡ Some e)
+    → HasCause t exposed limit ps types e
 payload_cause t exposed limit ps types e numbered (inl memory) =
     subst (λ (x : Error). HasCause t exposed limit ps types x) (sym memory) tt
-payload_cause t exposed limit ps types e numbered (inr at) = by (refused_by t exposed ps e at)
-  where
-    none_false : (b : Bool) → (b && false) ≡ false
-    none_false true = refl
-    none_false false = refl
+payload_cause t exposed limit ps types e numbered (inr at) =
+    static_cause t exposed limit ps types e (numbered, at) (static_kind t exposed ps e at)
+    (static_flaw t exposed ps e at)
 
-    unable : can_translate t exposed limit ps ≡ false
-    unable = ap (λ (o : Option Error). nat_lt 0 limit && is_none o) at ∙ none_false (nat_lt 0 limit)
+-- the names that a body of a program exports are those of its exports in the reading
+pub names_distinct : (exposed : Option (List ℕ)) (ps : List Payload) (program : LocalProgram)
+    → (stands : ProgramStands exposed ps program)
+    → distinct_names (map (λ (e : ExportOf). e.name.name) (exports_in stands.body)) ≡ true
+    → distinct_names (map export_name program.root.exports) ≡ true
+names_distinct exposed ps program stands h =
+    let same : map (λ (e : ExportOf). e.name.name) (exports_in stands.body) ≡ map export_name program.root.exports =
+    ap (map (λ (e : ExportOf). e.name.name)) (sym stands.root.exports)
+    ∙ map-map (λ (e : ExportOf). e.name.name) named_item program.root.exports in
+    subst (λ (ns : List (List ℕ)). distinct_names ns ≡ true) same h
 
-    by : (static_fault t exposed ps ≡ Some e) ⊎ ((static_fault t exposed ps ≡ None) × (e ≡ not_built))
-        → HasCause t exposed limit ps types e
-    by (inl static) = static_cause t exposed limit ps types e numbered unable static (static_kind t exposed ps e static)
-    by (inr built) = subst (λ (x : Error). HasCause t exposed limit ps types x) (sym built.1)
-        (numbered, unable, inr (built.0, refl))
-
--- the same where the refusal is passed on
-pub passed_cause : {A : Type 0} (t : TypeTable) (exposed : Option (List ℕ)) (limit : ℕ) (ps : List Payload)
-    (types : Types) (r : Result A Error) (e : Error)
-    → IsErrAnd r (λ y. y ≡ e) → is_numbered t ps ≡ true → (e ≡ error.NoMemory) ⊎ (refusal t exposed ps ≡ Some e)
-    → IfErr r (λ y. HasCause t exposed limit ps types y)
-passed_cause t exposed limit ps types (Ok x) e is numbered h = tt
-passed_cause t exposed limit ps types (Err y) e is numbered h =
-    subst (λ (x : Error). HasCause t exposed limit ps types x) (sym is)
-    (payload_cause t exposed limit ps types e numbered h)
-
--- the table of what can be translated is sound
-pub table_sound : (t : TypeTable) (exposed : Option (List ℕ)) (ps : List Payload) → is_translatable t exposed ps ≡ true
-    → table_fault t ≡ None
-table_sound t exposed ps ok = (parts t exposed ps ok).table
+-- the plan of a program is the translation of its payloads
+pub translates_program : (t : TypeTable) (exposed : Option (List ℕ)) (limit : ℕ) (ps : List Payload)
+    (program : LocalProgram) → (stands : ProgramStands exposed ps program) → CanBeRead t exposed ps → (types : Types)
+    (plan : ComponentTranslation) (modules : List ModuleTranslation)
+    → Plans t program.modules limit stands.body types (Ok plan) → modules ≡ map as_handed_in program.modules
+    → Translates t exposed limit ps types plan modules
+unfolding Plans
+translates_program t exposed limit ps program stands can types plan modules planned same =
+    subst (λ (ms : List ModuleTranslation). Translates t exposed limit ps types plan ms)
+    (sym (same ∙ ap (map as_handed_in) stands.modules))
+    (translates t exposed limit ps stands.body stands.nests types plan can
+    (subst (λ (ms : List ModuleRecord). IsPlanOfBody t ms limit stands.body types plan) stands.modules planned))

@@ -1,25 +1,22 @@
-mod MeansLemmas
-mod LookupLemmas
-mod Standing
-mod RunGrowthLemmas
-mod RunLemmas
-mod ExportLemmas
+-- What the functions of this crate rest on.
 mod ErasureLemmas
-mod ItemLemmas
-mod BodyLemmas
-mod PlanLemmas
-mod CountLemmas
-mod TreeLemmas
+mod ListLemmas
+-- a graph and its plan do what the reading says
+mod MarkLemmas
+mod RunLemmas
+mod WiredLemmas
+-- what a plan has beside its steps
+mod AskedLemmas
+mod DeclaredLemmas
 mod HeldLemmas
-mod NumberLemmas
-mod NameLemmas
-mod GainLemmas
-mod AddedLemmas
-mod WholeLemmas
+-- so it is the translation of the payloads
 mod TranslatesLemmas
-mod ReadSoFarLemmas
-mod LiftLemmas
-mod PassingLemmas
-mod CauseLemmas
 -- what an answer says where the types builder is not asked for
 pub mod SomeTypesLemmas
+-- a body has a plan, or a cause for want of one
+mod PassingLemmas
+mod PlanningLemmas
+-- why payloads are refused
+mod FlawLemmas
+mod BuiltLemmas
+mod CauseLemmas

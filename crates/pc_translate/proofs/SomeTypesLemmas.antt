@@ -1,53 +1,135 @@
 -- What an answer says with a types builder that held no types before.
-use Rattle.std.proofs.Common.{◌≡◌, ℕ, List, Option, Result, Ok, Err, IfOk, IfErr, OnOk, refl, ap, subst}
-use Rattle.std.specs.Prelude.{sum_by}
-use Rattle.pc_builder.specs.Types.{Types, IsBuilder, no_types}
+use Rattle.std.proofs.Common.{◌≡◌, ◌≤◌, inl, inr, ℕ, List, Option, None, Some, Result, Ok, Err, IfOk, IfErr, refl, sym}
+use Rattle.std.proofs.Common.{ap, subst, ◌∙◌, arith}
+use Rattle.std.specs.Prelude.{option_map}
+use Rattle.std.proofs.lemmas.Option.{none-some}
+use Rattle.pc_interned.specs.Types.{IsBuilder, Types, held, no_types}
 use Rattle.pc_types.specs.declared.error.Error.{Error}
 use Rattle.pc_types.specs.declared.error.Error.TheVariants as error
+use Rattle.pc_types.specs.declared.error.Place.{Place}
+use Rattle.pc_types.specs.declared.error.Unsupported.{Unsupported}
+use Rattle.pc_types.specs.declared.error.Unsupported.TheVariants as unsupported
 use Rattle.pc_types.specs.declared.parsed.TypeTable.{TypeTable}
+use Rattle.pc_types.specs.declared.types.TypeKind.{TypeKind}
+use Rattle.pc_types.specs.declared.types.TypeKind.TheVariants as kind
 use Rattle.pc_info.specs.declared.component.ComponentTranslation.{ComponentTranslation}
 use Rattle.pc_info.specs.declared.module.ModuleTranslation.{ModuleTranslation}
 use Rattle.pc_parsed.specs.declared.payload.Payload.{Payload}
-use Rattle.pc_translate.proofs.AddedLemmas.{adds_nothing}
-use Rattle.pc_translate.specs.Gained.{AddsTypes, AreGained, items_in}
-use Rattle.pc_translate.specs.Translation.{Translates, HasCause, IsPlanOf, IsRefusalOf}
+use Rattle.pc_reading.specs.Item.{Items}
+use Rattle.pc_reading.specs.Nest.{root_of}
+use Rattle.pc_reading.specs.Outcome.{Outcome}
+use Rattle.pc_reading.specs.Reading.{Reading, reading, reading_of}
+use Rattle.pc_reading.specs.Section.{modules_of}
+use Rattle.pc_inline.specs.Adds.{AddsTypes, item_count, most_items}
+use Rattle.pc_translate.specs.Causes.{HasCause, meaning}
+use Rattle.pc_translate.specs.Translation.{Gains, HasTooManyItems, IsPlanOf, IsRefusalOf, Translates}
+
+-- a full list of a builder that held no types holds two for each of many items
+full_needs : (n : ℕ) (types : Types) → AddsTypes n no_types types → (k : TypeKind) → held types k ≡ 4294967294
+    → most_items ≤ n
+full_needs n types adds k full = by k full
+  where
+    -- kinds of which none were added
+    empty : (k : TypeKind) → held types k ≡ 4294967294 → held types k ≡ 0 → most_items ≤ n
+    empty k full none = let never : 4294967294 ≡ 0 = sym full ∙ none in absurd (omega (arith, never))
+
+    by : (k : TypeKind) → held types k ≡ 4294967294 → most_items ≤ n
+    by kind.Func full = let few = adds.funcs in omega (arith, few, full)
+    by kind.Tuple full = let few = adds.tuples in omega (arith, few, full)
+    by kind.Signature full = let few = adds.signatures in omega (arith, few, full)
+    by kind.Record full = empty kind.Record full (ap (λ b. held b kind.Record) adds.rest)
+    by kind.Variant full = empty kind.Variant full (ap (λ b. held b kind.Variant) adds.rest)
+    by kind.List full = empty kind.List full (ap (λ b. held b kind.List) adds.rest)
+    by kind.Option full = empty kind.Option full (ap (λ b. held b kind.Option) adds.rest)
+    by kind.Result full = empty kind.Result full (ap (λ b. held b kind.Result) adds.rest)
+    by kind.Flags full = empty kind.Flags full (ap (λ b. held b kind.Flags) adds.rest)
+    by kind.Enum full = empty kind.Enum full (ap (λ b. held b kind.Enum) adds.rest)
+    by kind.ResourceTable full = empty kind.ResourceTable full (ap (λ b. held b kind.ResourceTable) adds.rest)
+    by kind.FutureTable full = empty kind.FutureTable full (ap (λ b. held b kind.FutureTable) adds.rest)
+    by kind.StreamTable full = empty kind.StreamTable full (ap (λ b. held b kind.StreamTable) adds.rest)
+    by kind.ErrorContextTable full =
+        empty kind.ErrorContextTable full (ap (λ b. held b kind.ErrorContextTable) adds.rest)
+    by kind.Instance full = empty kind.Instance full (ap (λ b. held b kind.Instance) adds.rest)
+    by kind.Component full = empty kind.Component full (ap (λ b. held b kind.Component) adds.rest)
+    by kind.Module full = empty kind.Module full (ap (λ b. held b kind.Module) adds.rest)
 
 module _ (t : TypeTable) (exposed : Option (List ℕ)) (limit : ℕ) (ps : List Payload) (old types : Types)
-    (fresh : old ≡ no_types) (before : IsBuilder old) (builder : IsBuilder types) where
-  -- none were held before
-  gained : AddsTypes (sum_by items_in ps) old types → AreGained ps types
-  gained adds = record { builder = builder; few = subst (λ o. AddsTypes (sum_by items_in ps) o types) fresh adds }
+    (fresh : old ≡ no_types) where
+  -- what was gained by one who held nothing
+  gained_by : Gains exposed ps old types → (body : Items) → root_of exposed ps ≡ Some body
+      → AddsTypes (item_count body) no_types types
+  unfolding Gains
+  gained_by gains body root = subst (λ o. AddsTypes (item_count body) o types) fresh (gains body root)
 
-  pub plan_alone : (r : Result (ComponentTranslation × List ModuleTranslation) Error)
-      → OnOk r (AddsTypes (sum_by items_in ps) old types)
+  -- payloads that mean something have a root
+  has_root : (o : Outcome Reading) → meaning t exposed limit ps ≡ Some o
+      → (body : Items) × (root_of exposed ps ≡ Some body)
+  unfolding meaning reading
+  has_root o means = by (root_of exposed ps) refl means
+    where
+      by : (root : Option Items) → root_of exposed ps ≡ root
+          → option_map (reading_of t (modules_of ps) limit None) root ≡ Some o
+          → (body : Items) × (root_of exposed ps ≡ Some body)
+      by None is h = absurd (none-some o h)
+      by (Some body) is h = (body, is)
+
+  pub plan_alone : IsBuilder types → Gains exposed ps old types
+      → (r : Result (ComponentTranslation × List ModuleTranslation) Error)
       → IfOk r (λ x. Translates t exposed limit ps types x.0 x.1) → IfOk r (λ x. IsPlanOf t exposed limit ps x.0 x.1)
   unfolding IsPlanOf
-  plan_alone (Ok x) adds h = (types, gained adds, h)
-  plan_alone (Err e) adds h = tt
+  plan_alone builder gains (Ok x) h =
+      let root = has_root _ h.outcome in
+      (types, record { builder = builder; few = (root.0, root.1, gained_by gains root.0 root.1) }, h)
+  plan_alone builder gains (Err e) h = tt
 
-  -- no type at all
-  nothing : AreGained ps no_types
-  nothing = record { builder = subst IsBuilder fresh before; few = adds_nothing (sum_by items_in ps) no_types }
+  -- a cause but for a list that is too long doesn't speak of the builder
+  of_kind : (u : Unsupported) (p : Place) → HasCause t exposed limit ps types (error.Unsupported u p)
+      → HasCause t exposed limit ps no_types (error.Unsupported u p)
+  of_kind unsupported.Module p h = h
+  of_kind unsupported.ThreadSpawn p h = h
+  of_kind unsupported.ContextGetType p h = h
+  of_kind unsupported.ContextSetType p h = h
+  of_kind unsupported.StreamForward p h = h
+  of_kind unsupported.FutureForward p h = h
+  of_kind unsupported.StartSection p h = h
+  of_kind unsupported.ComponentValue p h = h
+  of_kind unsupported.ComponentImport p h = h
+  of_kind unsupported.ReexportedFunction p h = h
+  of_kind unsupported.ReexportedIntrinsic p h = h
+  of_kind unsupported.ReexportedIntrinsics p h = h
+  of_kind unsupported.ExportedComponent p h = h
+  of_kind unsupported.NotBuilt p h = h
 
-  -- only where a type has no place does the cause speak of the types that were added
-  alone : (e : Error) → (e ≡ error.TooMany → AddsTypes (sum_by items_in ps) old types)
-      → HasCause t exposed limit ps types e → IsRefusalOf t exposed limit ps e
+  -- a builder that is full has got so much from the items of the root
+  too_many : Gains exposed ps old types → HasCause t exposed limit ps types error.TooMany → HasTooManyItems t exposed ps
+  too_many gains (inl unnumbered) = inl unnumbered
+  too_many gains (inr h) =
+      let body = h.1.0 in
+      let root = h.1.1 in
+      let many : most_items ≤ item_count body = elim h.1.2 [
+        | inl full ↦ full_needs (item_count body) types (gained_by gains body root) full.0 full.1
+        | inr many ↦ many
+      ] in
+      inr (h.0, (body, root, many))
+
+  alone : Gains exposed ps old types → (e : Error) → HasCause t exposed limit ps types e
+      → IsRefusalOf t exposed limit ps e
   unfolding IsRefusalOf
-  alone error.TooMany adds h = (types, gained (adds refl), h)
-  alone (error.Invalid p) adds h = (no_types, nothing, h)
-  alone (error.BadType p) adds h = (no_types, nothing, h)
-  alone (error.Unsupported u p) adds h = (no_types, nothing, h)
-  alone error.NoMemory adds h = (no_types, nothing, h)
-  alone (error.Malformed p) adds h = (no_types, nothing, h)
-  alone (error.BadTable p) adds h = (no_types, nothing, h)
-  alone (error.BadIntrinsics p) adds h = (no_types, nothing, h)
-  alone (error.UnknownIntrinsic p) adds h = (no_types, nothing, h)
-  alone (error.DefinedTwice p) adds h = (no_types, nothing, h)
-  alone (error.BadOptions p) adds h = absurd h
-  alone error.TooManyInstances adds h = absurd h
+  alone gains error.TooMany h = too_many gains h
+  alone gains (error.Unsupported u p) h = of_kind u p h
+  alone gains (error.Invalid p) h = h
+  alone gains (error.BadType p) h = h
+  alone gains error.NoMemory h = h
+  alone gains (error.Malformed p) h = h
+  alone gains (error.BadTable p) h = h
+  alone gains (error.BadIntrinsics p) h = h
+  alone gains (error.UnknownIntrinsic p) h = h
+  alone gains (error.DefinedTwice p) h = h
+  alone gains (error.BadOptions p) h = h
+  alone gains error.TooManyInstances h = h
 
-  pub refusal_alone : (r : Result (ComponentTranslation × List ModuleTranslation) Error)
-      → (r ≡ Err error.TooMany → AddsTypes (sum_by items_in ps) old types)
+  pub refusal_alone : Gains exposed ps old types
+      → (r : Result (ComponentTranslation × List ModuleTranslation) Error)
       → IfErr r (λ e. HasCause t exposed limit ps types e) → IfErr r (λ e. IsRefusalOf t exposed limit ps e)
-  refusal_alone (Ok x) adds h = tt
-  refusal_alone (Err e) adds h = alone e (λ same. adds (ap Err same)) h
+  refusal_alone gains (Ok x) h = tt
+  refusal_alone gains (Err e) h = alone gains e h

@@ -1,13 +1,21 @@
 -- Whether the lists of a plan fit each other and the types builder.
 use Rattle.std.specs.Prelude.{◌≡◌, ◌<◌, ℕ, List, length, slice_get, Some}
-use Rattle.pc_builder.specs.Types.{Types}
+use Rattle.pc_interned.specs.Types.{Types}
 use Rattle.pc_builder.specs.Held.{IsHeld}
 use Rattle.pc_info.specs.declared.component.Component.{Component}
+use Rattle.pc_info.specs.declared.component.ComponentTranslation.{ComponentTranslation}
 use Rattle.pc_info.specs.declared.export.Export.{Export}
 use Rattle.pc_info.specs.declared.export.Export.TheVariants as export
 use Rattle.pc_info.specs.declared.options.CanonicalOptions.{CanonicalOptions}
 use Rattle.pc_info.specs.Exports.{Entry, number_of}
 use Rattle.pc_names.specs.Stands.{StandsFor}
+use Rattle.pc_entity.specs.Lists.{AreDistinct}
+use Rattle.pc_semantics.specs.PlanView.{SlotKind}
+use Rattle.pc_trampoline.specs.View.{PlanTrampoline}
+use Rattle.pc_info.specs.View.{counts_view, trampolines_view}
+use Rattle.pc_finish.specs.Finishes.{IsUsed, StandsAt}
+use Rattle.pc_finish.specs.Slots.{AtMostOne, TakesLowering, UsesLowering, UsesSlot, UsesTrampoline, slots_in}
+use Rattle.pc_numbers.specs.declared.module_entity.ModuleInternedTypeIndex.{ModuleInternedTypeIndex}
 use Rattle.pc_types.specs.declared.types.TypeDef.{TypeDef}
 use Rattle.pc_types.specs.declared.types.TypeDef.TheVariants as type
 
@@ -38,15 +46,30 @@ IsHeldExport types options (export.ModuleImport ty r) = IsHeldType types (type.M
 IsHeldExport types options (export.Instance ty exports) = IsHeldType types (type.ComponentInstance ty)
 IsHeldExport types options (export.Type_ ty) = IsHeldType types ty
 
--- an export is a function that has the options of this number
-abbrev pub HasOptions : ℕ → Export → Type 0
-HasOptions n (export.LiftedFunction ty func o) = o.0 ≡ n
-HasOptions n _ = ⊥
-
--- what an export names is there, and an options entry is there for an export
-pub record NamesHeld (c : Component) (types : Types) : Type 0 where
-  pub exports : (n : ℕ) (e : Export) → slice_get c.export_items n ≡ Some e → IsHeldExport types c.options e
-  pub signatures : (n : ℕ) (o : CanonicalOptions) → slice_get c.options n ≡ Some o
+-- the type of each export is held, an exported function has an options entry, and each options entry has a signature
+-- that is held
+pub record NamesHeld (plan : ComponentTranslation) (types : Types) : Type 0 where
+  pub exports : (n : ℕ) (e : Export) → slice_get plan.component.export_items n ≡ Some e
+      → IsHeldExport types plan.component.options e
+  pub signatures : (n : ℕ) (o : CanonicalOptions) → slice_get plan.component.options n ≡ Some o
       → o.core_type.0 < length types.signatures
-  pub used : (n : ℕ) → n < length c.options
-      → (k : ℕ) × (e : Export) × (slice_get c.export_items k ≡ Some e) × HasOptions n e
+
+-- each options entry, slot, lowering and trampoline of a plan is named by what it has, what is named is there, and
+-- nothing stands twice
+pub record IsTidy (plan : ComponentTranslation) : Type 0 where
+  -- functions with equal options share an options entry, and no trampoline stands twice under a signature
+  pub shared : AreDistinct plan.component.options
+  pub apart : (i j : ℕ) (s : ModuleInternedTypeIndex) (x : PlanTrampoline) → StandsAt plan s x i → StandsAt plan s x j
+      → i ≡ j
+  -- a lowering is that of one trampoline
+  pub lowered_once : (n : ℕ)
+      → AtMostOne (TakesLowering n) (trampolines_view 0 plan.component.trampolines plan.trampolines)
+  -- each options entry, each slot, each lowering and each trampoline is used
+  pub options_used : (n : ℕ) → n < length plan.component.options → IsUsed plan n
+  pub slots_used : (k : SlotKind) (n : ℕ) → n < slots_in (counts_view plan.component) k → UsesSlot plan k n
+  pub lowerings_used : (n : ℕ) → n < plan.component.num_lowerings → UsesLowering plan n
+  pub trampolines_used : (n : ℕ) → n < length plan.trampolines → UsesTrampoline plan n
+  -- and each that is used is there
+  pub options_there : (n : ℕ) → IsUsed plan n → n < length plan.component.options
+  pub slots_filled : (k : SlotKind) (n : ℕ) → UsesSlot plan k n → n < slots_in (counts_view plan.component) k
+  pub imports_lowered : (n : ℕ) → UsesLowering plan n → n < plan.component.num_lowerings

@@ -1,18 +1,11 @@
 //! The translator: payloads go in, and out come a plan and its core modules.
 //!
-//! The plan does what the nested reading of the payloads says; `specs/Translation.antt` has that statement.
-//! It stands on `pc_parsed`, whose reading is the meaning of the payloads, and on `pc_info`, whose plans are run by
-//! the machine of `pc_semantics`.
+//! It is three calls: the local program of the payloads (`pc_local`), the graph that stands for its reading
+//! (`pc_inline`), and the plan that the graph becomes (`pc_finish`). That the plan does what the nested reading says
+//! follows from what these promise; `specs/Translation.antt` has that statement.
 #![tactic(auto)]
 
-mod core_modules;
-mod error;
-mod frame;
-mod items;
-mod lift;
-mod numbers;
-mod plan;
-mod reader;
+mod built;
 mod translator;
 
 pub use translator::{PlanWithModules, Translator, plan_payloads, translate};

@@ -1,18 +1,28 @@
 //! The top call over payloads.
 
-ghost use Rattle.std.specs.Prelude.{◌≡◌, [], false, map, sum_by, None, Some, Err, is_some, IfErr, IfOk, OnOk};
+ghost use Rattle.std.specs.Prelude.{◌≡◌, [], false, true, map, None, Some, Err, is_some, IfErr, IfOk};
+ghost use Rattle.std.specs.List.{list_all};
 ghost use Rattle.std.specs.Option.{option_map};
+ghost use Rattle.pc_types.specs.Names.{distinct_names};
+ghost use Rattle.pc_types.specs.Record.{is_sound};
+ghost use Rattle.pc_types.specs.Table.{table_fault};
 ghost use Rattle.pc_builder.specs.Types.{KeepsTypes, no_types};
-ghost use Rattle.pc_translate.specs.Gained.{AddsTypes, items_in};
-ghost use Rattle.pc_translate.specs.Planning.{as_handed_in};
-ghost use Rattle.pc_translate.specs.Translation.{HasCause, IsPlanOf, IsRefusalOf, Translates};
+ghost use Rattle.pc_reading.specs.Item.{Items};
+ghost use Rattle.pc_local.specs.Standing.{BodyStands, no_names};
+ghost use Rattle.pc_inline.specs.Adds.{AddsTypes, is_plain_table, item_count};
+ghost use Rattle.pc_inline.specs.Inlines.{export_name};
+ghost use Rattle.pc_translate.specs.Causes.{HasCause};
+ghost use Rattle.pc_translate.specs.Planning.{Plans, as_handed_in, error_of_finish};
+ghost use Rattle.pc_translate.specs.Translation.{Gains, IsPlanOf, IsRefusalOf, Translates};
 
-use crate::plan::plan_of;
-use crate::reader::read_program;
+use crate::built::is_built_program;
 use pc_builder::ComponentTypesBuilder;
 use pc_entity::{NoMemory, PrimaryMap, Seq, StaticModuleIndex};
-use pc_info::{Component, ComponentTranslation, ModuleTranslation};
-use pc_parsed::{Payload, Tunables, is_numbered, not_built, translate_payloads};
+use pc_finish::{FinishError, finish};
+use pc_info::{ComponentTranslation, ModuleTranslation};
+use pc_inline::{inline_run, is_plain_table};
+use pc_local::{LocalProgram, translate_payloads};
+use pc_parsed::{Payload, Tunables, is_numbered, not_built};
 use pc_types::{Error, ModuleRecord, TypeTable};
 use std::alloc::Global;
 
@@ -37,14 +47,42 @@ fn translations(
     Ok(PrimaryMap::from_vec(translations))
 }
 
-/// A plan without trampolines.
-fn without_trampolines(alloc: Global, component: Component) -> ComponentTranslation
-    ensures { result ≡ record { component = component; trampolines = [] } }
+/// Why a graph has no plan, as an error of the translation.
+fn finish_error(error: FinishError) -> Error
+    ensures { result ≡ error_of_finish error }
 {
-    ComponentTranslation {
-        component,
-        trampolines: PrimaryMap::new(alloc),
+    match error {
+        FinishError::TooMany => Error::TooMany,
+        FinishError::NoMemory => Error::NoMemory,
     }
+}
+
+/// The plan of a local program: its graph, and then the plan that the graph becomes.
+fn plan_of(
+    alloc: Global,
+    tunables: &Tunables,
+    table: &TypeTable,
+    types: &mut ComponentTypesBuilder,
+    program: &LocalProgram,
+) -> Result<ComponentTranslation, Error>
+    requires table { table_fault table.now ≡ None }
+    requires modules { list_all (is_sound table.now) program.now.modules ≡ true }
+    requires stands { (body : Items) × BodyStands program.now.components no_names program.now.root body }
+    requires distinct { distinct_names (map export_name program.now.root.exports) ≡ true }
+    ensures plan { (body : Items) → BodyStands program.now.components no_names program.now.root body
+        → Plans table.now program.now.modules tunables.now.max_component_instances body types.new result }
+    ensures keeps { KeepsTypes types.old types.new }
+    ensures adds { (body : Items) → BodyStands program.now.components no_names program.now.root body
+        → is_plain_table table.now ≡ true → AddsTypes (item_count body) types.old types.new }
+{
+    let graph = inline_run(
+        alloc,
+        types,
+        table,
+        program,
+        tunables.max_component_instances,
+    )?;
+    finish(alloc, graph, table, types).map_err(finish_error)
 }
 
 /// The plan that payloads are translated to, and its core modules: those of the payloads, in order.
@@ -69,22 +107,19 @@ pub fn translate(
 
     ensures keeps { KeepsTypes types.old types.new }
 
-    // The builder gains no more than the items may need.
-    ensures adds { OnOk result (AddsTypes (sum_by items_in payloads.now) types.old types.new) }
-    ensures adds_when_full { result ≡ Err Error.TooMany
-        → AddsTypes (sum_by items_in payloads.now) types.old types.new }
+    // The builder gains no more than the items of the root may need.
+    ensures adds { Gains (option_map (λ name. name.now) exposed.entry) payloads.now types.old types.new }
 {
     if !is_numbered(table, payloads) {
         return Err(Error::TooMany);
     }
     let program = translate_payloads(alloc, table, exposed, payloads)?;
-    if tunables.max_component_instances == 0 {
+    if !is_plain_table(table) || !is_built_program(&program) {
         return Err(not_built());
     }
-    let frame = read_program(alloc, types, table, &program)?;
-    let component = plan_of(alloc, types, frame)?;
+    let plan = plan_of(alloc, tunables, table, types, &program)?;
     let modules = translations(alloc, program.modules)?;
-    Ok((without_trampolines(alloc, component), modules))
+    Ok((plan, modules))
 }
 
 /// What `translate` answers with a builder that holds no types, for callers that don't ask for those of the plan.
@@ -102,9 +137,8 @@ fn plan_with(
     ensures refused { IfErr result (λ e. IsRefusalOf table.now (option_map (λ name. name.now) exposed.entry)
         tunables.now.max_component_instances payloads.now e) }
 {
-    // No list is past its bound and no two types are equal, before and after.
-    types.types_are_distinct();
     let translated = translate(alloc, tunables, table, types, exposed, payloads);
+    // No list is past its bound and no two types are equal.
     types.types_are_distinct();
     translated
 }
@@ -190,20 +224,19 @@ impl<'a> Translator<'a> {
     pub fn translate(self, component: &[Payload]) -> Result<PlanWithModules, Error>
         // The plan does what the nested reading of the payloads says.
         ensures translated { IfOk result (λ r. Translates self.entry.table.now
-            (option_map (λ name. name.now) self.entry.exposed) self.entry.tunables.now.max_component_instances component.now
-            self.exit.0.now r.0 r.1) }
+            (option_map (λ name. name.now) self.entry.exposed) self.entry.tunables.now.max_component_instances
+            component.now self.exit.0.now r.0 r.1) }
 
         // Each refusal has its cause.
         ensures refused { IfErr result (λ e. HasCause self.entry.table.now
-            (option_map (λ name. name.now) self.entry.exposed) self.entry.tunables.now.max_component_instances component.now
-            self.exit.0.now e) }
+            (option_map (λ name. name.now) self.entry.exposed) self.entry.tunables.now.max_component_instances
+            component.now self.exit.0.now e) }
 
         ensures keeps { KeepsTypes self.entry.types.now self.exit.0.now }
 
-        // The builder gains no more than the items may need.
-        ensures adds { OnOk result (AddsTypes (sum_by items_in component.now) self.entry.types.now self.exit.0.now) }
-        ensures adds_when_full { result ≡ Err Error.TooMany
-            → AddsTypes (sum_by items_in component.now) self.entry.types.now self.exit.0.now }
+        // The builder gains no more than the items of the root may need.
+        ensures adds { Gains (option_map (λ name. name.now) self.entry.exposed) component.now
+            self.entry.types.now self.exit.0.now }
     {
         let Translator {
             types,

@@ -1,10 +1,10 @@
 //! Translations with a types builder that is handed in.
 
-use crate::translator::inputs::smallest;
+use crate::translator::inputs::{input_of, smallest};
 use pc_builder::ComponentTypesBuilder;
 use pc_form::Input;
 use pc_translate::{Translator, translate};
-use pc_types::{Error, Place, TypeKind, Unsupported};
+use pc_types::{Error, Place, TypeKind};
 use std::alloc::Global;
 use std::test::*;
 
@@ -49,27 +49,47 @@ fn a_builder_gains_the_types_of_a_plan_once(rt: HostRuntime) -> Result<(), Fail>
     Ok(())
 }
 
-// The refusal of what isn't translated yet.
-const NOT_BUILT: Error = Error::Unsupported(
-    Unsupported::NotBuilt,
-    Place::Payload {
-        payload: 0,
-        item: 0,
-    },
-);
-
-// Whether a translator that exposes the unsafe intrinsics refuses the input. They aren't built.
-fn refuses_a_name(alloc: Global, types: &mut ComponentTypesBuilder, input: &Input) -> bool {
+// What a translator answers that exposes the unsafe intrinsics as `unsafe`: how many options entries the plan has.
+fn options_beside_intrinsics(
+    alloc: Global,
+    types: &mut ComponentTypesBuilder,
+    input: &Input,
+) -> Result<usize, Error> {
     let mut translator = Translator::new(alloc, &input.tunables, &input.table, types);
     translator.expose_unsafe_intrinsics("unsafe");
-    translator.exposes_intrinsics()
-        && translator.translate(input.payloads.as_slice()).err() == Some(NOT_BUILT)
+    let plan = translator.translate(input.payloads.as_slice())?;
+    Ok(plan.0.component.options.len())
 }
 
 #[test]
-fn a_name_that_is_exposed_is_refused(rt: HostRuntime) -> Result<(), Fail> {
+fn a_name_that_nothing_imports_changes_nothing(rt: HostRuntime) -> Result<(), Fail> {
     let input = smallest(rt.alloc())?;
     let mut types = ComponentTypesBuilder::new(rt.alloc());
-    assert!(rt; refuses_a_name(rt.alloc(), &mut types, &input));
+    assert_eq!(rt; options_into(rt.alloc(), &mut types, &input)?, 1);
+    assert_eq!(rt;
+        options_beside_intrinsics(rt.alloc(), &mut types, &input)?,
+        1
+    );
+    Ok(())
+}
+
+// An import of this name, of a function.
+const IMPORT: &str = r#"{"limit":1,"intrinsics":null,"types":{"core":[],
+       "types":[{"func":{"params":[],"result":null,"async":false}}]},
+       "payloads":["version",{"imports":[["unsafe",["func",0]]]},"end"]}"#;
+
+// Where the import stands.
+const AT: Place = Place::Payload {
+    payload: 1,
+    item: 0,
+};
+
+#[test]
+fn an_import_of_the_name_has_to_be_an_instance(rt: HostRuntime) -> Result<(), Fail> {
+    let input = input_of(rt.alloc(), IMPORT)?;
+    let mut types = ComponentTypesBuilder::new(rt.alloc());
+    assert_eq!(rt; options_into(rt.alloc(), &mut types, &input)?, 0);
+    let refusal = options_beside_intrinsics(rt.alloc(), &mut types, &input).err();
+    assert!(rt; refusal == Some(Error::BadIntrinsics(AT)));
     Ok(())
 }

@@ -1,4 +1,5 @@
-use Rattle.std.proofs.Common.{◌≡◌, true, ◌<◌, ◌+◌, ◌∷◌, ◌++◌, [], List, length, drop, suc, Some, sym, ap, ◌∙◌, subst, add-one, drop-cons, arith}
+use Rattle.std.proofs.Common.{◌≡◌, true, ◌<◌, ◌+◌, ◌∷◌, ◌++◌, [], List, length, drop, suc, Some, sym, ap, ◌∙◌, subst}
+use Rattle.std.proofs.Common.{add-one, drop-cons, arith}
 use Rattle.std.specs.Option.{option_map}
 use Rattle.pc_parsed.specs.declared.bodies.Names.{Names}
 use Rattle.pc_parsed.proofs.PassLemmas.{Passed, passed_none, passed_fault, passed_next, passed_all}

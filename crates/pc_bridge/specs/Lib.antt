@@ -1,2 +1,0 @@
--- What the contract rests on.
-pub mod Whole

@@ -1,0 +1,114 @@
+-- What a plan has of the host is what the reading has of it.
+use Rattle.std.proofs.Common.{◌≡◌, ◌||◌, inl, inr, ℕ, zero, suc, Bool, true, false, List, [], ◌∷◌, ◌++◌, map, Some}
+use Rattle.std.proofs.Common.{if◌then◌else◌, refl, sym, ap, subst, ◌∙◌, true≢false}
+use Rattle.std.specs.Prelude.{slice_get, option_map}
+use Rattle.std.specs.List.{AllZip, filter_map, fold, list_any}
+use Rattle.std.proofs.lemmas.Bool.{eq-eqb}
+use Rattle.std.proofs.lemmas.Option.{none-some, same_Some, slice_get-map}
+use Rattle.pc_entity.specs.Lists.{AreDistinct}
+use Rattle.pc_entity.proofs.Elements.{true_and}
+use Rattle.pc_entity.proofs.Naming.{bytes_eq-refl}
+use Rattle.pc_interned.specs.Types.{Types}
+use Rattle.pc_numbers.specs.declared.runtime.ImportIndex.{ImportIndex}
+use Rattle.pc_numbers.specs.declared.runtime.RuntimeImportIndex.{RuntimeImportIndex}
+use Rattle.pc_types.specs.declared.module_record.ModuleRecord.{ModuleRecord}
+use Rattle.pc_types.specs.TypeTree.{Path}
+use Rattle.pc_semantics.specs.Log.{Entry}
+use Rattle.pc_semantics.specs.PlanView.{RuntimeImport}
+use Rattle.pc_info.specs.declared.component.ComponentTranslation.{ComponentTranslation}
+use Rattle.pc_info.specs.View.{import_type_view, import_view, view}
+use Rattle.pc_trampoline.specs.declared.part.Mark.{Mark}
+use Rattle.pc_parsed.specs.Mark as reading
+use Rattle.pc_reading.specs.Reading.{Reading}
+use Rattle.pc_reading.specs.SameTypes.{same_names, same_path}
+use Rattle.pc_dfg.specs.declared.dfg.ComponentDfg.{ComponentDfg}
+use Rattle.pc_finish.specs.Finishes.{Finishes}
+use Rattle.pc_inline.specs.Inlines.{GraphStands}
+use Rattle.pc_inline.specs.Worlds as world
+use Rattle.pc_inline.specs.Worlds.{ImportStands, needed_path, paths_needed, with_path}
+use Rattle.pc_translate.proofs.ListLemmas.{push_place, zip_mapped}
+use Rattle.pc_translate.specs.Asked.{AsksHost, IsImport, path_of}
+use Rattle.pc_translate.specs.Planning.{as_handed_in}
+
+-- names are the same as themselves
+names_themselves : (names : List (List ℕ)) → same_names names names ≡ true
+names_themselves [] = refl
+names_themselves (name ∷ names) = true_and _ _ (bytes_eq-refl name) (names_themselves names)
+
+-- so is a path
+path_itself : (p : Path) → same_path p p ≡ true
+path_itself p = true_and _ _ (eq-eqb p.import p.import refl) (names_themselves p.names)
+
+-- a path that is none of a list doesn't stand in it
+isnt_there : (ps : List Path) (q : Path) → list_any (same_path q) ps ≡ false → (k : ℕ) → slice_get ps k ≡ Some q → ⊥
+isnt_there [] q none k at = none-some q at
+isnt_there (p ∷ ps) q none zero at =
+    let itself : same_path q p ≡ true = ap (same_path q) (same_Some p q at) ∙ path_itself q in
+    true≢false (sym (ap (λ b. b || list_any (same_path q) ps) itself) ∙ none)
+isnt_there (p ∷ ps) q none (suc k) at = isnt_there ps q (later (same_path q p) none) k at
+  where
+    later : (b : Bool) → (b || list_any (same_path q) ps) ≡ false → list_any (same_path q) ps ≡ false
+    later true h = absurd (true≢false h)
+    later false h = h
+
+-- paths stay distinct with one more
+distinct_with : (ps : List Path) (q : Path) → AreDistinct ps → AreDistinct (with_path ps q)
+distinct_with ps q distinct = by (list_any (same_path q) ps) refl
+  where
+    ends : list_any (same_path q) ps ≡ false → AreDistinct (ps ++ q ∷ [])
+    ends none i j x at_i at_j = elim (push_place ps q i x at_i) [
+      | inl before_i ↦ elim (push_place ps q j x at_j) [
+        | inl before_j ↦ distinct i j x before_i before_j
+        | inr end_j ↦ absurd (isnt_there ps q none i (before_i ∙ ap Some end_j.1))
+      ]
+      | inr end_i ↦ elim (push_place ps q j x at_j) [
+        | inl before_j ↦ absurd (isnt_there ps q none j (before_j ∙ ap Some end_i.1))
+        | inr end_j ↦ end_i.0 ∙ sym end_j.0
+      ]
+    ]
+
+    by : (b : Bool) → list_any (same_path q) ps ≡ b → AreDistinct (if b then ps else ps ++ q ∷ [])
+    by true is = distinct
+    by false is = ends is
+
+-- and with several
+distinct_paths : (ps qs : List Path) → AreDistinct ps → AreDistinct (fold with_path ps qs)
+distinct_paths ps [] distinct = distinct
+distinct_paths ps (q ∷ qs) distinct = distinct_paths (with_path ps q) qs (distinct_with ps q distinct)
+
+-- host items by their paths
+paths_of : (xs : List (ImportIndex × List (List ℕ))) → map path_of (map import_view xs) ≡ map world.path_of xs
+paths_of [] = refl
+paths_of (x ∷ xs) = ap (λ ps. path_of (import_view x) ∷ ps) (paths_of xs)
+
+-- each path that a log needs stands once
+once_each : (log : List (Entry reading.Mark)) → AreDistinct (paths_needed log)
+unfolding paths_needed
+once_each log = distinct_paths [] (filter_map needed_path log) (λ i j x at_i at_j. absurd (none-some x at_i))
+
+module _ (types : Types) (ms : List ModuleRecord) (g : ComponentDfg) (r : Reading) (converted : ℕ → Mark)
+    (plan : ComponentTranslation) (stands : GraphStands ms types g r) (finished : Finishes g converted plan) where
+  -- the host items of the plan by their paths are those that the log needs
+  paths_are : map path_of (map import_view plan.component.imports) ≡ paths_needed r.log
+  paths_are = paths_of plan.component.imports ∙ ap (map world.path_of) finished.imports ∙ stands.world.imports
+
+  -- the path at a place
+  path_at : (n : ℕ) (i : RuntimeImport) → slice_get (map import_view plan.component.imports) n ≡ Some i
+      → slice_get (paths_needed r.log) n ≡ Some (path_of i)
+  path_at n i at =
+      ap (λ ps. slice_get ps n) (sym paths_are) ∙ slice_get-map path_of (map import_view plan.component.imports) n
+      ∙ ap (option_map path_of) at
+
+  pub asks_host : AsksHost types (view plan (map as_handed_in ms)) r
+  asks_host = record {
+    import_types = subst (λ xs. AllZip (IsImport types) (map import_type_view xs) r.imports) (sym finished.import_types)
+        (zip_mapped (ImportStands types g) (IsImport types) import_type_view
+        (λ x h s. record { name = s.name; extern_data = s.extern_data; typed = s.typed }) g.import_types r.imports
+        stands.world.import_types);
+    imports = paths_are;
+    once = λ i j x at_i at_j. once_each r.log i j (path_of x) (path_at i x at_i) (path_at j x at_j);
+    resources = ap (λ (rs : List RuntimeImportIndex). map (λ n. option_map path_of (slice_get
+        (map import_view plan.component.imports) n)) (map (λ (r : RuntimeImportIndex). r.0) rs))
+        (finished.imported_resources ∙ stands.plain.imported_resources)
+        ∙ sym (ap (map Some) stands.world.imported_resources);
+  }

@@ -1,0 +1,104 @@
+-- Local items are of kinds that are built where the items are for which they stand.
+use Rattle.std.proofs.Common.{◌≡◌, ◌&&◌, ◌⊎◌, inl, ℕ, Bool, true, false, List, Option, None, Some, refl, sym, ap, subst}
+use Rattle.std.proofs.Common.{◌∙◌}
+use Rattle.std.specs.List.{list_all}
+use Rattle.std.proofs.lemmas.Option.{none-some, same_Some}
+use Rattle.pc_interned.specs.Types.{Types}
+use Rattle.pc_types.specs.declared.error.Error.{Error}
+use Rattle.pc_types.specs.declared.parsed.TypeTable.{TypeTable}
+use Rattle.pc_parsed.specs.declared.canon.CanonItem.{CanonItem}
+use Rattle.pc_parsed.specs.declared.canon.CanonItem.TheVariants as canon
+use Rattle.pc_parsed.specs.declared.payload.Payload.{Payload}
+use Rattle.pc_types.specs.declared.parsed.WasmValType.TheVariants as val
+use Rattle.pc_parsed.specs.Program.{is_numbered, not_built}
+use Rattle.pc_parsed.specs.StaticFault.{static_fault}
+use Rattle.pc_reading.specs.Canonical.{canonical_item}
+use Rattle.pc_reading.specs.Item
+use Rattle.pc_reading.specs.Item.{Item, Items}
+use Rattle.pc_local.specs.declared.item.LocalInitializer.{LocalInitializer}
+use Rattle.pc_local.specs.declared.item.LocalInitializer.TheVariants as local
+use Rattle.pc_local.specs.declared.item.LocalProgram.{LocalProgram}
+use Rattle.pc_local.specs.declared.item.Translation.{Translation}
+use Rattle.pc_local.specs.Plain.{context_of, if_builtin, if_error_context, if_waitable, plain_item}
+use Rattle.pc_local.specs.Program.{ProgramStands}
+use Rattle.pc_local.specs.Standing.{ItemStands, ItemsStand, Names, stand_more, stand_none, stands_component}
+use Rattle.pc_local.specs.Standing.{stands_module, stands_nested, stands_plain}
+use Rattle.pc_inline.specs.Adds.{is_plain_table}
+use Rattle.pc_inline.specs.Today.{is_built}
+use Rattle.pc_translate.specs.Causes.{HasCause, HasRoot, are_built}
+use Rattle.pc_translate.specs.Planning.{is_built_item}
+
+-- no builtin is built
+builtin_unbuilt : (o : Option Item) (i : Item) → if_builtin o ≡ Some i → is_built i ≡ false
+builtin_unbuilt None i h = absurd (none-some i h)
+builtin_unbuilt (Some (Item.builtin_item k s operands)) i h =
+    ap is_built (sym (same_Some (Item.builtin_item k s operands) i h))
+builtin_unbuilt (Some x) i h = absurd (none-some i h)
+
+-- nor is what is on waitable sets
+waitable_unbuilt : (o : Option Item) (i : Item) → if_waitable o ≡ Some i → is_built i ≡ false
+waitable_unbuilt None i h = absurd (none-some i h)
+waitable_unbuilt (Some (Item.waitable_item k s memory)) i h =
+    ap is_built (sym (same_Some (Item.waitable_item k s memory) i h))
+waitable_unbuilt (Some x) i h = absurd (none-some i h)
+
+-- or on error contexts
+error_context_unbuilt : (o : Option Item) (i : Item) → if_error_context o ≡ Some i → is_built i ≡ false
+error_context_unbuilt None i h = absurd (none-some i h)
+error_context_unbuilt (Some (Item.error_context_item k s opts)) i h =
+    ap is_built (sym (same_Some (Item.error_context_item k s opts) i h))
+error_context_unbuilt (Some x) i h = absurd (none-some i h)
+
+-- or on context slots
+context_unbuilt : (c : CanonItem) (i : Item) → context_of c ≡ Some i → is_built i ≡ false
+context_unbuilt (canon.ContextGet s val.I32 slot) i h =
+    ap is_built (sym (same_Some (Item.context_item Item.getting s slot) i h))
+context_unbuilt (canon.ContextSet s val.I32 slot) i h =
+    ap is_built (sym (same_Some (Item.context_item Item.setting s slot) i h))
+context_unbuilt c i h = absurd (none-some i h)
+
+-- a local item that is this item whatever is around it is built where the item is
+plain_built : (l : LocalInitializer) (i : Item) → plain_item l ≡ Some i → is_built i ≡ is_built_item l
+unfolding plain_item
+plain_built (local.Builtin c) i h = builtin_unbuilt (canonical_item c) i h
+plain_built (local.WaitableSet c) i h = waitable_unbuilt (canonical_item c) i h
+plain_built (local.ErrorContext c) i h = error_context_unbuilt (canonical_item c) i h
+plain_built (local.Context c) i h = context_unbuilt c i h
+plain_built (local.ComponentStatic index vars) i h = absurd (none-some i h)
+plain_built (local.AliasModule v) i h = absurd (none-some i h)
+plain_built (local.AliasComponent v) i h = absurd (none-some i h)
+plain_built l i h = ap is_built (sym (same_Some _ i h))
+
+module _ (bodies : List Translation) where
+  -- so is one that stands for an item
+  item_built : (names : Names) (l : LocalInitializer) (i : Item) → ItemStands bodies names l i
+      → is_built i ≡ is_built_item l
+  item_built names l i (stands_plain is) = plain_built l i is
+  item_built names l i (stands_module reads) = refl
+  item_built names l i (stands_component reads) = refl
+  item_built names l i (stands_nested at stands exports given) = refl
+
+  -- and all of a body
+  items_built : (names : Names) (ls : List LocalInitializer) (body : Items) → ItemsStand bodies names ls body
+      → are_built body ≡ list_all is_built_item ls
+  items_built names ls body stand_none = refl
+  items_built names ls body (stand_more {l = l} {ls = rest} {i = i} {is = is} first others) =
+      let one = item_built names l i first in
+      let more = items_built names rest is others in
+      λ j. one j && more j
+
+-- the items of a program's root are built where those are for which it stands
+pub root_built : (exposed : Option (List ℕ)) (ps : List Payload) (program : LocalProgram) (b : Bool)
+    → ProgramStands exposed ps program → list_all is_built_item program.root.initializers ≡ b
+    → HasRoot exposed ps (λ body. are_built body ≡ b)
+root_built exposed ps program b stands is =
+    (stands.body, stands.nests, items_built program.components _ _ _ stands.root.items ∙ is)
+
+-- where the type of a function or the kind of an item isn't built, that is the cause
+pub later_cause : (t : TypeTable) (exposed : Option (List ℕ)) (limit : ℕ) (ps : List Payload) (types : Types)
+    (e : Error) → is_numbered t ps ≡ true → static_fault t exposed ps ≡ None → e ≡ not_built
+    → (is_plain_table t ≡ false) ⊎ HasRoot exposed ps (λ body. are_built body ≡ false)
+    → HasCause t exposed limit ps types e
+later_cause t exposed limit ps types e numbered sound is unbuilt =
+    subst (λ (x : Error). HasCause t exposed limit ps types x) (sym is)
+    (inl (record { numbered = numbered; sound = sound; unbuilt = unbuilt }, refl))

@@ -1,0 +1,135 @@
+-- What a plan has is what the reading declares and makes; a plain graph has no intrinsics.
+use Rattle.std.proofs.Common.{◌≡◌, ◌<◌, ℕ, zero, suc, List, [], ◌∷◌, length, map, None, Some, refl, sym, ap, ◌∙◌, arith}
+use Rattle.std.specs.Prelude.{slice_get}
+use Rattle.std.specs.List.{AllZip, cons_option, filter_map}
+use Rattle.std.proofs.lemmas.Option.{none-some, same_Some}
+use Rattle.pc_entity.specs.declared.packed_option.PackedOption.{PackedOption}
+use Rattle.pc_entity.specs.declared.packed_option.PackedOption.TheVariants as packed
+use Rattle.pc_interned.specs.Types.{Types}
+use Rattle.pc_numbers.specs.declared.module_entity.ModuleInternedTypeIndex.{ModuleInternedTypeIndex}
+use Rattle.pc_numbers.specs.declared.runtime.RuntimeComponentInstanceIndex.{RuntimeComponentInstanceIndex}
+use Rattle.pc_types.specs.declared.intrinsic.UnsafeIntrinsic.{UnsafeIntrinsic}
+use Rattle.pc_types.specs.declared.module_record.ModuleRecord.{ModuleRecord}
+use Rattle.pc_types.specs.declared.parsed.CoreKind.{CoreKind}
+use Rattle.pc_semantics.specs.Machine.{State}
+use Rattle.pc_semantics.specs.Log.{Entry, declared, declared_resource, instantiated, made, map_entry, needed, trace}
+use Rattle.pc_trampoline.specs.declared.part.Mark.{Mark}
+use Rattle.pc_info.specs.declared.component.ComponentTranslation.{ComponentTranslation}
+use Rattle.pc_info.specs.declared.module.ModuleTranslation.{ModuleTranslation}
+use Rattle.pc_info.specs.View.{intrinsic_view, view}
+use Rattle.pc_parsed.specs.Mark as reading
+use Rattle.pc_reading.specs.Reading.{Reading}
+use Rattle.pc_dfg.specs.declared.core_def.CoreDef.TheVariants as def
+use Rattle.pc_dfg.specs.declared.dfg.ComponentDfg.{ComponentDfg}
+use Rattle.pc_dfg.specs.declared.instance.Resource.{Resource}
+use Rattle.pc_dfg.specs.declared.instance.SideEffect.{SideEffect}
+use Rattle.pc_dfg.specs.Effects.{MeansEffect, means_declared, means_made}
+use Rattle.pc_dfg.proofs.UniqueLemmas.{means_unique}
+use Rattle.pc_finish.specs.Finishes.{Finishes, StandsForOne}
+use Rattle.pc_inline.specs.Inlines.{GraphStands}
+use Rattle.pc_inline.specs.Tables.{IsItem}
+use Rattle.pc_inline.specs.Today.{is_made}
+use Rattle.pc_inline.specs.Typed.{number_of, whole_of}
+use Rattle.pc_inline.specs.Worlds.{EffectStands}
+use Rattle.pc_translate.proofs.ListLemmas.{none_counted}
+use Rattle.pc_translate.proofs.WiredLemmas.{no_adapters, none_at, occurring_item}
+use Rattle.pc_translate.specs.Asked.{AreSigned, Declares, HasDeclared, resource_owner}
+use Rattle.pc_translate.specs.Planning.{as_handed_in}
+
+-- the owner of a resource has no marks
+owner_mapped : {τ υ : Type 0} (f : τ → υ) (e : Entry τ) → resource_owner (map_entry f e) ≡ resource_owner e
+owner_mapped f (instantiated i c) = refl
+owner_mapped f (declared_resource representation destructor c) = refl
+owner_mapped f (declared v) = refl
+owner_mapped f (made v) = refl
+owner_mapped f (needed path) = refl
+
+-- a graph without resources declares none
+none_declared : (g : ComponentDfg) (e : SideEffect) (x : Entry Mark) → g.resources ≡ [] → MeansEffect g e x
+    → resource_owner x ≡ None
+none_declared g e x none (means_made at means) = refl
+none_declared g e x none (means_declared {n = n} {x = y} at means) =
+    absurd (none_at g.resources n.0 y none at)
+
+-- entries that declare no resource have no owners
+no_owners : (types : Types) (g : ComponentDfg) → g.resources ≡ [] → (es : List SideEffect)
+    (xs : List (Entry reading.Mark)) → AllZip (EffectStands types g) es xs → filter_map resource_owner xs ≡ []
+no_owners types g none [] [] h = refl
+no_owners types g none [] (x ∷ xs) h = absurd h
+no_owners types g none (e ∷ es) [] h = absurd h
+no_owners types g none (e ∷ es) (x ∷ xs) h =
+    let one : resource_owner x ≡ None = ap resource_owner (sym h.0.is)
+    ∙ owner_mapped (whole_of types) h.0.numbered ∙ sym (owner_mapped (number_of types) h.0.numbered)
+    ∙ none_declared g e (map_entry (number_of types) h.0.numbered) none h.0.means in
+    let rest = no_owners types g none es xs h.1 in
+    λ i. cons_option (one i) (rest i)
+
+-- what declares a resource is an effect
+owners_traced : {τ : Type 0} (log : List (Entry τ))
+    → filter_map resource_owner log ≡ filter_map resource_owner (trace log)
+owners_traced [] = refl
+owners_traced (instantiated i c ∷ log) = owners_traced log
+owners_traced (declared_resource representation destructor c ∷ log) = ap (λ cs. c ∷ cs) (owners_traced log)
+owners_traced (declared v ∷ log) = owners_traced log
+owners_traced (made v ∷ log) = owners_traced log
+owners_traced (needed path ∷ log) = owners_traced log
+
+-- an item of a module's instance is no intrinsic
+no_intrinsic : (ms : List ModuleRecord) (g : ComponentDfg) (k : CoreKind) (s : ModuleInternedTypeIndex)
+    (i : UnsafeIntrinsic) → IsItem ms g k (def.UnsafeIntrinsic s i) → ⊥
+no_intrinsic ms g k s i h = elim h [ ]
+
+-- a packed option whose mark is there holds a number
+packed_holds : (x : PackedOption ModuleInternedTypeIndex) (m : Mark) → intrinsic_view x ≡ Some m
+    → (s : ModuleInternedTypeIndex) × (x ≡ packed.Some s)
+packed_holds packed.None m h = absurd (none-some m h)
+packed_holds (packed.Some s) m h = (s, refl)
+
+-- what stands in a mapped list
+behind_mapped : {A B : Type 0} (f : A → B) (xs : List A) (n : ℕ) (y : B) → slice_get (map f xs) n ≡ Some y
+    → (x : A) × (slice_get xs n ≡ Some x) × (f x ≡ y)
+behind_mapped f [] n y at = absurd (none-some y at)
+behind_mapped f (x ∷ xs) zero y at = (x, refl, same_Some (f x) y at)
+behind_mapped f (x ∷ xs) (suc n) y at = behind_mapped f xs n y at
+
+module _ (types : Types) (ms : List ModuleRecord) (g : ComponentDfg) (r : Reading) (converted : ℕ → Mark)
+    (plan : ComponentTranslation) (stands : GraphStands ms types g r) (finished : Finishes g converted plan) where
+  -- what stands for one of the graph has the value of an entry that declares it, and its signature
+  pub declared_one : (modules : List ModuleTranslation) (s : State Mark) (n : ℕ) → StandsForOne g plan modules s n
+      → HasDeclared types plan modules s r n
+  declared_one modules s n one =
+      let x = stands.world.are_declared one.trampoline.0 one.entry one.at in
+      record {
+        value = x.stands.numbered;
+        resolves = one.resolves ∙ ap Some (means_unique g one.means x.stands.means);
+        entry = rw x.stands.is x.entry;
+        signature = one.entry.0;
+        stands_under = one.signature;
+        signed = rw x.stands.is x.signed;
+      }
+
+  pub declares : (last : State Mark)
+      → ((n : ℕ) → n < length plan.trampolines → HasDeclared types plan (map as_handed_in ms) last r n)
+      → Declares types plan (map as_handed_in ms) last r
+  declares last each = record {
+    few =
+        let less = finished.few_trampolines in
+        let few = stands.world.few_trampolines in
+        omega (arith, few, less);
+    trampolines = each;
+    as_many = finished.signatures;
+    resources = ap (map (λ (c : RuntimeComponentInstanceIndex). c.0)) (finished.resources
+        ∙ ap (map (λ (x : Resource). x.instance)) stands.plain.resources)
+        ∙ sym (owners_traced r.log ∙ no_owners types g stands.plain.resources g.side_effects (trace r.log)
+        stands.world.effects);
+    adapters = ap length (no_adapters 0 ms)
+        ∙ sym (none_counted is_made r.log stands.world.no_adapters);
+  }
+
+  pub signs : AreSigned types (view plan (map as_handed_in ms)) r.intrinsics
+  signs n m at =
+      let x = behind_mapped intrinsic_view plan.component.unsafe_intrinsics n (Some m) at in
+      let s = packed_holds x.0 m x.2 in
+      let o = finished.intrinsics n s.0 (x.1 ∙ ap Some s.1) in
+      let item = occurring_item g stands.plain ms stands.items o.2 in
+      absurd (no_intrinsic ms g item.0 s.0 o.0 item.1)

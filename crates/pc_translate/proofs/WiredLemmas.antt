@@ -1,0 +1,158 @@
+-- A plain graph whose definitions are core items: it is wired to the modules that were handed in, and there is nothing
+-- in it to group or to convert.
+use Rattle.std.proofs.Common.{zero, suc, ◌≡◌, ℕ, ◌+◌, List, [], ◌∷◌, length, map, Option, None, Some, true, refl, sym}
+use Rattle.std.proofs.Common.{ap, ◌∙◌, arith, All, Contains}
+use Rattle.std.specs.Prelude.{slice_get}
+use Rattle.std.proofs.lemmas.List.Elements.{All-contains, All-cons, All-nil}
+use Rattle.std.proofs.lemmas.Option.{none-some, same_Some}
+use Rattle.pc_numbers.specs.declared.component_entity.StaticModuleIndex.{StaticModuleIndex}
+use Rattle.pc_numbers.specs.declared.entity_index.EntityIndex.{EntityIndex}
+use Rattle.pc_types.specs.declared.module_record.ModuleRecord.{ModuleRecord}
+use Rattle.pc_types.specs.declared.parsed.CoreKind.{CoreKind}
+use Rattle.pc_types.specs.declared.parsed.CoreKind.TheVariants as kind
+use Rattle.pc_types.specs.declared.parsed.TypeTable.{TypeTable}
+use Rattle.pc_types.specs.Record.{has_entity, same_kind}
+use Rattle.pc_semantics.specs.Machine.{has_item}
+use Rattle.pc_semantics.specs.PlanView as plan
+use Rattle.pc_info.specs.Definitions.{item_view}
+use Rattle.pc_info.specs.Modules.{adapters_view, handed_in_view}
+use Rattle.pc_dfg.specs.declared.core_def.CoreDef.{CoreDef}
+use Rattle.pc_dfg.specs.declared.core_def.CoreDef.TheVariants as def
+use Rattle.pc_dfg.specs.declared.core_def.CoreExport.{CoreExport}
+use Rattle.pc_dfg.specs.declared.dfg.ComponentDfg.{ComponentDfg}
+use Rattle.pc_dfg.specs.declared.export.Export.{Export}
+use Rattle.pc_dfg.specs.declared.export.Export.TheVariants as export
+use Rattle.pc_dfg.specs.declared.instance.Instance.{Instance}
+use Rattle.pc_dfg.specs.declared.instance.Instance.TheVariants as source
+use Rattle.pc_dfg.specs.declared.instance.Resource.{Resource}
+use Rattle.pc_dfg.specs.declared.instance.SideEffect.{SideEffect}
+use Rattle.pc_dfg.specs.declared.instance.SideEffect.TheVariants as effect
+use Rattle.pc_dfg.specs.Names.{each_of, in_effect, in_instance, in_resource}
+use Rattle.pc_dfg.specs.Numbers.{slots_of}
+use Rattle.pc_finish.specs.Grouped.{IsGrouped}
+use Rattle.pc_finish.specs.ModuleTypes.{HasModuleType}
+use Rattle.pc_finish.specs.Wired.{IsWired, Occurs, OfFunctions, callbacks, in_a_module, in_a_slot, in_an_adapter}
+use Rattle.pc_finish.specs.Wired.{in_an_effect, in_an_export, is_function, post_returns, reallocs}
+use Rattle.pc_inline.specs.Tables.{IsItem, is_entity, is_trampoline}
+use Rattle.pc_inline.specs.Worlds.{HasItems, IsLifted, IsPlain, slot_kind}
+use Rattle.pc_translate.specs.Planning.{as_handed_in}
+
+-- modules as they were handed in are the handed-in ones, and have no adapters
+pub all_handed_in : (rs : List ModuleRecord) → handed_in_view (map as_handed_in rs) ≡ rs
+all_handed_in [] = refl
+all_handed_in (r ∷ rs) = let rest = all_handed_in rs in λ i. r ∷ rest i
+
+pub no_adapters : (n : ℕ) (rs : List ModuleRecord) → adapters_view n (map as_handed_in rs) ≡ []
+no_adapters n [] = refl
+no_adapters n (r ∷ rs) = no_adapters (n + 1) rs
+
+-- nothing stands in an empty list
+pub none_at : {A : Type 0} (xs : List A) (n : ℕ) (x : A) → xs ≡ [] → slice_get xs n ≡ Some x → ⊥
+none_at xs n x empty at = none-some x (ap (λ l. slice_get l n) (sym empty) ∙ at)
+
+none_in : {A : Type 0} (x : A) → Contains [] x → ⊥
+none_in x there = let below = there.1 in omega (arith, below)
+
+module _ (g : ComponentDfg) (plain : IsPlain g) where
+  -- a graph without adapters is grouped
+  pub grouped : IsGrouped g
+  grouped = record {
+    all = ap length plain.adapter_partitionings ∙ ap length (sym plain.adapters);
+    lower = λ m k a args has names placed. absurd (none_at g.adapter_modules m has.0 plain.adapter_modules has.1);
+    before = λ i a k m n e args at names placed le has named.
+        absurd (none_at g.adapter_modules m has.0 plain.adapter_modules has.1);
+  }
+
+  -- no handed-in module is exported
+  pub no_static : (n ty : ℕ) (m : StaticModuleIndex) → slice_get g.export_items n ≡ Some (export.ModuleStatic ty m) → ⊥
+  no_static n ty m at = plain.export_items n (export.ModuleStatic ty m) at
+
+  -- so each that is has a module type of the table
+  pub are_modules : (t : TypeTable) → All (HasModuleType t) g.export_items
+  are_modules t = each g.export_items plain.export_items
+    where
+      by : (x : Export) → IsLifted x → HasModuleType t x
+      by (export.LiftedFunction ty f o) l = tt
+      by x l = absurd l
+
+      each : (xs : List Export) → ((n : ℕ) (x : Export) → slice_get xs n ≡ Some x → IsLifted x)
+          → All (HasModuleType t) xs
+      each [] lifted = All-nil (HasModuleType t)
+      each (x ∷ xs) lifted =
+          All-cons (HasModuleType t) x xs (by x (lifted zero x refl)) (each xs (λ n y at. lifted (suc n) y at))
+
+  module _ (ms : List ModuleRecord) (items : HasItems ms g) where
+    -- a definition that is a core item
+    abbrev IsCore : CoreDef → Type 0
+    IsCore d = (k : CoreKind) × IsItem ms g k d
+
+    -- the arguments of an instance are
+    argument_item : (i : ℕ) (o : Option Instance) → slice_get g.instances i ≡ o → (d : CoreDef)
+        → Contains (each_of in_instance o) d → IsCore d
+    unfolding in_instance
+    argument_item i None at d there = absurd (none_in d there)
+    argument_item i (Some (source.Static m args)) at d there =
+        let of_module = items.modules i m args at in
+        All-contains IsCore args d of_module.3 there
+    argument_item i (Some (source.Import r args)) at d there = absurd (plain.instances i (source.Import r args) at)
+
+    -- and a graph without resources has no destructors
+    no_destructor : (n : ℕ) (o : Option Resource) → slice_get g.resources n ≡ o → (d : CoreDef)
+        → Contains (each_of in_resource o) d → ⊥
+    no_destructor n None at d there = none_in d there
+    no_destructor n (Some x) at d there = none_at g.resources n x plain.resources at
+
+    effect_item : (e : SideEffect) (d : CoreDef) → Contains (in_effect g e) d → IsCore d
+    unfolding in_effect
+    effect_item (effect.Instance i c) d there = argument_item i.0 (slice_get g.instances i.0) refl d there
+    effect_item (effect.Resource n) d there = absurd (no_destructor n.0 (slice_get g.resources n.0) refl d there)
+
+    -- a definition that occurs in the graph is
+    pub occurring_item : {d : CoreDef} → Occurs g d → IsCore d
+    occurring_item (in_a_slot k n {d = d} at) = (slot_kind k, items.slots k n d at)
+    occurring_item (in_an_effect i e {d = d} at there) = effect_item e d there
+    occurring_item (in_a_module m x at there) = absurd (none_at g.adapter_modules m x plain.adapter_modules at)
+    occurring_item (in_an_adapter a x at there) = absurd (none_at g.adapters a x plain.adapters at)
+    occurring_item (in_an_export n ty o {d = d} at) = (kind.Func, items.exports n ty o d at)
+
+    -- an item of an instance is one of its module
+    has_it : {k : CoreKind} {e : CoreExport EntityIndex} (m : StaticModuleIndex) (args : List CoreDef)
+        (r : ModuleRecord) → IsItem ms g k (def.Export e)
+        → slice_get g.instances e.instance.0 ≡ Some (source.Static m args) → slice_get ms m.0 ≡ Some r
+        → has_item r (item_view e.item) ≡ true
+    has_it m args r (is_entity {e = n} of_kind entity) at handed_in =
+        let same_instance : source.Static entity.core_module entity.arguments ≡ source.Static m args =
+        same_Some _ _ (sym entity.made ∙ at) in
+        let same_module : entity.core_module ≡ m = cc in
+        let found = ap (λ (x : StaticModuleIndex). slice_get ms x.0) same_module ∙ handed_in in
+        let same_record : entity.module_record ≡ r = same_Some _ _ (sym entity.handed_in ∙ found) in
+        ap (λ (x : ModuleRecord). has_entity x n) (sym same_record) ∙ entity.has
+
+    -- an item that is a function may be one, as far as its number tells
+    function_item : {d : CoreDef} → IsItem ms g kind.Func d → is_function d ≡ true
+    function_item (is_entity of_kind entity) = ap (λ k. same_kind k kind.Func) of_kind
+    function_item (is_trampoline below) = refl
+
+    function_slot : (k : plan.SlotKind) (n : ℕ) (d : CoreDef) → OfFunctions k → slice_get (slots_of g k) n ≡ Some d
+        → is_function d ≡ true
+    function_slot k n d reallocs at = function_item (items.slots plan.realloc n d at)
+    function_slot k n d callbacks at = function_item (items.slots plan.callback n d at)
+    function_slot k n d post_returns at = function_item (items.slots plan.post_return n d at)
+
+    -- the graph is wired to the modules
+    pub wired : IsWired g (map as_handed_in ms)
+    wired = record {
+      arguments = λ i m args at.
+          let of_module = items.modules i m args at in (
+            of_module.0,
+            ap (λ (rs : List ModuleRecord). slice_get rs m.0) (all_handed_in ms) ∙ of_module.1,
+            of_module.2,
+          );
+      items = λ i m args e r at occurs same handed_in.
+          let item = occurring_item occurs in
+          has_it m args r item.1 (ap (slice_get g.instances) same ∙ at)
+          (ap (λ (rs : List ModuleRecord). slice_get rs m.0) (sym (all_handed_in ms)) ∙ handed_in);
+      functions = function_slot;
+      adapter_modules = λ m x at. absurd (none_at g.adapter_modules m x plain.adapter_modules at);
+      exports = λ n ty m at. absurd (no_static n ty m at);
+    }
