@@ -3,10 +3,10 @@
 
     hostile.py PROGRAM [--mib N] [--seconds N] [--keep FOLDER] [FAMILY ..]
 
-Makes one input of at most N MiB (64) for each family, runs `PROGRAM translate` on it, and prints the exit status, the first line
-written, the time of the processor, the peak memory, and both for each MiB of input. A time that grows with the square of the
-input shows when two sizes are compared. It ends with status 1 where a run passed the time limit (60 seconds of a processor), was
-killed, or ended with another status than its family names.
+Makes one input of at most N MiB (64) for each family, runs `PROGRAM translate` on it, and prints the exit status,
+the first line written, the time of the processor, the peak memory, and the time for each MiB of input. A time that
+grows with the square of the input shows when two sizes are compared. It ends with status 1 where a run passed the time
+limit (60 seconds of a processor), was killed, or ended with another status than its family names.
 """
 import argparse
 import os
@@ -288,6 +288,263 @@ def names_of_arguments(room):
         '{"component-instances":[{"instantiate":[0,[', lambda n: '["name-%d","func",0]' % n, "],1]}]}", room), '"end"'])
 
 
+def fill(begin, piece, end, count):
+    """A list of piece(0), piece(1), .. of so many."""
+    return [begin, ",".join(piece(n) for n in range(count)), end]
+
+
+def bag(count, index):
+    """A core instance of so many functions, the n-th by index(n)."""
+    return fill('{"instances":[{"exports":[', lambda n: '["e%07d","func",%d]' % (n, index(n)), "]}]}", count)
+
+
+def core_module(imports, funcs, items):
+    """A core module with these imports, so many functions, and these exports."""
+    return MODULE % ("[%s]" % imports, "[%s]" % ",".join(["0"] * funcs), "0", "[%s]" % items)
+
+
+def taker(count):
+    """A core module that imports so many functions from one place."""
+    return core_module(",".join('["a","e%07d",["func",0]]' % n for n in range(count)), 0, "")
+
+
+def giver(count):
+    """A core module that exports so many functions."""
+    return core_module("", count, ",".join('["e%07d","func",%d]' % (n, n) for n in range(count)))
+
+
+def given(count):
+    """Aliases of the functions of a giver."""
+    return fill('{"aliases":[', lambda n: '{"core-export":["func",0,"e%07d"]}' % n, "]}", count)
+
+
+def take(core, instance):
+    """A core module, instantiated with what another instance has."""
+    return '{"instances":[{"instantiate":[%d,[["a",%d]]]}]}' % (core, instance)
+
+
+IMPORT = '{"imports":[["i",["func",1]]]}'
+LOWER = '["lower",0,1,0,[]]'
+LOWERED = ['"version"', IMPORT, '{"canon":[%s]}' % LOWER]
+PER_IMPORT = len('["a","e0000000",["func",0]],')
+PER_EXPORT = len('["e0000000","func",1000000],0,')
+PER_ITEM = len('["e0000000","func",1000000],')
+PER_ALIAS = len('{"core-export":["func",0,"e0000000"]},')
+
+# so many imports of one kind a core module may have
+MOST = 1000000
+
+
+def bag_of_arguments(room):
+    """A core instance of very many items, and one instance that takes them all."""
+    count = min(room // (PER_IMPORT + PER_ITEM), MOST)
+    return document(PLAIN_TYPES, BASE + [taker(count), bag(count, lambda n: 0), take(1, 1), '"end"'])
+
+
+def bag_of_aliases(room):
+    """The same, and each item is another function."""
+    count = room // (PER_IMPORT + PER_ITEM + PER_EXPORT + PER_ALIAS)
+    return document(PLAIN_TYPES, ['"version"', giver(count), taker(count), INSTANCE, given(count),
+                                  bag(count, lambda n: n), take(1, 1), '"end"'])
+
+
+def small_bags(room):
+    """Core instances of one item, and one that takes the first of them."""
+    one = '{"exports":[["e0000000","func",0]]}'
+    bags = listed('{"instances":[', lambda n: one, "]}", room)
+    return document(PLAIN_TYPES, BASE + [taker(1), bags, take(1, 1), '"end"'])
+
+
+def many_instances(room):
+    """Each of very many core instances takes a bag of one item of its own."""
+    two = '{"exports":[["e0000000","func",0]]},{"instantiate":[1,[["a",%d]]]}'
+    instances = listed('{"instances":[', lambda n: two % (2 * n + 1), "]}", room)
+    return document(PLAIN_TYPES, BASE + [taker(1), instances, '"end"'])
+
+
+def instances_with_a_long_name(room):
+    """A core module whose one import has a very long name, and very many instances of it."""
+    name = "n" * (room // 3)
+    has = '{"instances":[{"exports":[["%s","func",0]]}]}' % name
+    instances = listed('{"instances":[', lambda n: '{"instantiate":[1,[["a",1]]]}', "]}", room // 3)
+    return document(PLAIN_TYPES, BASE + [core_module('["a","%s",["func",0]]' % name, 0, ""), has, instances, '"end"'])
+
+
+def aliases_of_one_export(room):
+    """One export of one core instance, aliased over and over."""
+    return document(PLAIN_TYPES, BASE + [aliases(lambda n: '{"core-export":["func",0,"f"]}', room), '"end"'])
+
+
+def aliases_of_each_kind(room):
+    """Core items of each kind, aliased over and over, and a core instance that takes one of each."""
+    kinds = ["func", "table", "memory", "global", "tag"]
+    rest = {"func": ",0", "memory": ",false"}
+    needs = ",".join('["a","%s",["%s"%s]]' % (kind, kind, rest.get(kind, "")) for kind in kinds)
+    items = ",".join('["%s","%s",0]' % (kind, kind) for kind in kinds)
+    has = '{"module":{"ty":0,"imports":[],"funcs":[0],"tables":1,"memories":[false],'
+    has += '"globals":1,"tags":1,"exports":[%s]}}'
+    named = aliases(lambda n: '{"core-export":["%s",0,"%s"]}' % (kinds[n % 5], kinds[n % 5]), room)
+    return document(PLAIN_TYPES, ['"version"', has % items, core_module(needs, 0, ""), INSTANCE, named,
+                                  '{"instances":[{"exports":[%s]}]}' % items, take(1, 1), '"end"'])
+
+
+def equal_lowerings(room):
+    """One import is lowered over and over, always alike."""
+    return document(PLAIN_TYPES, LOWERED + [canon(lambda n: LOWER, room), '"end"'])
+
+
+# so many functions stand in either of two slots
+SIDE = 1000
+
+
+def apart(n):
+    """A lowering whose options no other has."""
+    return '["lower",0,1,0,[["realloc",%d],["post-return",%d]]]' % (n // SIDE % SIDE, n % SIDE)
+
+
+def lowerings_apart(room):
+    """One import is lowered over and over, and no two of the options are equal."""
+    lowered = canon(apart, room - 2 * SIDE * PER_ALIAS)
+    return document(PLAIN_TYPES, ['"version"', IMPORT, giver(SIDE), INSTANCE, given(SIDE), lowered, '"end"'])
+
+
+def used_lowerings(room):
+    """The same, and one core instance takes them all."""
+    count = (room - 2 * SIDE * PER_ALIAS) // (len(apart(SIDE * SIDE - 1)) + 1 + PER_IMPORT + PER_ITEM)
+    lowered = fill('{"canon":[', apart, "]}", count)
+    return document(PLAIN_TYPES, ['"version"', IMPORT, giver(SIDE), taker(count), INSTANCE, given(SIDE), lowered,
+                                  bag(count, lambda n: SIDE + n), take(1, 1), '"end"'])
+
+
+LINK = '["lower",0,1,0,[["realloc",%d]]]'
+PER_LINK = len(LINK % 1000000) + 1
+
+
+def chain_of_lowerings(room):
+    """Each lowering has the one before it as realloc, and the last is lifted and exported."""
+    count = room // PER_LINK
+    chain = fill('{"canon":[', lambda n: LINK % n, ',["lift",%d,1,0,[]]]}' % count, count)
+    return document(PLAIN_TYPES, LOWERED + [chain, '{"exports":[["e","func",1]]}', '"end"'])
+
+
+def chain_of_arguments(room):
+    """The same chain, and one core instance takes all of it, the last link first."""
+    count = room // (PER_LINK + PER_IMPORT + PER_ITEM)
+    chain = fill('{"canon":[', lambda n: LINK % n, "]}", count)
+    links = bag(count, lambda n: count - n)
+    return document(PLAIN_TYPES, LOWERED + [taker(count), chain, links, take(0, 0), '"end"'])
+
+
+def unused_imports(room):
+    """Imports of functions that nothing uses."""
+    imports = listed('{"imports":[', lambda n: '["i%d",["func",1]]' % n, "]}", room)
+    return document(PLAIN_TYPES, ['"version"', imports, '"end"'])
+
+
+def used_imports(room):
+    """Imports, each lowered once, and one core instance that takes them all."""
+    count = room // (len('["i1000000",["func",1]],["lower",1000000,1,0,[]],') + PER_IMPORT + PER_ITEM)
+    imports = fill('{"imports":[', lambda n: '["i%d",["func",1]]' % n, "]}", count)
+    lowered = fill('{"canon":[', lambda n: '["lower",%d,1,0,[]]' % n, "]}", count)
+    return document(PLAIN_TYPES, ['"version"', imports, taker(count), lowered,
+                                  bag(count, lambda n: n), take(0, 0), '"end"'])
+
+
+def long_signature_lowered(room):
+    """One core signature with very many parameters, under very many lowerings."""
+    params = room // 3 // 6
+    types = PLAIN_TYPES.replace("[[[],[]]]", "[[[%s],[]]]" % ",".join(['"i32"'] * params))
+    return document(types, LOWERED + [canon(lambda n: LOWER, room - params * 6), '"end"'])
+
+
+def exported(lift, count):
+    """So many lifts, each exported."""
+    return [fill('{"canon":[', lift, "]}", count),
+            fill('{"exports":[', lambda n: '["e%07d","func",%d]' % (n, n), "]}", count)]
+
+
+def lifts_with_post_return(room):
+    """One function is lifted over and over with a function that runs after it, and each is exported."""
+    lift = '["lift",0,1,0,[["post-return",0]]]'
+    return document(PLAIN_TYPES, BASE + exported(lambda n: lift, room // (len(lift) + 1 + PER_ITEM)) + ['"end"'])
+
+
+def options_in_one_slot(room):
+    """Exported functions whose options differ in one slot alone."""
+    lift = '["lift",0,1,0,["utf8","async",["post-return",%d]]]'
+    count = room // (len(lift % 1000000) + 1 + PER_EXPORT + PER_ALIAS + PER_ITEM)
+    lifts = exported(lambda n: lift % n, count)
+    return document(PLAIN_TYPES, ['"version"', giver(count), INSTANCE, given(count)] + lifts + ['"end"'])
+
+
+def options_of_one_function(room):
+    """Many exports of one core function, and no two of their options are equal."""
+    lift = '["lift",0,1,0,[["realloc",%d],["post-return",%d]]]'
+    count = (room - 2 * SIDE * PER_ALIAS) // (len(lift % (SIDE, SIDE)) + 1 + PER_ITEM)
+    lifts = exported(lambda n: lift % (n // SIDE % SIDE, n % SIDE), count)
+    return document(PLAIN_TYPES, ['"version"', giver(SIDE), INSTANCE, given(SIDE)] + lifts + ['"end"'])
+
+
+def repeated_options(room):
+    """One lift whose options are written over and over."""
+    words = ['"utf8"', '"utf16"', '["post-return",0]', '["realloc",0]']
+    lift = listed('{"canon":[["lift",0,1,0,[', lambda n: words[n % 4], "]]]}", room)
+    return document(PLAIN_TYPES, BASE + [lift, '{"exports":[["e","func",0]]}', '"end"'])
+
+
+def versions_of_one_name(room):
+    """Exports under versions of one name."""
+    names = exports(lambda n: '["a:b/c@1.%d.0","func",0]' % n, room)
+    return document(PLAIN_TYPES, BASE + ['{"canon":[%s]}' % LIFT, names, '"end"'])
+
+
+# Names of 32 bytes with one hash: the hasher of an `IndexMap` has a fixed seed, and their third eight bytes make a
+# product zero there, those of `ALIKE` in a name that is hashed alone, and those of `ALIKE_IN_LIST` in a list of one.
+ALIKE = "one-name00270480BevjgZAf%08d"
+ALIKE_IN_LIST = "one-name00054250dsiPK-Gm%08d"
+
+
+def exports_that_hash_alike(room):
+    """Exports under names of one hash."""
+    names = exports(lambda n: '["%s","func",0]' % (ALIKE % n), room)
+    return document(PLAIN_TYPES, BASE + ['{"canon":[%s]}' % LIFT, names, '"end"'])
+
+
+def module_names_that_hash_alike(room):
+    """One core module whose exports have names of one hash."""
+    begin = '{"module":{"ty":0,"imports":[],"funcs":[0],"tables":0,"memories":[],"globals":0,"tags":0,"exports":['
+    module = listed(begin, lambda n: '["%s","func",0]' % (ALIKE % n), "]}}", room)
+    return document(PLAIN_TYPES, ['"version"', module, '"end"'])
+
+
+def bag_that_hashes_alike(room):
+    """One core instance of very many items, under names of one hash."""
+    items = listed('{"instances":[{"exports":[', lambda n: '["%s","func",0]' % (ALIKE % n), "]}]}", room)
+    return document(PLAIN_TYPES, BASE + [items, '"end"'])
+
+
+def arguments_that_hash_alike(room):
+    """One core module, instantiated with very many arguments under names of one hash."""
+    args = listed('{"instances":[{"instantiate":[0,[', lambda n: '["%s",0]' % (ALIKE % n), "]]}]}", room)
+    return document(PLAIN_TYPES, BASE + [args, '"end"'])
+
+
+def imports_that_hash_alike(room):
+    """Imports under names of one hash."""
+    imports = listed('{"imports":[', lambda n: '["%s",["func",1]]' % (ALIKE % n), "]}", room)
+    return document(PLAIN_TYPES, ['"version"', imports, '"end"'])
+
+
+def types_that_hash_alike(room):
+    """Each lift has a function type of its own, and the names of their parameters have one hash."""
+    entry = '{"func":{"params":[["%s","u8"]],"result":null,"async":false}}'
+    count = room // (len(entry % (ALIKE_IN_LIST % 0)) + 1 + len('["lift",0,1000000,0,[]],'))
+    begin = '{"core":[[[],[]]],"types":[{"module":[[],[]]},'
+    types = fill(begin, lambda n: entry % (ALIKE_IN_LIST % n), "]}", count)
+    lifts = fill('{"canon":[', lambda n: '["lift",0,%d,0,[]]' % (n + 1), "]}", count)
+    return document(types, BASE + [lifts, '"end"'])
+
+
 def many_ends(room):
     """Ends of what never began."""
     return document(PLAIN_TYPES, ['"version"'] + list(repeated(lambda n: '"end"', room)))
@@ -301,12 +558,18 @@ def not_utf8(room):
 
 # the status that a run on each family has
 FAMILIES = {
-    many_lifts: 0, many_exports: 0, an_export_twice: 1, small_payloads: 0, empty_sections: 0, many_modules: 0, chain_of_modules: 0,
-    wide_module: 0, wide_imports: 0, many_arguments: 0, long_signature: 0, long_function_type: 0, many_functions: 0,
-    shared_parameters: 0, long_name: 0, long_escapes: 0, names_that_share_a_front: 0, deep_json: 1, deepest_json: 1, wide_json: 1,
-    widest_record: 1, many_entries: 1, doubling_tuples: 1, entry_names_itself: 1, nested_components: 1, components_in_a_row: 1,
-    open_components: 1, aliases_across_levels: 1, things_across_levels: 1, aliases_at_each_level: 1, names_in_a_bag: 1,
-    names_of_arguments: 1, many_ends: 1, not_utf8: 1,
+    many_lifts: 0, many_exports: 0, an_export_twice: 1, small_payloads: 0, empty_sections: 0, many_modules: 0,
+    chain_of_modules: 0, wide_module: 0, wide_imports: 0, many_arguments: 0, long_signature: 0, long_function_type: 0,
+    many_functions: 0, shared_parameters: 0, long_name: 0, long_escapes: 0, names_that_share_a_front: 0, deep_json: 1,
+    deepest_json: 1, wide_json: 1, widest_record: 0, many_entries: 0, doubling_tuples: 0, entry_names_itself: 1,
+    nested_components: 0, components_in_a_row: 0, open_components: 1, aliases_across_levels: 1, things_across_levels: 1,
+    aliases_at_each_level: 1, names_in_a_bag: 0, names_of_arguments: 1, bag_of_arguments: 0, bag_of_aliases: 0,
+    small_bags: 0, many_instances: 0, instances_with_a_long_name: 0, aliases_of_one_export: 0, aliases_of_each_kind: 0,
+    equal_lowerings: 0, lowerings_apart: 0, used_lowerings: 0, chain_of_lowerings: 0, chain_of_arguments: 0,
+    unused_imports: 0, used_imports: 0, long_signature_lowered: 0, lifts_with_post_return: 0, options_in_one_slot: 0,
+    options_of_one_function: 0, repeated_options: 0, versions_of_one_name: 0, exports_that_hash_alike: 0,
+    module_names_that_hash_alike: 0, bag_that_hashes_alike: 0, arguments_that_hash_alike: 0, imports_that_hash_alike: 0,
+    types_that_hash_alike: 0, many_ends: 1, not_utf8: 1,
 }
 
 
@@ -338,22 +601,22 @@ def main():
     parser = argparse.ArgumentParser(description="Runs the program on large and hostile inputs.")
     parser.add_argument("program")
     parser.add_argument("families", nargs="*", metavar="FAMILY")
-    parser.add_argument("--mib", type=int, default=64)
+    parser.add_argument("--mib", type=float, default=64)
     parser.add_argument("--seconds", type=int, default=60)
     parser.add_argument("--keep", metavar="FOLDER", help="keep the inputs there")
-    args = parser.parse_args()
+    args = parser.parse_intermixed_args()
     chosen = [f for f in FAMILIES if not args.families or f.__name__ in args.families]
     folder = args.keep or tempfile.mkdtemp()
     os.makedirs(folder, exist_ok=True)
     worse = 0
-    print("%-26s %6s %7s %8s %9s %8s  %s" % ("family", "status", "MiB", "seconds", "peak MiB", "s/MiB", "first line"))
+    print("%-30s %6s %7s %8s %9s %8s  %s" % ("family", "status", "MiB", "seconds", "peak MiB", "s/MiB", "first line"))
     for family in chosen:
         path = os.path.join(folder, family.__name__ + ".json")
-        size = write(family, args.mib << 20, path) / (1 << 20)
+        size = write(family, int(args.mib * (1 << 20)), path) / (1 << 20)
         status, line, seconds, peak = run(os.path.abspath(args.program), path, args.seconds)
         wrong = "" if status == FAMILIES[family] else "   <- expected status %d" % FAMILIES[family]
         worse += bool(wrong)
-        print("%-26s %6d %7.1f %8.2f %9.0f %8.3f  %s%s" % (family.__name__, status, size, seconds, peak / 1024, seconds / size, line, wrong), flush=True)
+        print("%-30s %6d %7.1f %8.2f %9.0f %8.3f  %s%s" % (family.__name__, status, size, seconds, peak / 1024, seconds / size, line, wrong), flush=True)
         if not args.keep:
             os.remove(path)
     sys.exit(1 if worse else 0)
