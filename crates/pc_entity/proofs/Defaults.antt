@@ -1,5 +1,6 @@
 -- Look-ups in a list with a default.
-use Rattle.std.proofs.Common.{◌≡◌, ◌≢◌, ℕ, ◌+◌, ◌-◌, ◌<◌, List, [], ◌∷◌, ◌++◌, length, replicate, unwrap_or, refl, ap, ◌∙◌, arith, length-append, zero, suc}
+use Rattle.std.proofs.Common.{◌≡◌, ◌≢◌, ℕ, ◌+◌, ◌-◌, ◌<◌, List, [], ◌∷◌, ◌++◌, length, replicate, unwrap_or, refl, ap}
+use Rattle.std.proofs.Common.{◌∙◌, arith, length-append, zero, suc}
 use Rattle.std.specs.Prelude.{slice_get}
 use Rattle.std.proofs.lemmas.List.{length-replicate}
 use Rattle.pc_entity.specs.SecondaryMap.{Defaulted, value_at, filled, with_value_at}

@@ -1,5 +1,6 @@
 -- A map from strings against the list of names and values that a contract sees.
-use Rattle.std.proofs.Common.{◌≡◌, ℕ, Bool, true, false, List, [], ◌∷◌, ◌++◌, None, Some, String, if◌then◌else◌, map, refl, sym, ap}
+use Rattle.std.proofs.Common.{◌≡◌, ℕ, Bool, true, false, List, [], ◌∷◌, ◌++◌, None, Some, String, if◌then◌else◌, map}
+use Rattle.std.proofs.Common.{refl, sym, ap}
 use Rattle.std.specs.Str.{bytes_eq}
 use Rattle.std.specs.String.{string_bytes, string_eq}
 use Rattle.std.specs.Map.{lookup, keys_of}

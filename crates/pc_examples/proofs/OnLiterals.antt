@@ -23,17 +23,20 @@ use Rattle.pc_reading.specs.SameValues.{was_made, same_value}
 use Rattle.pc_reading.specs.Arguments.{core_export, static_arguments, host_arguments}
 use Rattle.pc_reading.specs.Modules.{read_module, read_core_instance, read_core_exports, read_core_alias}
 use Rattle.pc_reading.specs.Functions.{read_lift, read_lower, read_context, lower_to, making}
-use Rattle.pc_reading.specs.Builtins.{read_builtin, read_waitable, read_task_return, read_error_context, read_new_thread}
+use Rattle.pc_reading.specs.Builtins.{read_builtin, read_waitable, read_task_return, read_error_context}
+use Rattle.pc_reading.specs.Builtins.{read_new_thread}
 use Rattle.pc_reading.specs.Member.{member, resource_at, resource_among}
 use Rattle.pc_reading.specs.Resource.{resource_paths, registered}
 use Rattle.pc_reading.specs.Items.{value_at, exported_value, argument_value, exports_at}
 use Rattle.pc_reading.specs.Instances.{read_component_exports, read_alias, read_export}
-use Rattle.pc_reading.specs.Components.{read_component, read_outer, outer_of, read_call, add_child, read_return, is_definable}
+use Rattle.pc_reading.specs.Components.{read_component, read_outer, outer_of, read_call, add_child, read_return}
+use Rattle.pc_reading.specs.Components.{is_definable}
 use Rattle.pc_reading.specs.Imports.{prepare, prepare_all, import_resources, read_import, read_intrinsics}
 use Rattle.pc_reading.specs.Rows.{read_resource, read_row}
 use Rattle.pc_reading.specs.Total.{counted, body_weight, prepared_weight, item_weight}
 use Rattle.pc_reading.specs.Nodes.{root_nodes, host_node, value_node}
-use Rattle.pc_reading.specs.Reading.{instantiate, read_item, read_items, read_body, enter_at, read_root, finishing, reading_of, reading}
+use Rattle.pc_reading.specs.Reading.{instantiate, read_item, read_items, read_body, enter_at, read_root, finishing}
+use Rattle.pc_reading.specs.Reading.{reading_of, reading}
 
 -- what an answer unfolds to compute the tree of a text, the input that it is, and its reading
 unfoldable pub on_literals : ⊤

@@ -5,9 +5,11 @@ use Rattle.pc_types.specs.declared.parsed.PrimType.TheVariants as prim
 use Rattle.pc_types.specs.declared.parsed.WasmValType.TheVariants as core
 use Rattle.pc_types.specs.declared.trampoline.TrampolineKind.{TrampolineKind}
 use Rattle.pc_types.specs.declared.trampoline.TrampolineKind.TheVariants as kind
-use Rattle.pc_types.specs.TypeTree.{TypeTree, primitive, stream_of, future_of, tuple_of, resource_of, concrete, error_context, a_tree, no_tree, and_tree, no_trees}
+use Rattle.pc_types.specs.TypeTree.{TypeTree, primitive, stream_of, future_of, tuple_of, resource_of, concrete}
+use Rattle.pc_types.specs.TypeTree.{error_context, a_tree, no_tree, and_tree, no_trees}
 use Rattle.pc_types.specs.TypeTree as tree
-use Rattle.pc_semantics.specs.CoreValue.{CoreValue, Options, Part, options, no_value, a_value, linear, builtin, mark_part, flag_part, options_part, and_part}
+use Rattle.pc_semantics.specs.CoreValue.{CoreValue, Options, Part, options, no_value, a_value, linear, builtin}
+use Rattle.pc_semantics.specs.CoreValue.{mark_part, flag_part, options_part, and_part}
 use Rattle.pc_semantics.specs.Log.{Entry, declared, declared_resource}
 use Rattle.pc_parsed.specs.Mark.{Mark, of_type, of_signature}
 use Rattle.pc_reading.specs.Builtins.{parts_of}

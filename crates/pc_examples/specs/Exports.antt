@@ -2,7 +2,8 @@
 use Rattle.std.specs.Prelude.{ℕ, List, [], ◌∷◌, ◌++◌, Some, None, codes}
 use Rattle.pc_types.specs.declared.parsed.WasmValType.TheVariants as core
 use Rattle.pc_types.specs.declared.types.ComponentExternData.{ComponentExternData}
-use Rattle.pc_types.specs.TypeTree.{TypeTree, Fields, Path, resource_of, concrete, imported, instance_of, and_field, no_fields}
+use Rattle.pc_types.specs.TypeTree.{TypeTree, Fields, Path, resource_of, concrete, imported, instance_of, and_field}
+use Rattle.pc_types.specs.TypeTree.{no_fields}
 use Rattle.pc_types.specs.TypeTree as tree
 use Rattle.pc_semantics.specs.CoreValue.{no_value}
 use Rattle.pc_semantics.specs.ExportNode.{ExportNode, ExportNodes, NamedNode, no_nodes, and_node}
@@ -12,7 +13,8 @@ use Rattle.pc_parsed.specs.Mark.{Mark, of_type}
 use Rattle.pc_reading.specs.Outcome.{Outcome}
 use Rattle.pc_reading.specs.Reading.{Reading}
 use Rattle.pc_examples.specs.Means.{finished, given}
-use Rattle.pc_examples.specs.Words.{import_named, func_of_instance, silent, ran, path, node_named, no_data, i32_to_i32, u32_to_u32, plain_module}
+use Rattle.pc_examples.specs.Words.{import_named, func_of_instance, silent, ran, path, node_named, no_data, i32_to_i32}
+use Rattle.pc_examples.specs.Words.{u32_to_u32, plain_module}
 
 -- an instance of one lifted function
 abbrev pub instance_export_text : List ℕ

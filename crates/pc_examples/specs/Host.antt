@@ -1,7 +1,8 @@
 -- Rows with imports of the root.
 use Rattle.std.specs.Prelude.{ℕ, false, List, [], ◌∷◌, ◌++◌, codes}
 use Rattle.pc_types.specs.declared.error.Unsupported.TheVariants as refusal
-use Rattle.pc_types.specs.TypeTree.{TypeTree, Path, module_of, core_memory, core_table, instance_of, and_field, no_fields, resource_of, concrete, imported}
+use Rattle.pc_types.specs.TypeTree.{TypeTree, Path, module_of, core_memory, core_table, instance_of, and_field}
+use Rattle.pc_types.specs.TypeTree.{no_fields, resource_of, concrete, imported}
 use Rattle.pc_semantics.specs.CoreValue.{CoreValue, a_value, lowered}
 use Rattle.pc_semantics.specs.ExportNode as node
 use Rattle.pc_semantics.specs.Log.{NamedArgument, instantiated, of_host, needed, declared}
@@ -9,7 +10,8 @@ use Rattle.pc_parsed.specs.Mark.{Mark, of_type}
 use Rattle.pc_reading.specs.Outcome.{Outcome, unsupported}
 use Rattle.pc_reading.specs.Reading.{Reading}
 use Rattle.pc_examples.specs.Means.{finished, given, stuck, refused}
-use Rattle.pc_examples.specs.Words.{import_named, func_of_instance, memory_of_instance, with_memory, ran, path, node_named, two_i32, of_string}
+use Rattle.pc_examples.specs.Words.{import_named, func_of_instance, memory_of_instance, with_memory, ran, path}
+use Rattle.pc_examples.specs.Words.{node_named, two_i32, of_string}
 
 -- a host function, lowered with a memory and a realloc, and given to a module
 abbrev pub host_lowering_text : List ℕ

@@ -7,7 +7,8 @@ use Rattle.pc_parsed.specs.Mark.{Mark}
 use Rattle.pc_reading.specs.Outcome.{Outcome, invalid, bad_type}
 use Rattle.pc_reading.specs.Reading.{Reading}
 use Rattle.pc_examples.specs.Means.{finished, given, stuck}
-use Rattle.pc_examples.specs.Words.{import_named, func_of_instance, memory_of_instance, table_of_instance, ran, path, i32_to_i32}
+use Rattle.pc_examples.specs.Words.{import_named, func_of_instance, memory_of_instance, table_of_instance, ran, path}
+use Rattle.pc_examples.specs.Words.{i32_to_i32}
 
 -- a host module, whose imports are given by module name, and whose exports go through a bag to another module
 abbrev pub host_items_text : List ℕ

@@ -2,14 +2,16 @@
 use Rattle.std.specs.Prelude.{ℕ, List, [], ◌∷◌, ◌++◌, codes}
 use Rattle.pc_types.specs.declared.trampoline.TrampolineKind.TheVariants as kind
 use Rattle.pc_types.specs.TypeTree.{error_context}
-use Rattle.pc_semantics.specs.CoreValue.{CoreValue, no_value, a_value, builtin, intrinsic, mark_part, number_part, value_part, options_part}
+use Rattle.pc_semantics.specs.CoreValue.{CoreValue, no_value, a_value, builtin, intrinsic, mark_part, number_part}
+use Rattle.pc_semantics.specs.CoreValue.{value_part, options_part}
 use Rattle.pc_semantics.specs.Log.{declared}
 use Rattle.pc_parsed.specs.Mark.{Mark, of_type, of_signature}
 use Rattle.pc_reading.specs.Builtins.{parts_of}
 use Rattle.pc_reading.specs.Outcome.{Outcome, invalid, bad_type}
 use Rattle.pc_reading.specs.Reading.{Reading}
 use Rattle.pc_examples.specs.Means.{added, finished, stuck}
-use Rattle.pc_examples.specs.Words.{intrinsic_under, memory_of_instance, table_of_instance, with_memory, ran, i32_to_i32, one_i32}
+use Rattle.pc_examples.specs.Words.{intrinsic_under, memory_of_instance, table_of_instance, with_memory, ran}
+use Rattle.pc_examples.specs.Words.{i32_to_i32, one_i32}
 use Rattle.pc_examples.specs.Builtins.{of_root}
 
 -- error contexts, a context slot and a new thread; the last two are given to a module

@@ -2,8 +2,10 @@
 use Rattle.std.specs.Prelude.{ℕ, false, List, [], ◌∷◌, ◌++◌, map, flat_map, codes}
 use Rattle.pc_types.specs.declared.encoding.StringEncoding.TheVariants.{Utf8}
 use Rattle.pc_types.specs.declared.trampoline.TrampolineKind.TheVariants as kind
-use Rattle.pc_types.specs.TypeTree.{TypeTree, Fields, Path, resource_of, concrete, imported, instance_of, and_field, no_fields}
-use Rattle.pc_semantics.specs.CoreValue.{CoreValue, Options, MaybeValue, options, a_value, no_value, linear, lowered, builtin, mark_part}
+use Rattle.pc_types.specs.TypeTree.{TypeTree, Fields, Path, resource_of, concrete, imported, instance_of, and_field}
+use Rattle.pc_types.specs.TypeTree.{no_fields}
+use Rattle.pc_semantics.specs.CoreValue.{CoreValue, Options, MaybeValue, options, a_value, no_value, linear, lowered}
+use Rattle.pc_semantics.specs.CoreValue.{builtin, mark_part}
 use Rattle.pc_semantics.specs.ExportNode.{NamedNode, no_nodes, and_node}
 use Rattle.pc_semantics.specs.ExportNode as node
 use Rattle.pc_semantics.specs.Log.{Entry, needed, declared}
@@ -13,7 +15,8 @@ use Rattle.pc_reading.specs.Outcome.{Outcome}
 use Rattle.pc_reading.specs.Reading.{Reading}
 use Rattle.pc_reading.specs.World.{HostImport}
 use Rattle.pc_examples.specs.Means.{finished, given}
-use Rattle.pc_examples.specs.Words.{functions_named, import_named, func_of_instance, memory_of_instance, table_of_instance, ran, path, node_named, no_data, two_i32, one_i32, of_string}
+use Rattle.pc_examples.specs.Words.{functions_named, import_named, func_of_instance, memory_of_instance}
+use Rattle.pc_examples.specs.Words.{table_of_instance, ran, path, node_named, no_data, two_i32, one_i32, of_string}
 
 -- eleven host functions of four instances, a main module, a shim with a table, and a fixup
 abbrev pub usual_tools_text : List ℕ

@@ -7,8 +7,10 @@ use Rattle.pc_types.specs.declared.parsed.PrimType.TheVariants as prim
 use Rattle.pc_types.specs.declared.parsed.WasmValType.{WasmValType}
 use Rattle.pc_types.specs.declared.parsed.WasmValType.TheVariants as core
 use Rattle.pc_types.specs.declared.types.ComponentExternData.{ComponentExternData}
-use Rattle.pc_types.specs.TypeTree.{TypeTree, Fields, Path, primitive, func_of, module_of, and_field, no_fields, a_tree, no_tree}
-use Rattle.pc_semantics.specs.CoreValue.{CoreValue, Options, MaybeValue, exported, by_index, options, no_value, a_value, linear}
+use Rattle.pc_types.specs.TypeTree.{TypeTree, Fields, Path, primitive, func_of, module_of, and_field, no_fields, a_tree}
+use Rattle.pc_types.specs.TypeTree.{no_tree}
+use Rattle.pc_semantics.specs.CoreValue.{CoreValue, Options, MaybeValue, exported, by_index, options, no_value, a_value}
+use Rattle.pc_semantics.specs.CoreValue.{linear}
 use Rattle.pc_semantics.specs.ExportNode.{ExportNode, NamedNode}
 use Rattle.pc_semantics.specs.Log.{Entry, instantiated, of_static}
 use Rattle.pc_parsed.specs.Mark.{Mark, of_signature}

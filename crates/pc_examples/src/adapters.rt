@@ -1,10 +1,13 @@
 //! Inputs in which a lifted function is lowered.
 
 ghost use Rattle.pc_examples.specs.Means.{Means};
-ghost use Rattle.pc_examples.specs.Adapters.{two_adapters_text, two_adapters, chain_text, chain, async_lower_text, async_lower};
+ghost use Rattle.pc_examples.specs.Adapters.{two_adapters_text, two_adapters, chain_text, chain, async_lower_text};
+ghost use Rattle.pc_examples.specs.Adapters.{async_lower};
 ghost use Rattle.pc_examples.specs.EqualAdapters.{equal_adapters_text, equal_adapters};
-ghost use Rattle.pc_examples.specs.AdapterParts.{realloc_is_an_adapter_text, realloc_is_an_adapter, destructor_text, destructor};
-ghost use Rattle.pc_examples.specs.Strings.{strings_text, strings, strings_without_realloc_text, strings_without_realloc};
+ghost use Rattle.pc_examples.specs.AdapterParts.{realloc_is_an_adapter_text, realloc_is_an_adapter, destructor_text};
+ghost use Rattle.pc_examples.specs.AdapterParts.{destructor};
+ghost use Rattle.pc_examples.specs.Strings.{strings_text, strings, strings_without_realloc_text};
+ghost use Rattle.pc_examples.specs.Strings.{strings_without_realloc};
 
 /// Each text means the outcome beside it.
 pub fn are_read()

@@ -3,7 +3,8 @@
 ghost use Rattle.pc_reading.specs.Outcome.{over, past};
 ghost use Rattle.pc_examples.specs.Means.{Means, DoesNotNest};
 ghost use Rattle.pc_examples.specs.Bounds.{too_many_names_text, shared_instances_text, nothing_done};
-ghost use Rattle.pc_examples.specs.Bounds.{no_payload_text, no_end_text, behind_the_end_text, a_module_text, no_version_text, past_the_root_text};
+ghost use Rattle.pc_examples.specs.Bounds.{no_payload_text, no_end_text, behind_the_end_text, a_module_text};
+ghost use Rattle.pc_examples.specs.Bounds.{no_version_text, past_the_root_text};
 ghost use Rattle.pc_examples.specs.Deep.{deep_refusal_text, deep_refusal, two_thousand_text};
 
 /// Each text means the outcome beside it.

@@ -1,8 +1,12 @@
 //! Builtins of the canonical ABI.
 
 ghost use Rattle.pc_examples.specs.Means.{Means};
-ghost use Rattle.pc_examples.specs.Builtins.{two_drops_text, two_drops, slot_two_text, slot_two, typed_builtins_text, typed_builtins, task_builtins_text, task_builtins};
-ghost use Rattle.pc_examples.specs.OtherBuiltins.{other_builtins_text, other_builtins, slot_twice_text, slot_twice, unknown_resource_text, unknown_resource, no_stream_text, no_stream, no_signature_text, stuck_type, no_memory_text, stuck_index, no_table_text, no_result_text};
+ghost use Rattle.pc_examples.specs.Builtins.{two_drops_text, two_drops, slot_two_text, slot_two, typed_builtins_text};
+ghost use Rattle.pc_examples.specs.Builtins.{typed_builtins, task_builtins_text, task_builtins};
+ghost use Rattle.pc_examples.specs.OtherBuiltins.{other_builtins_text, other_builtins, slot_twice_text, slot_twice};
+ghost use Rattle.pc_examples.specs.OtherBuiltins.{unknown_resource_text, unknown_resource, no_stream_text, no_stream};
+ghost use Rattle.pc_examples.specs.OtherBuiltins.{no_signature_text, stuck_type, no_memory_text, stuck_index};
+ghost use Rattle.pc_examples.specs.OtherBuiltins.{no_table_text, no_result_text};
 
 /// Each text means the outcome beside it.
 pub fn are_read()

@@ -1,7 +1,9 @@
 //! What a component captures, and when.
 
 ghost use Rattle.pc_examples.specs.Means.{Means};
-ghost use Rattle.pc_examples.specs.Captures.{later_module_text, later_module, own_component_text, sibling_text, sibling, inner_capture_text, inner_capture, type_aliases_text, type_aliases};
+ghost use Rattle.pc_examples.specs.Captures.{later_module_text, later_module, own_component_text, sibling_text};
+ghost use Rattle.pc_examples.specs.Captures.{sibling, inner_capture_text, inner_capture, type_aliases_text};
+ghost use Rattle.pc_examples.specs.Captures.{type_aliases};
 
 /// Each text means the outcome beside it.
 pub fn are_read()

@@ -2,7 +2,10 @@
 
 ghost use Rattle.pc_reading.specs.Outcome.{over};
 ghost use Rattle.pc_examples.specs.Means.{Means};
-ghost use Rattle.pc_examples.specs.Flat.{smallest_text, smallest, empty_root_text, empty_root, post_return_text, post_return, globals_at_the_limit_text, core_function_missing_text, core_function_missing, lift_type_of_another_kind_text, lift_type_of_another_kind, limit_zero_text};
+ghost use Rattle.pc_examples.specs.Flat.{smallest_text, smallest, empty_root_text, empty_root, post_return_text};
+ghost use Rattle.pc_examples.specs.Flat.{post_return, globals_at_the_limit_text, core_function_missing_text};
+ghost use Rattle.pc_examples.specs.Flat.{core_function_missing, lift_type_of_another_kind_text};
+ghost use Rattle.pc_examples.specs.Flat.{lift_type_of_another_kind, limit_zero_text};
 
 /// Each text means the outcome beside it.
 pub fn are_read()

@@ -1,7 +1,10 @@
 //! Options of functions, and unsafe intrinsics.
 
 ghost use Rattle.pc_examples.specs.Means.{Means};
-ghost use Rattle.pc_examples.specs.Functions.{options_twice_text, options_twice, gc_text, gc_options, memory_twice_text, option_missing, gc_realloc_text, intrinsic_aliased_text, intrinsic_aliased, unknown_intrinsic_text, unknown_alias, intrinsic_lowered_text, intrinsic_lowered};
+ghost use Rattle.pc_examples.specs.Functions.{options_twice_text, options_twice, gc_text, gc_options};
+ghost use Rattle.pc_examples.specs.Functions.{memory_twice_text, option_missing, gc_realloc_text};
+ghost use Rattle.pc_examples.specs.Functions.{intrinsic_aliased_text, intrinsic_aliased, unknown_intrinsic_text};
+ghost use Rattle.pc_examples.specs.Functions.{unknown_alias, intrinsic_lowered_text, intrinsic_lowered};
 
 /// Each text means the outcome beside it.
 pub fn are_read()

@@ -2,7 +2,10 @@
 
 ghost use Rattle.pc_examples.specs.Means.{Means};
 ghost use Rattle.pc_examples.specs.UsualTools.{usual_tools_text, usual_tools};
-ghost use Rattle.pc_examples.specs.Host.{host_lowering_text, host_lowering, realloc_is_a_lowering_text, realloc_is_a_lowering, host_module_text, host_module, host_resource_text, host_resource, component_import_text, component_import, re_export_text, re_export};
+ghost use Rattle.pc_examples.specs.Host.{host_lowering_text, host_lowering, realloc_is_a_lowering_text};
+ghost use Rattle.pc_examples.specs.Host.{realloc_is_a_lowering, host_module_text, host_module, host_resource_text};
+ghost use Rattle.pc_examples.specs.Host.{host_resource, component_import_text, component_import, re_export_text};
+ghost use Rattle.pc_examples.specs.Host.{re_export};
 
 /// Each text means the outcome beside it.
 pub fn are_read()

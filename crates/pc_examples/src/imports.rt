@@ -1,7 +1,12 @@
 //! Imports, and aliases of what a host instance has.
 
 ghost use Rattle.pc_examples.specs.Means.{Means};
-ghost use Rattle.pc_examples.specs.Imports.{host_alias_text, host_alias, defined_import_text, defined_import, component_alias_text, component_alias, component_as_func_text, component_as_type_text, alias_missing_text, alias_missing, alias_of_another_kind_text, prepared_first_text, prepared_first, nothing_given_text, nothing_given, no_resource_given_text, no_resource_text, no_resource};
+ghost use Rattle.pc_examples.specs.Imports.{host_alias_text, host_alias, defined_import_text, defined_import};
+ghost use Rattle.pc_examples.specs.Imports.{component_alias_text, component_alias, component_as_func_text};
+ghost use Rattle.pc_examples.specs.Imports.{component_as_type_text, alias_missing_text, alias_missing};
+ghost use Rattle.pc_examples.specs.Imports.{alias_of_another_kind_text, prepared_first_text, prepared_first};
+ghost use Rattle.pc_examples.specs.Imports.{nothing_given_text, nothing_given, no_resource_given_text};
+ghost use Rattle.pc_examples.specs.Imports.{no_resource_text, no_resource};
 
 /// Each text means the outcome beside it.
 pub fn are_read()

@@ -1,7 +1,11 @@
 //! Core modules, core instances and core aliases.
 
 ghost use Rattle.pc_examples.specs.Means.{Means};
-ghost use Rattle.pc_examples.specs.Modules.{host_items_text, host_items, argument_missing_text, argument_missing, memory_for_a_function_text, memory_for_a_function, idle_argument_text, alias_of_another_kind_text, alias_stuck, alias_missing_text, bag_text, module_type_text, bad_module_type, instance_type_text, instance_item_text, missing_item};
+ghost use Rattle.pc_examples.specs.Modules.{host_items_text, host_items, argument_missing_text, argument_missing};
+ghost use Rattle.pc_examples.specs.Modules.{memory_for_a_function_text, memory_for_a_function, idle_argument_text};
+ghost use Rattle.pc_examples.specs.Modules.{alias_of_another_kind_text, alias_stuck, alias_missing_text, bag_text};
+ghost use Rattle.pc_examples.specs.Modules.{module_type_text, bad_module_type, instance_type_text, instance_item_text};
+ghost use Rattle.pc_examples.specs.Modules.{missing_item};
 
 /// Each text means the outcome beside it.
 pub fn are_read()

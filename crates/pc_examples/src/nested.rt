@@ -2,7 +2,10 @@
 
 ghost use Rattle.pc_reading.specs.Outcome.{over};
 ghost use Rattle.pc_examples.specs.Means.{Means};
-ghost use Rattle.pc_examples.specs.Nested.{two_children_text, two_children, instantiated_twice_text, instantiated_twice, type_import_text, argument_of_another_kind_text, argument_of_another_kind, component_missing_text, component_missing, capture_text, capture, bad_capture_text, bad_capture, self_application_text};
+ghost use Rattle.pc_examples.specs.Nested.{two_children_text, two_children, instantiated_twice_text};
+ghost use Rattle.pc_examples.specs.Nested.{instantiated_twice, type_import_text, argument_of_another_kind_text};
+ghost use Rattle.pc_examples.specs.Nested.{argument_of_another_kind, component_missing_text, component_missing};
+ghost use Rattle.pc_examples.specs.Nested.{capture_text, capture, bad_capture_text, bad_capture, self_application_text};
 
 /// Each text means the outcome beside it.
 pub fn are_read()

@@ -7,10 +7,18 @@ ghost use Rattle.pc_examples.specs.Adapters.{two_adapters_text};
 ghost use Rattle.pc_examples.specs.Flat.{smallest_text, globals_at_the_limit_text};
 ghost use Rattle.pc_examples.specs.Functions.{intrinsic_aliased_text};
 ghost use Rattle.pc_examples.specs.Nested.{bad_capture_text};
-ghost use Rattle.pc_examples.specs.StaticRows.{IsFaulty, IsFaultless, malformed_at, unsupported_at, badly_declared, twice_at};
-ghost use Rattle.pc_examples.specs.StaticRows.{entry_names_itself_text, export_name_twice_text, future_forward_text, payload_after_end_text, list_ends_early_text, no_payloads_text, too_many_globals_text, intrinsic_of_another_type_text};
-ghost use Rattle.pc_examples.specs.StaticKinds.{module_root_text, module_inside_text, late_module_text, no_beginning_text, start_section_text, outer_past_root_text, spawn_text, context_type_text, value_alias_text, value_argument_text};
-ghost use Rattle.pc_examples.specs.StaticKinds.{import_twice_text, export_in_two_text, items_twice_text, value_in_table_text, intrinsic_by_entry_text, intrinsics_missing_text, intrinsics_as_type_text, no_intrinsic_text, intrinsics_resource_text, nested_name_text};
+ghost use Rattle.pc_examples.specs.StaticRows.{IsFaulty, IsFaultless, malformed_at, unsupported_at, badly_declared};
+ghost use Rattle.pc_examples.specs.StaticRows.{twice_at};
+ghost use Rattle.pc_examples.specs.StaticRows.{entry_names_itself_text, export_name_twice_text, future_forward_text};
+ghost use Rattle.pc_examples.specs.StaticRows.{payload_after_end_text, list_ends_early_text, no_payloads_text};
+ghost use Rattle.pc_examples.specs.StaticRows.{too_many_globals_text, intrinsic_of_another_type_text};
+ghost use Rattle.pc_examples.specs.StaticKinds.{module_root_text, module_inside_text, late_module_text};
+ghost use Rattle.pc_examples.specs.StaticKinds.{no_beginning_text, start_section_text, outer_past_root_text};
+ghost use Rattle.pc_examples.specs.StaticKinds.{spawn_text, context_type_text, value_alias_text, value_argument_text};
+ghost use Rattle.pc_examples.specs.StaticKinds.{import_twice_text, export_in_two_text, items_twice_text};
+ghost use Rattle.pc_examples.specs.StaticKinds.{value_in_table_text, intrinsic_by_entry_text, intrinsics_missing_text};
+ghost use Rattle.pc_examples.specs.StaticKinds.{intrinsics_as_type_text, no_intrinsic_text, intrinsics_resource_text};
+ghost use Rattle.pc_examples.specs.StaticKinds.{nested_name_text};
 
 /// Each text has the fault beside it.
 pub fn rows_are_refused()

@@ -1,5 +1,6 @@
 -- Facts are joined in any grouping.
-use Rattle.std.proofs.Common.{◌≡◌, ℕ, ◌<◌, ◌+◌, Bool, true, false, ◌||◌, List, [], ◌∷◌, ◌++◌, length, take, get_or, refl, sym, ap, ◌∙◌, subst}
+use Rattle.std.proofs.Common.{◌≡◌, ℕ, ◌<◌, ◌+◌, Bool, true, false, ◌||◌, List, [], ◌∷◌, ◌++◌, length, take, get_or}
+use Rattle.std.proofs.Common.{refl, sym, ap, ◌∙◌, subst}
 use Rattle.std.proofs.lemmas.Grind.{take_at_read}
 use Rattle.pc_facts.specs.declared.facts.TypeFacts.{TypeFacts}
 use Rattle.pc_facts.specs.Facts.{no_facts, join}

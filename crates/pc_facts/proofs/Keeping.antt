@@ -11,7 +11,8 @@ use Rattle.pc_types.specs.declared.types.TypeOption.{TypeOption}
 use Rattle.pc_types.specs.declared.types.TypeResult.{TypeResult}
 use Rattle.pc_facts.specs.declared.facts.TypeFacts.{TypeFacts}
 use Rattle.pc_facts.specs.declared.table.FactTable.{FactTable}
-use Rattle.pc_facts.specs.Table.{HasFacts, MayHaveFacts, FuncHas, TupleHas, RecordHas, VariantHas, ListHas, OptionHas, ResultHas, Keeps}
+use Rattle.pc_facts.specs.Table.{HasFacts, MayHaveFacts, FuncHas, TupleHas, RecordHas, VariantHas, ListHas, OptionHas}
+use Rattle.pc_facts.specs.Table.{ResultHas, Keeps}
 use Rattle.pc_facts.proofs.Joining.{joined_more}
 
 module _ (old new : FactTable) (k : Keeps old new) where

@@ -1,7 +1,11 @@
 -- Which types stand anywhere in a type, told by its tree.
 use Rattle.std.specs.Prelude.{Bool, true, false, ◌||◌}
 use Rattle.pc_types.specs.declared.parsed.PrimType.TheVariants as prim
-use Rattle.pc_types.specs.TypeTree.{TypeTree, Fields, Cases, Trees, MaybeTree, primitive, error_context, record_of, variant_of, list_of, tuple_of, flags_of, enum_of, option_of, result_of, own_of, borrow_of, stream_of, future_of, func_of, instance_of, component_of, module_of, resource_of, no_fields, and_field, no_cases, and_case, no_trees, and_tree, no_tree, a_tree}
+use Rattle.pc_types.specs.TypeTree.{TypeTree, Fields, Cases, Trees, MaybeTree, primitive, error_context, record_of}
+use Rattle.pc_types.specs.TypeTree.{variant_of, list_of, tuple_of, flags_of, enum_of, option_of, result_of, own_of}
+use Rattle.pc_types.specs.TypeTree.{borrow_of, stream_of, future_of, func_of, instance_of, component_of, module_of}
+use Rattle.pc_types.specs.TypeTree.{resource_of, no_fields, and_field, no_cases, and_case, no_trees, and_tree, no_tree}
+use Rattle.pc_types.specs.TypeTree.{a_tree}
 use Rattle.pc_facts.specs.declared.facts.TypeFacts.{TypeFacts}
 
 -- none of these types stands there

@@ -12,7 +12,8 @@ use Rattle.pc_types.specs.declared.types.TypeOption.{TypeOption}
 use Rattle.pc_types.specs.declared.types.TypeResult.{TypeResult}
 use Rattle.pc_facts.specs.declared.facts.TypeFacts.{TypeFacts}
 use Rattle.pc_facts.specs.declared.table.FactTable.{FactTable}
-use Rattle.pc_facts.specs.Facts.{no_facts, join, a_string, a_list, an_own, a_borrow, a_future, a_stream, an_error_context}
+use Rattle.pc_facts.specs.Facts.{no_facts, join, a_string, a_list, an_own, a_borrow, a_future, a_stream}
+use Rattle.pc_facts.specs.Facts.{an_error_context}
 
 -- the table with no facts
 abbrev pub no_table : FactTable

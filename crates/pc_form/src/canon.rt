@@ -8,7 +8,8 @@ ghost use Rattle.serde_json.specs.View.{view};
 ghost use Rattle.pc_entity.specs.Lists.{value_of};
 ghost use Rattle.pc_form.specs.Canon.{of_nothing, of_signature};
 ghost use Rattle.pc_form.specs.Canon.{of_index, of_flag, of_options, of_one, of_cancel, of_copy, of_slot, of_start};
-ghost use Rattle.pc_form.specs.Canon.{of_two_numbered, of_two_with_options, of_two, of_function, of_four, of_rest, canon_from};
+ghost use Rattle.pc_form.specs.Canon.{of_two_numbered, of_two_with_options, of_two, of_function, of_four, of_rest};
+ghost use Rattle.pc_form.specs.Canon.{canon_from};
 ghost use Rattle.pc_form.specs.Canon.{canon_item, task_return};
 ghost use Rattle.pc_form.specs.Reads.{Reads};
 

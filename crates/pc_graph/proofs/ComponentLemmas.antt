@@ -1,5 +1,6 @@
 -- The search finds the classes of mutual reachability: by induction on the tour.
-use Rattle.std.proofs.Common.{◌≡◌, ◌↔◌, ℕ, zero, suc, ◌≤◌, Option, None, Some, List, [], ◌∷◌, ◌++◌, slice_get, reverse, refl, sym, ◌∙◌, subst, inl, inr, append_assoc, arith}
+use Rattle.std.proofs.Common.{◌≡◌, ◌↔◌, ℕ, zero, suc, ◌≤◌, Option, None, Some, List, [], ◌∷◌, ◌++◌, slice_get, reverse}
+use Rattle.std.proofs.Common.{refl, sym, ◌∙◌, subst, inl, inr, append_assoc, arith}
 use Rattle.std.specs.List.{Contains}
 use Rattle.std.proofs.lemmas.List.Elements.{Contains-append_left, Contains-append_right, Contains-append_cases}
 use Rattle.pc_graph.specs.Classes.{AreComponents, EndWith, IsPart, flat}
@@ -9,7 +10,8 @@ use Rattle.pc_graph.specs.Searching.{Follows, IsUnique, Search}
 use Rattle.pc_graph.specs.Tour.{IsTour, Tour, back_at, none, again, visit}
 use Rattle.pc_graph.specs.declared.dfs.DfsEvent.{DfsEvent}
 use Rattle.pc_graph.specs.declared.dfs.DfsEvent.TheVariants.{Pre, AfterEdge, Post}
-use Rattle.pc_graph.proofs.MemberLemmas.{contains_cases, contains_first, contains_from_reversed, contains_got, contains_later, contains_none, contains_reversed}
+use Rattle.pc_graph.proofs.MemberLemmas.{contains_cases, contains_first, contains_from_reversed, contains_got}
+use Rattle.pc_graph.proofs.MemberLemmas.{contains_later, contains_none, contains_reversed}
 use Rattle.pc_graph.proofs.PartLemmas.{contains_flat, unique_apart, unique_distinct, unique_right}
 use Rattle.pc_graph.proofs.RemainsLemmas.{tour_keeps}
 use Rattle.pc_graph.proofs.TourLemmas.{closed_reaches, meets_by_its_events, reaches_on, tour_meets_reachable}

@@ -1,8 +1,11 @@
 -- The groups of the search on its stack: where they begin, and how they are joined.
-use Rattle.std.proofs.Common.{◌≡◌, ◌⊎◌, ℕ, zero, suc, ◌≤◌, Option, None, Some, List, [], ◌∷◌, ◌++◌, slice_get, reverse, refl, sym, ◌∙◌, ap, subst, inl, inr, append_assoc, arith, ◌+◌, ◌-◌, ◌<◌, length, get_or, take, true≢false}
+use Rattle.std.proofs.Common.{◌≡◌, ◌⊎◌, ℕ, zero, suc, ◌≤◌, Option, None, Some, List, [], ◌∷◌, ◌++◌, slice_get, reverse}
+use Rattle.std.proofs.Common.{refl, sym, ◌∙◌, ap, subst, inl, inr, append_assoc, arith, ◌+◌, ◌-◌, ◌<◌, length, get_or}
+use Rattle.std.proofs.Common.{take, true≢false}
 use Rattle.std.specs.List.{Contains}
 use Rattle.std.specs.Prelude.{IsSome}
-use Rattle.std.proofs.lemmas.List.{append-nil, reverse-append, length-append, length-reverse, reverse-reverse, take-append-le, take_all}
+use Rattle.std.proofs.lemmas.List.{append-nil, reverse-append, length-append, length-reverse, reverse-reverse}
+use Rattle.std.proofs.lemmas.List.{take-append-le, take_all}
 use Rattle.pc_graph.specs.Classes.{EndsWith, flat}
 use Rattle.pc_graph.specs.Searching.{Joins, heads_of}
 use Rattle.pc_graph.proofs.MemberLemmas.{contains_from_reversed, contains_got}

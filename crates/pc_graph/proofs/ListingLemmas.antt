@@ -1,11 +1,14 @@
 -- How a held graph grows, node by node.
-use Rattle.std.proofs.Common.{◌≡◌, ◌≢◌, ℕ, zero, suc, ◌+◌, ◌-◌, ◌<◌, ◌≤◌, ◌==◌, Bool, true, false, max, List, [], ◌∷◌, ◌++◌, length, replicate, map, refl, sym, ◌∙◌, ap, subst, append_assoc, Ok, Err, Some, take, drop, get_or, inl, inr, zero-add, arith}
+use Rattle.std.proofs.Common.{◌≡◌, ◌≢◌, ℕ, zero, suc, ◌+◌, ◌-◌, ◌<◌, ◌≤◌, ◌==◌, Bool, true, false, max, List, [], ◌∷◌}
+use Rattle.std.proofs.Common.{◌++◌, length, replicate, map, refl, sym, ◌∙◌, ap, subst, append_assoc, Ok, Err, Some}
+use Rattle.std.proofs.Common.{take, drop, get_or, inl, inr, zero-add, arith}
 use Rattle.std.specs.List.{All, range_with_len}
 use Rattle.std.specs.Bool.{if◌then◌else◌}
 use Rattle.std.specs.declared.vec.Vec.{Vec}
 use Rattle.std.specs.declared.alloc.Global.{Global}
 use Rattle.std.proofs.Common.{Result}
-use Rattle.std.proofs.lemmas.List.{append-nil, length_push, length-append, length-map, map-append, length-replicate, length-set, length-take, drop_more, get_or-take, take_more, take-append-drop}
+use Rattle.std.proofs.lemmas.List.{append-nil, length_push, length-append, length-map, map-append, length-replicate}
+use Rattle.std.proofs.lemmas.List.{length-set, length-take, drop_more, get_or-take, take_more, take-append-drop}
 use Rattle.std.proofs.lemmas.Option.{slice_get-get_or}
 use Rattle.pc_entity.specs.Lists.{AreDistinct}
 use Rattle.std.proofs.lemmas.List.Elements.{All-head, All-map, All-tail}

@@ -1,12 +1,15 @@
 -- Lists of lists, lists without repetition, and lists whose items stand in others.
-use Rattle.std.proofs.Common.{◌≡◌, ℕ, zero, suc, ◌+◌, ◌-◌, ◌<◌, ◌≤◌, List, [], ◌∷◌, ◌++◌, length, get_or, take, drop, slice_get, slice_range, Some, reverse, refl, sym, ◌∙◌, ap, subst, inl, inr, append_assoc, zero-add, arith}
+use Rattle.std.proofs.Common.{◌≡◌, ℕ, zero, suc, ◌+◌, ◌-◌, ◌<◌, ◌≤◌, List, [], ◌∷◌, ◌++◌, length, get_or, take, drop}
+use Rattle.std.proofs.Common.{slice_get, slice_range, Some, reverse, refl, sym, ◌∙◌, ap, subst, inl, inr, append_assoc}
+use Rattle.std.proofs.Common.{zero-add, arith}
 use Rattle.std.specs.List.{Contains}
 use Rattle.std.proofs.lemmas.List.{append-nil, drop_at, length-append, reverse-append, reverse-reverse, take_at}
 use Rattle.std.proofs.lemmas.List.Elements.{Contains-append_left, Contains-append_right, Contains-append_cases}
 use Rattle.pc_entity.specs.Lists.{AreDistinct}
 use Rattle.pc_graph.specs.Classes.{Ascend, EndWith, IsPart, cut, ends_from, flat, start_of}
 use Rattle.pc_graph.specs.Searching.{IsUnique}
-use Rattle.pc_graph.proofs.MemberLemmas.{contains_cases, contains_first, contains_from_reversed, contains_got, contains_later, contains_none, contains_place, distinct_more}
+use Rattle.pc_graph.proofs.MemberLemmas.{contains_cases, contains_first, contains_from_reversed, contains_got}
+use Rattle.pc_graph.proofs.MemberLemmas.{contains_later, contains_none, contains_place, distinct_more}
 use Rattle.pc_graph.proofs.PushLemmas.{reverse_push}
 
 -- where a list begins, behind others

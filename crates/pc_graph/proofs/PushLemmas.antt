@@ -1,5 +1,6 @@
 -- What the traversal pushes, item by item, and how its stack reads from the top.
-use Rattle.std.proofs.Common.{◌≡◌, ℕ, ◌+◌, ◌<◌, ◌≤◌, Bool, true, false, List, [], ◌∷◌, ◌++◌, length, get_or, take, drop, reverse, sym, ◌∙◌, ap, subst, inl, inr, append_assoc}
+use Rattle.std.proofs.Common.{◌≡◌, ℕ, ◌+◌, ◌<◌, ◌≤◌, Bool, true, false, List, [], ◌∷◌, ◌++◌, length, get_or, take, drop}
+use Rattle.std.proofs.Common.{reverse, sym, ◌∙◌, ap, subst, inl, inr, append_assoc}
 use Rattle.std.proofs.lemmas.List.{drop_more, reverse-append, take-append-drop, take_all, take_more}
 use Rattle.pc_graph.specs.Steps.{Pushes}
 use Rattle.pc_graph.specs.declared.dfs.DfsEvent.{DfsEvent}

@@ -1,5 +1,6 @@
 -- The stack of the traversal and the tour: a step gives the first of the events that remain.
-use Rattle.std.proofs.Common.{◌≡◌, Bool, true, false, Option, None, Some, List, [], ◌∷◌, ◌++◌, reverse, map, refl, sym, ◌∙◌, ap, subst, inl, inr, append_assoc, true≢false}
+use Rattle.std.proofs.Common.{◌≡◌, Bool, true, false, Option, None, Some, List, [], ◌∷◌, ◌++◌, reverse, map, refl, sym}
+use Rattle.std.proofs.Common.{◌∙◌, ap, subst, inl, inr, append_assoc, true≢false}
 use Rattle.std.specs.List.{All, Contains}
 use Rattle.std.specs.Option.{option_to_list}
 use Rattle.std.proofs.lemmas.List.{append-nil}

@@ -1,5 +1,7 @@
 -- The search along the traversal: what is kept from event to event.
-use Rattle.std.proofs.Common.{◌≡◌, ◌⊎◌, ◌↔◌, ℕ, suc, ◌+◌, ◌-◌, ◌*◌, ◌<◌, Bool, true, false, Option, None, Some, List, [], ◌∷◌, ◌++◌, length, reverse, refl, sym, ◌∙◌, ap, subst, inl, inr, append_assoc, true≢false, add-zero, suc-mul, arith}
+use Rattle.std.proofs.Common.{◌≡◌, ◌⊎◌, ◌↔◌, ℕ, suc, ◌+◌, ◌-◌, ◌*◌, ◌<◌, Bool, true, false, Option, None, Some, List}
+use Rattle.std.proofs.Common.{[], ◌∷◌, ◌++◌, length, reverse, refl, sym, ◌∙◌, ap, subst, inl, inr, append_assoc}
+use Rattle.std.proofs.Common.{true≢false, add-zero, suc-mul, arith}
 use Rattle.std.specs.List.{Contains}
 use Rattle.std.specs.Option.{option_to_list}
 use Rattle.std.proofs.lemmas.List.{append-nil, length-append, length-reverse}
@@ -15,7 +17,8 @@ use Rattle.pc_graph.specs.declared.dfs.DfsEvent.TheVariants.{Pre, AfterEdge, Pos
 use Rattle.pc_graph.specs.declared.search.Noted.{Noted}
 use Rattle.pc_graph.specs.declared.search.Noted.TheVariants.{Unmet, OnStack, Closed}
 use Rattle.pc_graph.proofs.ComponentLemmas.{search_finds}
-use Rattle.pc_graph.proofs.MemberLemmas.{contains_cases, contains_first, contains_from_reversed, contains_got, contains_later, contains_none}
+use Rattle.pc_graph.proofs.MemberLemmas.{contains_cases, contains_first, contains_from_reversed, contains_got}
+use Rattle.pc_graph.proofs.MemberLemmas.{contains_later, contains_none}
 use Rattle.pc_graph.proofs.PartLemmas.{flat-append, flat-push}
 
 -- a node that wasn't met is noted so

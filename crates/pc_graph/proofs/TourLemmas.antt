@@ -1,5 +1,6 @@
 -- What is true of every tour.
-use Rattle.std.proofs.Common.{◌≡◌, ◌⊎◌, ◌↔◌, ℕ, Option, None, Some, List, [], ◌∷◌, ◌++◌, slice_get, reverse, refl, sym, ◌∙◌, ap, subst, inl, inr, append_assoc}
+use Rattle.std.proofs.Common.{◌≡◌, ◌⊎◌, ◌↔◌, ℕ, Option, None, Some, List, [], ◌∷◌, ◌++◌, slice_get, reverse, refl, sym}
+use Rattle.std.proofs.Common.{◌∙◌, ap, subst, inl, inr, append_assoc}
 use Rattle.std.specs.List.{Contains}
 use Rattle.std.proofs.lemmas.List.{append-nil, reverse-append}
 use Rattle.pc_entity.specs.Lists.{AreDistinct}
@@ -9,7 +10,8 @@ use Rattle.pc_graph.specs.Steps.{Remains, met_after, visits_of}
 use Rattle.pc_graph.specs.Tour.{IsTour, Tour, back_at, none, again, visit}
 use Rattle.pc_graph.specs.declared.dfs.DfsEvent.{DfsEvent}
 use Rattle.pc_graph.specs.declared.dfs.DfsEvent.TheVariants.{Pre, AfterEdge, Post}
-use Rattle.pc_graph.proofs.MemberLemmas.{contains_cases, contains_first, contains_from_reversed, contains_later, contains_none, contains_reversed, distinct_more}
+use Rattle.pc_graph.proofs.MemberLemmas.{contains_cases, contains_first, contains_from_reversed, contains_later}
+use Rattle.pc_graph.proofs.MemberLemmas.{contains_none, contains_reversed, distinct_more}
 use Rattle.pc_graph.proofs.RemainsLemmas.{remains_stepped, tour_from_roots, tour_keeps}
 
 module _ {Node : Type 0} (d : Digraph Node) where

@@ -10,7 +10,8 @@ use Rattle.pc_graph.specs.Searching.{IsUnique, Search, Turns}
 use Rattle.pc_graph.specs.declared.dfs.DfsEvent.{DfsEvent}
 use Rattle.pc_graph.specs.declared.dfs.DfsEvent.TheVariants.{Pre, AfterEdge, Post}
 use Rattle.pc_graph.proofs.MemberLemmas.{contains_cases, contains_later, contains_none}
-use Rattle.pc_graph.proofs.PartLemmas.{end_with-append, flat-push, nothing_behind, part_append, part_longer, part_one, unique_apart, unique_left, unique_rotate}
+use Rattle.pc_graph.proofs.PartLemmas.{end_with-append, flat-push, nothing_behind, part_append, part_longer, part_one}
+use Rattle.pc_graph.proofs.PartLemmas.{unique_apart, unique_left, unique_rotate}
 use Rattle.pc_graph.proofs.TourLemmas.{met_in-append}
 use Rattle.pc_graph.proofs.GrowthLemmas.{Explored, Holds, Linked, Progress, Shut, grows_under}
 

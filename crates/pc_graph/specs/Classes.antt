@@ -1,5 +1,6 @@
 -- The strong components of a graph: the classes of nodes that can be reached from each other.
-use Rattle.std.specs.Prelude.{◌≡◌, ◌↔◌, ℕ, zero, suc, ◌+◌, ◌≤◌, Some, List, [], ◌∷◌, ◌++◌, length, slice_get, slice_index, slice_range, ⊤}
+use Rattle.std.specs.Prelude.{◌≡◌, ◌↔◌, ℕ, zero, suc, ◌+◌, ◌≤◌, Some, List, [], ◌∷◌, ◌++◌, length, slice_get}
+use Rattle.std.specs.Prelude.{slice_index, slice_range, ⊤}
 use Rattle.std.specs.List.{Contains}
 use Rattle.pc_entity.specs.Lists.{AreDistinct}
 use Rattle.pc_graph.specs.Digraph.{Digraph, IsReachable, Reaches}

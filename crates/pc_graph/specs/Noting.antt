@@ -1,5 +1,6 @@
 -- How the evaporation is found: the number of each node's class, and one edge after the other noted in the lists.
-use Rattle.std.specs.Prelude.{◌≡◌, ℕ, ◌==◌, ◌||◌, Bool, false, Some, List, [], ◌∷◌, ◌++◌, map, slice_get, slice_set, if◌then◌else◌}
+use Rattle.std.specs.Prelude.{◌≡◌, ℕ, ◌==◌, ◌||◌, Bool, false, Some, List, [], ◌∷◌, ◌++◌, map, slice_get, slice_set}
+use Rattle.std.specs.Prelude.{if◌then◌else◌}
 use Rattle.std.specs.List.{Contains}
 use Rattle.pc_entity.specs.SecondaryMap.{Defaulted, value_at}
 use Rattle.pc_graph.specs.Classes.{flat}

@@ -1,5 +1,6 @@
 -- One step of the traversal, on the stack of the events to come, the next one first.
-use Rattle.std.specs.Prelude.{◌≡◌, Bool, true, false, ◌⊎◌, ◌↔◌, IsTrue, Option, None, Some, List, [], ◌∷◌, ◌++◌, map, reverse, ⊤}
+use Rattle.std.specs.Prelude.{◌≡◌, Bool, true, false, ◌⊎◌, ◌↔◌, IsTrue, Option, None, Some, List, [], ◌∷◌, ◌++◌, map}
+use Rattle.std.specs.Prelude.{reverse, ⊤}
 use Rattle.std.specs.List.{All, Contains}
 use Rattle.pc_graph.specs.Digraph.{Digraph}
 use Rattle.pc_graph.specs.Tour.{Tour}

@@ -3,7 +3,8 @@
 //! The events to come stand on a stack of its own, so a deep graph takes heap and no call stack. Which nodes were met
 //! is the caller's to say, with each call: a caller keeps such a set anyway, and may leave nodes out by it.
 
-ghost use Rattle.std.specs.Prelude.{◌≡◌, ◌⊎◌, ◌+◌, ◌-◌, ◌^◌, ◌<◌, ◌≤◌, ◌++◌, ◌∷◌, [], Bool, true, false, List, length, drop, take, reverse, slice_get, IfOk, OnOk, OnErr};
+ghost use Rattle.std.specs.Prelude.{◌≡◌, ◌⊎◌, ◌+◌, ◌-◌, ◌^◌, ◌<◌, ◌≤◌, ◌++◌, ◌∷◌, [], Bool, true, false, List, length};
+ghost use Rattle.std.specs.Prelude.{drop, take, reverse, slice_get, IfOk, OnOk, OnErr};
 ghost use Rattle.std.specs.List.{All};
 ghost use Rattle.std.specs.Option.{option_to_list};
 ghost use Rattle.pc_graph.specs.Digraph.{Digraph};

@@ -6,7 +6,8 @@
 //! so does each group's head, so the search takes time in proportion to the events. Upstream keeps a low link for each
 //! node in place of the heads.
 
-ghost use Rattle.std.specs.Prelude.{◌≡◌, ◌↔◌, IsTrue, ◌+◌, ◌-◌, ◌<◌, ◌≤◌, ◌++◌, ◌^◌, ℕ, Some, [], length, drop, take, reverse, slice_get, slice_index, MatchOption, OnOk};
+ghost use Rattle.std.specs.Prelude.{◌≡◌, ◌↔◌, IsTrue, ◌+◌, ◌-◌, ◌<◌, ◌≤◌, ◌++◌, ◌^◌, ℕ, Some, [], length, drop, take};
+ghost use Rattle.std.specs.Prelude.{reverse, slice_get, slice_index, MatchOption, OnOk};
 ghost use Rattle.std.specs.List.{Contains};
 ghost use Rattle.pc_entity.specs.SecondaryMap.{value_at};
 ghost use Rattle.pc_graph.specs.Classes.{flat};

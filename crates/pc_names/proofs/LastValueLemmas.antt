@@ -1,5 +1,6 @@
 -- What one insertion more defines.
-use Rattle.std.proofs.Common.{◌≡◌, ℕ, zero, suc, Bool, cond, List, [], ◌∷◌, ◌++◌, length, Option, Some, None, refl, sym, ap, ◌∙◌, inl, inr, reverse}
+use Rattle.std.proofs.Common.{◌≡◌, ℕ, zero, suc, Bool, cond, List, [], ◌∷◌, ◌++◌, length, Option, Some, None, refl, sym}
+use Rattle.std.proofs.Common.{ap, ◌∙◌, inl, inr, reverse}
 use Rattle.pc_names.proofs.TextLemmas.{bytes_eq-refl, cond_same, cond_swap, option_or_cond}
 use Rattle.std.proofs.lemmas.Bool.{cases_Bool, false≢true}
 use Rattle.std.proofs.lemmas.Option.{same_Some}
@@ -12,7 +13,8 @@ use Rattle.std.specs.List.{slice_get, fold}
 use Rattle.std.specs.Map.{keys_of, lookup}
 use Rattle.std.specs.Option.{option_map, option_or, unwrap_or}
 use Rattle.std.specs.Str.{bytes_eq}
-use Rattle.pc_names.proofs.PlaceLemmas.{option_or-None, own_places_push, value_at_place, keys_of-append, keys_of-with_value}
+use Rattle.pc_names.proofs.PlaceLemmas.{option_or-None, own_places_push, value_at_place, keys_of-append}
+use Rattle.pc_names.proofs.PlaceLemmas.{keys_of-with_value}
 use Rattle.pc_names.specs.Definitions.{HaveOwnPlaces, place_by}
 use Rattle.pc_names.specs.Inserted.{Inserted, define, definitions_of, last_value}
 use Rattle.pc_names.specs.Steps.{defined_at}

@@ -1,5 +1,6 @@
 -- A map that stands for insertions stands for one more after it, and answers as they say.
-use Rattle.std.proofs.Common.{◌≡◌, ℕ, Bool, true, false, cond, List, [], ◌∷◌, ◌++◌, length, Option, Some, None, refl, sym, ap, ◌∙◌, inl, inr, ◌⊎◌}
+use Rattle.std.proofs.Common.{◌≡◌, ℕ, Bool, true, false, cond, List, [], ◌∷◌, ◌++◌, length, Option, Some, None, refl}
+use Rattle.std.proofs.Common.{sym, ap, ◌∙◌, inl, inr, ◌⊎◌}
 use Rattle.std.proofs.lemmas.Bool.{cases_Bool, false≢true}
 use Rattle.std.proofs.lemmas.Option.{same_Some}
 use Rattle.std.proofs.lemmas.Slice.Eq.{bytes_eq-Decides}
@@ -12,8 +13,10 @@ use Rattle.std.specs.Ordering.{is_gt, is_lt, ordering_reverse}
 use Rattle.std.specs.Str.{bytes_eq}
 use Rattle.std.specs.declared.cmp.Ordering.{Ordering}
 use Rattle.std.specs.declared.cmp.Ordering.TheVariants.{Less, Equal, Greater}
-use Rattle.pc_names.proofs.TextKeyLemmas.{AreKeyed-kept, AreKeyed-length, AreKeyed-push, AreKeyed-with_value, KeysAgree, insert-keyed, lookup-keyed, lookup-no_key, place-keyed, value-keyed}
-use Rattle.pc_names.proofs.LastValueLemmas.{define-at, definitions_of-push, last_value-push, lookup-definitions_of, name-define, place-define, place_for, value_at}
+use Rattle.pc_names.proofs.TextKeyLemmas.{AreKeyed-kept, AreKeyed-length, AreKeyed-push, AreKeyed-with_value, KeysAgree}
+use Rattle.pc_names.proofs.TextKeyLemmas.{insert-keyed, lookup-keyed, lookup-no_key, place-keyed, value-keyed}
+use Rattle.pc_names.proofs.LastValueLemmas.{define-at, definitions_of-push, last_value-push, lookup-definitions_of}
+use Rattle.pc_names.proofs.LastValueLemmas.{name-define, place-define, place_for, value_at}
 use Rattle.pc_names.proofs.PlaceLemmas.{is_some-lookup}
 use Rattle.pc_names.proofs.VersionLemmas.{version_total}
 use Rattle.pc_names.specs.Contents.{Contents, Newest}

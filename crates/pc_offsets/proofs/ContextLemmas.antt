@@ -3,7 +3,8 @@ use Rattle.std.proofs.Common.{◌≡◌, ◌⊎◌, inl, inr, ℕ, ◌<◌, ◌�
 use Rattle.std.specs.Prelude.{nat_le, if◌then◌else◌}
 use Rattle.std.proofs.lemmas.Bool.{le-leb, lt-leb}
 use Rattle.pc_info.specs.declared.component.Component.{Component}
-use Rattle.pc_offsets.specs.Context.{Entries, IsLaidOut, context, context_size, entries_for, entries_of, layout_of, used_end}
+use Rattle.pc_offsets.specs.Context.{Entries, IsLaidOut, context, context_size, entries_for, entries_of, layout_of}
+use Rattle.pc_offsets.specs.Context.{used_end}
 use Rattle.pc_offsets.specs.declared.offsets.VMComponentOffsets.{VMComponentOffsets}
 use Rattle.pc_offsets.specs.Layout.{AreAligned, size_of}
 use Rattle.pc_offsets.proofs.LayoutLemmas.{past_by_field}

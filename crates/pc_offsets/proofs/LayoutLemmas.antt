@@ -1,5 +1,6 @@
 -- Running sums: they never fall, and a field that is laid out ends within its layout.
-use Rattle.std.proofs.Common.{◌≡◌, ℕ, ◌+◌, ◌-◌, ◌*◌, ◌/◌, ◌<◌, ◌≤◌, zero, suc, List, [], ◌∷◌, ◌++◌, length, take, drop, set, get_or}
+use Rattle.std.proofs.Common.{◌≡◌, ℕ, ◌+◌, ◌-◌, ◌*◌, ◌/◌, ◌<◌, ◌≤◌, zero, suc, List, [], ◌∷◌, ◌++◌, length, take, drop}
+use Rattle.std.proofs.Common.{set, get_or}
 use Rattle.std.proofs.Common.{Some, refl, subst, sym, ap, ◌∙◌, arith}
 use Rattle.std.specs.Prelude.{slice_get}
 use Rattle.std.proofs.lemmas.Nat.{div-add-mod'}
@@ -8,7 +9,8 @@ use Rattle.std.proofs.lemmas.Option.{none-some, same_Some, slice_get-get_or}
 use Rattle.std.proofs.Math.Nat.{mod-lt, div-mul-le_self, le-mul_of_pos_right}
 use Rattle.std.proofs.Math.Seq.{take-length}
 use Rattle.pc_offsets.specs.declared.layout.Field.{Field}
-use Rattle.pc_offsets.specs.Layout.{aligned, start_of, end_of, offsets, offsets_from, end_from, size_of, AreAligned, AreApart, IsFieldAt, IsKept}
+use Rattle.pc_offsets.specs.Layout.{aligned, start_of, end_of, offsets, offsets_from, end_from, size_of, AreAligned}
+use Rattle.pc_offsets.specs.Layout.{AreApart, IsFieldAt, IsKept}
 
 -- a multiple of an alignment isn't before the place that it is for, and not a whole alignment behind it
 pub aligned_after : (align place : ℕ) → 0 < align → place ≤ aligned align place

@@ -4,7 +4,9 @@ ghost use Rattle.std.specs.Prelude.{◌≡◌, ◌<◌, ◌+◌, ◌*◌, ◌↔
 ghost use Rattle.pc_offsets.specs.Context.{IsLaidOut, context, context_size, entries_for, entries_of, field, layout_of};
 ghost use Rattle.pc_offsets.specs.Context.{used_end};
 ghost use Rattle.pc_offsets.specs.Layout.{AreApart, IsFieldAt, IsInEntry, size_of};
-ghost use Rattle.pc_offsets.specs.declared.offsets.TheConstants.{MAY_LEAVE, TRAMPOLINES, INTRINSICS, LOWERINGS, MEMORIES, TABLES, REALLOCS, CALLBACKS, POST_RETURNS, DESTRUCTORS};
+ghost use Rattle.pc_offsets.specs.declared.offsets.TheConstants.{MAY_LEAVE, TRAMPOLINES, INTRINSICS, LOWERINGS};
+ghost use Rattle.pc_offsets.specs.declared.offsets.TheConstants.{MEMORIES, TABLES, REALLOCS, CALLBACKS, POST_RETURNS};
+ghost use Rattle.pc_offsets.specs.declared.offsets.TheConstants.{DESTRUCTORS};
 
 use crate::layout::{FIELDS, Field, lay_out};
 use crate::{PtrSize, VmctxArray, VmctxIndex};

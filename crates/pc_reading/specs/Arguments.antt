@@ -1,5 +1,6 @@
 -- What core instances have under their names, and what the imports of a module are given.
-use Rattle.std.specs.Prelude.{ℕ, Bool, List, [], ◌∷◌, length, filter, Option, Some, None, nat_lt, slice_get, option_and_then, option_map, if◌then◌else◌}
+use Rattle.std.specs.Prelude.{ℕ, Bool, List, [], ◌∷◌, length, filter, Option, Some, None, nat_lt, slice_get}
+use Rattle.std.specs.Prelude.{option_and_then, option_map, if◌then◌else◌}
 use Rattle.std.specs.List.{list_all, flat_map}
 use Rattle.std.specs.Str.{bytes_eq}
 use Rattle.pc_numbers.specs.declared.entity_index.EntityIndex.{EntityIndex}

@@ -1,5 +1,6 @@
 -- Builtins of the canonical ABI. The parts of one are its signature and then what it names, in written order.
-use Rattle.std.specs.Prelude.{ℕ, Bool, true, List, [], ◌∷◌, Option, Some, None, Result, Ok, slice_get, option_map, option_and_then, is_some}
+use Rattle.std.specs.Prelude.{ℕ, Bool, true, List, [], ◌∷◌, Option, Some, None, Result, Ok, slice_get, option_map}
+use Rattle.std.specs.Prelude.{option_and_then, is_some}
 use Rattle.std.specs.List.{list_all}
 use Rattle.pc_entity.specs.Lists.{map_all}
 use Rattle.pc_types.specs.declared.parsed.CoreFuncSig.{CoreFuncSig}
@@ -9,7 +10,8 @@ use Rattle.pc_types.specs.declared.parsed.ValType.{ValType}
 use Rattle.pc_types.specs.declared.trampoline.TrampolineKind.{TrampolineKind}
 use Rattle.pc_types.specs.declared.trampoline.TrampolineKind.TheVariants as kind
 use Rattle.pc_types.specs.TypeTree.{TypeTree, error_context}
-use Rattle.pc_semantics.specs.CoreValue.{CoreValue, Options, Parts, Part, builtin, no_parts, and_part, mark_part, number_part, flag_part, value_part, options_part, a_value}
+use Rattle.pc_semantics.specs.CoreValue.{CoreValue, Options, Parts, Part, builtin, no_parts, and_part, mark_part}
+use Rattle.pc_semantics.specs.CoreValue.{number_part, flag_part, value_part, options_part, a_value}
 use Rattle.pc_semantics.specs.Log.{declared}
 use Rattle.pc_parsed.specs.declared.canon.CanonOption.{CanonOption}
 use Rattle.pc_parsed.specs.Mark.{Mark, of_type, of_signature}

@@ -1,19 +1,22 @@
 -- Nested components, outer aliases, and what an instantiation of a component asks for before its child begins.
-use Rattle.std.specs.Prelude.{ℕ, zero, suc, ◌+◌, ◌-◌, Bool, true, ◌&&◌, List, Option, Result, Ok, nat_lt, is_some, slice_get, option_map, if◌then◌else◌}
+use Rattle.std.specs.Prelude.{ℕ, zero, suc, ◌+◌, ◌-◌, Bool, true, ◌&&◌, List, Option, Result, Ok, nat_lt, is_some}
+use Rattle.std.specs.Prelude.{slice_get, option_map, if◌then◌else◌}
 use Rattle.std.specs.List.{list_all}
 use Rattle.pc_entity.specs.Lists.{map_all}
 use Rattle.pc_types.specs.declared.parsed.Entity.TheVariants as entity
 use Rattle.pc_types.specs.declared.parsed.TypeTable.{TypeTable}
 use Rattle.pc_types.specs.Table.{is_instance}
 use Rattle.pc_types.specs.TypeTree.{TypeTree, Identity}
-use Rattle.pc_reading.specs.Item.{Item, Items, ArgumentOf, no_items, and_item, component_item, outer_item, Lent, a_module, a_component}
+use Rattle.pc_reading.specs.Item.{Item, Items, ArgumentOf, no_items, and_item, component_item, outer_item, Lent}
+use Rattle.pc_reading.specs.Item.{a_module, a_component}
 use Rattle.pc_reading.specs.Items.{is_typed_argument, argument_value}
 use Rattle.pc_reading.specs.Member.{resource_among}
 use Rattle.pc_reading.specs.Outcome.{Fault, invalid, bad_type, found, held}
 use Rattle.pc_reading.specs.Resource.{resource_paths, registered}
 use Rattle.pc_reading.specs.Scope.{Scope, Moment, chain_of, add_value, with_known}
 use Rattle.pc_reading.specs.Types.{has_entry, tree_if}
-use Rattle.pc_reading.specs.Value.{Value, NamedValue, Component, Chain, closed, instance_value, component_value, module_value, made_instance, lent_in, pack_values}
+use Rattle.pc_reading.specs.Value.{Value, NamedValue, Component, Chain, closed, instance_value, component_value}
+use Rattle.pc_reading.specs.Value.{module_value, made_instance, lent_in, pack_values}
 
 -- whether an outer alias that stands inside so many bodies names something, where it leads out of them
 abbrev pub leads : Chain → (depth : ℕ) → Lent → (count index : ℕ) → Bool

@@ -1,5 +1,6 @@
 -- Imports: how those of the root are prepared before its items, and what the item of an import adds.
-use Rattle.std.specs.Prelude.{ℕ, ◌+◌, Bool, true, false, List, [], ◌∷◌, ◌++◌, length, Option, Some, None, Result, Ok, if◌then◌else◌}
+use Rattle.std.specs.Prelude.{ℕ, ◌+◌, Bool, true, false, List, [], ◌∷◌, ◌++◌, length, Option, Some, None, Result, Ok}
+use Rattle.std.specs.Prelude.{if◌then◌else◌}
 use Rattle.pc_entity.specs.Lists.{value_of}
 use Rattle.pc_types.specs.declared.error.Unsupported.TheVariants.{ComponentImport}
 use Rattle.pc_types.specs.declared.parsed.Entity.{Entity}
@@ -10,11 +11,13 @@ use Rattle.pc_semantics.specs.Log.{needed}
 use Rattle.pc_parsed.specs.declared.payload.ExternName.{ExternName}
 use Rattle.pc_reading.specs.Item.{Items, no_items, and_item, import_item}
 use Rattle.pc_reading.specs.Member.{resource_at}
-use Rattle.pc_reading.specs.Outcome.{Fault, invalid, bad_type, unsupported, found, held, Outcome, done, and_then, at_item}
+use Rattle.pc_reading.specs.Outcome.{Fault, invalid, bad_type, unsupported, found, held, Outcome, done, and_then}
+use Rattle.pc_reading.specs.Outcome.{at_item}
 use Rattle.pc_reading.specs.Resource.{ResourcePath, resource_paths, registered, is_known, knowing}
 use Rattle.pc_reading.specs.Scope.{Moment, add_value, add_entry, with_known}
 use Rattle.pc_reading.specs.Types.{names_entry, declared_tree, is_plain_type, is_defined_entity}
-use Rattle.pc_reading.specs.Value.{Value, func_value, module_value, instance_value, component_value, type_value, host_function, host_module, host_instance, the_intrinsics}
+use Rattle.pc_reading.specs.Value.{Value, func_value, module_value, instance_value, component_value, type_value}
+use Rattle.pc_reading.specs.Value.{host_function, host_module, host_instance, the_intrinsics}
 
 -- whether a value is of the kind of an entity
 abbrev pub is_of_entity : Entity → Value → Bool

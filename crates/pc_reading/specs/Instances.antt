@@ -14,7 +14,9 @@ use Rattle.pc_reading.specs.Member.{Member, a_value, a_host_component, member}
 use Rattle.pc_reading.specs.Outcome.{Fault, invalid, bad_type, unknown_intrinsic, unsupported, found, held}
 use Rattle.pc_reading.specs.Scope.{Moment, add_value}
 use Rattle.pc_reading.specs.Types.{tree_if}
-use Rattle.pc_reading.specs.Value.{Value, NamedValue, Instance, func_value, module_value, instance_value, component_value, type_value, made_instance, host_instance, the_intrinsics, pack_values}
+use Rattle.pc_reading.specs.Value.{Value, NamedValue, Instance, func_value, module_value, instance_value}
+use Rattle.pc_reading.specs.Value.{component_value, type_value, made_instance, host_instance, the_intrinsics}
+use Rattle.pc_reading.specs.Value.{pack_values}
 
 -- whether a value is of a kind
 abbrev pub is_of_kind : ItemKind → Value → Bool

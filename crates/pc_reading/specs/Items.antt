@@ -7,7 +7,8 @@ use Rattle.pc_parsed.specs.declared.payload.ItemKind.TheVariants as item
 use Rattle.pc_reading.specs.Item.{ExportOf, ArgumentOf}
 use Rattle.pc_reading.specs.Scope.{Scope}
 use Rattle.pc_reading.specs.Types.{type_tree}
-use Rattle.pc_reading.specs.Value.{Value, NamedValue, func_value, module_value, instance_value, component_value, type_value}
+use Rattle.pc_reading.specs.Value.{Value, NamedValue, func_value, module_value, instance_value, component_value}
+use Rattle.pc_reading.specs.Value.{type_value}
 
 module _ (t : TypeTable) where
   -- what a kind and an index name: an item of the scope, or the tree of a type as the scope sees it now

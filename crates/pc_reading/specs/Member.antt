@@ -1,8 +1,10 @@
 -- What an instance has under a name.
-use Rattle.std.specs.Prelude.{ℕ, ◌+◌, List, [], ◌∷◌, ◌++◌, Option, Some, None, option_map, option_and_then, if◌then◌else◌}
+use Rattle.std.specs.Prelude.{ℕ, ◌+◌, List, [], ◌∷◌, ◌++◌, Option, Some, None, option_map, option_and_then}
+use Rattle.std.specs.Prelude.{if◌then◌else◌}
 use Rattle.std.specs.Str.{bytes_eq}
 use Rattle.pc_types.specs.Intrinsic.{intrinsic_names}
-use Rattle.pc_types.specs.TypeTree.{TypeTree, Fields, Path, Identity, no_fields, and_field, func_of, instance_of, component_of, module_of}
+use Rattle.pc_types.specs.TypeTree.{TypeTree, Fields, Path, Identity, no_fields, and_field, func_of, instance_of}
+use Rattle.pc_types.specs.TypeTree.{component_of, module_of}
 use Rattle.pc_reading.specs.Types.{instance_fields, known_identity}
 use Rattle.pc_reading.specs.Value
 

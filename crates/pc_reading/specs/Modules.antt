@@ -13,7 +13,8 @@ use Rattle.pc_semantics.specs.Log.{NamedArgument, instantiated, needed, of_stati
 use Rattle.pc_parsed.specs.Mark.{Mark}
 use Rattle.pc_reading.specs.Arguments.{core_export, static_arguments, host_arguments}
 use Rattle.pc_reading.specs.Outcome.{Fault, invalid, bad_type, found}
-use Rattle.pc_reading.specs.Scope.{Scope, Moment, CoreItem, of_module, of_host_module, bag, core_list, add_core, add_value, add_entry, add_core_instance}
+use Rattle.pc_reading.specs.Scope.{Scope, Moment, CoreItem, of_module, of_host_module, bag, core_list, add_core}
+use Rattle.pc_reading.specs.Scope.{add_value, add_entry, add_core_instance}
 use Rattle.pc_reading.specs.Types.{tree_if}
 use Rattle.pc_reading.specs.Value.{Module, static_module, host_module, module_value}
 

@@ -5,7 +5,8 @@ use Rattle.pc_types.specs.declared.error.Place.TheVariants as place
 use Rattle.pc_types.specs.declared.error.Unsupported.{Unsupported}
 use Rattle.pc_types.specs.declared.error.Unsupported.TheVariants as refusal
 use Rattle.pc_types.specs.declared.types.ComponentExternData.{ComponentExternData}
-use Rattle.pc_types.specs.TypeTree.{TypeTree, Fields, Path, no_fields, and_field, func_of, instance_of, component_of, module_of}
+use Rattle.pc_types.specs.TypeTree.{TypeTree, Fields, Path, no_fields, and_field, func_of, instance_of, component_of}
+use Rattle.pc_types.specs.TypeTree.{module_of}
 use Rattle.pc_semantics.specs.ExportNode as node
 use Rattle.pc_semantics.specs.ExportNode.{ExportNode, ExportNodes, NamedNode, no_nodes, and_node}
 use Rattle.pc_semantics.specs.Log.{needed}
@@ -13,7 +14,10 @@ use Rattle.pc_parsed.specs.declared.payload.ExternName.{ExternName}
 use Rattle.pc_parsed.specs.Mark.{Mark, of_type}
 use Rattle.pc_reading.specs.Member.{further}
 use Rattle.pc_reading.specs.Outcome.{Outcome, done, fault, past, and_then, unsupported}
-use Rattle.pc_reading.specs.Value.{Value, Function, Module, Instance, NamedValues, NamedValue, func_value, module_value, instance_value, component_value, type_value, host_function, lifted_function, intrinsic_function, static_module, host_module, made_instance, host_instance, the_intrinsics, no_values, and_value}
+use Rattle.pc_reading.specs.Value.{Value, Function, Module, Instance, NamedValues, NamedValue, func_value, module_value}
+use Rattle.pc_reading.specs.Value.{instance_value, component_value, type_value, host_function, lifted_function}
+use Rattle.pc_reading.specs.Value.{intrinsic_function, static_module, host_module, made_instance, host_instance}
+use Rattle.pc_reading.specs.Value.{the_intrinsics, no_values, and_value}
 use Rattle.pc_reading.specs.World.{World, grown, has_room, logging}
 
 -- what is reached: something, in the world then; or it is refused; or the total is past

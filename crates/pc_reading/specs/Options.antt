@@ -1,11 +1,13 @@
 -- The options of a canonical function. Every index that is written is looked at, also one that doesn't count.
-use Rattle.std.specs.Prelude.{ℕ, Bool, true, false, List, [], ◌∷◌, length, Option, Some, None, slice_get, nat_lt, option_and_then, unwrap_or, if◌then◌else◌}
+use Rattle.std.specs.Prelude.{ℕ, Bool, true, false, List, [], ◌∷◌, length, Option, Some, None, slice_get, nat_lt}
+use Rattle.std.specs.Prelude.{option_and_then, unwrap_or, if◌then◌else◌}
 use Rattle.std.specs.List.{list_all, list_any}
 use Rattle.std.specs.Option.{option_or}
 use Rattle.pc_types.specs.declared.encoding.StringEncoding.{StringEncoding}
 use Rattle.pc_types.specs.declared.encoding.StringEncoding.TheVariants as encoding
 use Rattle.pc_types.specs.declared.parsed.CoreFuncSig.{CoreFuncSig}
-use Rattle.pc_semantics.specs.CoreValue.{CoreValue, Options, DataModel, MaybeValue, options, gc, linear, no_value, a_value}
+use Rattle.pc_semantics.specs.CoreValue.{CoreValue, Options, DataModel, MaybeValue, options, gc, linear, no_value}
+use Rattle.pc_semantics.specs.CoreValue.{a_value}
 use Rattle.pc_parsed.specs.declared.canon.CanonOption.{CanonOption}
 use Rattle.pc_parsed.specs.declared.canon.CanonOption.TheVariants as option
 use Rattle.pc_parsed.specs.Mark.{Mark, of_signature}

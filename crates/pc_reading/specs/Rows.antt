@@ -8,7 +8,8 @@ use Rattle.pc_types.specs.TypeTree.{declared}
 use Rattle.pc_semantics.specs.CoreValue.{CoreValue, MaybeValue, no_value, a_value}
 use Rattle.pc_semantics.specs.Log.{declared_resource}
 use Rattle.pc_parsed.specs.Mark.{Mark}
-use Rattle.pc_reading.specs.Builtins.{read_builtin, read_waitable, read_task_return, read_error_context, read_new_thread}
+use Rattle.pc_reading.specs.Builtins.{read_builtin, read_waitable, read_task_return, read_error_context}
+use Rattle.pc_reading.specs.Builtins.{read_new_thread}
 use Rattle.pc_reading.specs.Components.{read_component, read_outer}
 use Rattle.pc_reading.specs.Functions.{read_lift, read_lower, read_context}
 use Rattle.pc_reading.specs.Imports.{read_import, read_intrinsics}

@@ -5,7 +5,12 @@ use Rattle.std.specs.Cmp.Lexicographic.{pointwise}
 use mathlib.Core.Bool.{beq}
 use Rattle.pc_types.specs.contracts.parsed.CoreFuncSigPartialEq.TheImpl as eq_CoreFuncSig
 use Rattle.pc_types.specs.contracts.parsed.PrimTypePartialEq.TheImpl as eq_PrimType
-use Rattle.pc_types.specs.TypeTree.{TypeTree, Fields, Cases, Trees, MaybeTree, CoreTree, Resource, Identity, Path, imported, declared, concrete, abstract, core_func, core_table, core_memory, core_global, core_tag, primitive, error_context, record_of, variant_of, list_of, tuple_of, flags_of, enum_of, option_of, result_of, own_of, borrow_of, stream_of, future_of, func_of, instance_of, component_of, module_of, resource_of, no_fields, and_field, no_cases, and_case, no_trees, and_tree, no_tree, a_tree}
+use Rattle.pc_types.specs.TypeTree.{TypeTree, Fields, Cases, Trees, MaybeTree, CoreTree, Resource, Identity, Path}
+use Rattle.pc_types.specs.TypeTree.{imported, declared, concrete, abstract, core_func, core_table, core_memory}
+use Rattle.pc_types.specs.TypeTree.{core_global, core_tag, primitive, error_context, record_of, variant_of, list_of}
+use Rattle.pc_types.specs.TypeTree.{tuple_of, flags_of, enum_of, option_of, result_of, own_of, borrow_of, stream_of}
+use Rattle.pc_types.specs.TypeTree.{future_of, func_of, instance_of, component_of, module_of, resource_of, no_fields}
+use Rattle.pc_types.specs.TypeTree.{and_field, no_cases, and_case, no_trees, and_tree, no_tree, a_tree}
 
 -- two lists of names
 abbrev pub same_names : List (List ℕ) → List (List ℕ) → Bool

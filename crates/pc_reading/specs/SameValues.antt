@@ -8,7 +8,10 @@ use Rattle.pc_types.specs.contracts.encoding.StringEncodingPartialEq.TheImpl as 
 use Rattle.pc_types.specs.contracts.parsed.CoreFuncSigPartialEq.TheImpl as eq_CoreFuncSig
 use Rattle.pc_types.specs.declared.trampoline.TrampolineKind.{TrampolineKind}
 use Rattle.pc_types.specs.Record.{index_kind, index_number, same_kind}
-use Rattle.pc_semantics.specs.CoreValue.{CoreValue, Options, DataModel, MaybeValue, Parts, Part, ExportedItem, by_index, by_name, exported, lowered, builtin, intrinsic, adapter, flags, helper, options, gc, linear, no_value, a_value, no_parts, and_part, mark_part, number_part, flag_part, value_part, options_part}
+use Rattle.pc_semantics.specs.CoreValue.{CoreValue, Options, DataModel, MaybeValue, Parts, Part, ExportedItem, by_index}
+use Rattle.pc_semantics.specs.CoreValue.{by_name, exported, lowered, builtin, intrinsic, adapter, flags, helper}
+use Rattle.pc_semantics.specs.CoreValue.{options, gc, linear, no_value, a_value, no_parts, and_part, mark_part}
+use Rattle.pc_semantics.specs.CoreValue.{number_part, flag_part, value_part, options_part}
 use Rattle.pc_semantics.specs.Log.{Entry, made}
 use Rattle.pc_semantics.specs.Text.{stem}
 use Rattle.pc_parsed.specs.Mark.{Mark, of_type, of_signature}

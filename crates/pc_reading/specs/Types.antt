@@ -7,8 +7,11 @@ use Rattle.pc_types.specs.declared.parsed.Entity.TheVariants as entity
 use Rattle.pc_types.specs.declared.parsed.TypeTable.{TypeTable}
 use Rattle.pc_types.specs.declared.parsed.ValType.{ValType}
 use Rattle.pc_types.specs.declared.parsed.ValType.TheVariants as val
-use Rattle.pc_types.specs.Table.{is_some_and, is_func, is_instance, is_component, is_module, is_resource, is_defined_type}
-use Rattle.pc_types.specs.TypeTree.{TypeTree, Identity, CoreTree, Fields, tree_of, val_tree, resource_of, concrete, stream_of, future_of, instance_of, module_of, tuple_of, no_fields, no_trees, and_tree}
+use Rattle.pc_types.specs.Table.{is_some_and, is_func, is_instance, is_component, is_module, is_resource}
+use Rattle.pc_types.specs.Table.{is_defined_type}
+use Rattle.pc_types.specs.TypeTree.{TypeTree, Identity, CoreTree, Fields, tree_of, val_tree, resource_of, concrete}
+use Rattle.pc_types.specs.TypeTree.{stream_of, future_of, instance_of, module_of, tuple_of, no_fields, no_trees}
+use Rattle.pc_types.specs.TypeTree.{and_tree}
 use Rattle.pc_reading.specs.Scope.{Scope}
 
 module _ (t : TypeTable) where

@@ -1,6 +1,8 @@
 -- The plan machine: it runs the initializers of a plan from front to back. A state holds core values in place of
 -- definitions, so a step looks at what earlier steps made and no further.
-use Rattle.std.specs.Prelude.{◌≡◌, ℕ, ◌+◌, ◌-◌, Bool, true, false, List, [], ◌∷◌, ◌++◌, length, filter, take, Option, Some, None, ◌&&◌, ◌==◌, nat_lt, nat_le, if◌then◌else◌, slice_get, option_and_then, option_map, is_some, count_by}
+use Rattle.std.specs.Prelude.{◌≡◌, ℕ, ◌+◌, ◌-◌, Bool, true, false, List, [], ◌∷◌, ◌++◌, length, filter, take, Option}
+use Rattle.std.specs.Prelude.{Some, None, ◌&&◌, ◌==◌, nat_lt, nat_le, if◌then◌else◌, slice_get, option_and_then}
+use Rattle.std.specs.Prelude.{option_map, is_some, count_by}
 use Rattle.std.specs.List.{list_all, filter_map}
 use Rattle.pc_types.specs.declared.parsed.CoreKind.TheVariants as kind
 use Rattle.pc_types.specs.declared.module_record.ModuleRecord.{ModuleRecord}
@@ -10,7 +12,8 @@ use Rattle.pc_entity.specs.Lists.{map_all}
 use Rattle.pc_types.specs.TypeTree.{Path}
 use Rattle.pc_types.specs.Table.{is_none_or}
 use Rattle.pc_semantics.specs.CoreValue as value
-use Rattle.pc_semantics.specs.CoreValue.{CoreValue, Options, DataModel, MaybeValue, Parts, Part, ExportedItem, by_index, by_name, no_value, a_value, no_parts, and_part}
+use Rattle.pc_semantics.specs.CoreValue.{CoreValue, Options, DataModel, MaybeValue, Parts, Part, ExportedItem, by_index}
+use Rattle.pc_semantics.specs.CoreValue.{by_name, no_value, a_value, no_parts, and_part}
 use Rattle.pc_semantics.specs.ExportNode as node
 use Rattle.pc_semantics.specs.ExportNode.{ExportNode, ExportNodes, NamedNode, no_nodes, and_node}
 use Rattle.pc_semantics.specs.Log.{Instantiation, of_static, of_host, NamedArgument, Owned}

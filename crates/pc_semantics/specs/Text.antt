@@ -1,5 +1,6 @@
 -- The printed text of a plan, line by line in the order of the format. It reads no mark.
-use Rattle.std.specs.Prelude.{ℕ, ◌+◌, Bool, true, false, List, [], ◌∷◌, ◌++◌, length, Option, Some, None, ◌==◌, nat_le, if◌then◌else◌, codes, slice_get, unwrap_or}
+use Rattle.std.specs.Prelude.{ℕ, ◌+◌, Bool, true, false, List, [], ◌∷◌, ◌++◌, length, Option, Some, None, ◌==◌, nat_le}
+use Rattle.std.specs.Prelude.{if◌then◌else◌, codes, slice_get, unwrap_or}
 use Rattle.std.specs.List.{flat_map}
 use Rattle.std.specs.Fmt.{decimal}
 use Rattle.pc_types.specs.declared.encoding.StringEncoding.{StringEncoding}

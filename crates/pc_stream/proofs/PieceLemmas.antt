@@ -1,5 +1,6 @@
 -- What follows of the bytes that were read so far and one piece more.
-use Rattle.std.proofs.Common.{◌≡◌, ◌↔◌, ℕ, ◌<◌, ◌≤◌, ◌+◌, Bool, true, false, ltb, List, [], ◌++◌, length, drop, Option, None, Some, Result, Ok, Err, sym, ap, ◌∙◌, subst, length-append, arith}
+use Rattle.std.proofs.Common.{◌≡◌, ◌↔◌, ℕ, ◌<◌, ◌≤◌, ◌+◌, Bool, true, false, ltb, List, [], ◌++◌, length, drop, Option}
+use Rattle.std.proofs.Common.{None, Some, Result, Ok, Err, sym, ap, ◌∙◌, subst, length-append, arith}
 use Rattle.std.proofs.lemmas.Bool.Decides.{nat_tests}
 use Rattle.std.proofs.lemmas.List.{append-nil, nil_from_length}
 use Rattle.std.proofs.lemmas.Result.{IfOk-at_ok}

@@ -1,5 +1,6 @@
 -- What the streams in memory hold, and what a call leaves of it.
-use Rattle.std.specs.Prelude.{ℕ, ◌+◌, ◌-◌, ◌^◌, min, Bool, ◌&&◌, nat_le, if◌then◌else◌, List, ◌++◌, length, take, Option, None, Some, Contains}
+use Rattle.std.specs.Prelude.{ℕ, ◌+◌, ◌-◌, ◌^◌, min, Bool, ◌&&◌, nat_le, if◌then◌else◌, List, ◌++◌, length, take}
+use Rattle.std.specs.Prelude.{Option, None, Some, Contains}
 
 -- the numbers of the calls that fail, the number of the next call, and the faults so far
 pub record Calls : Type 0 where

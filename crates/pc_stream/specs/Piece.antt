@@ -1,5 +1,6 @@
 -- What one read adds to the bytes that were read so far.
-use Rattle.std.specs.Prelude.{◌≡◌, ◌↔◌, ℕ, ◌+◌, ◌<◌, List, [], ◌++◌, length, Bool, true, false, Option, Result, Ok, Err, OnOk}
+use Rattle.std.specs.Prelude.{◌≡◌, ◌↔◌, ℕ, ◌+◌, ◌<◌, List, [], ◌++◌, length, Bool, true, false, Option, Result, Ok, Err}
+use Rattle.std.specs.Prelude.{OnOk}
 use Rattle.pc_stream.specs.declared.whole.ReadEnd.{ReadEnd}
 use Rattle.pc_stream.specs.declared.whole.ReadEnd.TheVariants.{TooLong}
 use Rattle.pc_stream.specs.declared.whole.TheConstants.{MAX_INPUT}

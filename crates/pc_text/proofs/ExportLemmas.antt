@@ -1,5 +1,6 @@
 -- The walk through exports: what each step prints and leaves.
-use Rattle.std.proofs.Common.{◌≡◌, ℕ, zero, suc, ◌+◌, ◌<◌, ◌≤◌, true, List, [], ◌∷◌, ◌++◌, length, take, reverse, Option, Some, None, refl, sym, ap, subst, ◌∙◌, append_assoc, arith}
+use Rattle.std.proofs.Common.{◌≡◌, ℕ, zero, suc, ◌+◌, ◌<◌, ◌≤◌, true, List, [], ◌∷◌, ◌++◌, length, take, reverse}
+use Rattle.std.proofs.Common.{Option, Some, None, refl, sym, ap, subst, ◌∙◌, append_assoc, arith}
 use Rattle.std.specs.Prelude.{slice_get, nat_lt, codes, option_map}
 use Rattle.std.specs.List.{cons_option, filter_map, flat_map}
 use Rattle.std.proofs.Math.Seq.{take-append_seam, take-length}
@@ -9,13 +10,16 @@ use Rattle.std.proofs.lemmas.Option.{none-some, same_Some, slice_get_within}
 use Rattle.pc_entity.proofs.Elements.{and_true, true_and}
 use Rattle.pc_types.specs.declared.types.ComponentExternData.{ComponentExternData}
 use Rattle.pc_semantics.specs.PlanView as plan
-use Rattle.pc_semantics.specs.Text.{definition, export_lines, extern_data, line_end, named_lines, nested_lines, number, quoted}
+use Rattle.pc_semantics.specs.Text.{definition, export_lines, extern_data, line_end, named_lines, nested_lines, number}
+use Rattle.pc_semantics.specs.Text.{quoted}
 use Rattle.pc_trampoline.specs.declared.part.Mark.{Mark}
 use Rattle.pc_info.specs.declared.component.Component.{Component}
 use Rattle.pc_info.specs.declared.export.Export.{Export}
 use Rattle.pc_info.specs.declared.export.Export.TheVariants as export
 use Rattle.pc_info.specs.Definitions.{def_view}
-use Rattle.pc_info.specs.Exports.{Entry, are_behind_their_parts, export_view, exports_view, has_items, is_behind_its_parts, named_view, names_below, nested_view, number_of, trees_of, with_export}
+use Rattle.pc_info.specs.Exports.{Entry, are_behind_their_parts, export_view, exports_view, has_items}
+use Rattle.pc_info.specs.Exports.{is_behind_its_parts, named_view, names_below, nested_view, number_of, trees_of}
+use Rattle.pc_info.specs.Exports.{with_export}
 use Rattle.pc_info.proofs.TreeLemmas.{tree_of}
 use Rattle.pc_text.specs.declared.export.Open.{Open}
 use Rattle.pc_text.specs.ExportWalk.{IsOpen, Steps, item_text, left_lines, node_line, opened}

@@ -1,5 +1,6 @@
 -- The lines of trampolines, by what they are made of.
-use Rattle.std.proofs.Common.{◌≡◌, ℕ, ◌+◌, ◌<◌, ◌≤◌, Bool, true, false, List, [], ◌∷◌, ◌++◌, length, map, drop, get_or, refl, sym, ap, subst, ◌∙◌, append_assoc, add-one, true≢false}
+use Rattle.std.proofs.Common.{◌≡◌, ℕ, ◌+◌, ◌<◌, ◌≤◌, Bool, true, false, List, [], ◌∷◌, ◌++◌, length, map, drop, get_or}
+use Rattle.std.proofs.Common.{refl, sym, ap, subst, ◌∙◌, append_assoc, add-one, true≢false}
 use Rattle.std.proofs.Math.Seq.{drop-cons}
 use Rattle.std.proofs.lemmas.List.{append-nil, drop_all}
 use Rattle.std.specs.Prelude.{codes, slice_get, unwrap_or}
@@ -13,14 +14,16 @@ use Rattle.pc_numbers.specs.declared.runtime.RuntimePostReturnIndex.{RuntimePost
 use Rattle.pc_numbers.specs.declared.runtime.RuntimeTableIndex.{RuntimeTableIndex}
 use Rattle.pc_types.specs.declared.trampoline.TrampolineKind.{TrampolineKind}
 use Rattle.pc_types.specs.declared.trampoline.TrampolineKind.TheVariants as kind
-use Rattle.pc_semantics.specs.Text.{in_brackets, line_end, number, numbered, part, stem, symbol_end, trampoline_end, trampoline_line}
+use Rattle.pc_semantics.specs.Text.{in_brackets, line_end, number, numbered, part, stem, symbol_end, trampoline_end}
+use Rattle.pc_semantics.specs.Text.{trampoline_line}
 use Rattle.pc_trampoline.specs.declared.part.Head.{Head}
 use Rattle.pc_trampoline.specs.declared.part.Head.TheVariants as head
 use Rattle.pc_trampoline.specs.declared.part.Part.{Part}
 use Rattle.pc_trampoline.specs.Parts.{list_of, parts_of}
 use Rattle.pc_trampoline.specs.Shape as shape
 use Rattle.pc_trampoline.specs.Shape.{HeadShape, IsShaped, Shape, head_shape, shape_of}
-use Rattle.pc_trampoline.specs.View.{PlanParts, PlanTrampoline, entry_of, entry_view, part_by, parts_entry, plan_numbers, symbol_numbers, symbol_of}
+use Rattle.pc_trampoline.specs.View.{PlanParts, PlanTrampoline, entry_of, entry_view, part_by, parts_entry}
+use Rattle.pc_trampoline.specs.View.{plan_numbers, symbol_numbers, symbol_of}
 use Rattle.pc_info.specs.View.{no_signature, trampolines_view}
 use Rattle.pc_text.specs.TrampolineText.{after_head, after_symbol}
 

@@ -1,5 +1,6 @@
 -- Names in a set, and names that stand twice in a list.
-use Rattle.std.proofs.Common.{◌≡◌, ◌<◌, ◌+◌, suc, get_or, drop, ℕ, Bool, true, false, ◌||◌, ◌&&◌, not, List, [], ◌∷◌, ◌++◌, map, take, length, cond, refl, sym, ap, ◌∙◌, Bor, true≢false}
+use Rattle.std.proofs.Common.{◌≡◌, ◌<◌, ◌+◌, suc, get_or, drop, ℕ, Bool, true, false, ◌||◌, ◌&&◌, not, List, [], ◌∷◌}
+use Rattle.std.proofs.Common.{◌++◌, map, take, length, cond, refl, sym, ap, ◌∙◌, Bor, true≢false}
 use Rattle.std.specs.List.{list_any}
 use Rattle.std.specs.declared.cmp.Ordering.{Ordering}
 use Rattle.std.specs.declared.cmp.Ordering.TheVariants.{Less, Equal, Greater}

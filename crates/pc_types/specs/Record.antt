@@ -1,5 +1,6 @@
 -- What a module record says of the entities of its core module.
-use Rattle.std.specs.Prelude.{ℕ, ◌+◌, Bool, true, false, List, [], ◌∷◌, ◌++◌, length, take, count_by, Option, Some, None, ◌&&◌, nat_lt, nat_le, if◌then◌else◌, slice_get, option_map}
+use Rattle.std.specs.Prelude.{ℕ, ◌+◌, Bool, true, false, List, [], ◌∷◌, ◌++◌, length, take, count_by, Option, Some}
+use Rattle.std.specs.Prelude.{None, ◌&&◌, nat_lt, nat_le, if◌then◌else◌, slice_get, option_map}
 use Rattle.std.specs.List.{list_all, filter_map}
 use Rattle.pc_numbers.specs.declared.entity_index.EntityIndex.{EntityIndex}
 use Rattle.pc_numbers.specs.declared.entity_index.EntityIndex.TheVariants as index

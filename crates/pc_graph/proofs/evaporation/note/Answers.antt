@@ -3,7 +3,8 @@ use Rattle.pc_graph.specs.Noting.{last_is}
 use Rattle.pc_graph.proofs.NotedLemmas.{noted_again, noted_itself, noted_new}
 use Rattle.pc_graph.proofs.PartLemmas.{same_item}
 use Rattle.pc_graph.proofs.evaporation.note.Goals as goal
-use Rattle.pc_graph.proofs.evaporation.note.Goals.{then-from-into-via-then-from-into, then-from-into-via-else-from-into+then-ends_with}
+use Rattle.pc_graph.proofs.evaporation.note.Goals.{then-from-into-via-then-from-into}
+use Rattle.pc_graph.proofs.evaporation.note.Goals.{then-from-into-via-else-from-into+then-ends_with}
 
 pub returns-then-from-into-clause-ok : goal.returns-then-from-into-clause-ok
 returns-then-from-into-clause-ok c = elim c.then-from-into.branch [

@@ -1,4 +1,5 @@
-use Rattle.std.proofs.Common.{arith, ap, sym, ◌∙◌, ◌++◌, ◌∷◌, [], take, drop, append_assoc, if◌then◌else◌, ◌+◌, count_by}
+use Rattle.std.proofs.Common.{arith, ap, sym, ◌∙◌, ◌++◌, ◌∷◌, [], take, drop, append_assoc, if◌then◌else◌, ◌+◌}
+use Rattle.std.proofs.Common.{count_by}
 use Rattle.pc_types.specs.declared.parsed.CoreKind.{CoreKind}
 use Rattle.pc_types.specs.Record.{entity_at, imports_kind, kind_of, same_kind}
 use Rattle.pc_types.specs.ByKind.{of_kind}

@@ -1,7 +1,8 @@
 use Rattle.std.proofs.Common.{sym, ◌∙◌, ap, ◌<◌, length, ◌||◌, arith}
 use Rattle.std.specs.List.{list_any}
 use Rattle.pc_types.specs.Names.{same_pair}
-use Rattle.pc_types.proofs.NameLemmas.{are_distinct-next, are_distinct-again, list_any-next, same_pair-sym, not_false, not_true}
+use Rattle.pc_types.proofs.NameLemmas.{are_distinct-next, are_distinct-again, list_any-next, same_pair-sym, not_false}
+use Rattle.pc_types.proofs.NameLemmas.{not_true}
 use Rattle.pc_types.proofs.distinct.distinct_pairs.Goals as goal
 
 pub returns-then-not-branch : goal.returns-then-not-branch

@@ -2,7 +2,8 @@ use Rattle.std.proofs.Common.{sym, ◌∙◌, ap, ◌<◌, ◌+◌, length, take
 use Rattle.std.specs.Str.{bytes_eq}
 use Rattle.std.proofs.lemmas.List.{map-id}
 use Rattle.pc_types.specs.Names.{has_name, distinct_names}
-use Rattle.pc_types.proofs.NameLemmas.{are_distinct-next, are_distinct-again, list_any-next, bytes_eq-sym, not_false, not_true}
+use Rattle.pc_types.proofs.NameLemmas.{are_distinct-next, are_distinct-again, list_any-next, bytes_eq-sym, not_false}
+use Rattle.pc_types.proofs.NameLemmas.{not_true}
 use Rattle.pc_types.proofs.distinct.distinct_texts.Goals as goal
 
 pub returns-then-not-branch : goal.returns-then-not-branch

@@ -1,4 +1,5 @@
-use Rattle.std.proofs.Common.{◌≡◌, ◌-◌, ◌<◌, ◌≤◌, ℕ, List, ◌∙◌, ap, sym, subst, refl, inl, length, get_or, take, slice_get}
+use Rattle.std.proofs.Common.{◌≡◌, ◌-◌, ◌<◌, ◌≤◌, ℕ, List, ◌∙◌, ap, sym, subst, refl, inl, length, get_or, take}
+use Rattle.std.proofs.Common.{slice_get}
 use Rattle.pc_graph.specs.Searching.{Held, StandsFor, heads_of}
 use Rattle.pc_graph.proofs.GroupLemmas.{joins_at}
 use Rattle.pc_graph.proofs.HeldLemmas.{stands_joined}

@@ -1,4 +1,5 @@
-use Rattle.std.proofs.Common.{◌≡◌, ◌∷◌, ◌++◌, [], ◌∙◌, ap, sym, subst, refl, inl, inr, drop, length, reverse, true≢false, arith}
+use Rattle.std.proofs.Common.{◌≡◌, ◌∷◌, ◌++◌, [], ◌∙◌, ap, sym, subst, refl, inl, inr, drop, length, reverse}
+use Rattle.std.proofs.Common.{true≢false, arith}
 use Rattle.pc_graph.specs.Classes.{flat}
 use Rattle.pc_graph.specs.Searching.{Held, StandsFor, heads_of}
 use Rattle.pc_graph.proofs.GroupLemmas.{at_head, group_at, head_at, head_there, popped_last}
