@@ -7,7 +7,8 @@ use Rattle.pc_dfg.specs.Lists as list
 use Rattle.pc_dfg.specs.Lists.{ListName, entries_of}
 use Rattle.pc_local.specs.declared.item.LocalInitializer.{LocalInitializer}
 use Rattle.pc_inline.specs.declared.state.State.{State}
-use Rattle.pc_inline.specs.Adds.{Adds, AddsTypes, functions_in, is_plain_table}
+use Rattle.pc_inline.specs.Adds.{Adds, AddsTypes, functions_in}
+use Rattle.pc_inline.specs.Plain.{is_plain_table}
 use Rattle.pc_inline.specs.AddsEach.{AddsEach, everywhere, in_imports, in_options, in_slots, in_trampolines, nowhere}
 use Rattle.pc_inline.specs.Prepares.{Converts}
 use Rattle.pc_inline.specs.Tables.{Tables, tables_of}
@@ -70,7 +71,8 @@ types_lift old mid new h s =
     }
 
 -- types of some functions, and of others
-types_trans : (n m : ℕ) (old mid new : Types) → AddsTypes n old mid → AddsTypes m mid new → AddsTypes (n + m) old new
+pub types_trans : (n m : ℕ) (old mid new : Types) → AddsTypes n old mid → AddsTypes m mid new
+    → AddsTypes (n + m) old new
 types_trans n m old mid new h k =
     let f1 = h.funcs in
     let f2 = k.funcs in
@@ -160,7 +162,7 @@ module _ (t : TypeTable) where
       definitions = let le2 = h.definitions in omega (arith, led, le2);
       closures = let le2 = h.closures in omega (arith, led, le2);
       instances = let le2 = h.instances in omega (arith, led, le2);
-      begun = h.begun;
+      begun = let same = h.begun in omega (arith, same);
     };
   }
 
@@ -174,7 +176,7 @@ module _ (t : TypeTable) where
       definitions = omega arith;
       closures = omega arith;
       instances = omega arith;
-      begun = refl;
+      begun = omega arith;
     };
   }
 
@@ -196,7 +198,8 @@ module _ (t : TypeTable) where
               e2.closures;
           instances = two_bounds (length a.instances) (length b.instances) (length x.instances) m1 m2 e1.instances
               e2.instances;
-          begun = e2.begun ∙ e1.begun;
+          begun = two_bounds a.graph.num_runtime_component_instances b.graph.num_runtime_component_instances
+              x.graph.num_runtime_component_instances m1 m2 e1.begun e2.begun;
         };
       }
 
@@ -210,7 +213,7 @@ module _ (t : TypeTable) where
       definitions = let le2 = h.entries.definitions in omega (arith, lem, le2);
       closures = let le2 = h.entries.closures in omega (arith, lem, le2);
       instances = let le2 = h.entries.instances in omega (arith, lem, le2);
-      begun = h.entries.begun;
+      begun = let le2 = h.entries.begun in omega (arith, lem, le2);
     };
   }
 
@@ -229,7 +232,9 @@ module _ (t : TypeTable) where
               (omega arith);
           closures = subst (λ (st : State). length st.closures ≤ length old.closures + 0) (sym same) (omega arith);
           instances = subst (λ (st : State). length st.instances ≤ length old.instances + 0) (sym same) (omega arith);
-          begun = ap (λ (st : State). st.graph.num_runtime_component_instances) same;
+          begun = subst (λ (st : State).
+              st.graph.num_runtime_component_instances ≤ old.graph.num_runtime_component_instances + 0) (sym same)
+              (omega arith);
         };
       }
 
@@ -277,15 +282,6 @@ entry_adds a b x y z h k m n =
     (each_trans (in_slots 2) (in_slots 1) 0 0 0 0 a b x h k) m) n)
   where
     le : (l : ListName) → in_slots 2 l + in_slots 1 l + in_slots 1 l + one_option l ≤ in_options l
-    le list.options = omega arith
-    le (list.slots k) = omega arith
-    le l = omega arith
-
--- which is four in each list at most
-pub options_few : (t : TypeTable) (a b : Tables) → AddsEach in_options 0 0 a b → Adds t 0 4 a b
-options_few t a b h = adds_each t in_options 0 0 4 a b le (omega arith) (omega arith) h
-  where
-    le : (l : ListName) → in_options l ≤ 4
     le list.options = omega arith
     le (list.slots k) = omega arith
     le l = omega arith

@@ -41,7 +41,7 @@ one_option l = 0
 
 module _ (b : Tables) where
   -- each list of this graph has at most so many more
-  abbrev Lists : (ListName → ℕ) → ComponentDfg → Type 0
+  abbrev pub Lists : (ListName → ℕ) → ComponentDfg → Type 0
   Lists w g = (l : ListName) → length (entries_of g l) ≤ length (entries_of b.graph l) + w l
 
   -- a graph of which that holds, in these tables
@@ -131,7 +131,7 @@ module _ (b : Tables) where
 
   module _ (g : ComponentDfg) where
     -- a graph that is another one by its record
-    from_rest : (w : ListName → ℕ) (h : ComponentDfg) → g ≡ h → Lists w h
+    pub from_rest : (w : ListName → ℕ) (h : ComponentDfg) → g ≡ h → Lists w h
         → h.num_runtime_component_instances ≡ b.graph.num_runtime_component_instances
         → AddsEach w 0 0 b (record b { graph = g })
     from_rest w h rest lists begun =

@@ -16,7 +16,7 @@ use Rattle.pc_reading.specs.Components.{is_definable, is_definable_item, leads}
 use Rattle.pc_reading.specs.Item as item
 use Rattle.pc_reading.specs.Item.{Item, Items, Lent, a_component, a_module, and_item, component_item, no_items}
 use Rattle.pc_reading.specs.Item.{outer_item}
-use Rattle.pc_reading.specs.Value.{Chain, Value, lent_in}
+use Rattle.pc_reading.specs.Value.{Chain, Components, Module, Value, inside, lent_in}
 use Rattle.pc_local.specs.declared.captured.Variable.{Variable}
 use Rattle.pc_local.specs.declared.captured.Variable.TheVariants as variable
 use Rattle.pc_local.specs.declared.item.ClosedOverVars.{ClosedOverVars}
@@ -234,89 +234,121 @@ module _ (chain : Chain) where
     item_missing depth k c n e i out none (leaves_nested {body = body} deep) =
         none_definable (suc depth) k (suc c) n e body (omega (arith, out)) none deep
 
-module _ (ms : List ModuleRecord) (b : Tables) (k : Lent) (chain : Chain) (ids : List DefinitionId)
-    (each : (n : ℕ) → Both (Stands ms b) (slice_get ids n) (lent_in chain k zero n)) where
-  -- a variable of the root that is there
-  variable_there : (v : Variable) (c n : ℕ) (id : DefinitionId) → Reads [] v c n → captured_id ids v ≡ Some id
-      → (w : Value) × (lent_in chain k c n ≡ Some w) × Stands ms b id w
-  variable_there (variable.Local i) c n id reads is =
-      let x = both_there (Stands ms b) (slice_get ids i) (lent_in chain k zero i) id (each i) is in
-      (x.0, (λ j. lent_in chain k (reads.0 j) (sym reads.1 j)) ∙ x.1, x.2)
-  variable_there (variable.Upvar i) c n id reads is = absurd (none-some id is)
-
-  -- one that isn't
-  variable_missing : (v : Variable) (c n : ℕ) → Reads [] v c n → captured_id ids v ≡ None → lent_in chain k c n ≡ None
-  variable_missing (variable.Local i) c n reads is =
-      (λ j. lent_in chain k (reads.0 j) (sym reads.1 j))
-      ∙ both_missing (Stands ms b) (slice_get ids i) (lent_in chain k zero i) (each i) is
-  variable_missing (variable.Upvar i) c n reads is = absurd (none-some _ reads.2)
-
-  module _ {V : Type 0} (f : V → Variable) where
-    -- what all variables name is captured
-    pub all_captured : (vs : List V) (names : List (ℕ × ℕ)) (out : List DefinitionId) → Gives [] (map f vs) names
-        → captured_ids f ids vs ≡ Some out → Captured ms b k out names chain
-    all_captured [] [] out given is =
-        subst (λ o. Captured ms b k o [] chain) (same_Some [] out is) captures_none
-    all_captured [] (o ∷ names) out given is = absurd given
-    all_captured (v ∷ vs) [] out given is = absurd given
-    all_captured (v ∷ vs) ((c, n) ∷ names) out given is =
-        by (captured_id ids (f v)) (captured_ids f ids vs) refl (λ rest. all_captured vs names rest given.1) is
-      where
-        by : (first : Option DefinitionId) (rest : Option (List DefinitionId)) → captured_id ids (f v) ≡ first
-            → ((more : List DefinitionId) → rest ≡ Some more → Captured ms b k more names chain)
-            → option_and_then (λ y. option_map (λ ys. y ∷ ys) rest) first ≡ Some out
-            → Captured ms b k out ((c, n) ∷ names) chain
-        by None rest p more h = absurd (none-some out h)
-        by (Some id) None p more h = absurd (none-some out h)
-        by (Some id) (Some xs) p more h =
-            let x = variable_there (f v) c n id given.0 p in
-            subst (λ o. Captured ms b k o ((c, n) ∷ names) chain) (same_Some (id ∷ xs) out h)
-            (captures_more x.1 x.2 (more xs refl))
-
-    -- a name of nothing
-    abbrev pub Lacks : List (ℕ × ℕ) → Type 0
-    Lacks names = (c : ℕ) × (n : ℕ) × Has names c n × (lent_in chain k c n ≡ None)
-
-    -- where a variable is of nothing, a name is
-    pub one_missing : (vs : List V) (names : List (ℕ × ℕ)) → Gives [] (map f vs) names
-        → captured_ids f ids vs ≡ None → Lacks names
-    one_missing [] [] given is = absurd (none-some [] (sym is))
-    one_missing [] (o ∷ names) given is = absurd given
-    one_missing (v ∷ vs) [] given is = absurd given
-    one_missing (v ∷ vs) ((c, n) ∷ names) given is =
-        by (captured_id ids (f v)) (captured_ids f ids vs) refl (one_missing vs names given.1) is
-      where
-        by : (first : Option DefinitionId) (rest : Option (List DefinitionId)) → captured_id ids (f v) ≡ first
-            → (rest ≡ None → Lacks names) → option_and_then (λ y. option_map (λ ys. y ∷ ys) rest) first ≡ None
-            → Lacks ((c, n) ∷ names)
-        by None rest p more h = (c, n, (zero, refl), variable_missing (f v) c n given.0 p)
-        by (Some id) None p more h =
-            let x = more refl in
-            (x.0, x.1, (suc x.2.0, x.2.1), x.3)
-        by (Some id) (Some xs) p more h = absurd (none-some (id ∷ xs) (sym h))
-
-module _ {V : Type 0} (f : V → Variable) (ids : List DefinitionId) (vs : List V) (i : ℕ) (d : V)
-    (out : List DefinitionId) (within : i < length vs) where
-  -- one variable more is captured
-  pub captured_more : (id : DefinitionId) → Some out ≡ captured_ids f ids (take i vs)
-      → captured_id ids (f (get_or vs i d)) ≡ Some id → Some (out ++ id ∷ []) ≡ captured_ids f ids (take (i + 1) vs)
-  captured_more id so_far is =
-      sym (map_all-push (λ v. captured_id ids (f v)) (take i vs) out (get_or vs i d) id (sym so_far) is)
-      ∙ ap (captured_ids f ids) (sym (take_more vs i d within))
-
--- where one isn't, not all are
-pub captured_none : {V : Type 0} (f : V → Variable) (ids : List DefinitionId) (vs : List V) (i : ℕ) (d : V)
-    → i < length vs → captured_id ids (f (get_or vs i d)) ≡ None → None ≡ captured_ids f ids vs
-captured_none f ids vs i d within is =
-    sym (map_all_missing (λ v. captured_id ids (f v)) vs i (get_or vs i d) (slice_get-get_or vs i d within) is)
+-- the number that is captured under a name stands for what the chain lends under it
+pub captured_at : (ms : List ModuleRecord) (b : Tables) (k : Lent) (ids : List DefinitionId) (names : List (ℕ × ℕ))
+    (chain : Chain) (i c n : ℕ) → Captured ms b k ids names chain → slice_get names i ≡ Some (name_of c n)
+    → (id : DefinitionId) × (w : Value) × (slice_get ids i ≡ Some id) × (lent_in chain k c n ≡ Some w)
+    × Stands ms b id w
+captured_at ms b k ids names chain i c n captures_none at = absurd (none-some _ at)
+captured_at ms b k ids names chain zero c n (captures_more {id = id} {c = count} {n = index} {v = v} lent x more) at =
+    let same : (count, index) ≡ (c, n) = same_Some (count, index) (c, n) at in
+    (id, v, refl, (λ j. lent_in chain k (sym same j).0 (sym same j).1) ∙ lent, x)
+captured_at ms b k ids names chain (suc i) c n (captures_more {ids = rest} {names = others} lent x more) at =
+    captured_at ms b k rest others chain i c n more at
 
 -- what is captured under a name is there
 pub captured_leads : (ms : List ModuleRecord) (b : Tables) (k : Lent) (ids : List DefinitionId) (names : List (ℕ × ℕ))
     (chain : Chain) (i c n : ℕ) → Captured ms b k ids names chain → slice_get names i ≡ Some (name_of c n)
     → is_some (lent_in chain k c n) ≡ true
-captured_leads ms b k ids names chain i c n captures_none at = absurd (none-some _ at)
-captured_leads ms b k ids names chain zero c n (captures_more {c = count} {n = index} {v = v} lent x more) at =
-    let same : (count, index) ≡ (c, n) = same_Some (count, index) (c, n) at in
-    (λ j. is_some (lent_in chain k (sym same j).0 (sym same j).1)) ∙ ap is_some lent
-captured_leads ms b k ids names chain (suc i) c n (captures_more {ids = rest} {names = others} lent x more) at =
-    captured_leads ms b k rest others chain i c n more at
+captured_leads ms b k ids names chain i c n there at =
+    ap is_some (captured_at ms b k ids names chain i c n there at).3
+
+-- what a chain lends further out
+lent_further : (vs : List Module) (cs : Components) (chain : Chain) (k : Lent) (c n : ℕ)
+    → lent_in (inside vs cs chain) k (suc c) n ≡ lent_in chain k c n
+lent_further vs cs chain a_module c n = refl
+lent_further vs cs chain a_component c n = refl
+
+module _ (ms : List ModuleRecord) (b : Tables) (k : Lent) (vs : List Module) (cs : Components) (chain : Chain)
+    (names : List (ℕ × ℕ)) (ids captured : List DefinitionId) where
+  abbrev here : Chain
+  here = inside vs cs chain
+
+  module _ (each : (n : ℕ) → Both (Stands ms b) (slice_get ids n) (lent_in here k zero n))
+      (held : Captured ms b k captured names chain) where
+    -- a variable that is there
+    pub variable_there : (v : Variable) (c n : ℕ) (id : DefinitionId) → Reads names v c n
+        → captured_id ids captured v ≡ Some id → (w : Value) × (lent_in here k c n ≡ Some w) × Stands ms b id w
+    variable_there (variable.Local i) c n id reads is =
+        let x = both_there (Stands ms b) (slice_get ids i) (lent_in here k zero i) id (each i) is in
+        (x.0, (λ j. lent_in here k (reads.0 j) (sym reads.1 j)) ∙ x.1, x.2)
+    variable_there (variable.Upvar i) c n id reads is =
+        let x = captured_at ms b k captured names chain i reads.0 n held reads.2 in
+        let same : x.0 ≡ id = same_Some x.0 id (sym x.2 ∙ is) in (
+          x.1,
+          ap (λ m. lent_in here k m n) reads.1 ∙ lent_further vs cs chain k reads.0 n ∙ x.3,
+          subst (λ y. Stands ms b y x.1) same x.4,
+        )
+
+    -- one that isn't
+    pub variable_missing : (v : Variable) (c n : ℕ) → Reads names v c n → captured_id ids captured v ≡ None
+        → lent_in here k c n ≡ None
+    variable_missing (variable.Local i) c n reads is =
+        (λ j. lent_in here k (reads.0 j) (sym reads.1 j))
+        ∙ both_missing (Stands ms b) (slice_get ids i) (lent_in here k zero i) (each i) is
+    variable_missing (variable.Upvar i) c n reads is =
+        let x = captured_at ms b k captured names chain i reads.0 n held reads.2 in
+        absurd (none-some x.0 (sym is ∙ x.2))
+
+    module _ {V : Type 0} (f : V → Variable) where
+      -- what all variables name is captured
+      pub all_captured : (xs : List V) (inner : List (ℕ × ℕ)) (out : List DefinitionId) → Gives names (map f xs) inner
+          → captured_ids f ids captured xs ≡ Some out → Captured ms b k out inner here
+      all_captured [] [] out given is =
+          subst (λ o. Captured ms b k o [] here) (same_Some [] out is) captures_none
+      all_captured [] (o ∷ inner) out given is = absurd given
+      all_captured (v ∷ xs) [] out given is = absurd given
+      all_captured (v ∷ xs) ((c, n) ∷ inner) out given is =
+          by (captured_id ids captured (f v)) (captured_ids f ids captured xs) refl
+          (λ rest. all_captured xs inner rest given.1) is
+        where
+          by : (first : Option DefinitionId) (rest : Option (List DefinitionId))
+              → captured_id ids captured (f v) ≡ first
+              → ((more : List DefinitionId) → rest ≡ Some more → Captured ms b k more inner here)
+              → option_and_then (λ y. option_map (λ ys. y ∷ ys) rest) first ≡ Some out
+              → Captured ms b k out ((c, n) ∷ inner) here
+          by None rest p more h = absurd (none-some out h)
+          by (Some id) None p more h = absurd (none-some out h)
+          by (Some id) (Some ys) p more h =
+              let x = variable_there (f v) c n id given.0 p in
+              subst (λ o. Captured ms b k o ((c, n) ∷ inner) here) (same_Some (id ∷ ys) out h)
+              (captures_more x.1 x.2 (more ys refl))
+
+      -- a name of nothing
+      abbrev pub Lacks : List (ℕ × ℕ) → Type 0
+      Lacks inner = (c : ℕ) × (n : ℕ) × Has inner c n × (lent_in here k c n ≡ None)
+
+      -- where a variable is of nothing, a name is
+      pub one_missing : (xs : List V) (inner : List (ℕ × ℕ)) → Gives names (map f xs) inner
+          → captured_ids f ids captured xs ≡ None → Lacks inner
+      one_missing [] [] given is = absurd (none-some [] (sym is))
+      one_missing [] (o ∷ inner) given is = absurd given
+      one_missing (v ∷ xs) [] given is = absurd given
+      one_missing (v ∷ xs) ((c, n) ∷ inner) given is =
+          by (captured_id ids captured (f v)) (captured_ids f ids captured xs) refl (one_missing xs inner given.1) is
+        where
+          by : (first : Option DefinitionId) (rest : Option (List DefinitionId))
+              → captured_id ids captured (f v) ≡ first
+              → (rest ≡ None → Lacks inner) → option_and_then (λ y. option_map (λ ys. y ∷ ys) rest) first ≡ None
+              → Lacks ((c, n) ∷ inner)
+          by None rest p more h = (c, n, (zero, refl), variable_missing (f v) c n given.0 p)
+          by (Some id) None p more h =
+              let x = more refl in
+              (x.0, x.1, (suc x.2.0, x.2.1), x.3)
+          by (Some id) (Some ys) p more h = absurd (none-some (id ∷ ys) (sym h))
+
+module _ {V : Type 0} (f : V → Variable) (ids captured : List DefinitionId) (vs : List V) (i : ℕ) (d : V)
+    (within : i < length vs) where
+  -- one variable more is captured
+  pub captured_more : (out : List DefinitionId) (id : DefinitionId)
+      → Some out ≡ captured_ids f ids captured (take i vs) → captured_id ids captured (f (get_or vs i d)) ≡ Some id
+      → Some (out ++ id ∷ []) ≡ captured_ids f ids captured (take (i + 1) vs)
+  captured_more out id so_far is =
+      sym (map_all-push (λ v. captured_id ids captured (f v)) (take i vs) out (get_or vs i d) id (sym so_far) is)
+      ∙ ap (captured_ids f ids captured) (sym (take_more vs i d within))
+
+  -- where one isn't, not all are
+  pub captured_none : captured_id ids captured (f (get_or vs i d)) ≡ None → None ≡ captured_ids f ids captured vs
+  captured_none is =
+      sym (map_all_missing (λ v. captured_id ids captured (f v)) vs i (get_or vs i d) (slice_get-get_or vs i d within)
+      is)

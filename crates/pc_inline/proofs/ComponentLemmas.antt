@@ -2,26 +2,28 @@
 use Rattle.std.proofs.Common.{◌≡◌, ◌∙◌, ◌+◌, ℕ, zero, suc, List, [], ◌∷◌, ◌++◌, length, true, false, None, Some, Option}
 use Rattle.std.proofs.Common.{Result, Ok, Err, refl, sym, subst, ap, map, arith}
 use Rattle.std.specs.Prelude.{⊤, is_some, option_map, slice_get}
-use Rattle.std.specs.Result.{IsErrAnd}
 use Rattle.std.proofs.lemmas.Option.{none-some}
 use Rattle.pc_entity.proofs.Growing.{slice_get-append_seam}
 use Rattle.pc_numbers.specs.declared.component_entity.StaticComponentIndex.{StaticComponentIndex}
 use Rattle.pc_types.specs.declared.module_record.ModuleRecord.{ModuleRecord}
 use Rattle.pc_types.specs.declared.parsed.TypeTable.{TypeTable}
 use Rattle.pc_reading.specs.Components.{is_definable, read_component}
-use Rattle.pc_reading.specs.Item.{Item, Items, Lent, a_component, a_module, component_item}
+use Rattle.pc_reading.specs.Item.{Items, Lent, a_component, a_module, component_item}
 use Rattle.pc_reading.specs.Outcome.{Fault, invalid}
 use Rattle.pc_reading.specs.Rows.{read_row}
 use Rattle.pc_reading.specs.Scope.{Moment, Scope, add_value, chain_of, with_value}
-use Rattle.pc_reading.specs.Value.{Chain, Component, Module, Value, closed, component_of, component_value, lent_in}
+use Rattle.pc_reading.specs.Value.{Chain, Component, Value, closed, component_of, component_value, lent_in}
 use Rattle.pc_reading.specs.Value.{module_value, pack_components}
+use Rattle.pc_local.specs.declared.captured.Variable.{Variable}
+use Rattle.pc_local.specs.declared.item.ClosedOverComponent.{ClosedOverComponent}
+use Rattle.pc_local.specs.declared.item.ClosedOverModule.{ClosedOverModule}
 use Rattle.pc_local.specs.declared.item.ClosedOverVars.{ClosedOverVars}
 use Rattle.pc_local.specs.declared.item.LocalInitializer.{LocalInitializer}
 use Rattle.pc_local.specs.declared.item.LocalInitializer.TheVariants as local
 use Rattle.pc_local.specs.declared.item.Translation.{Translation}
 use Rattle.pc_local.specs.Plain.{plain_item}
-use Rattle.pc_local.specs.Standing.{BodyStands, Given, Has, ItemStands, ItemsStand, Leaves, Names, OnlyLeaving}
-use Rattle.pc_local.specs.Standing.{component_variable, module_variable, no_names, stands_nested, stands_plain}
+use Rattle.pc_local.specs.Standing.{BodyStands, Given, Gives, Has, ItemsStand, Leaves, Names}
+use Rattle.pc_local.specs.Standing.{Reads, component_variable, module_variable, stands_nested, stands_plain}
 use Rattle.pc_inline.specs.declared.closure.Closure.{Closure}
 use Rattle.pc_inline.specs.declared.definition.ClosureId.{ClosureId}
 use Rattle.pc_inline.specs.declared.definition.Definition.TheVariants as definition
@@ -31,27 +33,25 @@ use Rattle.pc_inline.specs.declared.error.ItemError.TheVariants as item_error
 use Rattle.pc_inline.specs.declared.error.ItemFault.TheVariants as item_fault
 use Rattle.pc_inline.specs.declared.frame.Frame.{Frame}
 use Rattle.pc_inline.specs.declared.state.State.{State}
-use Rattle.pc_inline.specs.Captures.{captured_ids}
+use Rattle.pc_inline.specs.Captures.{IsEnclosed, captured_components, captured_id, captured_ids, captured_modules}
 use Rattle.pc_inline.specs.Frames.{Both, ComponentStands, FrameStands, ModuleStands, both, neither}
-use Rattle.pc_inline.specs.Points.{Follows, Goes, PointStands, Steps, StepsItem}
-use Rattle.pc_inline.specs.Refused.{LacksRoom}
+use Rattle.pc_inline.specs.Points.{Follows, Goes, PointStands}
 use Rattle.pc_inline.specs.Stands.{Captured, Stands, stands_component}
 use Rattle.pc_inline.specs.StepsLocal.{StepsLocal}
 use Rattle.pc_inline.specs.Tables.{Tables, tables_of}
 use Rattle.pc_inline.specs.Today.{built_row}
 use Rattle.pc_inline.proofs.CaptureLemmas.{all_captured, all_definable, body_has, captured_leads, names_of_kind}
-use Rattle.pc_inline.proofs.CaptureLemmas.{none_definable, one_missing}
+use Rattle.pc_inline.proofs.CaptureLemmas.{none_definable, one_missing, variable_missing, variable_there}
 use Rattle.pc_inline.proofs.DefinitionLemmas.{definition_added}
 use Rattle.pc_inline.proofs.FrameLemmas.{component_framed, framed_point}
 use Rattle.pc_inline.proofs.KeptLemmas.{captured_kept}
-use Rattle.pc_inline.proofs.PassedLemmas.{passed_lacking, passed_unfed}
 use Rattle.pc_inline.proofs.StateLemmas.{closure_prepares, definition_prepares, prepares_trans}
-use Rattle.pc_inline.proofs.StepLemmas.{row_goes, row_stuck, steps_on, steps_stuck}
+use Rattle.pc_inline.proofs.StepLemmas.{row_goes, row_stuck}
 use Rattle.pc_inline.proofs.WorldLemmas.{point_kept}
 use Rattle.pc_inline.proofs.ZipLemmas.{zip_at}
 
 -- what a chain lends first is what stands in the scope
-packed_of : (cs : List Component) (n : ℕ) → component_of (pack_components cs) n ≡ slice_get cs n
+pub packed_of : (cs : List Component) (n : ℕ) → component_of (pack_components cs) n ≡ slice_get cs n
 packed_of [] n = refl
 packed_of (c ∷ cs) zero = refl
 packed_of (c ∷ cs) (suc n) = packed_of cs n
@@ -77,6 +77,73 @@ module _ (ms : List ModuleRecord) (b : Tables) (f : Frame) (s : Scope) (frame : 
       (sym (packed_of s.components n))
       (both_value ms b component_value (slice_get f.components n) (slice_get s.components n)
       (zip_at (ComponentStands ms b) f.components s.components n frame.components))
+
+  module _ (names : Names) (k : Option ClosureId) (enclosed : IsEnclosed ms b names k s.chain) where
+    -- a module that a variable of the component instance is
+    pub module_there : (v : Variable) (c n : ℕ) (id : DefinitionId) → Reads names.modules v c n
+        → captured_id f.modules (captured_modules b k) v ≡ Some id
+        → (w : Value) × (lent_in (chain_of s) a_module c n ≡ Some w) × Stands ms b id w
+    module_there =
+        variable_there ms b a_module s.modules (pack_components s.components) s.chain names.modules f.modules
+        (captured_modules b k) lent_module enclosed.modules
+
+    -- a component likewise
+    pub component_there : (v : Variable) (c n : ℕ) (id : DefinitionId) → Reads names.components v c n
+        → captured_id f.components (captured_components b k) v ≡ Some id
+        → (w : Value) × (lent_in (chain_of s) a_component c n ≡ Some w) × Stands ms b id w
+    component_there =
+        variable_there ms b a_component s.modules (pack_components s.components) s.chain names.components f.components
+        (captured_components b k) lent_component enclosed.components
+
+    -- a module that isn't there
+    pub module_missing : (v : Variable) (c n : ℕ) → Reads names.modules v c n
+        → captured_id f.modules (captured_modules b k) v ≡ None → lent_in (chain_of s) a_module c n ≡ None
+    module_missing =
+        variable_missing ms b a_module s.modules (pack_components s.components) s.chain names.modules f.modules
+        (captured_modules b k) lent_module enclosed.modules
+
+    -- a component that isn't there
+    pub component_missing : (v : Variable) (c n : ℕ) → Reads names.components v c n
+        → captured_id f.components (captured_components b k) v ≡ None → lent_in (chain_of s) a_component c n ≡ None
+    component_missing =
+        variable_missing ms b a_component s.modules (pack_components s.components) s.chain names.components
+        f.components (captured_components b k) lent_component enclosed.components
+
+    -- the modules that a nested body captures
+    modules_captured : (vs : List ClosedOverModule) (inner : List (ℕ × ℕ)) (out : List DefinitionId)
+        → Gives names.modules (map module_variable vs) inner
+        → captured_ids module_variable f.modules (captured_modules b k) vs ≡ Some out
+        → Captured ms b a_module out inner (chain_of s)
+    modules_captured =
+        all_captured ms b a_module s.modules (pack_components s.components) s.chain names.modules f.modules
+        (captured_modules b k) lent_module enclosed.modules module_variable
+
+    -- the components that it captures
+    components_captured : (vs : List ClosedOverComponent) (inner : List (ℕ × ℕ)) (out : List DefinitionId)
+        → Gives names.components (map component_variable vs) inner
+        → captured_ids component_variable f.components (captured_components b k) vs ≡ Some out
+        → Captured ms b a_component out inner (chain_of s)
+    components_captured =
+        all_captured ms b a_component s.modules (pack_components s.components) s.chain names.components f.components
+        (captured_components b k) lent_component enclosed.components component_variable
+
+    -- the name of a module that isn't there
+    modules_missing : (vs : List ClosedOverModule) (inner : List (ℕ × ℕ))
+        → Gives names.modules (map module_variable vs) inner
+        → captured_ids module_variable f.modules (captured_modules b k) vs ≡ None
+        → (c : ℕ) × (n : ℕ) × Has inner c n × (lent_in (chain_of s) a_module c n ≡ None)
+    modules_missing =
+        one_missing ms b a_module s.modules (pack_components s.components) s.chain names.modules f.modules
+        (captured_modules b k) lent_module enclosed.modules module_variable
+
+    -- the name of a component that isn't there
+    components_missing : (vs : List ClosedOverComponent) (inner : List (ℕ × ℕ))
+        → Gives names.components (map component_variable vs) inner
+        → captured_ids component_variable f.components (captured_components b k) vs ≡ None
+        → (c : ℕ) × (n : ℕ) × Has inner c n × (lent_in (chain_of s) a_component c n ≡ None)
+    components_missing =
+        one_missing ms b a_component s.modules (pack_components s.components) s.chain names.components f.components
+        (captured_components b k) lent_component enclosed.components component_variable
 
 no_more : (c e : ℕ) → c ≡ e + zero → e ≡ c
 no_more c e h = omega (arith, h)
@@ -118,63 +185,70 @@ module _ (t : TypeTable) (ms : List ModuleRecord) (body : Items) where
   unfolding read_row read_component
   undefined_read now none = row_stuck t ms now (component_item body) invalid refl (rw (none) refl)
 
-module _ (t : TypeTable) (ms : List ModuleRecord) (s : StaticComponentIndex) (vars : ClosedOverVars) (st : State)
-    (f : Frame) where
+module _ (t : TypeTable) (ms : List ModuleRecord) (k : Option ClosureId) (s : StaticComponentIndex)
+    (vars : ClosedOverVars) (st : State) (f : Frame) where
   abbrev it : LocalInitializer
   it = local.ComponentStatic s vars
 
+  abbrev old : Tables
+  old = tables_of st
+
   -- for which body it stands, and with which names for what that captures
-  abbrev Nested : Items → Type 0
-  Nested body = (inner : Names) × (tr : Translation) × (slice_get st.bodies.now s.0 ≡ Some tr)
-      × BodyStands st.bodies.now inner tr body × Given no_names vars inner body
+  abbrev Nested : Names → Items → Type 0
+  Nested names body = (inner : Names) × (tr : Translation) × (slice_get st.bodies.now s.0 ≡ Some tr)
+      × BodyStands st.bodies.now inner tr body × Given names vars inner body
+
+  -- what is asked of a nested body at each moment
+  abbrev Each : ((names : Names) (body : Items) (now : Moment) → Type 0) → Type 0
+  Each goal = (names : Names) (body : Items) → Nested names body → (now : Moment) → PointStands t ms st f now
+      → IsEnclosed ms old names k now.scope.chain → goal names body now
 
   -- the step is that of a nested body
   nested_steps : (st' : State) (f' : Frame) (r : Result ⊤ ItemError)
-      → ((body : Items) → Nested body → StepsItem t ms (component_item body) st f st' f' r)
-      → StepsLocal t ms it st f st' f' r
+      → Each (λ names body now. Follows t ms st' f' (reads t ms body now) r) → StepsLocal t ms k it st f st' f' r
   unfolding StepsLocal plain_item
-  nested_steps st' f' r each i (stands_plain is) = absurd (none-some i is)
-  nested_steps st' f' r each i (stands_nested {inner = inner} {t = tr} {body = body} at items exports given) =
-      each body (inner, tr, at, record { items = items; exports = exports }, given)
+  nested_steps st' f' r each names i (stands_plain is) = absurd (none-some i is)
+  nested_steps st' f' r each names i (stands_nested {inner = inner} {t = tr} {body = body} at items exports given) =
+      each names body (inner, tr, at, record { items = items; exports = exports }, given)
 
   -- something of a kind isn't there
   missing_steps : (st' : State) (f' : Frame)
-      → ((body : Items) → Nested body → (now : Moment) → PointStands t ms st f now
-      → is_definable (chain_of now.scope) zero body ≡ false)
-      → StepsLocal t ms it st f st' f' (Err (item_error.Fault item_fault.Invalid))
+      → Each (λ names body now. is_definable (chain_of now.scope) zero body ≡ false)
+      → StepsLocal t ms k it st f st' f' (Err (item_error.Fault item_fault.Invalid))
+  unfolding Follows
   missing_steps st' f' none =
-      nested_steps st' f' (Err (item_error.Fault item_fault.Invalid)) (λ body nested.
-      steps_stuck t ms (reads t ms body) st f st' f' item_fault.Invalid
-      (λ now at. undefined_read t ms body now (none body nested now at)))
+      nested_steps st' f' (Err (item_error.Fault item_fault.Invalid)) (λ names body nested now at enclosed.
+      undefined_read t ms body now (none names body nested now at enclosed))
 
   -- a module isn't there
-  pub module_lacks : (st' : State) (f' : Frame) → captured_ids module_variable f.modules vars.modules ≡ None
-      → StepsLocal t ms it st f st' f' (Err (item_error.Fault item_fault.Invalid))
-  module_lacks st' f' none = missing_steps st' f' (λ body nested now at.
-      let b = tables_of st in
-      let chain = chain_of now.scope in
+  pub module_lacks : (st' : State) (f' : Frame)
+      → captured_ids module_variable f.modules (captured_modules old k) vars.modules ≡ None
+      → StepsLocal t ms k it st f st' f' (Err (item_error.Fault item_fault.Invalid))
+  module_lacks st' f' none = missing_steps st' f' (λ names body nested now at enclosed.
       let inner = nested.0 in
-      let lacks = one_missing ms b a_module chain f.modules (lent_module ms b f now.scope at.frame) module_variable
-      vars.modules inner.modules nested.4.modules none in
-      lacking_definable a_module lacks.0 lacks.1 body chain (nested.4.leaving.modules lacks.0 lacks.1 lacks.2)
-      lacks.3)
+      let given = nested.4 in
+      let lacks = modules_missing ms old f now.scope at.frame names k enclosed vars.modules inner.modules given.modules
+      none in
+      lacking_definable a_module lacks.0 lacks.1 body (chain_of now.scope)
+      (given.leaving.modules lacks.0 lacks.1 lacks.2) lacks.3)
 
   -- a component isn't there
-  pub component_lacks : (st' : State) (f' : Frame) → captured_ids component_variable f.components vars.components ≡ None
-      → StepsLocal t ms it st f st' f' (Err (item_error.Fault item_fault.Invalid))
-  component_lacks st' f' none = missing_steps st' f' (λ body nested now at.
-      let b = tables_of st in
-      let chain = chain_of now.scope in
+  pub component_lacks : (st' : State) (f' : Frame)
+      → captured_ids component_variable f.components (captured_components old k) vars.components ≡ None
+      → StepsLocal t ms k it st f st' f' (Err (item_error.Fault item_fault.Invalid))
+  component_lacks st' f' none = missing_steps st' f' (λ names body nested now at enclosed.
       let inner = nested.0 in
-      let lacks = one_missing ms b a_component chain f.components (lent_component ms b f now.scope at.frame)
-      component_variable vars.components inner.components nested.4.components none in
-      lacking_definable a_component lacks.0 lacks.1 body chain (nested.4.leaving.components lacks.0 lacks.1 lacks.2)
-      lacks.3)
+      let given = nested.4 in
+      let lacks = components_missing ms old f now.scope at.frame names k enclosed vars.components inner.components
+      given.components none in
+      lacking_definable a_component lacks.0 lacks.1 body (chain_of now.scope)
+      (given.leaving.components lacks.0 lacks.1 lacks.2) lacks.3)
 
   module _ (modules components : List DefinitionId)
-      (modules_there : captured_ids module_variable f.modules vars.modules ≡ Some modules)
-      (components_there : captured_ids component_variable f.components vars.components ≡ Some components)
-      (k : ClosureId) (closure_last : k.0 ≡ length st.closures) (key : DefinitionId)
+      (modules_there : captured_ids module_variable f.modules (captured_modules old k) vars.modules ≡ Some modules)
+      (components_there
+      : captured_ids component_variable f.components (captured_components old k) vars.components ≡ Some components)
+      (captured : ClosureId) (closure_last : captured.0 ≡ length st.closures) (key : DefinitionId)
       (last : key.0 ≡ length st.definitions) where
     abbrev closure : Closure
     closure = record { modules = modules; components = components }
@@ -183,35 +257,33 @@ module _ (t : TypeTable) (ms : List ModuleRecord) (s : StaticComponentIndex) (va
     mid = record st { closures = st.closures ++ closure ∷ [] }
 
     abbrev end : State
-    end = record mid { definitions = st.definitions ++ definition.Component s k ∷ [] }
+    end = record mid { definitions = st.definitions ++ definition.Component s captured ∷ [] }
 
     abbrev with_it : Frame
     with_it = record f { components = f.components ++ key ∷ [] }
 
-    component_goes : (body : Items) → Nested body → (now : Moment) → PointStands t ms st f now
-        → Goes t ms end with_it (reads t ms body now)
-    component_goes body nested now at =
-        let b = tables_of st in
+    component_goes : Each (λ names body now. Goes t ms end with_it (reads t ms body now))
+    component_goes names body nested now at enclosed =
         let c = tables_of end in
         let chain = chain_of now.scope in
         let inner = nested.0 in
         let given = nested.4 in
         let prepares = prepares_trans t ms st mid end (closure_prepares t ms st closure)
-        (definition_prepares t ms mid (definition.Component s k)) in
-        let ms_there = all_captured ms b a_module chain f.modules (lent_module ms b f now.scope at.frame)
-        module_variable vars.modules inner.modules modules given.modules modules_there in
-        let cs_there = all_captured ms b a_component chain f.components (lent_component ms b f now.scope at.frame)
-        component_variable vars.components inner.components components given.components components_there in
+        (definition_prepares t ms mid (definition.Component s captured)) in
+        let ms_there = modules_captured ms old f now.scope at.frame names k enclosed vars.modules inner.modules modules
+        given.modules modules_there in
+        let cs_there = components_captured ms old f now.scope at.frame names k enclosed vars.components
+        inner.components components given.components components_there in
         let v = component_value (closed body chain) in
         let next = add_value now v in
         let at_end = point_kept t ms st end prepares f now at in
-        let held : slice_get c.closures k.0 ≡ Some closure =
+        let held : slice_get c.closures captured.0 ≡ Some closure =
         ap (slice_get (st.closures ++ closure ∷ [])) closure_last ∙ slice_get-append_seam st.closures closure [] in
-        let is = definition_added ms c st.definitions (definition.Component s k) key v refl last
+        let is = definition_added ms c st.definitions (definition.Component s captured) key v refl last
         (stands_component nested.2 nested.3 given.leaving held
-        (captured_kept ms b c prepares.keeps a_module modules inner.modules chain ms_there)
-        (captured_kept ms b c prepares.keeps a_component components inner.components chain cs_there)) in
-        let definable = captured_definable ms b st.bodies.now inner nested.1 body chain modules components
+        (captured_kept ms old c prepares.keeps a_module modules inner.modules chain ms_there)
+        (captured_kept ms old c prepares.keeps a_component components inner.components chain cs_there)) in
+        let definable = captured_definable ms old st.bodies.now inner nested.1 body chain modules components
         nested.3.items ms_there cs_there in
         record {
           now = next;
@@ -222,38 +294,26 @@ module _ (t : TypeTable) (ms : List ModuleRecord) (s : StaticComponentIndex) (va
         }
 
     -- it is a component of the component instance
-    pub component_steps : (r : ⊤) → StepsLocal t ms it st f end with_it (Ok r)
-    component_steps r = nested_steps end with_it (Ok r) (λ body nested.
-        steps_on t ms (reads t ms body) st f end with_it r (component_goes body nested))
+    pub component_steps : (r : ⊤) → StepsLocal t ms k it st f end with_it (Ok r)
+    unfolding Follows
+    component_steps r = nested_steps end with_it (Ok r) component_goes
 
   -- the same of a state and of components that are equal to these
   pub component_done : (modules components : List DefinitionId)
-      → captured_ids module_variable f.modules vars.modules ≡ Some modules
-      → captured_ids component_variable f.components vars.components ≡ Some components → (k : ClosureId)
-      → k.0 ≡ length st.closures → (key : DefinitionId) (st1 st2 : State) (cs : List DefinitionId)
+      → captured_ids module_variable f.modules (captured_modules old k) vars.modules ≡ Some modules
+      → captured_ids component_variable f.components (captured_components old k) vars.components ≡ Some components
+      → (captured : ClosureId) → captured.0 ≡ length st.closures → (key : DefinitionId) (st1 st2 : State)
+      (cs : List DefinitionId)
       → st1 ≡ record st { closures = st.closures ++ record { modules = modules; components = components } ∷ [] }
       → key.0 ≡ length st1.definitions
-      → st2 ≡ record st1 { definitions = st1.definitions ++ definition.Component s k ∷ [] }
+      → st2 ≡ record st1 { definitions = st1.definitions ++ definition.Component s captured ∷ [] }
       → cs ≡ f.components ++ key ∷ [] → (r : ⊤)
-      → StepsLocal t ms it st f st2 (record f { components = cs }) (Ok r)
-  component_done modules components mt ct k closure_last key st1 st2 cs is1 last is2 is3 r =
+      → StepsLocal t ms k it st f st2 (record f { components = cs }) (Ok r)
+  component_done modules components mt ct captured closure_last key st1 st2 cs is1 last is2 is3 r =
       let same = last ∙ ap (λ (x : State). length x.definitions) is1 in
       let at_end = is2
-      ∙ (λ j. record (is1 j) { definitions = (is1 j).definitions ++ definition.Component s k ∷ [] }) in
-      subst (λ x. StepsLocal t ms it st f x (record f { components = cs }) (Ok r)) (sym at_end)
-      (subst (λ x. StepsLocal t ms it st f (end modules components mt ct k closure_last key same)
+      ∙ (λ j. record (is1 j) { definitions = (is1 j).definitions ++ definition.Component s captured ∷ [] }) in
+      subst (λ x. StepsLocal t ms k it st f x (record f { components = cs }) (Ok r)) (sym at_end)
+      (subst (λ x. StepsLocal t ms k it st f (end modules components mt ct captured closure_last key same)
       (record f { components = x }) (Ok r)) (sym is3)
-      (component_steps modules components mt ct k closure_last key same r))
-
-  -- want of memory, which was handed on
-  pub component_unfed : (st' : State) (f' : Frame) (r : Result ⊤ ItemError)
-      → IsErrAnd r (λ x. x ≡ item_error.NoMemory) → StepsLocal t ms it st f st' f' r
-  unfolding StepsLocal
-  component_unfed st' f' r is i stands = passed_unfed t ms (λ now. built_row t ms now i) st f st' f' r is
-
-  -- want of room likewise
-  pub component_crowded : (st' : State) (f' : Frame) (r : Result ⊤ ItemError) (e : ItemError)
-      → IsErrAnd r (λ x. x ≡ e) → LacksRoom st' e → StepsLocal t ms it st f st' f' r
-  unfolding StepsLocal
-  component_crowded st' f' r e is lacks i stands =
-      passed_lacking t ms (λ now. built_row t ms now i) st f st' f' r e is lacks
+      (component_steps modules components mt ct captured closure_last key same r))

@@ -218,6 +218,7 @@ module _ (t : TypeTable) (ms : List ModuleRecord) (st : State) (m : StaticModule
         at.frame.begun)
         ordered at.sound;
     here = at.here;
+    typed = at.typed;
     frame = frame_kept ms (tables_of st) (tables_of made) (graph_grown (tables_of st) after grows) f now.scope at.frame;
     world = made_world now.world at.world;
     unexported = record { exports = at.unexported.exports; items = at.unexported.items };

@@ -1,4 +1,4 @@
--- What the loops over items take from a call.
+-- What the loop over the imports of the root takes from a call.
 use Rattle.std.proofs.Common.{◌≡◌, ◌≤◌, ◌+◌, ℕ, List, length, Some, Result, Ok, Err, ap, sym, subst, ◌∙◌}
 use Rattle.std.specs.Prelude.{⊤, slice_get}
 use Rattle.pc_types.specs.declared.error.Error.{Error}
@@ -9,8 +9,6 @@ use Rattle.pc_types.specs.declared.parsed.Entity.{Entity}
 use Rattle.pc_types.specs.declared.parsed.TypeTable.{TypeTable}
 use Rattle.pc_parsed.specs.declared.payload.ExternName.{ExternName}
 use Rattle.pc_reading.specs.Item.{Item, import_item}
-use Rattle.pc_reading.specs.Outcome.{over}
-use Rattle.pc_reading.specs.Reading.{Enter}
 use Rattle.pc_local.specs.declared.item.LocalInitializer.{LocalInitializer}
 use Rattle.pc_local.specs.declared.item.LocalInitializer.TheVariants as local
 use Rattle.pc_local.specs.Plain.{plain_item}
@@ -18,23 +16,19 @@ use Rattle.pc_local.specs.Standing.{ItemStands, no_names}
 use Rattle.pc_inline.specs.declared.error.ItemError.{ItemError}
 use Rattle.pc_inline.specs.declared.frame.Frame.{Frame}
 use Rattle.pc_inline.specs.declared.state.State.{State}
-use Rattle.pc_inline.specs.Adds.{functions_in, imports_in}
+use Rattle.pc_inline.specs.Adds.{imports_in}
 use Rattle.pc_inline.specs.Faults.{error_of}
 use Rattle.pc_inline.specs.Points.{Follows, IsPoint, Steps}
-use Rattle.pc_inline.specs.Reads.{AreItems, Passes, Prepared, Read, SoFar}
-use Rattle.pc_inline.specs.StepsLocal.{PreparesLocal, StepsLocal, prepare_row}
+use Rattle.pc_inline.specs.Reads.{AreItems, Prepared, SoFar}
+use Rattle.pc_inline.specs.StepsLocal.{PreparesLocal, prepare_row}
 use Rattle.pc_inline.specs.Tables.{Keeps, tables_of}
-use Rattle.pc_inline.specs.Today.{built_items, built_prepare, built_prepare_all, built_row}
+use Rattle.pc_inline.specs.Today.{built_prepare, built_prepare_all}
 use Rattle.pc_inline.proofs.LocalLemmas.{plain_is}
 use Rattle.pc_inline.proofs.LoopAddsLemmas.{AddedSoFar}
 use Rattle.pc_inline.proofs.PrepareAllLemmas.{prepare_first, prepares_end}
 use Rattle.pc_inline.proofs.AddsLemmas.{adds_refl}
-use Rattle.pc_inline.proofs.ReadLemmas.{items_end, read_all, read_fails, read_more, read_none, row_first}
+use Rattle.pc_inline.proofs.ReadLemmas.{read_all, read_fails, read_more, read_none}
 use Rattle.pc_inline.proofs.SkipLemmas.{skips_other}
-
--- a child of which nothing is read
-pub no_child : Enter
-no_child = λ call known w. over
 
 -- the error of an item at its place
 pub error_there : (e : ItemError) (there p : Place) (at : Error) → there ≡ p → at ≡ error_of e there → at ≡ error_of e p
@@ -61,20 +55,11 @@ module _ (t : TypeTable) (ms : List ModuleRecord) where
   }
 
   module _ (ls : List LocalInitializer) (old : State) (f : Frame) (st : State) (g : Frame) (n : ℕ) where
-    -- so many items were read, whatever a child means
-    abbrev pub ReadSoFar : Type 0
-    ReadSoFar = (enter : Enter) → SoFar t ms (built_items t ms enter) ls n old f st g
-
     -- the imports among so many items were prepared
     abbrev pub PreparedSoFar : Type 0
     PreparedSoFar = SoFar t ms (built_prepare_all t ms) ls n old f st g
 
     -- and the types and entries that these may need were added
-    pub record ItemsRead : Type 0 where
-      pub read : ReadSoFar
-      pub adds : AddedSoFar t functions_in ls n (tables_of old) (tables_of st)
-
-    -- the same of imports
     pub record ItemsPrepared : Type 0 where
       pub prepared : PreparedSoFar
       pub adds : AddedSoFar t imports_in ls n (tables_of old) (tables_of st)
@@ -82,30 +67,10 @@ module _ (t : TypeTable) (ms : List ModuleRecord) where
     module _ (are : AreItems old.bodies.now ls) (l : LocalInitializer) (at : slice_get ls n ≡ Some l) (st' : State)
         (g' : Frame)
         (same : g'.component_instance ≡ g.component_instance) where
-      row_steps : (r : Result ⊤ ItemError) → StepsLocal t ms l st g st' g' r
-          → (i : Item) → ItemStands st.bodies.now no_names l i → Steps t ms (λ now. built_row t ms now i) st g st' g' r
-      unfolding StepsLocal
-      row_steps r steps = steps
-
       prepare_steps : (r : Result ⊤ ItemError) → PreparesLocal t ms l st g st' g' r
           → (i : Item) → ItemStands st.bodies.now no_names l i → Steps t ms (prepare_row t ms i) st g st' g' r
       unfolding PreparesLocal
       prepare_steps r steps = steps
-
-      -- an item is read
-      pub item_read : ReadSoFar → StepsLocal t ms l st g st' g' (Ok tt) → Keeps (tables_of st) (tables_of st')
-          → (enter : Enter) → SoFar t ms (built_items t ms enter) ls (n + 1) old f st' g'
-      item_read far steps keeps enter =
-          read_more t ms (built_items t ms enter) ls n old f st g (far enter) are l at (λ i now. built_row t ms now i)
-          (row_first t ms enter n) st' g' (row_steps (Ok tt) steps) keeps same
-
-      -- or it isn't
-      pub item_unread : ReadSoFar → (e : ItemError) → StepsLocal t ms l st g st' g' (Err e) → (said : Error)
-          → said ≡ error_of e (place.Reading g'.component_instance.0 n) → Read t ms ls old f st' g' (Err said)
-      item_unread far e steps said is enter =
-          subst (λ x. Passes t ms (built_items t ms enter 0) ls old f st' g' (Err x)) (sym is)
-          (read_fails t ms (built_items t ms enter) ls n old f st g (far enter) are l at (λ i now. built_row t ms now i)
-          (row_first t ms enter n) st' g' e (row_steps (Err e) steps) same)
 
       -- an item is prepared
       pub item_prepared : PreparedSoFar → PreparesLocal t ms l st g st' g' (Ok tt)
@@ -123,24 +88,12 @@ module _ (t : TypeTable) (ms : List ModuleRecord) where
           (read_fails t ms (built_prepare_all t ms) ls n old f st g far are l at (prepare_row t ms)
           (prepare_first t ms n) st' g' e (prepare_steps (Err e) steps) same)
 
-    -- all items were read
-    pub items_read : ReadSoFar → length ls ≤ n → (r : ⊤) → Read t ms ls old f st g (Ok r)
-    items_read far end r enter =
-        read_all t ms (built_items t ms enter) ls old f st g n (far enter) end (items_end t ms enter n) r
-
     -- all imports were prepared
     pub items_prepared : PreparedSoFar → length ls ≤ n → (r : ⊤) → Prepared t ms ls old f st g (Ok r)
     items_prepared far end r =
         read_all t ms (built_prepare_all t ms) ls old f st g n far end (prepares_end t ms n) r
 
-  -- nothing was read yet
-  pub none_read : (ls : List LocalInitializer) (st : State) (f : Frame) → IsPoint t ms st f → ItemsRead ls st f st f 0
-  none_read ls st f here = record {
-    read = λ enter. read_none t ms (built_items t ms enter) ls st f here;
-    adds = adds_refl t 0 0 (tables_of st);
-  }
-
-  -- and nothing prepared
+  -- nothing was prepared yet
   pub none_prepared : (ls : List LocalInitializer) (st : State) (f : Frame) → IsPoint t ms st f
       → ItemsPrepared ls st f st f 0
   none_prepared ls st f here = record {

@@ -39,7 +39,7 @@ module _ (t : TypeTable) (ms : List ModuleRecord) (limit : ℕ) (body : Items) w
   done_today r is = same_end (done r) (λ q is. let x : ⊥ = cc in x) is
 
   -- the error that is answered is the reading's
-  pub end_today : (st : State) → (IsFullSomewhere (tables_of st) → HasNoRoom st.types body) → (e : Error)
+  pub end_today : (st : State) → (IsFullSomewhere (tables_of st) → HasNoRoom t ms limit body st.types) → (e : Error)
       → IsBuiltEnd t ms limit body st e → IsFault t ms limit body st.types e
   end_today st room (error.Invalid p) h = both_end (fault invalid p) (λ q is. let x : ⊥ = cc in x) h
   end_today st room (error.BadType p) h = both_end (fault bad_type p) (λ q is. let x : ⊥ = cc in x) h

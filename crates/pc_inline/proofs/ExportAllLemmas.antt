@@ -42,10 +42,10 @@ use Rattle.pc_inline.specs.Exports.{NumbersExports}
 use Rattle.pc_inline.specs.Frames.{FuncStands}
 use Rattle.pc_inline.specs.Inlines.{export_name}
 use Rattle.pc_inline.specs.Tables.{Keeps, tables_of}
-use Rattle.pc_inline.specs.Today.{built_exports, is_built_kind}
+use Rattle.pc_inline.specs.Today.{built_exports, is_root_kind}
 use Rattle.pc_inline.specs.Worlds.{HasNoExports}
 use Rattle.pc_inline.proofs.AddsLemmas.{adds_refl, adds_weaken}
-use Rattle.pc_inline.proofs.ExportAddsLemmas.{adds_eight}
+use Rattle.pc_inline.proofs.ExportAddsLemmas.{adds_export}
 use Rattle.pc_inline.proofs.StateLemmas.{keeps_refl, keeps_trans}
 use Rattle.pc_inline.proofs.ZipLemmas.{both_missing, both_there, zip_at}
 
@@ -96,13 +96,13 @@ or_first true b h = refl
 or_first false b h = absurd (true≢false (sym h))
 
 -- another kind isn't built
-kind_unbuilt : (k : ItemKind) → (k ≡ kind.Func → ⊥) → is_built_kind k ≡ false
-kind_unbuilt kind.Func other = absurd (other refl)
-kind_unbuilt kind.Module other = refl
-kind_unbuilt kind.Value other = refl
-kind_unbuilt kind.Type_ other = refl
-kind_unbuilt kind.Instance other = refl
-kind_unbuilt kind.Component other = refl
+kind_refused : (k : ItemKind) → (k ≡ kind.Func → ⊥) → is_root_kind k ≡ false
+kind_refused kind.Func other = absurd (other refl)
+kind_refused kind.Module other = refl
+kind_refused kind.Value other = refl
+kind_refused kind.Type_ other = refl
+kind_refused kind.Instance other = refl
+kind_refused kind.Component other = refl
 
 module _ (t : TypeTable) (ms : List ModuleRecord) where
   -- nothing is in front
@@ -130,7 +130,7 @@ module _ (t : TypeTable) (ms : List ModuleRecord) where
     unbuilt_here : (e.1 ≡ kind.Func → ⊥)
         → built_exports t s (named_item e ∷ rest) n w ≡ fault (unsupported NotBuilt) (place.Export n)
     unfolding built_exports
-    unbuilt_here other = rw (kind_unbuilt e.1 other) refl
+    unbuilt_here other = rw (kind_refused e.1 other) refl
 
     module _ (func : e.1 ≡ kind.Func) where
       missing_here : slice_get s.funcs e.2 ≡ None
@@ -151,7 +151,7 @@ module _ (t : TypeTable) (ms : List ModuleRecord) where
       root = root;
       few = omega arith;
       keeps = keeps_refl (tables_of old);
-      adds = adds_refl t 0 (8 * 0) (tables_of old);
+      adds = adds_refl t 0 (4 * 0) (tables_of old);
       names = λ name has. absurd (true≢false (sym (subst (λ xs. has_name (names_of xs) name ≡ true) none.exports has)));
       numbers = record {
         as_many = ap length none.exports ∙ sym (ap length none.items);
@@ -237,7 +237,7 @@ module _ (t : TypeTable) (ms : List ModuleRecord) where
           root = far.root;
           few = omega (arith, far.few);
           keeps = far.keeps;
-          adds = adds_weaken t 0 (8 * i) 0 (8 * (i + 1)) (tables_of old) (tables_of st) (omega arith) (omega arith)
+          adds = adds_weaken t 0 (4 * i) 0 (4 * (i + 1)) (tables_of old) (tables_of st) (omega arith) (omega arith)
               far.adds;
           names = λ name has. names_to name
               ∙ or_first (has_name (map export_name (take i es)) name) (has_name (e.0.name ∷ []) name)
@@ -281,14 +281,14 @@ module _ (t : TypeTable) (ms : List ModuleRecord) where
 
             -- it is exported
             pub exports_more : Made (Ok tt) → Keeps (tables_of st) (tables_of new)
-                → Adds t 0 8 (tables_of st) (tables_of new)
+                → Adds t 0 4 (tables_of st) (tables_of new)
                 → names_of new.graph.exports ≡ names_of st.graph.exports ++ e.0.name ∷ []
                 → (NumbersExports st.graph → NumbersExports new.graph) → ExportedSoFar t ms es (i + 1) (n + 1) old f new
             exports_more made keeps adds named numbers = record {
               root = far.root;
               few = omega (arith, far.few);
               keeps = keeps_trans (tables_of old) (tables_of st) (tables_of new) far.keeps keeps;
-              adds = adds_eight t i (i + 1) (tables_of old) (tables_of st) (tables_of new) (omega arith) far.adds adds;
+              adds = adds_export t i (i + 1) (tables_of old) (tables_of st) (tables_of new) (omega arith) far.adds adds;
               names = λ name has. names_to name
                   ∙ or_more (has_name (names_of st.graph.exports) name) (has_name (map export_name (take i es)) name)
                   (has_name (e.0.name ∷ []) name) (far.names name)

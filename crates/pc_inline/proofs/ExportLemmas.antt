@@ -131,6 +131,7 @@ module _ (t : TypeTable) (ms : List ModuleRecord) (st : State) (e : NamedExport)
       world = world_still st.types st.types st.graph exported (types_refl st.types) grows refl refl refl refl refl
           refl w
           root.world;
+      total = root.total;
       exports = zip_push (NameStands st.types exported) st.graph.exports nodes e x
           (zip_more (NameStands st.types st.graph) (NameStands st.types exported)
           (name_still st.types st.types st.graph exported (types_refl st.types) grows) st.graph.exports nodes

@@ -10,7 +10,7 @@ use Rattle.pc_entity.proofs.Growing.{kept_refl}
 use Rattle.pc_interned.specs.Types.{Types}
 use Rattle.pc_builder.specs.Few.{AddsFuncs, AddsSignature, is_plain_func}
 use Rattle.pc_reading.specs.Types.{has_entry}
-use Rattle.pc_inline.specs.Adds.{is_plain_entry, is_plain_table}
+use Rattle.pc_inline.specs.Plain.{is_plain_entry, is_plain_table}
 
 plain_entry : (e : DeclType) → is_plain_entry e ≡ true → is_func e ≡ true → is_plain_func e ≡ true
 plain_entry (entry.Func params result is_async) h f = h

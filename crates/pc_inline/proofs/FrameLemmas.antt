@@ -1,5 +1,5 @@
 -- A component instance with one item more.
-use Rattle.std.proofs.Common.{◌≡◌, List, [], ◌∷◌, ◌++◌, sym, ◌∙◌}
+use Rattle.std.proofs.Common.{◌≡◌, ◌⊎◌, true, List, [], ◌∷◌, ◌++◌, sym, subst}
 use Rattle.std.specs.List.{AllZip}
 use Rattle.pc_types.specs.declared.module_record.ModuleRecord.{ModuleRecord}
 use Rattle.pc_types.specs.declared.parsed.CoreKind.{CoreKind}
@@ -22,6 +22,7 @@ use Rattle.pc_inline.specs.Lists.{with_core_id}
 use Rattle.pc_inline.specs.Points.{PointStands}
 use Rattle.pc_inline.specs.Stands.{ItemStands}
 use Rattle.pc_inline.specs.Tables.{Tables, tables_of}
+use Rattle.pc_inline.specs.Today.{can_instantiate}
 use Rattle.pc_inline.proofs.ZipLemmas.{zip_push}
 
 module _ (ms : List ModuleRecord) (b : Tables) (f : Frame) (s : Scope) (h : FrameStands ms b f s) where
@@ -148,7 +149,8 @@ pub framed_point : (t : TypeTable) (ms : List ModuleRecord) (st : State) (f g : 
     → PointStands t ms st g (record now { scope = u })
 framed_point t ms st f g now u at same frame = record {
   sound = at.sound;
-  here = at.here ∙ (λ i. record { known = []; current = sym same i });
+  here = at.here;
+  typed = subst (λ c. (c.0 ≡ 0) ⊎ (can_instantiate t ≡ true)) (sym same) at.typed;
   frame = frame;
   world = at.world;
   unexported = at.unexported;

@@ -1,5 +1,5 @@
 -- Where nothing was read yet but that the root has begun.
-use Rattle.std.proofs.Common.{◌≡◌, ◌<◌, ℕ, List, [], Some, refl, sym, ap, subst, ◌∙◌, arith}
+use Rattle.std.proofs.Common.{◌≡◌, ◌<◌, ℕ, List, [], Some, inl, refl, sym, ap, subst, arith}
 use Rattle.std.specs.Prelude.{slice_get}
 use Rattle.std.proofs.lemmas.Option.{none-some}
 use Rattle.pc_interned.specs.Types.{Types}
@@ -80,7 +80,6 @@ first_done types = record {
   intrinsics = refl;
   no_adapters = refl;
   begun = refl;
-  total = refl;
 }
 
 -- the component instance in which nothing was read
@@ -114,7 +113,8 @@ first_point t ms st c graph ordered used zero resources numbers = record {
     numbers = numbers;
     held = subst (HoldsTypes st.types) (sym graph) (first_holds st.types);
   };
-  here = resources ∙ (λ i. record { known = []; current = record { 0 = sym zero i } });
+  here = resources;
+  typed = inl zero;
   frame = record {
     core_funcs = tt;
     memories = tt;

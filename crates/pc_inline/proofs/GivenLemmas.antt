@@ -39,12 +39,11 @@ use Rattle.pc_inline.specs.Frames.{SameNames}
 use Rattle.pc_inline.specs.Points.{Steps}
 use Rattle.pc_inline.specs.Stands.{Stands}
 use Rattle.pc_inline.specs.Tables.{Tables}
-use Rattle.pc_inline.specs.Today.{built_prepare}
+use Rattle.pc_inline.specs.Today.{built_prepare, is_built_entity}
 use Rattle.pc_inline.specs.Worlds.{AreUsed, import_path, path_of}
 use Rattle.pc_inline.proofs.BagLemmas.{names_again, names_push}
 use Rattle.pc_inline.proofs.CoreInstanceLemmas.{found_in_push}
 use Rattle.pc_inline.proofs.StepLemmas.{steps_stuck}
-use Rattle.pc_inline.proofs.TakenLemmas.{not_built}
 
 -- arguments with one more, of which the first of a name counts on both sides
 pub argument_given : (ms : List ModuleRecord) (b : Tables) (xs : List (List ℕ × DefinitionId))
@@ -109,13 +108,22 @@ used_given g h used x ordered imports types u = record {
       ]);
 }
 
+-- an import that is no function isn't prepared
+not_prepared : (e : Entity) → ((x : ℕ) → e ≡ entity.Func x → ⊥) → is_built_entity e ≡ false
+not_prepared (entity.Func n) isnt = absurd (isnt n refl)
+not_prepared (entity.Instance n) isnt = refl
+not_prepared (entity.Component n) isnt = refl
+not_prepared (entity.Module n) isnt = refl
+not_prepared (entity.Type_ n) isnt = refl
+not_prepared entity.Value isnt = refl
+
 module _ (t : TypeTable) (ms : List ModuleRecord) (st : State) (f : Frame) (name : ExternName) where
   -- only imports of functions are built
   pub prepare_unbuilt : (e : Entity) (f' : Frame) → ((x : ℕ) → e ≡ entity.Func x → ⊥)
       → Steps t ms (built_prepare t ms name e) st f st f' (Err (item_error.Fault (item_fault.Unsupported NotBuilt)))
   unfolding built_prepare
   prepare_unbuilt e f' isnt =
-      steps_stuck t ms _ st f st f' (item_fault.Unsupported NotBuilt) (λ now at. rw (not_built e isnt) refl)
+      steps_stuck t ms _ st f st f' (item_fault.Unsupported NotBuilt) (λ now at. rw (not_prepared e isnt) refl)
 
   -- the type is no function type
   pub prepare_untyped : (ty : ℕ) (now : Moment) → has_entry t is_func ty ≡ false

@@ -1,5 +1,6 @@
 -- The root, from its beginning to the end of its exports.
-use Rattle.std.proofs.Common.{◌≡◌, ◌<◌, ◌≤◌, ℕ, List, [], map, None, Result, Ok, Err, sym, ap, subst, ◌∙◌}
+use Rattle.std.proofs.Common.{◌≡◌, ◌<◌, ◌≤◌, ◌⊎◌, ℕ, List, [], map, Option, None, Some, Result, Ok, Err, inl, inr, sym}
+use Rattle.std.proofs.Common.{ap, subst, ◌∙◌, arith}
 use Rattle.std.specs.Prelude.{⊤, OnOk}
 use Rattle.std.specs.Result.{IsErrAnd}
 use Rattle.pc_numbers.specs.declared.runtime.RuntimeComponentInstanceIndex.{RuntimeComponentInstanceIndex}
@@ -10,9 +11,10 @@ use Rattle.pc_types.specs.declared.parsed.TypeTable.{TypeTable}
 use Rattle.pc_parsed.specs.declared.payload.ExternName.{ExternName}
 use Rattle.pc_parsed.specs.declared.payload.ItemKind.{ItemKind}
 use Rattle.pc_reading.specs.Item.{Items, exports_in}
-use Rattle.pc_reading.specs.Outcome.{and_then}
-use Rattle.pc_reading.specs.Scope.{Moment}
+use Rattle.pc_reading.specs.Outcome.{and_then, done}
+use Rattle.pc_reading.specs.Scope.{Moment, Scope}
 use Rattle.pc_reading.specs.Section.{named_item}
+use Rattle.pc_reading.specs.World.{World, full}
 use Rattle.pc_local.specs.declared.item.LocalInitializer.{LocalInitializer}
 use Rattle.pc_local.specs.declared.item.Translation.{Translation}
 use Rattle.pc_local.specs.Standing.{BodyStands, ItemsStand, no_names}
@@ -21,20 +23,25 @@ use Rattle.pc_dfg.specs.Grows as graph
 use Rattle.pc_dfg.specs.Pushed.{with_component_instance}
 use Rattle.pc_dfg.proofs.EmptyLemmas.{empty_ordered}
 use Rattle.pc_dfg.specs.Ordered.{IsOrdered}
+use Rattle.pc_inline.specs.declared.definition.DefinitionId.{DefinitionId}
 use Rattle.pc_inline.specs.declared.frame.Frame.{Frame}
 use Rattle.pc_inline.specs.declared.state.State.{State}
-use Rattle.pc_inline.specs.Begins.{Begins, InlinesBody, InlinesRoot, IsBuiltEnd, IsFresh}
-use Rattle.pc_inline.specs.Exporting.{Exports, ExportsEnd}
+use Rattle.pc_inline.specs.Begins.{Begins, BeginsBody, InlinesBody, InlinesRoot, IsBuiltEnd, IsFresh}
+use Rattle.pc_inline.specs.Begins.{IsLong, RootBegun, RootStarts, first_total}
+use Rattle.pc_inline.specs.Driving.{EndsRun, Runs, reading_from}
+use Rattle.pc_inline.specs.Exporting.{Exports, ExportsEnd, RootStands}
 use Rattle.pc_inline.specs.Exports.{NumbersExports}
-use Rattle.pc_inline.specs.Points.{PointStands, full_instances}
-use Rattle.pc_inline.specs.Reads.{AreItems, Ends, Passes, Prepared, Read}
+use Rattle.pc_inline.specs.Points.{IsPoint, PointStands, full_instances}
+use Rattle.pc_inline.specs.Reads.{AreItems, Ends, Passes, Prepared}
 use Rattle.pc_inline.specs.Tables.{Keeps, tables_of}
-use Rattle.pc_inline.specs.Today.{built_enter, built_exports, built_items, built_prepare_all, built_reading}
-use Rattle.pc_inline.specs.Today.{built_result}
+use Rattle.pc_inline.specs.Today.{built_enter, built_exports, built_prepare_all, built_root}
+use Rattle.pc_inline.specs.Worlds.{HasNoExports}
 use Rattle.pc_inline.proofs.StateLemmas.{keeps_refl}
 use Rattle.pc_inline.proofs.FreshLemmas.{first_frame, first_point}
-use Rattle.pc_inline.proofs.RootLemmas.{exports_fail, first_moment, pass_fails, reading_begins, reading_over, root_read}
+use Rattle.pc_inline.proofs.RootLemmas.{counted_begins, ends_then, exports_fail, first_moment, from_start, moment_with}
+use Rattle.pc_inline.proofs.RootLemmas.{point_counted, reading_is, reading_over, root_begins, root_fails, root_read}
 use Rattle.pc_inline.proofs.RootLemmas.{root_stands}
+use Rattle.pc_inline.proofs.TotalLemmas.{HasGrown, child_grows, items_grow, prepared_counts}
 
 module _ (t : TypeTable) (ms : List ModuleRecord) (limit : ℕ) where
   module _ (old : State) (fresh : IsFresh t old) (g : ComponentDfg) where
@@ -45,10 +52,12 @@ module _ (t : TypeTable) (ms : List ModuleRecord) (limit : ℕ) where
 
     -- and nothing was read
     pub begun_point : (c : RuntimeComponentInstanceIndex) → Begins limit old.graph g (Ok c) → (f : Frame)
-        → f ≡ first_frame c → PointStands t ms (record old { graph = g }) f first_moment
+        → (args : List (List ℕ × DefinitionId)) → args ≡ [] → f ≡ record (first_frame c) { arguments = args }
+        → PointStands t ms (record old { graph = g }) f first_moment
     unfolding Begins
-    begun_point c begins f is =
-        subst (λ x. PointStands t ms (record old { graph = g }) x first_moment) (sym is)
+    begun_point c begins f args none is =
+        subst (λ x. PointStands t ms (record old { graph = g }) x first_moment)
+        (sym (is ∙ ap (λ xs. record (first_frame c) { arguments = xs }) none))
         (first_point t ms (record old { graph = g }) c (begins.2 ∙ ap with_component_instance fresh.graph)
         (begins.3 (subst IsOrdered (sym fresh.graph) empty_ordered)) fresh.used
         (begins.1 ∙ ap (λ (x : ComponentDfg). x.num_runtime_component_instances) fresh.graph) fresh.resources
@@ -80,84 +89,147 @@ module _ (t : TypeTable) (ms : List ModuleRecord) (limit : ℕ) (bodies : List T
   abbrev pub Each : Translation → (Items → Type 0) → Type 0
   Each root P = (body : Items) → BodyStands bodies no_names root body → P body
 
-  -- the imports of the root have been prepared, and what follows is read from here
-  abbrev pub IsPrepared : Translation → State → Frame → Type 0
-  IsPrepared root st f = Each root (λ body. (now : Moment) × PointStands t ms st f now
-      × (built_reading t ms limit body
-      ≡ and_then (built_items t ms (built_enter t ms limit limit) 0 body now) (built_result t body)))
-
   -- the items of the root have been read, and it exports from here
   abbrev pub IsRead : Translation → State → Frame → Type 0
   IsRead root st f =
-      Each root (λ body. (now : Moment) × PointStands t ms st f now
-      × (built_reading t ms limit body ≡ built_result t body now))
+      Each root (λ body. (now : Moment) × PointStands t ms st f now × (now.world.total ≡ None)
+      × (built_root t ms limit None body ≡ done now))
 
   module _ (root : Translation) (old : State) (f : Frame) (st : State) (g : Frame) (ls : List LocalInitializer)
-      (is : ls ≡ root.initializers) (among : old.bodies.now ≡ bodies) where
+      (is : ls ≡ root.initializers) (among : old.bodies.now ≡ bodies) (below : 0 < limit)
+      (at : PointStands t ms old f first_moment) where
     items_there : (body : Items) → BodyStands bodies no_names root body → ItemsStand old.bodies.now no_names ls body
     items_there body stands =
         subst (λ bs. ItemsStand bs no_names ls body) (sym among)
         (subst (λ xs. ItemsStand bodies no_names xs body) (sym is) stands.items)
 
-    module _ (below : 0 < limit) (at : PointStands t ms old f first_moment) where
-      pub root_prepared : (r : ⊤) → Prepared t ms ls old f st g (Ok r) → IsPrepared root st g
-      unfolding Passes Ends
-      root_prepared r prepared body stands =
-          let ends = prepared body first_moment (items_there body stands) at in (
+    starts : (body : Items) → BodyStands bodies no_names root body → (r : ⊤) → Prepared t ms ls old f st g (Ok r)
+        → (counted total : Option ℕ) → built_root t ms limit counted body ≡ from_start t ms limit body total
+        → RootStarts t ms limit body counted total st g
+    unfolding Passes Ends
+    starts body stands r prepared counted total reads =
+        let ends = prepared body (moment_with total) (items_there body stands) (point_counted t ms old f first_moment
+        total at) in
+        let same = prepared_counts t ms body 0 (moment_with total) ends.0 ends.1 in
+        record {
+          now = ends.0;
+          stands = ends.2;
+          reads = reads ∙ ap (λ o. and_then o (reading_from t ms limit body)) ends.1;
+          is_total = same.0;
+          begun = same.1;
+        }
+
+    -- the root has begun, and its imports were prepared
+    pub root_begun : (r : ⊤) → Prepared t ms ls old f st g (Ok r)
+        → Each root (λ body. BeginsBody t ms limit body st (Ok g))
+    unfolding BeginsBody
+    root_begun r prepared body stands =
+        let total = first_total t ms body in
+        record {
+          within = below;
+          uncounted = starts body stands r prepared None None (root_begins t ms limit body below);
+          counted = elim (counted_begins t ms limit body below)
+              as (λ _. IsLong t ms limit body
+              ⊎ ((total < full) × RootStarts t ms limit body (Some 0) (Some total) st g)) [
+                | inl long ↦ inl long
+                | inr room ↦ inr (room.0, starts body stands r prepared (Some 0) (Some total) room.1)
+              ];
+        }
+
+    -- or they weren't
+    pub root_unprepared : (e : Error) → Prepared t ms ls old f st g (Err e)
+        → Each root (λ body. IsBuiltEnd t ms limit body st e)
+    unfolding Passes
+    root_unprepared e prepared body stands =
+        root_fails t ms limit body st g (from_start t ms limit body None) e (root_begins t ms limit body below)
+        (ends_then t ms limit body st g (built_prepare_all t ms 0 body first_moment) (reading_from t ms limit body) e
+        (prepared body first_moment (items_there body stands) at))
+
+  -- an error at the beginning is that of each body
+  pub begins_end : (root : Translation) (st : State) (r : Result Frame Error) (e : Error) → IsErrAnd r (λ x. x ≡ e)
+      → Each root (λ body. IsBuiltEnd t ms limit body st e) → Each root (λ body. BeginsBody t ms limit body st r)
+  unfolding BeginsBody
+  begins_end root st (Ok x) e is each = absurd is
+  begins_end root st (Err x) e is each =
+      subst (λ y. Each root (λ body. IsBuiltEnd t ms limit body st y)) (sym is) each
+
+  module _ (root : Translation) (old : State) (f : Frame)
+      (begun : Each root (λ body. BeginsBody t ms limit body old (Ok f))) where
+    -- so it has for each body
+    pub has_begun : (body : Items) → BodyStands bodies no_names root body → RootBegun t ms limit body old f
+    unfolding BeginsBody
+    has_begun body stands = begun body stands
+
+    module _ (stands : (body : Items) × BodyStands bodies no_names root body) where
+      -- from here the items of the root can be read
+      pub run_point : IsPoint t ms old f × (0 < old.graph.num_runtime_component_instances)
+          × (old.graph.num_runtime_component_instances ≤ limit)
+      run_point =
+          let here = has_begun stands.0 stands.1 in
+          let start = here.uncounted in
+          let one = start.begun in
+          let all = start.stands.world.begun in
+          let within = here.within in
+          ((start.now, start.stands), omega (arith, one, all), omega (arith, one, all, within))
+
+    module _ (among : old.bodies.now ≡ bodies) (st : State) where
+      items_here : (body : Items) → BodyStands bodies no_names root body
+          → ItemsStand old.bodies.now no_names root.initializers body
+      items_here body stands = subst (λ bs. ItemsStand bs no_names root.initializers body) (sym among) stands.items
+
+      -- its items were read
+      pub root_is_read : (g : Frame) → Runs t ms limit root.initializers old f st (Ok g) → IsRead root st g
+      unfolding Runs EndsRun Ends
+      root_is_read g runs body stands =
+          let start = (has_begun body stands).uncounted in
+          let ends = runs body start.now (items_here body stands) start.stands start.is_total in
+          let grows = items_grow t ms (built_enter t ms limit limit) (child_grows t ms limit limit) body 0 start.now
+          ends.0 ends.1 in (
             ends.0,
             ends.2,
-            reading_begins t ms limit body below
-                ∙ ap (λ o. and_then o (λ (now : Moment).
-                and_then (built_items t ms (built_enter t ms limit limit) 0 body now) (built_result t body))) ends.1,
+            subst (λ o. HasGrown o ends.0.world.total) start.is_total grows,
+            start.reads ∙ ends.1,
           )
 
-      pub root_unprepared : (e : Error) → Prepared t ms ls old f st g (Err e)
+      -- or they weren't
+      pub root_unread : (e : Error) → Runs t ms limit root.initializers old f st (Err e)
           → Each root (λ body. IsBuiltEnd t ms limit body st e)
-      unfolding Passes
-      root_unprepared e prepared body stands =
-          pass_fails t ms limit body st g (built_prepare_all t ms 0 body first_moment)
-          (λ (now : Moment).
-          and_then (built_items t ms (built_enter t ms limit limit) 0 body now) (built_result t body))
-          e (reading_begins t ms limit body below)
-          (prepared body first_moment (items_there body stands) at)
+      unfolding Runs EndsRun
+      root_unread e runs body stands =
+          let start = (has_begun body stands).uncounted in
+          root_fails t ms limit body st f (reading_from t ms limit body start.now) e start.reads
+          (runs body start.now (items_here body stands) start.stands start.is_total)
 
-    module _ (prepared : IsPrepared root old f) where
-      pub root_is_read : (r : ⊤) → Read t ms ls old f st g (Ok r) → IsRead root st g
-      unfolding Passes Ends
-      root_is_read r read body stands =
-          let here = prepared body stands in
-          let ends = read (built_enter t ms limit limit) body here.0 (items_there body stands) here.1 in
-          (ends.0, ends.2, here.2 ∙ ap (λ o. and_then o (built_result t body)) ends.1)
+  module _ (root : Translation) (old : State) (f : Frame) (is_read : IsRead root old f) where
+    -- from here the root can export
+    pub export_point : ((body : Items) × BodyStands bodies no_names root body)
+        → ((s : Scope) × (w : World) × RootStands t ms old f s w []) × HasNoExports old.graph
+    export_point stands =
+        let here = is_read stands.0 stands.1 in
+        ((here.0.scope, here.0.world, root_stands t ms old f here.0 here.1 here.2), here.1.unexported)
 
-      pub root_unread : (e : Error) → Read t ms ls old f st g (Err e)
-          → Each root (λ body. IsBuiltEnd t ms limit body st e)
-      unfolding Passes
-      root_unread e read body stands =
-          let here = prepared body stands in
-          pass_fails t ms limit body st g (built_items t ms (built_enter t ms limit limit) 0 body here.0)
-          (built_result t body) e here.2
-          (read (built_enter t ms limit limit) body here.0 (items_there body stands) here.1)
+    module _ (st : State) where
+      ends_root : (body : Items) (now : Moment) → built_root t ms limit None body ≡ done now
+          → (r : Result ⊤ Error) → OnOk r (NumbersExports st.graph)
+          → ExportsEnd t ms st f now.scope now.world [] (built_exports t now.scope (exports_in body) 0 now.world) r
+          → InlinesBody t ms limit body st r
+      unfolding InlinesBody
+      ends_root body now is (Ok end) numbers ends =
+          root_read t ms limit body st f now (reading_is t ms limit body (done now) is) numbers ends
+      ends_root body now is (Err e) numbers ends =
+          exports_fail t ms limit body st f now e (reading_is t ms limit body (done now) is) ends
 
-  module _ (root : Translation) (old : State) (f : Frame) (st : State) (is_read : IsRead root old f) where
-    ends_root : (body : Items) (now : Moment) → built_reading t ms limit body ≡ built_result t body now
-        → now.world.total ≡ None → (r : Result ⊤ Error) → OnOk r (NumbersExports st.graph)
-        → ExportsEnd t ms st f now.scope now.world [] (built_exports t now.scope (exports_in body) 0 now.world) r
-        → InlinesBody t ms limit body st r
-    unfolding InlinesBody
-    ends_root body now is total (Ok end) numbers ends = root_read t ms limit body st f now is total numbers ends
-    ends_root body now is total (Err e) numbers ends = exports_fail t ms limit body st f now e is ends
-
-    -- the root exports, and is instantiated
-    pub root_exports : (es : List (ExternName × ItemKind × ℕ)) → es ≡ root.exports → (r : Result ⊤ Error)
-        → OnOk r (NumbersExports st.graph) → Exports t ms es old st f r → InlinesRoot t ms limit bodies root st r
-    unfolding Exports
-    root_exports es are r numbers exports body stands =
-        let here = is_read body stands in
-        let now = here.0 in
-        ends_root body now here.2 here.1.world.total r numbers
-        (subst (λ xs. ExportsEnd t ms st f now.scope now.world [] (built_exports t now.scope xs 0 now.world) r)
-        (ap (map named_item) are ∙ stands.exports)
-        (exports now.scope now.world (root_stands t ms old f now here.1)))
+      -- the root exports, and is instantiated
+      pub root_exports : (es : List (ExternName × ItemKind × ℕ)) → es ≡ root.exports → (r : Result ⊤ Error)
+          → OnOk r (NumbersExports st.graph) → Exports t ms es old st f r → InlinesRoot t ms limit bodies root st r
+      unfolding Exports
+      root_exports es are r numbers exports body stands =
+          let here = is_read body stands in
+          let now = here.0 in
+          ends_root body now here.3 r numbers
+          (subst (λ xs. ExportsEnd t ms st f now.scope now.world [] (built_exports t now.scope xs 0 now.world) r)
+          (ap (map named_item) are ∙ stands.exports)
+          (exports now.scope now.world (root_stands t ms old f now here.1 here.2)))
 
   -- an error is that of each body
   pub each_ends : (root : Translation) (st : State) (r : Result ⊤ Error) (e : Error) → IsErrAnd r (λ x. x ≡ e)
@@ -166,6 +238,12 @@ module _ (t : TypeTable) (ms : List ModuleRecord) (limit : ℕ) (bodies : List T
   each_ends root st (Ok x) e is each = absurd is
   each_ends root st (Err x) e is each =
       subst (λ y. Each root (λ body. IsBuiltEnd t ms limit body st y)) (sym is) each
+
+  -- the error of the beginning is that of the root
+  pub begins_fail : (root : Translation) (st : State) (r : Result ⊤ Error) (e : Error) → IsErrAnd r (λ x. x ≡ e)
+      → Each root (λ body. BeginsBody t ms limit body st (Err e)) → InlinesRoot t ms limit bodies root st r
+  unfolding BeginsBody
+  begins_fail root st r e is begins = each_ends root st r e is begins
 
 -- where a graph grew, the tables did
 pub graph_keeps : (st : State) (g : ComponentDfg) → graph.Grows st.graph g

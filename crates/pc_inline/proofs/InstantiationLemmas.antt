@@ -1,13 +1,16 @@
 -- How the step of a core instance ends, against its row.
-use Rattle.std.proofs.Common.{◌≡◌, ℕ, Bool, true, false, List, [], ◌∷◌, ◌++◌, length, Ok, Err, Option, Some, None}
+use Rattle.std.proofs.Common.{◌≡◌, ℕ, Bool, true, false, List, [], ◌∷◌, ◌++◌, length, Option, Some, None}
+use Rattle.std.proofs.Common.{◌≤◌, ◌⊎◌, Ok, Err, Result}
 use Rattle.std.proofs.Common.{if◌then◌else◌, refl, sym, ap, subst, ◌∙◌}
-use Rattle.std.specs.Prelude.{⊤, slice_get, option_and_then}
+use Rattle.std.specs.Prelude.{⊤, OnErr, OnOk, slice_get, option_and_then}
+use Rattle.std.specs.Result.{IsErrAnd}
 use Rattle.std.proofs.lemmas.Option.{none-some, same_Some}
 use Rattle.pc_entity.specs.Lists.{map_all}
 use Rattle.pc_entity.proofs.Growing.{slice_get-append_seam}
 use Rattle.pc_entity.proofs.MapAll.{length-map_all}
 use Rattle.pc_intern.specs.declared.ids.InstanceId.{InstanceId}
 use Rattle.pc_numbers.specs.declared.component_entity.StaticModuleIndex.{StaticModuleIndex}
+use Rattle.pc_numbers.specs.declared.runtime.RuntimeComponentInstanceIndex.{RuntimeComponentInstanceIndex}
 use Rattle.pc_types.specs.declared.module_record.ModuleRecord.{ModuleRecord}
 use Rattle.pc_types.specs.declared.parsed.TypeTable.{TypeTable}
 use Rattle.pc_types.specs.TypeTree.{TypeTree}
@@ -17,34 +20,45 @@ use Rattle.pc_parsed.specs.Mark.{Mark}
 use Rattle.pc_reading.specs.Arguments.{has_instances, static_argument, static_arguments}
 use Rattle.pc_reading.specs.Item.{instantiate_module_item}
 use Rattle.pc_reading.specs.Modules.{add_static, instantiate_module, next_order, read_core_instance}
-use Rattle.pc_reading.specs.Outcome.{found, invalid}
+use Rattle.pc_reading.specs.Outcome.{Fault, found, invalid}
 use Rattle.pc_reading.specs.Rows.{read_row}
 use Rattle.pc_reading.specs.Scope.{Moment, Scope, add_entry, of_module, with_core_instance}
 use Rattle.pc_reading.specs.Value.{Module, Value, module_value, static_module}
 use Rattle.pc_dfg.specs.declared.core_def.CoreDef.{CoreDef}
 use Rattle.pc_dfg.specs.declared.dfg.ComponentDfg.{ComponentDfg}
+use Rattle.pc_dfg.specs.declared.instance.Instance.{Instance}
 use Rattle.pc_dfg.specs.declared.instance.Instance.TheVariants as source
 use Rattle.pc_dfg.specs.Grows as graph
+use Rattle.pc_dfg.specs.declared.push_error.PushError.{PushError}
+use Rattle.pc_dfg.specs.declared.push_error.PushError.TheVariants as push_error
+use Rattle.pc_dfg.specs.Lists as list
+use Rattle.pc_dfg.specs.Lists.{entries_of}
 use Rattle.pc_dfg.specs.Held.{HasBegun, HeldInstance}
 use Rattle.pc_dfg.specs.Ordered.{IsOrdered}
 use Rattle.pc_dfg.specs.Pushed.{with_instance}
 use Rattle.pc_inline.specs.declared.definition.Definition.{Definition}
 use Rattle.pc_inline.specs.declared.definition.DefinitionId.{DefinitionId}
+use Rattle.pc_inline.specs.declared.error.ItemError.{ItemError}
 use Rattle.pc_inline.specs.declared.error.ItemError.TheVariants as item_error
 use Rattle.pc_inline.specs.declared.error.ItemFault.TheVariants as item_fault
 use Rattle.pc_inline.specs.declared.frame.CoreInstance.TheVariants as instance
 use Rattle.pc_inline.specs.declared.frame.Frame.{Frame}
 use Rattle.pc_inline.specs.declared.state.State.{State}
+use Rattle.pc_inline.specs.Adds.{Adds}
 use Rattle.pc_inline.specs.Definitions.{module_index}
 use Rattle.pc_inline.specs.Found.{ArgumentStands, ArgumentsStand}
 use Rattle.pc_inline.specs.Frames.{Both, FrameStands, ModuleStands, made_stands}
-use Rattle.pc_inline.specs.Points.{PointStands, StepsItem}
+use Rattle.pc_inline.specs.Faults.{of_push_error}
+use Rattle.pc_inline.specs.Points.{PointStands, Steps, StepsItem}
 use Rattle.pc_inline.specs.Stands.{DefinitionStands, stands, stands_component, stands_host, stands_instance}
 use Rattle.pc_inline.specs.Stands.{stands_lifted, stands_static}
-use Rattle.pc_inline.specs.Tables.{Tables, tables_of}
+use Rattle.pc_inline.specs.Tables.{Keeps, Tables, tables_of}
+use Rattle.pc_inline.proofs.AddsLemmas.{everywhere_few}
+use Rattle.pc_inline.proofs.AddsPushLemmas.{instance_adds}
+use Rattle.pc_inline.proofs.GrowthLemmas.{graph_crowded, graph_grown}
 use Rattle.pc_inline.proofs.CoreInstanceLemmas.{made_point}
 use Rattle.pc_inline.proofs.FrameLemmas.{framed_point, instance_framed}
-use Rattle.pc_inline.proofs.StepLemmas.{row_goes, row_stuck, steps_on, steps_stuck}
+use Rattle.pc_inline.proofs.StepLemmas.{row_goes, row_stuck, steps_full, steps_on, steps_stuck}
 use Rattle.pc_inline.proofs.ZipLemmas.{both_missing, both_there, zip_at, zip_length}
 
 module _ (ms : List ModuleRecord) (b : Tables) where
@@ -84,6 +98,30 @@ abbrev pub IsGiven : List ModuleRecord → State → Frame → List (List ℕ ×
 IsGiven ms st f args m defs =
     (s : Scope) → FrameStands ms (tables_of st) f s → Both (ArgumentsStand ms (tables_of st)) defs
     (option_and_then (static_arguments ms s args) (slice_get ms m.0))
+
+module _ (b : Tables) (g : ComponentDfg) where
+  -- what is kept where the graph alone has grown
+  pub instance_keeps : graph.Grows b.graph g → Keeps b (record b { graph = g })
+  instance_keeps = graph_grown b g
+
+  -- a core instance adds an entry to some lists
+  pub instance_few : (t : TypeTable) {A E : Type 0} (r : Result A E) (x : Instance)
+      (owner : RuntimeComponentInstanceIndex) → OnOk r (g ≡ with_instance b.graph x owner)
+      → OnErr r ((g ≡ b.graph) ⊎ (g ≡ record b.graph { instances = b.graph.instances ++ x ∷ [] }))
+      → Adds t 0 4 b (record b { graph = g })
+  instance_few t r x owner ok err =
+      everywhere_few t b (record b { graph = g }) (instance_adds b g r x owner ok err)
+
+-- there was no room for a core instance
+pub instance_full : (t : TypeTable) (ms : List ModuleRecord) (reads : Moment → Result Moment Fault) (st : State)
+    (f : Frame) (g : ComponentDfg) (f' : Frame) (r : Result ⊤ ItemError) {A : Type 0} (q : Result A PushError)
+    (x : PushError) → q ≡ Err x
+    → (q ≡ Err push_error.TooMany → 4294967295 ≤ length (entries_of st.graph list.instances))
+    → graph.Grows st.graph g → IsErrAnd r (λ e. e ≡ of_push_error x)
+    → Steps t ms reads st f (record st { graph = g }) f' r
+instance_full t ms reads st f g f' r q x was full grows is =
+    steps_full t ms reads st f (record st { graph = g }) f' r x is (λ many.
+    graph_crowded (tables_of (record st { graph = g })) st.graph grows list.instances (full (was ∙ ap Err many)))
 
 module _ (t : TypeTable) (ms : List ModuleRecord) (st : State) (f : Frame) (n : ℕ) (args : List (List ℕ × ℕ)) where
   -- the module, in the code and in the reading
@@ -125,29 +163,28 @@ module _ (t : TypeTable) (ms : List ModuleRecord) (st : State) (f : Frame) (n : 
           ∙ ap (instantiate_module t ms now args) (s.3 ∙ ap (λ k. static_module k.0 s.1) same)
 
       -- an argument is missing
-      pub module_stuck : (st' : State) (f' : Frame)
-          → IsGiven ms st f args m None
+      pub module_stuck : (st' : State) (f' : Frame) (o : Option (List CoreDef)) → o ≡ None → IsGiven ms st f args m o
           → StepsItem t ms (instantiate_module_item n args) st f st' f' (Err (item_error.Fault item_fault.Invalid))
-      module_stuck st' f' given = steps_stuck t ms _ st f st' f' item_fault.Invalid (λ now at.
+      module_stuck st' f' o none given = steps_stuck t ms _ st f st' f' item_fault.Invalid (λ now at.
           row_stuck t ms now (instantiate_module_item n args) invalid refl
           (module_row now at
           ∙ ap (λ o. found invalid o (λ (vs : List (CoreValue Mark)). Ok (add_static now m.0 vs)))
-          (both_missing (ArgumentsStand ms (tables_of st)) None _ (given now.scope at.frame) refl)))
+          (both_missing (ArgumentsStand ms (tables_of st)) o _ (given now.scope at.frame) none)))
 
       -- the core instance is made
       pub module_made : (ds : List CoreDef) (g : ComponentDfg) (f' : Frame) (i : InstanceId) (r : ⊤)
-          → IsGiven ms st f args m (Some ds)
+          → (o : Option (List CoreDef)) → o ≡ Some ds → IsGiven ms st f args m o
           → g ≡ with_instance st.graph (source.Static m ds) f.component_instance → graph.Grows st.graph g
           → (HeldInstance st.graph (source.Static m ds) → HasBegun st.graph f.component_instance.0
           → IsOrdered st.graph → IsOrdered g)
           → i.0 ≡ length st.graph.instances
           → f' ≡ record f { core_instances = f.core_instances ++ instance.Made i m ∷ [] }
           → StepsItem t ms (instantiate_module_item n args) st f (record st { graph = g }) f' (Ok r)
-      module_made ds g f' i r given made grows ordered number framed =
+      module_made ds g f' i r o some given made grows ordered number framed =
           subst (λ (h : ComponentDfg). StepsItem t ms (instantiate_module_item n args) st f (record st { graph = h })
           f' (Ok r))
           (sym made) (steps_on t ms _ st f _ f' r (λ now at.
-          let vs = both_there (ArgumentsStand ms (tables_of st)) (Some ds) _ ds (given now.scope at.frame) refl in
+          let vs = both_there (ArgumentsStand ms (tables_of st)) o _ ds (given now.scope at.frame) some in
           let x = given_record ms now.scope args (slice_get ms m.0) vs.0 vs.1 in
           let h = with_instance st.graph (source.Static m ds) f.component_instance in
           let st' = record st { graph = h } in

@@ -1,6 +1,8 @@
 -- The step of a lift.
-use Rattle.std.proofs.Common.{◌≡◌, ℕ, List, [], ◌∷◌, ◌++◌, length, None, Some, Result, Ok, Err, refl}
+use Rattle.std.proofs.Common.{◌≡◌, ℕ, List, [], ◌∷◌, ◌++◌, length, None, Some, Result, Ok, Err}
+use Rattle.std.proofs.Common.{refl, subst, sym}
 use Rattle.std.specs.Prelude.{⊤, slice_get}
+use Rattle.std.specs.Result.{IsErrAnd}
 use Rattle.pc_numbers.specs.declared.module_entity.ModuleInternedTypeIndex.{ModuleInternedTypeIndex}
 use Rattle.pc_types.specs.declared.module_record.ModuleRecord.{ModuleRecord}
 use Rattle.pc_types.specs.declared.parsed.CoreFuncSig.{CoreFuncSig}
@@ -43,7 +45,7 @@ use Rattle.pc_inline.proofs.DefinitionLemmas.{definition_added}
 use Rattle.pc_inline.proofs.FrameLemmas.{framed_point, func_framed}
 use Rattle.pc_inline.proofs.KeptLemmas.{item_kept, options_kept}
 use Rattle.pc_inline.proofs.OptionLemmas.{options_in_stand}
-use Rattle.pc_inline.proofs.PassedLemmas.{steps_lacking}
+use Rattle.pc_inline.proofs.PassedLemmas.{steps_lacking, steps_passed}
 use Rattle.pc_inline.proofs.StateLemmas.{converts_prepares, definition_prepares}
 use Rattle.pc_inline.proofs.StepLemmas.{row_goes, row_stuck, steps_on, steps_stuck}
 use Rattle.pc_inline.proofs.TypeLemmas.{FunctionThere, function_there, no_function}
@@ -78,6 +80,13 @@ module _ (t : TypeTable) (ms : List ModuleRecord) (func ty core : ℕ) (opts : L
   lift_lacks_types st f st' f' e lacks =
       steps_lacking t ms reads st f st' f' item_fault.BadType (HasNoFunction t ty core) e lacks
       (λ now at none. lift_untyped now none)
+
+  -- the same, handed on
+  pub lift_lacks : (st : State) (f : Frame) (st' : State) (f' : Frame) (r : Result ⊤ ItemError) (e : ItemError)
+      → IsErrAnd r (λ x. x ≡ e) → LacksRoomOr item_fault.BadType (HasNoFunction t ty core) st' e
+      → StepsItem t ms lift st f st' f' r
+  lift_lacks st f st' f' r e is lacks =
+      steps_passed t ms reads st f st' f' r e is (lift_lacks_types st f st' f' e lacks)
 
   -- types were converted, and a point stands where it did
   module _ (st : State) (f : Frame) (st' : State) (converts : Converts t st st') (n : TypeFuncIndex)
@@ -168,3 +177,15 @@ module _ (t : TypeTable) (ms : List ModuleRecord) (func ty core : ℕ) (opts : L
         steps_on t ms reads st f (record st' { definitions = st'.definitions ++ definition.LiftedFunc n id o ∷ [] })
         (record f { funcs = f.funcs ++ key ∷ [] }) r
         (λ now at. lift_goes now at id found_it o sound key last)
+
+    -- the same, where the state and the frame after it are said by equations
+    pub lift_made : (id : CoreId) → slice_get f.core_funcs func ≡ Some id → (o : Options)
+        → options_in f i opts ≡ Some o
+        → (key : DefinitionId) → key.0 ≡ length st'.definitions → (r : ⊤) (end : State) (fs : List DefinitionId)
+        → end ≡ record st' { definitions = st'.definitions ++ definition.LiftedFunc n id o ∷ [] }
+        → fs ≡ f.funcs ++ key ∷ [] → StepsItem t ms lift st f end (record f { funcs = fs }) (Ok r)
+    lift_made id found_it o sound key last r end fs ended added =
+        subst (λ x. StepsItem t ms lift st f x (record f { funcs = fs }) (Ok r)) (sym ended)
+        (subst (λ xs. StepsItem t ms lift st f
+        (record st' { definitions = st'.definitions ++ definition.LiftedFunc n id o ∷ [] })
+        (record f { funcs = xs }) (Ok r)) (sym added) (lift_steps id found_it o sound key last r))

@@ -92,5 +92,4 @@ module _ (types : Types) (g h : ComponentDfg) (grows : graph.Grows g h) (w : Wor
     intrinsics = stands.intrinsics;
     no_adapters = no_adapters-push w.log e stands.no_adapters made;
     begun = stands.begun ∙ sym begun;
-    total = stands.total;
   }

@@ -1,67 +1,54 @@
--- What the loops over items add, and so the root.
-use Rattle.std.proofs.Common.{◌≡◌, ◌<◌, ◌≤◌, ◌+◌, ◌*◌, ℕ, List, [], ◌∷◌, length, take, sum_by, get_or, refl, sym, ap}
+-- What a loop over items adds, and how many items and exports a body has.
+use Rattle.std.proofs.Common.{◌≡◌, ◌<◌, ◌≤◌, ◌+◌, ◌*◌, ℕ, List, length, take, sum_by, get_or, refl, sym, ap}
 use Rattle.std.proofs.Common.{subst, ◌∙◌, arith}
-use Rattle.std.proofs.lemmas.List.Sums.{sum_by-cons, sum_by-take-le, sum_by_more, sum_by_more_le}
+use Rattle.std.proofs.lemmas.List.Sums.{sum_by-take-le, sum_by_more, sum_by_more_le}
 use Rattle.pc_types.specs.declared.parsed.TypeTable.{TypeTable}
 use Rattle.pc_reading.specs.Item
 use Rattle.pc_reading.specs.Item.{Items, and_item, exports_in, no_items}
 use Rattle.pc_local.specs.declared.item.LocalInitializer.{LocalInitializer}
-use Rattle.pc_local.specs.declared.item.LocalInitializer.TheVariants as local
 use Rattle.pc_local.specs.declared.item.Translation.{Translation}
 use Rattle.pc_local.specs.Standing.{ItemsStand, Names, stand_more, stand_none}
-use Rattle.pc_inline.specs.Adds.{Adds, functions_in, imports_in, item_count}
+use Rattle.pc_inline.specs.Adds.{Adds, item_count}
 use Rattle.pc_inline.specs.Tables.{Tables}
 use Rattle.pc_inline.proofs.AddsLemmas.{adds_trans, adds_weaken}
 
 module _ (t : TypeTable) (weight : LocalInitializer → ℕ) (ls : List LocalInitializer) where
   -- so many items have added their weights
   abbrev pub AddedSoFar : ℕ → Tables → Tables → Type 0
-  AddedSoFar n a b = Adds t (sum_by weight (take n ls)) (4 * n) a b
+  AddedSoFar n a b = Adds t (sum_by weight (take n ls)) (4 * sum_by weight (take n ls)) a b
 
   module _ (n : ℕ) (l : LocalInitializer) (within : n < length ls) (is : l ≡ get_or ls n l) (a b x : Tables)
-      (far : AddedSoFar n a b) (adds : Adds t (weight l) 4 b x) where
+      (far : AddedSoFar n a b) (adds : Adds t (weight l) (4 * weight l) b x) where
+    added_sum : Adds t (sum_by weight (take n ls) + weight l) (4 * sum_by weight (take n ls) + 4 * weight l) a x
+    added_sum =
+        adds_trans t (sum_by weight (take n ls)) (4 * sum_by weight (take n ls)) (weight l) (4 * weight l) a b x far
+        adds
+
     -- one item more
     pub added_more : AddedSoFar (n + 1) a x
     added_more =
         let sum : sum_by weight (take (n + 1) ls) ≡ sum_by weight (take n ls) + weight l =
         sum_by_more weight ls n l within ∙ ap (λ k. sum_by weight (take n ls) + weight k) (sym is) in
-        adds_weaken t (sum_by weight (take n ls) + weight l) (4 * n + 4) (sum_by weight (take (n + 1) ls)) (4 * (n + 1))
-        a x (omega (arith, sum)) (omega arith)
-        (adds_trans t (sum_by weight (take n ls)) (4 * n) (weight l) 4 a b x far adds)
+        adds_weaken t (sum_by weight (take n ls) + weight l) (4 * sum_by weight (take n ls) + 4 * weight l)
+        (sum_by weight (take (n + 1) ls)) (4 * sum_by weight (take (n + 1) ls)) a x (omega (arith, sum))
+        (omega (arith, sum)) added_sum
 
     -- and no more after it
-    pub added_last : Adds t (sum_by weight ls) (4 * length ls) a x
+    pub added_last : Adds t (sum_by weight ls) (4 * sum_by weight ls) a x
     added_last =
         let sum : sum_by weight (take n ls) + weight l ≤ sum_by weight ls =
         subst (λ k. sum_by weight (take n ls) + weight k ≤ sum_by weight ls) (sym is)
         (sum_by_more_le weight ls n l within) in
-        adds_weaken t (sum_by weight (take n ls) + weight l) (4 * n + 4) (sum_by weight ls) (4 * length ls) a x
-        sum (omega (arith, within))
-        (adds_trans t (sum_by weight (take n ls)) (4 * n) (weight l) 4 a b x far adds)
+        adds_weaken t (sum_by weight (take n ls) + weight l) (4 * sum_by weight (take n ls) + 4 * weight l)
+        (sum_by weight ls) (4 * sum_by weight ls) a x sum (omega (arith, sum)) added_sum
 
   -- all items
   pub added_all : (n : ℕ) (a b : Tables) → n ≤ length ls → AddedSoFar n a b
-      → Adds t (sum_by weight ls) (4 * length ls) a b
+      → Adds t (sum_by weight ls) (4 * sum_by weight ls) a b
   added_all n a b le far =
-      adds_weaken t (sum_by weight (take n ls)) (4 * n) (sum_by weight ls) (4 * length ls) a b
-      (sum_by-take-le weight ls n) (omega (arith, le)) far
-
--- an item converts one type at most
-one_type : (l : LocalInitializer) → imports_in l + functions_in l ≤ 1
-one_type (local.Import a b) = omega arith
-one_type (local.Lift a b c d) = omega arith
-one_type (local.Lower a b c d) = omega arith
-one_type l = omega arith
-
--- and items no more than there are
-pub types_in : (ls : List LocalInitializer) → sum_by imports_in ls + sum_by functions_in ls ≤ length ls
-types_in [] = omega arith
-types_in (l ∷ ls) =
-    let first = one_type l in
-    let rest = types_in ls in
-    let imports = sum_by-cons imports_in l ls in
-    let functions = sum_by-cons functions_in l ls in
-    omega (arith, first, rest, imports, functions)
+      let sum = sum_by-take-le weight ls n in
+      adds_weaken t (sum_by weight (take n ls)) (4 * sum_by weight (take n ls)) (sum_by weight ls)
+      (4 * sum_by weight ls) a b sum (omega (arith, sum)) far
 
 -- a body has as many items as stand for it
 pub as_many_items : (bodies : List Translation) (names : Names) (ls : List LocalInitializer) (is : Items)

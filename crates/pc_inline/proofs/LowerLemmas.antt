@@ -3,6 +3,7 @@ use Rattle.std.proofs.Common.{◌≡◌, ◌<◌, ◌||◌, ℕ, Bool, true, fal
 use Rattle.std.proofs.Common.{Result, Ok, Err, if◌then◌else◌, refl, sym, ap, subst, ◌∙◌}
 use Rattle.std.specs.Prelude.{⊤, slice_get, option_and_then}
 use Rattle.std.specs.List.{list_any}
+use Rattle.std.specs.Result.{IsErrAnd}
 use Rattle.std.proofs.lemmas.List.Folds.{list_any-append}
 use Rattle.std.proofs.lemmas.Option.{none-some, same_Some}
 use Rattle.pc_numbers.specs.declared.module_entity.ModuleInternedTypeIndex.{ModuleInternedTypeIndex}
@@ -56,7 +57,7 @@ use Rattle.pc_inline.specs.Typed.{AreOfFunction, HasNoFunction}
 use Rattle.pc_inline.specs.Written.{options_in}
 use Rattle.pc_inline.proofs.FrameLemmas.{core_framed, framed_point}
 use Rattle.pc_inline.proofs.OptionLemmas.{options_in_stand}
-use Rattle.pc_inline.proofs.PassedLemmas.{steps_lacking}
+use Rattle.pc_inline.proofs.PassedLemmas.{steps_lacking, steps_passed}
 use Rattle.pc_inline.proofs.StateLemmas.{converts_prepares}
 use Rattle.pc_inline.proofs.StepLemmas.{row_goes, row_stuck, steps_on, steps_stuck}
 use Rattle.pc_inline.proofs.ThereLemmas.{options_there}
@@ -65,7 +66,7 @@ use Rattle.pc_inline.proofs.WorldLemmas.{point_kept}
 use Rattle.pc_inline.proofs.ZipLemmas.{both_missing, both_there, zip_at}
 
 -- a lower that makes an adapter isn't built
-row_adapts : (t : TypeTable) (ms : List ModuleRecord) (now next : Moment) (i : Item) → is_built i ≡ true
+row_adapts : (t : TypeTable) (ms : List ModuleRecord) (now next : Moment) (i : Item) → is_built t i ≡ true
     → read_row t ms now i ≡ Ok next → list_any is_made next.world.log ≡ true
     → built_row t ms now i ≡ Err (unsupported NotBuilt)
 unfolding built_row
@@ -174,6 +175,13 @@ module _ (t : TypeTable) (ms : List ModuleRecord) (func ty core : ℕ) (opts : L
   lower_lacks_types st f st' f' e lacks =
       steps_lacking t ms reads st f st' f' item_fault.BadType (HasNoFunction t ty core) e lacks
       (λ now at none. lower_untyped now none)
+
+  -- the same, handed on
+  pub lower_lacks : (st : State) (f : Frame) (st' : State) (f' : Frame) (r : Result ⊤ ItemError) (e : ItemError)
+      → IsErrAnd r (λ x. x ≡ e) → LacksRoomOr item_fault.BadType (HasNoFunction t ty core) st' e
+      → StepsItem t ms lower st f st' f' r
+  lower_lacks st f st' f' r e is lacks =
+      steps_passed t ms reads st f st' f' r e is (lower_lacks_types st f st' f' e lacks)
 
   -- types were converted, and a point stands where it did
   module _ (st : State) (f : Frame) (st' : State) (converts : Converts t st st') (n : TypeFuncIndex)

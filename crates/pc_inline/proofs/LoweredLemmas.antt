@@ -228,6 +228,7 @@ module _ (t : TypeTable) (ms : List ModuleRecord) (st : State) (ts : List Signed
         held = record { options = point.sound.held.options; functions = point.sound.held.functions };
       };
       here = point.here;
+      typed = point.typed;
       frame = frame_kept ms (tables_of st) (tables_of lowered_to) (graph_grown (tables_of st) lowered_in grows) f
           now.scope
           point.frame;

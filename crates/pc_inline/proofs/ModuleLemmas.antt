@@ -25,7 +25,7 @@ use Rattle.pc_inline.specs.Tables.{tables_of}
 use Rattle.pc_inline.specs.Today.{built_row}
 use Rattle.pc_inline.proofs.DefinitionLemmas.{definition_added}
 use Rattle.pc_inline.proofs.FrameLemmas.{framed_point, module_framed}
-use Rattle.pc_inline.proofs.ModuleTreeLemmas.{module_tree}
+use Rattle.pc_inline.proofs.TreeLemmas.{tested_tree}
 use Rattle.pc_inline.proofs.StateLemmas.{definition_prepares}
 use Rattle.pc_inline.proofs.StepLemmas.{row_goes, row_stuck, steps_on, steps_stuck}
 use Rattle.pc_inline.proofs.WorldLemmas.{point_kept}
@@ -64,7 +64,7 @@ module _ (t : TypeTable) (ms : List ModuleRecord) (m : StaticModuleIndex) (ty : 
     module_goes : (now : Moment) → PointStands t ms st f now → Goes t ms end with_it (reads now)
     unfolding tree_if type_tree
     module_goes now at =
-        let tree = module_tree now.scope.known now.scope.component_instance t ty sound has in
+        let tree = tested_tree t sound is_module now.scope.known now.scope.component_instance ty has in
         let there : tree_if t is_module now.scope ty ≡ Some tree.0 = rw (has) tree.1 in
         let v = module_value (static_module m.0 tree.0) in
         let next = add_value now v in

@@ -126,7 +126,6 @@ module _ (t : TypeTable) (ms : List ModuleRecord) (st : State) (f : Frame) (name
         intrinsics = s.intrinsics;
         no_adapters = s.no_adapters;
         begun = s.begun;
-        total = s.total;
       }
 
       given_point : (IsOrdered st.graph → IsOrdered given_in) → i.0 ≡ length st.graph.import_types
@@ -179,6 +178,7 @@ module _ (t : TypeTable) (ms : List ModuleRecord) (st : State) (f : Frame) (name
               held = record { options = at.sound.held.options; functions = at.sound.held.functions };
             };
             here = at.here;
+            typed = at.typed;
             frame = record {
               core_funcs = kept.core_funcs;
               memories = kept.memories;
@@ -230,5 +230,5 @@ prepare_steps t ms before f st converts name ty n typed entry x is_func_type met
       stands = subst (λ s. PointStands t ms s f' next) (sym same)
           (subst (λ g. PointStands t ms (given_to t ms st f name x u i) g next) (sym framed) after);
       done = prepare_given t ms st f name ty now e.0 typed
-          (scope_tree t ms before f now at st.types converts.grows.resources ty ∙ e.1);
+          (scope_tree t ms before f now at st.types converts.grows.resources ty typed ∙ e.1);
     })

@@ -185,6 +185,7 @@ module _ (t : TypeTable) (ms : List ModuleRecord) (st : State) (ty : TypeFuncInd
         world = world_still st.types st.types st.graph exported (types_refl st.types) grows refl refl refl refl refl
             refl w
             root.world;
+        total = root.total;
         exports = zip_more (NameStands st.types st.graph) (NameStands st.types exported)
             (name_still st.types st.types st.graph exported (types_refl st.types) grows) st.graph.exports nodes
             root.exports;
@@ -213,7 +214,7 @@ module _ (t : TypeTable) (ms : List ModuleRecord) (st : State) (ty : TypeFuncInd
         reaches_lifted = (
           node.lifted (of_type tree) callee os,
           ap (λ y. function_node y w) function
-              ∙ leaf_reached (node.lifted (of_type tree) callee os) w root.world.total,
+              ∙ leaf_reached (node.lifted (of_type tree) callee os) w root.total,
           node_there,
           root_exported,
         )

@@ -9,7 +9,6 @@ use Rattle.pc_types.specs.declared.module_record.ModuleRecord.{ModuleRecord}
 use Rattle.pc_types.specs.declared.parsed.TypeTable.{TypeTable}
 use Rattle.pc_reading.specs.Item.{Item, Items, and_item, no_items}
 use Rattle.pc_reading.specs.Outcome.{Fault, Outcome, and_then, at_item, done}
-use Rattle.pc_reading.specs.Reading.{Enter}
 use Rattle.pc_reading.specs.Scope.{Moment}
 use Rattle.pc_local.specs.declared.item.LocalInitializer.{LocalInitializer}
 use Rattle.pc_local.specs.declared.item.Translation.{Translation}
@@ -23,7 +22,6 @@ use Rattle.pc_inline.specs.Faults.{error_of}
 use Rattle.pc_inline.specs.Points.{Follows, Goes, IsPoint, Steps}
 use Rattle.pc_inline.specs.Reads.{AreItems, Ends, Passes, SoFar, items_from}
 use Rattle.pc_inline.specs.Tables.{Keeps, tables_of}
-use Rattle.pc_inline.specs.Today.{built_item, built_items, built_row}
 use Rattle.pc_inline.proofs.StateLemmas.{keeps_refl, keeps_trans}
 
 -- the item at a place of a body
@@ -46,40 +44,6 @@ none_left bodies names ls is (suc n) end (stand_more {ls = ks} {is = js} first r
     none_left bodies names ks js n (omega (arith, end)) rest
 
 module _ (t : TypeTable) (ms : List ModuleRecord) where
-  -- an item is a row at its place
-  pub item_is_row : (enter : Enter) (n : ℕ) (i : Item) (now : Moment)
-      → built_item t ms enter n i now ≡ at_item now.scope.component_instance n (built_row t ms now i)
-  unfolding built_item built_row
-  item_is_row enter n (Item.import_item a b) now = refl
-  item_is_row enter n Item.intrinsics_import now = refl
-  item_is_row enter n (Item.resource_item a b d) now = refl
-  item_is_row enter n (Item.lift_item a b d e) now = refl
-  item_is_row enter n (Item.lower_item a b d e) now = refl
-  item_is_row enter n (Item.builtin_item a b d) now = refl
-  item_is_row enter n (Item.waitable_item a b d) now = refl
-  item_is_row enter n (Item.task_return_item a b d) now = refl
-  item_is_row enter n (Item.error_context_item a b d) now = refl
-  item_is_row enter n (Item.context_item a b d) now = refl
-  item_is_row enter n (Item.new_thread_item a b d) now = refl
-  item_is_row enter n (Item.module_item a b) now = refl
-  item_is_row enter n (Item.instantiate_module_item a b) now = refl
-  item_is_row enter n (Item.core_exports_item a) now = refl
-  item_is_row enter n (Item.component_item a) now = refl
-  item_is_row enter n (Item.instantiate_component_item a b d) now = refl
-  item_is_row enter n (Item.component_exports_item a b) now = refl
-  item_is_row enter n (Item.core_alias_item a b d) now = refl
-  item_is_row enter n (Item.alias_item a b d) now = refl
-  item_is_row enter n (Item.outer_item a b d) now = refl
-  item_is_row enter n (Item.export_item a) now = refl
-
-  -- what is read from an item on
-  pub row_first : (enter : Enter) (n : ℕ) (i : Item) (is : Items) (now : Moment)
-      → built_items t ms enter n (and_item i is) now
-      ≡ and_then (at_item now.scope.component_instance n (built_row t ms now i)) (built_items t ms enter (n + 1) is)
-  unfolding built_items
-  row_first enter n i is now =
-      ap (λ o. and_then o (built_items t ms enter (n + 1) is)) (item_is_row enter n i now)
-
   -- nothing was read yet
   pub read_none : (reads : ℕ → Items → Moment → Outcome Moment) (ls : List LocalInitializer) (st : State) (f : Frame)
       → IsPoint t ms st f → SoFar t ms reads ls 0 st f st f
@@ -176,8 +140,3 @@ module _ (t : TypeTable) (ms : List ModuleRecord) where
         here.2 ∙ ap (λ js. reads n js here.0) (none_left old.bodies.now no_names ls is n end stand) ∙ ends here.0,
         here.1,
       )
-
-  -- the items of a body end where they are read
-  pub items_end : (enter : Enter) (n : ℕ) (now : Moment) → built_items t ms enter n no_items now ≡ done now
-  unfolding built_items
-  items_end enter n now = refl

@@ -1,19 +1,26 @@
 -- How few entries and types a root has.
-use Rattle.std.proofs.Common.{◌≡◌, ◌≤◌, ◌+◌, ◌*◌, ℕ, List, length, sum_by, Result, Ok, Err, refl, sym, ap, subst, ◌∙◌}
-use Rattle.std.proofs.Common.{inl, inr, arith}
+use Rattle.std.proofs.Common.{◌≡◌, ◌<◌, ◌≤◌, ◌+◌, ◌*◌, ◌⊎◌, ℕ, List, length, sum_by, Some, Result, Ok, Err, refl, sym}
+use Rattle.std.proofs.Common.{ap, subst, ◌∙◌, inl, inr, arith}
+use Rattle.std.specs.Prelude.{⊤, OnOk}
+use Rattle.std.specs.Result.{IsErrAnd}
 use Rattle.std.proofs.lemmas.List.{length-map}
+use Rattle.std.proofs.lemmas.Option.{same_Some}
 use Rattle.pc_numbers.specs.declared.runtime.RuntimeComponentInstanceIndex.{RuntimeComponentInstanceIndex}
 use Rattle.pc_types.specs.declared.error.Error.{Error}
 use Rattle.pc_types.specs.declared.error.Error.TheVariants as error
+use Rattle.pc_types.specs.declared.module_record.ModuleRecord.{ModuleRecord}
 use Rattle.pc_types.specs.declared.parsed.TypeTable.{TypeTable}
 use Rattle.pc_interned.specs.Types.{Types}
 use Rattle.pc_parsed.specs.declared.payload.ExternName.{ExternName}
 use Rattle.pc_parsed.specs.declared.payload.ItemKind.{ItemKind}
 use Rattle.pc_reading.specs.Item.{Items, exports_in}
+use Rattle.pc_reading.specs.Outcome.{done}
+use Rattle.pc_reading.specs.Scope.{Moment}
 use Rattle.pc_reading.specs.Section.{named_item}
+use Rattle.pc_reading.specs.World.{full}
 use Rattle.pc_local.specs.declared.item.LocalInitializer.{LocalInitializer}
 use Rattle.pc_local.specs.declared.item.Translation.{Translation}
-use Rattle.pc_local.specs.Standing.{no_names}
+use Rattle.pc_local.specs.Standing.{BodyStands, ItemsStand, no_names}
 use Rattle.pc_semantics.specs.PlanView as plan
 use Rattle.pc_dfg.specs.declared.dfg.ComponentDfg.{ComponentDfg}
 use Rattle.pc_dfg.specs.Empty.{empty_graph}
@@ -21,15 +28,24 @@ use Rattle.pc_dfg.specs.Lists as list
 use Rattle.pc_dfg.specs.Lists.{ListName, entries_of}
 use Rattle.pc_dfg.specs.Numbers.{slots_of}
 use Rattle.pc_dfg.specs.Pushed.{with_component_instance}
+use Rattle.pc_inline.specs.declared.frame.Frame.{Frame}
 use Rattle.pc_inline.specs.declared.state.State.{State}
-use Rattle.pc_inline.specs.Adds.{Adds, AddsTypes, functions_in, imports_in, item_count}
-use Rattle.pc_inline.specs.Begins.{Begins, HasFew, IsFresh, RootHasFew, counted_tables, no_resources}
+use Rattle.pc_inline.specs.Adds.{Adds, AddsTypes, imports_in, item_count}
+use Rattle.pc_inline.specs.Begins.{Begins, BegunHasFew, EndsWith, HasAtMost, HasFew, IsFresh, IsLong, IsLongOrHasFew}
+use Rattle.pc_inline.specs.Begins.{RootBegun, RootHasFew, counted_tables, first_total}
+use Rattle.pc_inline.specs.Driving.{Counts, EndsIn, reading_from}
 use Rattle.pc_inline.specs.Inlines.{HasNoRoom}
 use Rattle.pc_inline.specs.Points.{IsFullSomewhere, full_closures, full_cores, full_definitions, full_exports}
 use Rattle.pc_inline.specs.Points.{full_graph, full_instances, full_types}
 use Rattle.pc_inline.specs.Tables.{Tables, tables_of}
-use Rattle.pc_inline.proofs.AddsLemmas.{adds_refl, adds_trans, adds_weaken}
-use Rattle.pc_inline.proofs.LoopAddsLemmas.{as_many_items, few_exports, types_in}
+use Rattle.pc_inline.specs.Today.{built_enter, built_root}
+use Rattle.pc_inline.specs.Typed.{no_resources}
+use Rattle.pc_inline.proofs.AddsLemmas.{adds_refl, types_trans}
+use Rattle.pc_inline.proofs.LoopAddsLemmas.{few_exports}
+use Rattle.pc_inline.proofs.RootLemmas.{counted_begins}
+use Rattle.pc_inline.proofs.TodayLemmas.{past_read}
+use Rattle.pc_inline.proofs.TotalLemmas.{HasGrown, child_grows, items_grow}
+use Rattle.pc_inline.proofs.WeightLemmas.{weight_of_imports, weight_of_items}
 
 -- a graph with nothing in any list
 abbrev pub HasNone : ComponentDfg → Type 0
@@ -114,94 +130,250 @@ module _ (t : TypeTable) (old : State) (fresh : IsFresh t old) (g : ComponentDfg
   begun_graph limit (Err (error.DefinedTwice p)) begins = absurd begins
   begun_graph limit (Err (error.BadOptions p)) begins = absurd begins
 
-  module _ (none : HasNone g × (g.num_runtime_component_instances ≤ 1)) where
-    few_from : (k n m : ℕ) → n ≤ k → m ≤ 16 * k → (x : Tables) → Adds t n m (tables_of (record old { graph = g })) x
-        → HasFew t k (tables_of old) x
-    few_from k n m le lem x adds =
-        let few = adds_weaken t n m k (16 * k) (tables_of (record old { graph = g })) x le lem adds in
-        let begun = few.entries.begun in
-        let one = none.1 in
-        record {
-          types = few.types;
-          lists = λ l. let more = few.entries.lists l in let nothing = none.0 l in omega (arith, more, nothing);
-          cores = let more = few.entries.cores in let nothing = ap (λ cs. length cs) fresh.cores in
-              omega (arith, more, nothing);
-          definitions = let more = few.entries.definitions in let nothing = ap (λ ds. length ds) fresh.definitions in
-              omega (arith, more, nothing);
-          closures = let more = few.entries.closures in let nothing = ap (λ cs. length cs) fresh.closures in
-              omega (arith, more, nothing);
-          instances = let more = few.entries.instances in let nothing = ap (λ is. length is) fresh.instances in
-              omega (arith, more, nothing);
-          begun = omega (arith, begun, one);
-        }
+  begun_most : HasNone g × (g.num_runtime_component_instances ≤ 1) → (n m : ℕ) (x : Tables)
+      → Adds t n m (tables_of (record old { graph = g })) x → HasAtMost t n m old.types x
+  begun_most none n m x adds =
+      let few = adds.entries in
+      let begun = few.begun in
+      let one = none.1 in
+      record {
+        types = adds.types;
+        lists = λ l. let more = few.lists l in let nothing = none.0 l in omega (arith, more, nothing);
+        cores = let more = few.cores in let nothing = ap (λ cs. length cs) fresh.cores in omega (arith, more, nothing);
+        definitions = let more = few.definitions in let nothing = ap (λ ds. length ds) fresh.definitions in
+            omega (arith, more, nothing);
+        closures = let more = few.closures in let nothing = ap (λ cs. length cs) fresh.closures in
+            omega (arith, more, nothing);
+        instances = let more = few.instances in let nothing = ap (λ is. length is) fresh.instances in
+            omega (arith, more, nothing);
+        begun = omega (arith, begun, one);
+      }
 
-    module _ (root : Translation) where
-      -- no root has begun
-      pub few_unbegun : RootHasFew t root (tables_of old) (tables_of (record old { graph = g }))
-      few_unbegun body stands =
-          few_from (item_count body) 0 0 (omega arith) (omega arith) (tables_of (record old { graph = g }))
-          (adds_refl t 0 0 (tables_of (record old { graph = g })))
+  -- what a root has whose imports were prepared, or some of them
+  pub begun_prepared : HasNone g × (g.num_runtime_component_instances ≤ 1) → (ls ls' : List LocalInitializer) → ls ≡ ls'
+      → (x : Tables)
+      → Adds t (sum_by imports_in ls) (4 * sum_by imports_in ls) (tables_of (record old { graph = g })) x
+      → HasAtMost t (sum_by imports_in ls') (4 * sum_by imports_in ls') old.types x
+  begun_prepared none ls ls' is x adds =
+      subst (λ ks. HasAtMost t (sum_by imports_in ks) (4 * sum_by imports_in ks) old.types x) is
+      (begun_most none (sum_by imports_in ls) (4 * sum_by imports_in ls) x adds)
 
-      module _ (ls : List LocalInitializer) (is : ls ≡ root.initializers) where
-        root_few : (n m : ℕ) → n ≤ sum_by imports_in ls + sum_by functions_in ls
-            → m ≤ 8 * length ls + 8 * length root.exports → (x : Tables)
-            → Adds t n m (tables_of (record old { graph = g })) x → RootHasFew t root (tables_of old) x
-        root_few n m le lem x adds body stands =
-            let types = types_in ls in
-            let items : length ls ≡ item_count body =
-            ap (λ xs. length xs) is ∙ as_many_items old.bodies.now no_names root.initializers body stands.items in
-            let some = few_exports body in
-            let exports : length root.exports ≡ length (exports_in body) =
-            sym (length-map root.exports named_item) ∙ ap (λ xs. length xs) stands.exports in
-            few_from (item_count body) n m (omega (arith, types, items, le))
-            (omega (arith, items, some, exports, lem)) x
-            adds
+  -- and one of which none was
+  pub begun_none : HasNone g × (g.num_runtime_component_instances ≤ 1) → (n m : ℕ)
+      → HasAtMost t n m old.types (tables_of (record old { graph = g }))
+  begun_none none n m =
+      begun_most none n m (tables_of (record old { graph = g }))
+      (adds_refl t n m (tables_of (record old { graph = g })))
 
-        module _ (x : Tables)
-            (prepared : Adds t (sum_by imports_in ls) (4 * length ls) (tables_of (record old { graph = g })) x) where
-          -- its imports were prepared
-          pub few_prepared : RootHasFew t root (tables_of old) x
-          few_prepared = root_few (sum_by imports_in ls) (4 * length ls) (omega arith) (omega arith) x prepared
+-- what holds whatever is answered
+on_ok : {P : Type 0} (r : Result ⊤ Error) → P → OnOk r P
+on_ok (Ok x) p = p
+on_ok (Err e) p = tt
 
-          module _ (y : Tables) (read : Adds t (sum_by functions_in ls) (4 * length ls) x y) where
-            all_read : Adds t (sum_by imports_in ls + sum_by functions_in ls) (4 * length ls + 4 * length ls)
-                (tables_of (record old { graph = g })) y
-            all_read =
-                adds_trans t (sum_by imports_in ls) (4 * length ls) (sum_by functions_in ls) (4 * length ls)
-                (tables_of (record old { graph = g })) x y prepared read
+module _ (t : TypeTable) where
+  -- what is added after that
+  pub most_more : (n m k j : ℕ) (old : Types) (b x : Tables) → HasAtMost t n m old b → Adds t k j b x
+      → HasAtMost t (n + k) (m + j) old x
+  most_more n m k j old b x most adds =
+      let few = adds.entries in
+      record {
+        types = λ plain. types_trans n k old b.types x.types (most.types plain) (adds.types plain);
+        lists = λ l. let so_far = most.lists l in let more = few.lists l in omega (arith, so_far, more);
+        cores = let so_far = most.cores in let more = few.cores in omega (arith, so_far, more);
+        definitions = let so_far = most.definitions in let more = few.definitions in omega (arith, so_far, more);
+        closures = let so_far = most.closures in let more = few.closures in omega (arith, so_far, more);
+        instances = let so_far = most.instances in let more = few.instances in omega (arith, so_far, more);
+        begun = let so_far = most.begun in let more = few.begun in omega (arith, so_far, more);
+      }
 
-            -- its items were read
-            pub few_read : RootHasFew t root (tables_of old) y
-            few_read =
-                root_few (sum_by imports_in ls + sum_by functions_in ls) (4 * length ls + 4 * length ls) (omega arith)
-                (omega arith) y all_read
+  -- a total that bounds it
+  few_of : (total functions entries : ℕ) (old : Types) (x : Tables) → total < full → 8 * functions ≤ total
+      → entries < total → HasAtMost t functions entries old x → HasFew t total old x
+  few_of total functions entries old x below few fewer most = record {
+    below = below;
+    functions = functions;
+    few_functions = few;
+    entries = entries;
+    few_entries = fewer;
+    most = most;
+  }
 
-            -- it exports
-            pub few_exported : (es : List (ExternName × ItemKind × ℕ)) → es ≡ root.exports → (z : Tables)
-                → Adds t 0 (8 * length es) y z → RootHasFew t root (tables_of old) z
-            few_exported es are z exported =
+  module _ (ms : List ModuleRecord) (limit : ℕ) (bodies : List Translation) (root : Translation) (old : Types) where
+    -- a total bounds what a root has in which nothing was prepared
+    pub few_unbegun : (x : Tables) → HasAtMost t 0 0 old x → BegunHasFew t ms limit bodies root old x
+    few_unbegun x most body stands = inr (1, few_of 1 0 0 old x (omega arith) (omega arith) (omega arith) most)
+
+    abbrev imports : ℕ
+    imports = sum_by imports_in root.initializers
+
+    module _ (body : Items) (stands : BodyStands bodies no_names root body) where
+      -- the first total bounds its imports and items
+      enough : 8 * imports + 8 * item_count body < first_total t ms body
+      enough =
+          let one = weight_of_items t ms body in
+          let two = weight_of_imports t ms bodies no_names root.initializers body stands.items in
+          omega (arith, one, two)
+
+      -- a body has no more exports than items
+      exports_there : length root.exports ≤ item_count body
+      exports_there =
+          let some = few_exports body in
+          let same : length root.exports ≡ length (exports_in body) =
+          sym (length-map root.exports named_item) ∙ ap (λ xs. length xs) stands.exports in
+          omega (arith, some, same)
+
+    -- and one whose imports were prepared, or some of them
+    pub few_begun : 0 < limit → (x : Tables) → HasAtMost t imports (4 * imports) old x
+        → BegunHasFew t ms limit bodies root old x
+    few_begun below x most body stands =
+        elim (counted_begins t ms limit body below) as (λ _. IsLongOrHasFew t ms limit body old x) [
+          | inl long ↦ inl long
+          | inr room ↦
+              let le = enough body stands in
+              inr (
+                first_total t ms body,
+                few_of (first_total t ms body) imports (4 * imports) old x room.0 (omega (arith, le))
+                    (omega (arith, le)) most,
+              )
+        ]
+
+    -- an error of the root, where a total bounds what it has
+    pub few_failed : (x : Tables) (r : Result ⊤ Error) (e : Error) → IsErrAnd r (λ y. y ≡ e)
+        → BegunHasFew t ms limit bodies root old x → RootHasFew t ms limit bodies root old x r
+    few_failed x (Ok y) e is few body stands = absurd is
+    few_failed x (Err y) e is few body stands =
+        elim (few body stands) as (λ _. IsLong t ms limit body
+        ⊎ ((total : ℕ) × OnOk {T = ⊤} (Err y) (EndsWith t ms limit body total) × HasFew t total old x)) [
+          | inl long ↦ inl long
+          | inr h ↦ inr (h.0, tt, h.1)
+        ]
+
+    -- what a root has whose items were read, or some of them: its total bounds them, and its exports too
+    pub record HasRun (body : Items) (x : Tables) (r : Result Frame Error) : Type 0 where
+      pub total : ℕ
+      pub items : ℕ
+      pub below : total < full
+      pub few : 8 * imports + 8 * items < total
+      pub most : HasAtMost t (imports + items) (4 * imports + 4 * items) old x
+      pub ends : OnOk r (EndsWith t ms limit body total × (8 * imports + 8 * item_count body < total))
+
+    module _ (st : State) (f : Frame) (among : st.bodies.now ≡ bodies)
+        (begun : (body : Items) → BodyStands bodies no_names root body → RootBegun t ms limit body st f)
+        (most : HasAtMost t imports (4 * imports) old (tables_of st)) (st' : State) where
+      module _ (body : Items) (stands : BodyStands bodies no_names root body) where
+        -- the total of the root, where it is done
+        end_total : (now last : Moment) (n total : ℕ) → now.world.total ≡ Some n
+            → reading_from t ms limit body now ≡ done last → last.world.total ≡ Some total → n ≤ total
+        end_total now last n total is ends same =
+            let grows = items_grow t ms (built_enter t ms limit limit) (child_grows t ms limit limit) body 0 now last
+            ends in
+            let more : HasGrown (Some n) last.world.total = subst (λ o. HasGrown o last.world.total) is grows in
+            let last_one = same_Some more.0 total (sym more.1 ∙ same) in
+            let le = more.2 in
+            omega (arith, last_one, le)
+
+        total_at : (now : Moment) (n total : ℕ) → now.world.total ≡ Some n → 8 * imports + 8 * item_count body < n
+            → built_root t ms limit (Some 0) body ≡ reading_from t ms limit body now → (r : Result Frame Error)
+            → EndsIn t ms limit total (reading_from t ms limit body now) r
+            → OnOk r (EndsWith t ms limit body total × (8 * imports + 8 * item_count body < total))
+        unfolding EndsIn
+        total_at now n total is le reads (Ok g) ends =
+            let more = end_total now ends.0 n total is ends.1 ends.2 in
+            ((ends.0, reads ∙ ends.1, ends.2), omega (arith, le, more))
+        total_at now n total is le reads (Err e) ends = tt
+
+        has_run : (r : Result Frame Error) → Counts t ms limit root.initializers st f st' r
+            → IsLong t ms limit body ⊎ HasRun body (tables_of st') r
+        unfolding Counts
+        has_run r counts =
+            elim (begun body stands).counted as (λ _. IsLong t ms limit body ⊎ HasRun body (tables_of st') r) [
+              | inl long ↦ inl long
+              | inr room ↦
+                  let start = room.1 in
+                  let there = subst (λ bs. ItemsStand bs no_names root.initializers body) (sym among) stands.items in
+                  elim (counts body start.now (first_total t ms body) there start.stands start.is_total room.0)
+                  as (λ _. IsLong t ms limit body ⊎ HasRun body (tables_of st') r) [
+                    | inl long ↦ inl (start.reads ∙ long)
+                    | inr k ↦
+                        let le = enough body stands in
+                        let few = k.few in
+                        inr (record {
+                          total = k.total;
+                          items = k.items;
+                          below = k.below;
+                          few = omega (arith, le, few);
+                          most = most_more imports (4 * imports) k.items (4 * k.items) old (tables_of st)
+                              (tables_of st') most k.adds;
+                          ends = total_at start.now (first_total t ms body) k.total start.is_total le start.reads r
+                              k.ends;
+                        })
+                  ]
+            ]
+
+      -- an item is refused
+      pub few_unread : (e : Error) → Counts t ms limit root.initializers st f st' (Err e)
+          → BegunHasFew t ms limit bodies root old (tables_of st')
+      few_unread e counts body stands =
+          elim (has_run body stands (Err e) counts) as (λ _. IsLongOrHasFew t ms limit body old (tables_of st')) [
+            | inl long ↦ inl long
+            | inr h ↦
+                let few = h.few in
+                inr (
+                  h.total,
+                  few_of h.total (imports + h.items) (4 * imports + 4 * h.items) old (tables_of st') h.below
+                      (omega (arith, few)) (omega (arith, few)) h.most,
+                )
+          ]
+
+      -- the root exports
+      pub few_exported : (g : Frame) → Counts t ms limit root.initializers st f st' (Ok g)
+          → (es : List (ExternName × ItemKind × ℕ)) → es ≡ root.exports → (x : Tables)
+          → Adds t 0 (4 * length es) (tables_of st') x → (r : Result ⊤ Error)
+          → RootHasFew t ms limit bodies root old x r
+      few_exported g counts es are x exported r body stands =
+          elim (has_run body stands (Ok g) counts) as (λ _. IsLong t ms limit body
+          ⊎ ((total : ℕ) × OnOk r (EndsWith t ms limit body total) × HasFew t total old x)) [
+            | inl long ↦ inl long
+            | inr h ↦
+                let few = h.few in
+                let more = h.ends.1 in
+                let there = exports_there body stands in
                 let many = ap (λ xs. length xs) are in
-                root_few (sum_by imports_in ls + sum_by functions_in ls + 0)
-                (4 * length ls + 4 * length ls + 8 * length es) (omega arith) (omega (arith, many)) z
-                (adds_trans t (sum_by imports_in ls + sum_by functions_in ls) (4 * length ls + 4 * length ls) 0
-                (8 * length es) (tables_of (record old { graph = g })) y z all_read exported)
+                inr (
+                  h.total,
+                  on_ok r h.ends.0,
+                  few_of h.total (imports + h.items + 0) (4 * imports + 4 * h.items + 4 * length es) old x h.below
+                      (omega (arith, few)) (omega (arith, few, more, there, many))
+                      (most_more (imports + h.items) (4 * imports + 4 * h.items) 0 (4 * length es) old (tables_of st') x
+                      h.most exported),
+                )
+          ]
 
--- a list that is full is one of the builder's, or the body has many items
-pub no_room : (t : TypeTable) (body : Items) (old : Tables) (st : State) → HasFew t (item_count body) old (tables_of st)
-    → IsFullSomewhere (tables_of st) → HasNoRoom st.types body
-no_room t body old st few (full_types h) = inl h
-no_room t body old st few (full_graph l h) = inr (let le = few.lists l in omega (arith, h, le))
-no_room t body old st few (full_instances h) = absurd (let le = few.begun in omega (arith, h, le))
-no_room t body old st few (full_cores h) = inr (let le = few.cores in omega (arith, h, le))
-no_room t body old st few (full_definitions h) = inr (let le = few.definitions in omega (arith, h, le))
-no_room t body old st few (full_closures h) = inr (let le = few.closures in omega (arith, h, le))
-no_room t body old st few (full_exports h) = inr (let le = few.instances in omega (arith, h, le))
+-- a list that is full is one of the builder's, or the reading is past
+pub no_room : (t : TypeTable) (ms : List ModuleRecord) (limit : ℕ) (body : Items) (old : Types) (st : State)
+    → IsLongOrHasFew t ms limit body old (tables_of st) → IsFullSomewhere (tables_of st)
+    → HasNoRoom t ms limit body st.types
+no_room t ms limit body old st few is_full =
+    elim few as (λ _. HasNoRoom t ms limit body st.types) [
+      | inl long ↦ inr (past_read t ms limit body long)
+      | inr h ↦ by h.1.below h.1.few_entries h.1.most is_full
+    ]
+  where
+    by : {n m total : ℕ} → total < full → m < total → HasAtMost t n m old (tables_of st)
+        → IsFullSomewhere (tables_of st) → HasNoRoom t ms limit body st.types
+    by below few most (full_types h) = inl h
+    by below few most (full_graph l h) = absurd (let le = most.lists l in omega (arith, below, few, h, le))
+    by below few most (full_instances h) = absurd (let le = most.begun in omega (arith, below, few, h, le))
+    by below few most (full_cores h) = absurd (let le = most.cores in omega (arith, below, few, h, le))
+    by below few most (full_definitions h) = absurd (let le = most.definitions in omega (arith, below, few, h, le))
+    by below few most (full_closures h) = absurd (let le = most.closures in omega (arith, below, few, h, le))
+    by below few most (full_exports h) = absurd (let le = most.instances in omega (arith, below, few, h, le))
 
 -- the counts of tables change no list
-pub counted_few : (g : ComponentDfg) (types : Types) (n : ℕ) → ((l : ListName) → length (entries_of g l) ≤ n)
-    → (l : ListName) → length (entries_of (counted_tables g types) l) ≤ n
+pub counted_few : (g : ComponentDfg) (types : Types) (n : ℕ) → ((l : ListName) → length (entries_of g l) < n)
+    → (l : ListName) → length (entries_of (counted_tables g types) l) < n
 counted_few g types n few l =
-    subst (λ k. k ≤ n) (sym (same_lists g g.num_runtime_component_instances (length types.future_tables)
+    subst (λ k. k < n) (sym (same_lists g g.num_runtime_component_instances (length types.future_tables)
     (length types.stream_tables) (length types.error_context_tables) l)) (few l)
 
 -- the builder that is handed back has the types that were added, whichever resources were known before

@@ -50,6 +50,7 @@ module _ (t : TypeTable) (ms : List ModuleRecord) (old new : State) (f : Frame) 
     frame = frame_kept ms (tables_of old) (tables_of new) p.keeps f s root.frame;
     world = world_still old.types new.types old.graph new.graph p.keeps.types p.keeps.graph p.side_effects p.instances
         p.trampolines p.imports p.import_types p.begun w root.world;
+    total = root.total;
     exports = subst (λ es. AllZip (NameStands new.types new.graph) es nodes) (sym p.exports)
         (zip_more (NameStands old.types old.graph) (NameStands new.types new.graph)
         (name_still old.types new.types old.graph new.graph p.keeps.types p.keeps.graph) old.graph.exports nodes

@@ -1,7 +1,10 @@
--- The root: it begins, its imports are prepared, its items are read, and it exports.
-use Rattle.std.proofs.Common.{◌≡◌, ◌<◌, ◌≤◌, ℕ, List, [], None, Ok, Err, refl, sym, ap, subst, ◌∙◌, arith}
-use Rattle.std.proofs.lemmas.Bool.{lt-ltb}
+-- The reading of a root: it begins, its imports are prepared, its items are read, and it exports.
+use Rattle.std.proofs.Common.{◌≡◌, ◌<◌, ◌≤◌, ◌+◌, ◌⊎◌, ℕ, Bool, true, false, List, [], Option, None, Some, Ok, Err, inl}
+use Rattle.std.proofs.Common.{inr, refl, sym, ap, subst, ◌∙◌, arith}
+use Rattle.std.proofs.lemmas.Bool.{lt-ltb, ltb-true}
+use Rattle.std.specs.Prelude.{nat_lt}
 use Rattle.std.specs.List.{AllZip}
+use Rattle.pc_interned.specs.Types.{Types}
 use Rattle.pc_types.specs.declared.error.Error.{Error}
 use Rattle.pc_types.specs.declared.error.Error.TheVariants as error
 use Rattle.pc_types.specs.declared.module_record.ModuleRecord.{ModuleRecord}
@@ -9,65 +12,137 @@ use Rattle.pc_types.specs.declared.parsed.TypeTable.{TypeTable}
 use Rattle.pc_reading.specs.Item.{Items, exports_in}
 use Rattle.pc_reading.specs.Nodes.{Finish}
 use Rattle.pc_reading.specs.Outcome.{Outcome, and_then, done, over}
-use Rattle.pc_reading.specs.Reading.{Reading, begun_in, result_of}
+use Rattle.pc_reading.specs.Reading.{begun_in, result_of}
 use Rattle.pc_reading.specs.Scope.{Moment}
 use Rattle.pc_reading.specs.Value.{outermost}
-use Rattle.pc_reading.specs.World.{World, new_world}
+use Rattle.pc_reading.specs.World.{World, full, new_world}
+use Rattle.pc_dfg.specs.declared.dfg.ComponentDfg.{ComponentDfg}
 use Rattle.pc_inline.specs.declared.frame.Frame.{Frame}
 use Rattle.pc_inline.specs.declared.state.State.{State}
-use Rattle.pc_inline.specs.Begins.{IsBuiltEnd, RootRead}
+use Rattle.pc_inline.specs.Begins.{IsBuiltEnd, IsLong, RootRead, first_total}
+use Rattle.pc_inline.specs.Driving.{reading_from}
 use Rattle.pc_inline.specs.Exporting.{ExportsEnd, RootStands}
 use Rattle.pc_inline.specs.Exports.{ExportsStand, NameStands, NumbersExports}
-use Rattle.pc_inline.specs.Inlines.{last_world}
 use Rattle.pc_inline.specs.Points.{PointStands}
 use Rattle.pc_inline.specs.Reads.{Ends}
-use Rattle.pc_inline.specs.Today.{built_enter, built_exports, built_items, built_prepare_all, built_reading}
-use Rattle.pc_inline.specs.Today.{built_result}
+use Rattle.pc_inline.specs.Today.{built_exports, built_prepare_all, built_reading, built_result, built_root}
 use Rattle.pc_inline.specs.Worlds.{WorldStands}
 
--- the world in which the root begins
-abbrev pub first_world : World
-first_world = record (new_world None) { begun = 1 }
+-- the world in which the root begins, with this total
+abbrev pub world_with : Option ℕ → World
+world_with total = record (new_world total) { begun = 1 }
 
 -- the moment before its imports are prepared
+abbrev pub moment_with : Option ℕ → Moment
+moment_with total = begun_in [] [] outermost 0 (world_with total)
+
+-- the same where no total is counted
+abbrev pub first_world : World
+first_world = world_with None
+
 abbrev pub first_moment : Moment
-first_moment = begun_in [] [] outermost 0 first_world
+first_moment = moment_with None
+
+-- a graph stands for a world whatever total is counted
+pub world_counted : (types : Types) (g : ComponentDfg) (w : World) (total : Option ℕ) → WorldStands types g w
+    → WorldStands types g (record w { total = total })
+world_counted types g w total s = record {
+  effects = s.effects;
+  order = s.order;
+  are_declared = s.are_declared;
+  trampolines = s.trampolines;
+  few_trampolines = s.few_trampolines;
+  import_types = s.import_types;
+  imports = s.imports;
+  imported_resources = s.imported_resources;
+  intrinsics = s.intrinsics;
+  no_adapters = s.no_adapters;
+  begun = s.begun;
+}
 
 module _ (t : TypeTable) (ms : List ModuleRecord) (limit : ℕ) (body : Items) where
-  -- what is read after the root began
-  abbrev after_imports : Outcome Moment → Outcome Reading
-  after_imports o = and_then o (λ (now : Moment).
-      and_then (built_items t ms (built_enter t ms limit limit) 0 body now) (built_result t body))
+  -- what is read of a root that begins with a total
+  abbrev pub from_start : Option ℕ → Outcome Moment
+  from_start total = and_then (built_prepare_all t ms 0 body (moment_with total)) (reading_from t ms limit body)
 
-  -- the reading of a root that begins
-  pub reading_begins : 0 < limit
-      → built_reading t ms limit body ≡ after_imports (built_prepare_all t ms 0 body first_moment)
-  unfolding built_reading
-  reading_begins below = rw (lt-ltb 0 limit below) refl
+  module _ (below : 0 < limit) where
+    -- the reading of a root that begins
+    pub root_begins : built_root t ms limit None body ≡ from_start None
+    unfolding built_root
+    root_begins = rw (lt-ltb 0 limit below) refl
+
+    root_long : nat_lt (0 + first_total t ms body) full ≡ false → IsLong t ms limit body
+    unfolding built_root
+    root_long none = rw (lt-ltb 0 limit below, none) refl
+
+    root_counts : nat_lt (0 + first_total t ms body) full ≡ true
+        → built_root t ms limit (Some 0) body ≡ from_start (Some (0 + first_total t ms body))
+    unfolding built_root
+    root_counts room = rw (lt-ltb 0 limit below, room) refl
+
+    -- the same counted from nothing, where the total isn't too much already
+    pub counted_begins : IsLong t ms limit body
+        ⊎ ((first_total t ms body < full)
+        × (built_root t ms limit (Some 0) body ≡ from_start (Some (first_total t ms body))))
+    counted_begins = by (nat_lt (0 + first_total t ms body) full) refl
+      where
+        by : (b : Bool) → nat_lt (0 + first_total t ms body) full ≡ b → IsLong t ms limit body
+            ⊎ ((first_total t ms body < full)
+            × (built_root t ms limit (Some 0) body ≡ from_start (Some (first_total t ms body))))
+        by false none = inl (root_long none)
+        by true room =
+            let is : 0 + first_total t ms body ≡ first_total t ms body = omega arith in
+            inr (
+              subst (λ n. n < full) is (ltb-true (0 + first_total t ms body) full room),
+              root_counts room ∙ ap (λ n. from_start (Some n)) is,
+            )
 
   -- no root begins where the limit is 0
   pub reading_over : limit ≤ 0 → built_reading t ms limit body ≡ over
-  unfolding built_reading
+  unfolding built_reading built_root
   reading_over none =
       let is : limit ≡ 0 = omega (arith, none) in
       rw (is) refl
 
-  -- an error of a pass is one of what is read of it
-  pub pass_fails : (st : State) (f : Frame) (o : Outcome Moment) (go : Moment → Outcome Reading) (e : Error)
-      → built_reading t ms limit body ≡ and_then o go → Ends t ms st f o (Err e) → IsBuiltEnd t ms limit body st e
+  -- the reading of a root that is this outcome
+  pub reading_is : (o : Outcome Moment) → built_root t ms limit None body ≡ o
+      → built_reading t ms limit body ≡ and_then o (built_result t body)
+  unfolding built_reading
+  reading_is o is = ap (λ x. and_then x (built_result t body)) is
+
+  -- an error of an outcome is one of what goes on after it
+  pub ends_then : (st : State) (f : Frame) (o : Outcome Moment) (go : Moment → Outcome Moment) (e : Error)
+      → Ends t ms st f o (Err e) → Ends t ms st f (and_then o go) (Err e)
   unfolding Ends
-  pass_fails st f o go (error.Invalid p) is ends = is ∙ ap (λ x. and_then x go) ends
-  pass_fails st f o go (error.BadType p) is ends = is ∙ ap (λ x. and_then x go) ends
-  pass_fails st f o go (error.Unsupported u p) is ends = is ∙ ap (λ x. and_then x go) ends
-  pass_fails st f o go error.TooManyInstances is ends = is ∙ ap (λ x. and_then x go) ends
-  pass_fails st f o go error.TooMany is ends = ends
-  pass_fails st f o go error.NoMemory is ends = tt
-  pass_fails st f o go (error.Malformed p) is ends = absurd ends
-  pass_fails st f o go (error.BadTable p) is ends = absurd ends
-  pass_fails st f o go (error.BadIntrinsics p) is ends = absurd ends
-  pass_fails st f o go (error.UnknownIntrinsic p) is ends = absurd ends
-  pass_fails st f o go (error.DefinedTwice p) is ends = absurd ends
-  pass_fails st f o go (error.BadOptions p) is ends = absurd ends
+  ends_then st f o go (error.Invalid p) ends = ap (λ x. and_then x go) ends
+  ends_then st f o go (error.BadType p) ends = ap (λ x. and_then x go) ends
+  ends_then st f o go (error.Unsupported u p) ends = ap (λ x. and_then x go) ends
+  ends_then st f o go error.TooManyInstances ends = ap (λ x. and_then x go) ends
+  ends_then st f o go error.TooMany ends = ends
+  ends_then st f o go error.NoMemory ends = tt
+  ends_then st f o go (error.Malformed p) ends = absurd ends
+  ends_then st f o go (error.BadTable p) ends = absurd ends
+  ends_then st f o go (error.BadIntrinsics p) ends = absurd ends
+  ends_then st f o go (error.UnknownIntrinsic p) ends = absurd ends
+  ends_then st f o go (error.DefinedTwice p) ends = absurd ends
+  ends_then st f o go (error.BadOptions p) ends = absurd ends
+
+  -- and one of the reading
+  pub root_fails : (st : State) (f : Frame) (o : Outcome Moment) (e : Error) → built_root t ms limit None body ≡ o
+      → Ends t ms st f o (Err e) → IsBuiltEnd t ms limit body st e
+  unfolding Ends
+  root_fails st f o (error.Invalid p) is ends = reading_is _ (is ∙ ends)
+  root_fails st f o (error.BadType p) is ends = reading_is _ (is ∙ ends)
+  root_fails st f o (error.Unsupported u p) is ends = reading_is _ (is ∙ ends)
+  root_fails st f o error.TooManyInstances is ends = reading_is _ (is ∙ ends)
+  root_fails st f o error.TooMany is ends = ends
+  root_fails st f o error.NoMemory is ends = tt
+  root_fails st f o (error.Malformed p) is ends = absurd ends
+  root_fails st f o (error.BadTable p) is ends = absurd ends
+  root_fails st f o (error.BadIntrinsics p) is ends = absurd ends
+  root_fails st f o (error.UnknownIntrinsic p) is ends = absurd ends
+  root_fails st f o (error.DefinedTwice p) is ends = absurd ends
+  root_fails st f o (error.BadOptions p) is ends = absurd ends
 
   -- an error of the exports is one of the reading
   pub exports_fail : (st : State) (f : Frame) (now : Moment) (e : Error)
@@ -91,28 +166,39 @@ module _ (t : TypeTable) (ms : List ModuleRecord) (limit : ℕ) (body : Items) w
 
   -- the root was read and exports
   pub root_read : (st : State) (f : Frame) (now : Moment) → built_reading t ms limit body ≡ built_result t body now
-      → now.world.total ≡ None → NumbersExports st.graph
+      → NumbersExports st.graph
       → ExportsEnd t ms st f now.scope now.world [] (built_exports t now.scope (exports_in body) 0 now.world) (Ok tt)
       → RootRead t ms limit body st
   unfolding ExportsEnd built_result ExportsStand
-  root_read st f now is total numbers ends =
-      let w = now.world in
-      let same : w ≡ last_world (result_of ends.0 w) = λ i. record w { total = total i } in
-      record {
-        result = result_of ends.0 w;
-        outcome = is ∙ ap (λ x. and_then x (λ (f : Finish). done (result_of f.0 f.1))) ends.1;
-        sound = ends.2.sound;
-        world = subst (WorldStands st.types st.graph) same ends.2.world;
-        exports = ends.2.exports;
-        numbers = numbers;
-      }
+  root_read st f now is numbers ends = record {
+    result = result_of ends.0 now.world;
+    outcome = is ∙ ap (λ x. and_then x (λ (f : Finish). done (result_of f.0 f.1))) ends.1;
+    sound = ends.2.sound;
+    world = world_counted st.types st.graph now.world None ends.2.world;
+    exports = ends.2.exports;
+    numbers = numbers;
+  }
 
 -- after its items the root exports nothing yet
 pub root_stands : (t : TypeTable) (ms : List ModuleRecord) (st : State) (f : Frame) (now : Moment)
-    → PointStands t ms st f now → RootStands t ms st f now.scope now.world []
-root_stands t ms st f now at = record {
+    → PointStands t ms st f now → now.world.total ≡ None → RootStands t ms st f now.scope now.world []
+root_stands t ms st f now at total = record {
   sound = at.sound;
   frame = at.frame;
   world = at.world;
+  total = total;
   exports = subst (λ es. AllZip (NameStands st.types st.graph) es []) (sym at.unexported.exports) tt;
+}
+
+-- a point is one whatever total is counted
+pub point_counted : (t : TypeTable) (ms : List ModuleRecord) (st : State) (f : Frame) (now : Moment)
+    (total : Option ℕ) → PointStands t ms st f now
+    → PointStands t ms st f (record now { world = record now.world { total = total } })
+point_counted t ms st f now total at = record {
+  sound = at.sound;
+  here = at.here;
+  typed = at.typed;
+  frame = at.frame;
+  world = world_counted st.types st.graph now.world total at.world;
+  unexported = at.unexported;
 }

@@ -1,6 +1,7 @@
 -- From the state of an instantiation to its answer.
-use Rattle.std.proofs.Common.{◌≡◌, ℕ, List, length, Result, Ok, Err, refl, sym, subst, ◌∙◌}
-use Rattle.std.specs.Prelude.{⊤}
+use Rattle.std.proofs.Common.{◌≡◌, ◌<◌, ◌⊎◌, ℕ, true, List, length, Result, Ok, Err, inl, inr, refl, sym, subst}
+use Rattle.std.proofs.Common.{◌∙◌, arith}
+use Rattle.std.specs.Prelude.{⊤, OnOk}
 use Rattle.std.specs.Result.{IsErrAnd}
 use Rattle.pc_interned.specs.Types.{Grows, KeepsTypes, Resources, Types}
 use Rattle.pc_types.specs.declared.error.Error.{Error}
@@ -11,15 +12,22 @@ use Rattle.pc_reading.specs.Item.{Items}
 use Rattle.pc_local.specs.declared.item.Translation.{Translation}
 use Rattle.pc_local.specs.Standing.{BodyStands, no_names}
 use Rattle.pc_dfg.specs.declared.dfg.ComponentDfg.{ComponentDfg}
+use Rattle.pc_dfg.specs.Lists.{ListName, entries_of}
 use Rattle.pc_inline.specs.declared.state.State.{State}
-use Rattle.pc_inline.specs.Begins.{InlinesBody, InlinesRoot, IsBuiltEnd, RootHasFew, RootRead, counted_tables}
-use Rattle.pc_inline.specs.Begins.{no_resources}
-use Rattle.pc_inline.specs.Tables.{Keeps, Tables, tables_of}
+use Rattle.pc_inline.specs.Adds.{AddsTypes}
+use Rattle.pc_inline.specs.Begins.{EndsWith, HasAtMost, HasFew, InlinesBody, InlinesRoot, IsBuiltEnd, IsLong}
+use Rattle.pc_inline.specs.Begins.{IsLongOrHasFew, RootHasFew, RootRead, counted_tables}
+use Rattle.pc_inline.specs.Plain.{is_plain_table}
+use Rattle.pc_inline.specs.Tables.{Keeps, tables_of}
+use Rattle.pc_inline.specs.Totals.{CountsGraph, GainsFew}
+use Rattle.pc_inline.specs.Typed.{no_resources}
 use Rattle.pc_inline.specs.Inlines.{Inlines, IsFault, StandsForReading}
+use Rattle.pc_inline.proofs.AddsLemmas.{types_same}
 use Rattle.pc_inline.proofs.CountLemmas.{counted_exports, counted_holds, counted_items, counted_ordered, counted_plain}
 use Rattle.pc_inline.proofs.CountLemmas.{counted_world}
 use Rattle.pc_inline.proofs.EndLemmas.{done_today, end_today}
-use Rattle.pc_inline.proofs.RootFewLemmas.{no_room}
+use Rattle.pc_inline.proofs.RootFewLemmas.{counted_few, no_room, run_adds}
+use Rattle.pc_inline.proofs.TodayLemmas.{past_read, total_read}
 
 -- types keep their numbers, whichever resources were known before
 pub resources_aside : (old new : Types) (r : Resources) → Grows (record old { resources = r }) new → KeepsTypes old new
@@ -87,6 +95,22 @@ module _ (t : TypeTable) (ms : List ModuleRecord) (limit : ℕ) where
   module _ (given : List ModuleRecord) (same : given ≡ ms) (root : Translation) (st : State) (types : Types)
       (now : types ≡ st.types) (bodies : List Translation) (body : Items)
       (stands : BodyStands bodies no_names root body) where
+    here : (old : Types) (r : Result ⊤ Error) → RootHasFew t given limit bodies root old (tables_of st) r
+        → IsLong t ms limit body
+        ⊎ ((total : ℕ) × OnOk r (EndsWith t ms limit body total) × HasFew t total old (tables_of st))
+    here old r few =
+        subst (λ xs. IsLong t xs limit body
+        ⊎ ((total : ℕ) × OnOk r (EndsWith t xs limit body total) × HasFew t total old (tables_of st))) same
+        (few body stands)
+
+    few_here : (old : Types) (r : Result ⊤ Error) → RootHasFew t given limit bodies root old (tables_of st) r
+        → IsLongOrHasFew t ms limit body old (tables_of st)
+    few_here old r few =
+        elim (here old r few) as (λ _. IsLongOrHasFew t ms limit body old (tables_of st)) [
+          | inl long ↦ inl long
+          | inr h ↦ inr (h.0, h.2)
+        ]
+
     -- the graph is answered
     pub run_done : (g : ComponentDfg) → g ≡ counted_tables st.graph st.types → (end : ⊤)
         → InlinesRoot t given limit bodies root st (Ok end) → Inlines t ms limit body types (Ok g)
@@ -97,14 +121,67 @@ module _ (t : TypeTable) (ms : List ModuleRecord) (limit : ℕ) where
         (counted_reading body st (subst (λ xs. RootRead t xs limit body st) same (inlines body stands))))
 
     -- or the error
-    pub run_fails : (old : Tables) → old.bodies ≡ bodies → RootHasFew t root old (tables_of st) → (e : Error)
+    pub run_fails : (old : Types) (e : Error) → RootHasFew t given limit bodies root old (tables_of st) (Err e)
         → InlinesRoot t given limit bodies root st (Err e) → Inlines t ms limit body types (Err e)
     unfolding Inlines InlinesBody
-    run_fails old among few e inlines =
+    run_fails old e few inlines =
         subst (λ x. IsFault t ms limit body x e) (sym now)
-        (end_today t ms limit body st (no_room t body old st (few body (stands_among old.bodies bodies among root body
-        stands))) e
+        (end_today t ms limit body st (no_room t ms limit body old st (few_here old (Err e) few)) e
         (subst (λ xs. IsBuiltEnd t xs limit body st e) same (inlines body stands)))
+
+    module _ (old taken : Types) (first : State) (forgot : taken ≡ record old { resources = no_resources })
+        (is_first : first.types ≡ taken) where
+      added : (n : ℕ) → AddsTypes n first.types st.types → AddsTypes n old types
+      added n adds = run_adds n old taken types first st forgot is_first now adds
+
+      -- what the graph has is counted
+      pub run_counts : (g : ComponentDfg) → g ≡ counted_tables st.graph st.types → (end : ⊤)
+          → RootHasFew t given limit bodies root first.types (tables_of st) (Ok end)
+          → CountsGraph t ms limit body old types g
+      run_counts g is end few =
+          elim (here first.types (Ok end) few) as (λ _. CountsGraph t ms limit body old types g) [
+            | inl long ↦ inl (past_read t ms limit body long)
+            | inr h ↦
+                let total = h.0 in
+                let most = h.2.most in
+                let lists : (l : ListName) → length (entries_of st.graph l) < total =
+                λ l. let some = most.lists l in let fewer = h.2.few_entries in omega (arith, some, fewer) in
+                inr (record {
+                  total = total;
+                  is_total = total_read t ms limit body h.1.0 total h.1.1 h.1.2;
+                  below = h.2.below;
+                  functions = h.2.functions;
+                  few_functions = h.2.few_functions;
+                  types = λ plain. added h.2.functions (most.types plain);
+                  few = λ l. subst (λ x. length (entries_of x l) < total) (sym is)
+                      (counted_few st.graph st.types total lists l);
+                })
+          ]
+
+      -- few types were added, whatever is answered
+      pub run_gains : is_plain_table t ≡ true → (r : Result ⊤ Error)
+          → ((n : ℕ) × (entries : ℕ) × HasAtMost t n entries first.types (tables_of st))
+          → RootHasFew t given limit bodies root first.types (tables_of st) r → GainsFew t ms limit body old types
+      run_gains plain r adds few =
+          elim (few_here first.types r few) as (λ _. GainsFew t ms limit body old types) [
+            | inl long ↦ record {
+              functions = adds.0;
+              types = added adds.0 (adds.2.types plain);
+              few = inl (past_read t ms limit body long);
+            }
+            | inr h ↦
+                let some = h.1.few_functions in
+                let below = h.1.below in
+                record {
+                  functions = h.1.functions;
+                  types = added h.1.functions (h.1.most.types plain);
+                  few = inr (omega (arith, some, below));
+                }
+          ]
+
+  -- nothing was added
+  pub gains_nothing : (body : Items) (types : Types) → GainsFew t ms limit body types types
+  gains_nothing body types = record { functions = 0; types = types_same 0 types; few = inr (omega arith) }
 
   -- memory was wanting
   pub run_unfed : (body : Items) (types : Types) (r : Result ComponentDfg Error)

@@ -1,10 +1,11 @@
 -- Types of functions as the builder and as the reading have them.
 use Rattle.std.proofs.Common.{◌≡◌, ℕ, List, [], Option, None, Some, Result, Err, refl, sym, ap, subst, ◌∙◌}
-use Rattle.std.proofs.Common.{if◌then◌else◌, inl, inr}
+use Rattle.std.proofs.Common.{if◌then◌else◌, inl, inr, true}
 use Rattle.std.proofs.lemmas.Option.{same_Some}
 use Rattle.std.specs.Prelude.{slice_get}
 use Rattle.pc_numbers.specs.declared.module_entity.ModuleInternedTypeIndex.{ModuleInternedTypeIndex}
 use Rattle.pc_numbers.specs.declared.runtime.ResourceIndex.{ResourceIndex}
+use Rattle.pc_entity.proofs.Elements.{and_true}
 use Rattle.pc_types.specs.declared.module_record.ModuleRecord.{ModuleRecord}
 use Rattle.pc_types.specs.declared.parsed.CoreFuncSig.{CoreFuncSig}
 use Rattle.pc_types.specs.declared.parsed.TypeTable.{TypeTable}
@@ -20,16 +21,15 @@ use Rattle.pc_reading.specs.Scope.{Moment, Scope}
 use Rattle.pc_reading.specs.Types.{has_entry, signature_at, tree_if, type_tree}
 use Rattle.pc_inline.specs.declared.frame.Frame.{Frame}
 use Rattle.pc_inline.specs.declared.state.State.{State}
+use Rattle.pc_inline.specs.Plain.{is_plain_table}
 use Rattle.pc_inline.specs.Points.{PointStands}
+use Rattle.pc_inline.specs.Today.{has_no_resource}
 use Rattle.pc_inline.specs.Typed.{AreOfFunction, HasNoFunction}
+use Rattle.pc_inline.proofs.PlainTreeLemmas.{plain_tree}
 
 -- any identities at all
 abbrev anyone : ResourceIndex → Identity
 anyone r = declared 0
-
--- a tree is the same whatever the resources are, where none is known
-abbrev unknown : Resources → Type 0
-unknown r = r.known ≡ []
 
 -- the tree of an entry in a builder that knows no resources
 pub entry_tree : (types : Types) (t : TypeTable) (n : ℕ) (d : TypeDef) → types.resources.known ≡ []
@@ -62,14 +62,20 @@ pub record FunctionThere (t : TypeTable) (s : Scope) (types : Types) (ty core : 
 
 module _ (t : TypeTable) (ms : List ModuleRecord) (st : State) (f : Frame) (now : Moment)
     (at : PointStands t ms st f now) where
-  -- the tree of a number in the scope
-  pub scope_tree : (types : Types) → types.resources ≡ st.types.resources → (n : ℕ)
+  -- the tree of a function type in the scope: in the root, and in a component instance that no type hangs on
+  pub scope_tree : (types : Types) → types.resources ≡ st.types.resources → (n : ℕ) → has_entry t is_func n ≡ true
       → type_tree t now.scope n ≡ tree_of [] types.resources.current.0 t n
   unfolding type_tree
-  scope_tree types same n =
-      let here = same ∙ at.here in
-      let c = at.frame.component_instance ∙ sym (ap (λ (r : Resources). r.current.0) here) in
-      λ i. tree_of (at.frame.known i) (c i) t n
+  scope_tree types same n has = elim at.typed as
+      (λ _. tree_of now.scope.known now.scope.component_instance t n ≡ tree_of [] types.resources.current.0 t n) [
+        | inl root ↦ (
+            let here = ap (λ (r : Resources). r.current.0) (same ∙ at.here) in
+            let c = at.frame.component_instance ∙ root ∙ sym here in
+            λ i. tree_of (at.frame.known i) (c i) t n)
+        | inr can ↦ (
+            let plain = (and_true (has_no_resource t) (is_plain_table t) can).1 in
+            plain_tree t plain n has now.scope.known [] now.scope.component_instance types.resources.current.0)
+      ]
 
   -- the function type and the signature that were converted
   pub function_there : (types : Types) → types.resources ≡ st.types.resources → (ty core : ℕ) (n : TypeFuncIndex)
@@ -78,7 +84,7 @@ module _ (t : TypeTable) (ms : List ModuleRecord) (st : State) (f : Frame) (now 
   function_there types same ty core n i are =
       let known : types.resources.known ≡ [] = ap (λ (r : Resources). r.known) (same ∙ at.here) in
       let entry = entry_tree types t ty (def.ComponentFunc n) known are.entry in
-      let tree : type_tree t now.scope ty ≡ Some entry.0 = scope_tree types same ty ∙ entry.1 in
+      let tree : type_tree t now.scope ty ≡ Some entry.0 = scope_tree types same ty are.there ∙ entry.1 in
       record {
         tree = entry.0;
         signature = are.signature.0;

@@ -44,6 +44,7 @@ module _ (t : TypeTable) (ms : List ModuleRecord) (st : State) (i : ImportIndex)
         stands = λ f now p. record {
           sound = p.sound;
           here = p.here;
+          typed = p.typed;
           frame = p.frame;
           world = needed_world st.types st.graph st.graph (grows_refl st.graph) (import_path i.0) refl refl refl refl
               refl
@@ -103,6 +104,7 @@ module _ (t : TypeTable) (ms : List ModuleRecord) (st : State) (i : ImportIndex)
             held = record { options = p.sound.held.options; functions = p.sound.held.functions };
           };
           here = p.here;
+          typed = p.typed;
           frame = frame_kept ms (tables_of st) (tables_of using_it) (graph_grown (tables_of st) imported grows) f
               now.scope
               p.frame;

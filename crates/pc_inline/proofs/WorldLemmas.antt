@@ -87,7 +87,6 @@ module _ (old new : Types) (g h : ComponentDfg) (types : builder.Grows old new) 
     intrinsics = s.intrinsics;
     no_adapters = s.no_adapters;
     begun = s.begun ∙ sym begun;
-    total = s.total;
   }
 
 -- a point is where it was while nothing is done
@@ -96,6 +95,7 @@ pub point_kept : (t : TypeTable) (ms : List ModuleRecord) (old new : State) → 
 point_kept t ms old new p f now at = record {
   sound = p.sound at.sound;
   here = p.keeps.types.resources ∙ at.here;
+  typed = at.typed;
   frame = frame_kept ms (tables_of old) (tables_of new) p.keeps f now.scope at.frame;
   world = world_still old.types new.types old.graph new.graph p.keeps.types p.keeps.graph p.side_effects p.instances
       p.trampolines p.imports p.import_types p.begun now.world at.world;

@@ -43,3 +43,20 @@ in_imports l = 0
 abbrev pub in_trampolines : ListName → ℕ
 in_trampolines list.trampolines = 1
 in_trampolines l = 0
+
+-- one entry among the export items
+abbrev pub in_export_items : ListName → ℕ
+in_export_items list.export_items = 1
+in_export_items l = 0
+
+-- one entry among the exports
+abbrev pub in_exports : ListName → ℕ
+in_exports list.exports = 1
+in_exports l = 0
+
+-- four entries in each list of slots, one among the options, and one among the export items
+abbrev pub in_reached : ListName → ℕ
+in_reached (list.slots k) = 4
+in_reached list.options = 1
+in_reached list.export_items = 1
+in_reached l = 0

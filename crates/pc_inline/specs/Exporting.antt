@@ -1,5 +1,5 @@
 -- The exports of the root while they are made, against the nodes of the reading.
-use Rattle.std.specs.Prelude.{◌≡◌, ◌≤◌, ◌*◌, ⊤, ℕ, true, List, [], ◌∷◌, ◌++◌, map, take, drop, Result, Ok, Err}
+use Rattle.std.specs.Prelude.{◌≡◌, ◌≤◌, ◌*◌, ⊤, ℕ, true, List, [], ◌∷◌, ◌++◌, map, take, drop, Result, Ok, Err, None}
 use Rattle.std.specs.List.{AllZip}
 use Rattle.pc_numbers.specs.declared.runtime.ExportIndex.{ExportIndex}
 use Rattle.pc_types.specs.declared.error.Error.{Error}
@@ -34,11 +34,12 @@ use Rattle.pc_inline.specs.Today.{built_exports}
 use Rattle.pc_inline.specs.Worlds.{WorldStands}
 
 module _ (t : TypeTable) (ms : List ModuleRecord) where
-  -- the root after its items, in a world, with the nodes of its exports so far
+  -- the root after its items, in a world in which no total is counted, with the nodes of its exports so far
   pub record RootStands (st : State) (f : Frame) (s : Scope) (w : World) (nodes : List (NamedNode Mark)) : Type 0 where
     pub sound : IsSoundState t ms st
     pub frame : FrameStands ms (tables_of st) f s
     pub world : WorldStands st.types st.graph w
+    pub total : w.total ≡ None
     pub exports : AllZip (NameStands st.types st.graph) st.graph.exports nodes
 
   -- the answer at a function that is exported is its node, or its refusal
@@ -78,7 +79,7 @@ module _ (t : TypeTable) (ms : List ModuleRecord) where
     pub root : (s : Scope) × (w : World) × RootStands old f s w []
     pub few : n ≤ i
     pub keeps : Keeps (tables_of old) (tables_of new)
-    pub adds : Adds t 0 (8 * i) (tables_of old) (tables_of new)
+    pub adds : Adds t 0 (4 * i) (tables_of old) (tables_of new)
     pub names : (name : List ℕ) → has_name (names_of new.graph.exports) name ≡ true
         → has_name (map export_name (take i es)) name ≡ true
     pub numbers : NumbersExports new.graph

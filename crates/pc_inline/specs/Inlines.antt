@@ -1,5 +1,5 @@
 -- What an instantiation answers: the graph that stands for the reading, or why there is none.
-use Rattle.std.specs.Prelude.{◌≡◌, ◌≤◌, ◌⊎◌, ℕ, List, length, None, Result, Ok, Err}
+use Rattle.std.specs.Prelude.{◌≡◌, ◌⊎◌, ℕ, List, length, None, Result, Ok, Err}
 use Rattle.pc_interned.specs.Types.{IsFull, Types}
 use Rattle.pc_types.specs.declared.error.Error.{Error}
 use Rattle.pc_types.specs.declared.error.Error.TheVariants as error
@@ -14,9 +14,9 @@ use Rattle.pc_reading.specs.Reading.{Reading, reading_of}
 use Rattle.pc_reading.specs.World.{World}
 use Rattle.pc_dfg.specs.declared.dfg.ComponentDfg.{ComponentDfg}
 use Rattle.pc_dfg.specs.Ordered.{IsOrdered}
-use Rattle.pc_inline.specs.Adds.{item_count, most_items}
 use Rattle.pc_inline.specs.Exports.{ExportsStand, NumbersExports}
 use Rattle.pc_inline.specs.Today.{built_reading}
+use Rattle.pc_inline.specs.Totals.{IsPast}
 use Rattle.pc_inline.specs.Worlds.{HasItems, HoldsTypes, IsPlain, WorldStands}
 
 -- the name of an export
@@ -61,9 +61,9 @@ pub record StandsForReading (t : TypeTable) (ms : List ModuleRecord) (limit : �
   pub built : built_reading t ms limit body ≡ done result
   pub stands : GraphStands ms types g result
 
--- the builder is full, or the body has so many items that a list of the graph may be
-abbrev pub HasNoRoom : Types → Items → Type 0
-HasNoRoom types body = IsFull types ⊎ (most_items ≤ item_count body)
+-- the builder is full, or the total of the reading is too much
+abbrev pub HasNoRoom : TypeTable → List ModuleRecord → (limit : ℕ) → Items → Types → Type 0
+HasNoRoom t ms limit body types = IsFull types ⊎ IsPast t ms limit body
 
 -- the reading ends so, and as far as it is built it does too
 abbrev pub EndsAs : TypeTable → List ModuleRecord → (limit : ℕ) → Items → Outcome Reading → Type 0
@@ -77,7 +77,7 @@ IsFault t ms limit body types (error.Unsupported NotBuilt p) =
     built_reading t ms limit body ≡ fault (unsupported NotBuilt) p
 IsFault t ms limit body types (error.Unsupported u p) = EndsAs t ms limit body (fault (unsupported u) p)
 IsFault t ms limit body types error.TooManyInstances = EndsAs t ms limit body over
-IsFault t ms limit body types error.TooMany = HasNoRoom types body
+IsFault t ms limit body types error.TooMany = HasNoRoom t ms limit body types
 IsFault t ms limit body types error.NoMemory = Unit {0}
 IsFault t ms limit body types e = ⊥
 

@@ -1,5 +1,5 @@
 -- A moment of the code against a moment of the reading, and what the code makes of an item.
-use Rattle.std.specs.Prelude.{◌≡◌, ◌≤◌, ⊤, true, [], length, List, Result, Ok, Err, None}
+use Rattle.std.specs.Prelude.{◌≡◌, ◌≤◌, ◌⊎◌, ⊤, true, length, List, Result, Ok, Err, None}
 use Rattle.std.specs.List.{list_all}
 use Rattle.pc_interned.specs.Types.{IsFull}
 use Rattle.pc_types.specs.declared.module_record.ModuleRecord.{ModuleRecord}
@@ -18,8 +18,8 @@ use Rattle.pc_inline.specs.declared.state.State.{State}
 use Rattle.pc_inline.specs.Faults.{fault_of}
 use Rattle.pc_inline.specs.Frames.{FrameStands}
 use Rattle.pc_inline.specs.Tables.{Tables, tables_of}
-use Rattle.pc_inline.specs.Today.{built_row}
-use Rattle.pc_inline.specs.Typed.{AreNumbers}
+use Rattle.pc_inline.specs.Today.{built_row, can_instantiate}
+use Rattle.pc_inline.specs.Typed.{AreNumbers, no_resources}
 use Rattle.pc_inline.specs.Worlds.{AreUsed, HasItems, HasNoExports, HoldsTypes, IsPlain, WorldStands}
 
 -- a list of what all component instances share is full
@@ -47,10 +47,17 @@ module _ (t : TypeTable) (ms : List ModuleRecord) where
     pub numbers : AreNumbers st.types t st.numbers
     pub held : HoldsTypes st.types st.graph
 
-  -- a component instance in the code at a moment of the reading: types are converted in it, and no resource is known
+  -- a component instance in which types are converted as in the root: it is the root, or no type that is converted
+  -- hangs on the component instance
+  abbrev pub IsTypedAsRoot : Frame → Type 0
+  IsTypedAsRoot f = (f.component_instance.0 ≡ 0) ⊎ (can_instantiate t ≡ true)
+
+  -- a component instance in the code at a moment of the reading: types are converted as in the root, and no resource is
+  -- known
   pub record PointStands (st : State) (f : Frame) (now : Moment) : Type 0 where
     pub sound : IsSoundState st
-    pub here : st.types.resources ≡ record { known = []; current = f.component_instance }
+    pub here : st.types.resources ≡ no_resources
+    pub typed : IsTypedAsRoot f
     pub frame : FrameStands ms (tables_of st) f now.scope
     pub world : WorldStands st.types st.graph now.world
     pub unexported : HasNoExports st.graph

@@ -1,4 +1,4 @@
--- The items of the root, read in order.
+-- A pass over the items of the root: its imports are prepared.
 use Rattle.std.specs.Prelude.{◌≡◌, ⊤, ℕ, zero, suc, List, Result, Ok, Err}
 use Rattle.pc_types.specs.declared.error.Error.{Error}
 use Rattle.pc_types.specs.declared.error.Error.TheVariants as error
@@ -6,7 +6,6 @@ use Rattle.pc_types.specs.declared.module_record.ModuleRecord.{ModuleRecord}
 use Rattle.pc_types.specs.declared.parsed.TypeTable.{TypeTable}
 use Rattle.pc_reading.specs.Item.{Items, and_item, no_items}
 use Rattle.pc_reading.specs.Outcome.{Outcome, bad_type, done, fault, invalid, over, unsupported}
-use Rattle.pc_reading.specs.Reading.{Enter}
 use Rattle.pc_reading.specs.Scope.{Moment}
 use Rattle.pc_local.specs.declared.item.LocalInitializer.{LocalInitializer}
 use Rattle.pc_local.specs.declared.item.Translation.{Translation}
@@ -15,7 +14,7 @@ use Rattle.pc_inline.specs.declared.frame.Frame.{Frame}
 use Rattle.pc_inline.specs.declared.state.State.{State}
 use Rattle.pc_inline.specs.Points.{IsFullSomewhere, IsPoint, PointStands}
 use Rattle.pc_inline.specs.Tables.{Keeps, tables_of}
-use Rattle.pc_inline.specs.Today.{built_items, built_prepare_all}
+use Rattle.pc_inline.specs.Today.{built_prepare_all}
 
 -- the items of a body from number n on
 abbrev pub items_from : ℕ → Items → Items
@@ -58,7 +57,3 @@ module _ (t : TypeTable) (ms : List ModuleRecord) where
   -- the imports of the root are prepared
   abbrev pub Prepared : List LocalInitializer → State → Frame → State → Frame → Result ⊤ Error → Type 0
   Prepared = Passes (built_prepare_all t ms 0)
-
-  -- the items of the root are read
-  abbrev pub Read : List LocalInitializer → State → Frame → State → Frame → Result ⊤ Error → Type 0
-  Read ls old f new f' r = (enter : Enter) → Passes (built_items t ms enter 0) ls old f new f' r

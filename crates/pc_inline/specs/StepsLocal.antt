@@ -1,23 +1,28 @@
--- The step of a local item of the root, which captures nothing, is that of the item which it stands for.
-use Rattle.std.specs.Prelude.{List, Result, Ok, ⊤}
+-- The step of a local item is that of the item which it stands for.
+use Rattle.std.specs.Prelude.{List, Option, Result, Ok, ⊤}
 use Rattle.pc_types.specs.declared.module_record.ModuleRecord.{ModuleRecord}
 use Rattle.pc_types.specs.declared.parsed.TypeTable.{TypeTable}
 use Rattle.pc_reading.specs.Item.{Item, import_item}
 use Rattle.pc_reading.specs.Outcome.{Fault}
 use Rattle.pc_reading.specs.Scope.{Moment}
 use Rattle.pc_local.specs.declared.item.LocalInitializer.{LocalInitializer}
-use Rattle.pc_local.specs.Standing.{ItemStands, no_names}
+use Rattle.pc_local.specs.Standing.{ItemStands, Names, no_names}
+use Rattle.pc_inline.specs.declared.definition.ClosureId.{ClosureId}
 use Rattle.pc_inline.specs.declared.error.ItemError.{ItemError}
 use Rattle.pc_inline.specs.declared.frame.Frame.{Frame}
 use Rattle.pc_inline.specs.declared.state.State.{State}
-use Rattle.pc_inline.specs.Points.{Steps, StepsItem}
-use Rattle.pc_inline.specs.Today.{built_prepare}
+use Rattle.pc_inline.specs.Captures.{IsEnclosed}
+use Rattle.pc_inline.specs.Points.{Follows, PointStands, Steps}
+use Rattle.pc_inline.specs.Tables.{tables_of}
+use Rattle.pc_inline.specs.Today.{built_prepare, built_row}
 
--- whatever item a local item stands for, its step is that of the item
-unfoldable pub StepsLocal : TypeTable → List ModuleRecord → LocalInitializer → State → Frame → State → Frame
-    → Result ⊤ ItemError → Type 0
-StepsLocal t ms l st f st' f' r =
-    (i : Item) → ItemStands st.bodies.now no_names l i → StepsItem t ms i st f st' f' r
+-- whatever names a body has for what it captured, and whatever item a local item of it stands for, its step is that of
+-- the item, where the component instance captured what the names say
+unfoldable pub StepsLocal : TypeTable → List ModuleRecord → Option ClosureId → LocalInitializer → State → Frame → State
+    → Frame → Result ⊤ ItemError → Type 0
+StepsLocal t ms k l st f st' f' r =
+    (names : Names) (i : Item) → ItemStands st.bodies.now names l i → (now : Moment) → PointStands t ms st f now
+    → IsEnclosed ms (tables_of st) names k now.scope.chain → Follows t ms st' f' (built_row t ms now i) r
 
 -- what preparing makes of an item: an import is prepared, and another item is passed over
 abbrev pub prepare_row : TypeTable → List ModuleRecord → Item → Moment → Result Moment Fault

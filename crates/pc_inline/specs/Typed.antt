@@ -1,5 +1,5 @@
 -- Types and core signatures twice: as numbers of the types builder, and whole, as the reading has them.
-use Rattle.std.specs.Prelude.{◌≡◌, ◌⊎◌, ℕ, true, false, List, Option, None, Some, slice_get}
+use Rattle.std.specs.Prelude.{◌≡◌, ◌⊎◌, ℕ, true, false, List, [], Option, None, Some, slice_get}
 use Rattle.pc_numbers.specs.declared.module_entity.ModuleInternedTypeIndex.{ModuleInternedTypeIndex}
 use Rattle.pc_numbers.specs.declared.runtime.ResourceIndex.{ResourceIndex}
 use Rattle.pc_types.specs.declared.parsed.CoreFuncSig.{CoreFuncSig}
@@ -8,7 +8,7 @@ use Rattle.pc_types.specs.declared.type_index.TypeFuncIndex.{TypeFuncIndex}
 use Rattle.pc_types.specs.declared.types.TypeDef.TheVariants as def
 use Rattle.pc_types.specs.Table.{is_func}
 use Rattle.pc_types.specs.TypeTree.{Identity}
-use Rattle.pc_interned.specs.Types.{Types}
+use Rattle.pc_interned.specs.Types.{Resources, Types}
 use Rattle.pc_builder.specs.Converted.{AreConverted}
 use Rattle.pc_builder.specs.Trees.{HasTree, IsEntry}
 use Rattle.pc_trampoline.specs.declared.part.Mark.{Mark}
@@ -16,6 +16,10 @@ use Rattle.pc_trampoline.specs.declared.part.Mark.TheVariants as mark
 use Rattle.pc_parsed.specs.Mark as reading
 use Rattle.pc_reading.specs.Types.{has_entry}
 use Rattle.pc_inline.specs.declared.numbers.Numbers.{Numbers}
+
+-- no resource is known, and types are converted in the root
+abbrev pub no_resources : Resources
+no_resources = record { known = []; current = record { 0 = 0 } }
 
 module _ (types : Types) where
   -- the builder holds this type, whatever the resources are, or this core signature under the number

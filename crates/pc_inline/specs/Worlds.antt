@@ -174,4 +174,3 @@ module _ (types : Types) (g : ComponentDfg) where
     pub intrinsics : w.intrinsics ≡ []
     pub no_adapters : list_any is_made w.log ≡ false
     pub begun : w.begun ≡ g.num_runtime_component_instances
-    pub total : w.total ≡ None

@@ -1,13 +1,15 @@
 //! What an instantiation reads and doesn't change.
 
 use crate::core_modules::CoreModules;
+use crate::plain::TableKinds;
 use pc_types::TypeTable;
 use std::alloc::Global;
 
-/// The type table, and the core modules that were handed in.
+/// The type table, with what is built with it, and the core modules that were handed in.
 pub struct Context<'a> {
     pub alloc: Global,
     pub table: &'a TypeTable,
+    pub kinds: TableKinds,
     pub modules: CoreModules<'a>,
 }
 
@@ -17,6 +19,7 @@ impl<'a> Drop for Context<'a> {
         let Context {
             alloc: _,
             table: _,
+            kinds: _,
             modules,
         } = self;
         drop_modules(modules);

@@ -2,12 +2,13 @@
 
 ghost use Rattle.std.specs.Prelude.{◌≡◌};
 ghost use Rattle.std.proofs.Common.{refl, rules};
-ghost use Rattle.pc_inline.specs.Definitions.{is_func};
+ghost use Rattle.pc_inline.specs.Definitions.{is_func, is_of_kind};
 
 use pc_entity::{
     EntityRef, ImportIndex, ModuleInternedTypeIndex, RuntimeComponentInstanceIndex,
     StaticComponentIndex, StaticModuleIndex,
 };
+use pc_parsed::ItemKind;
 use pc_types::{StringEncoding, TypeFuncIndex};
 
 /// The number of a core item in the table of core items.
@@ -141,6 +142,21 @@ impl Definition {
             Definition::StaticModule { .. }
             | Definition::Component { .. }
             | Definition::Instance(_) => false,
+        }
+    }
+}
+
+impl Definition {
+    /// Whether it is of a kind.
+    pub(crate) fn is_of_kind(&self, kind: ItemKind) -> bool
+        ensures { result ≡ is_of_kind kind self.now }
+    {
+        match kind {
+            ItemKind::Func => self.is_func(),
+            ItemKind::Module => matches!(self, Definition::StaticModule { .. }),
+            ItemKind::Instance => matches!(self, Definition::Instance(_)),
+            ItemKind::Component => matches!(self, Definition::Component { .. }),
+            ItemKind::Type_ | ItemKind::Value => false,
         }
     }
 }

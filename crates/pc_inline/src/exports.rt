@@ -10,6 +10,7 @@ ghost use Rattle.pc_reading.specs.Value.{Function};
 ghost use Rattle.pc_reading.specs.World.{World};
 ghost use Rattle.pc_inline.specs.declared.frame.Frame.{Frame};
 ghost use Rattle.pc_inline.specs.Adds.{Adds};
+ghost use Rattle.pc_inline.specs.AddsEach.{AddsEach, in_reached};
 ghost use Rattle.pc_inline.specs.Exporting.{Exports, ExportsFunc, ReachesNode, RootStands};
 ghost use Rattle.pc_inline.specs.Exports.{NumbersExports};
 ghost use Rattle.pc_inline.specs.Frames.{FuncStands};
@@ -38,7 +39,7 @@ impl<'a> Context<'a> {
     ) -> Result<ExportIndex, ItemError>
         requires there { (x : Function) × FuncStands self.now.modules (tables_of state.old) func x }
         ensures keeps { Keeps (tables_of state.old) (tables_of state.new) }
-        ensures adds { Adds self.now.table.now 0 5 (tables_of state.old) (tables_of state.new) }
+        ensures adds { AddsEach in_reached 0 0 (tables_of state.old) (tables_of state.new) }
         ensures exports { state.new.graph.exports ≡ state.old.graph.exports }
         ensures item { IfOk result (λ n. (n.0 ≡ length state.old.graph.export_items)
             × (length state.new.graph.export_items ≡ length state.old.graph.export_items + 1)) }
@@ -77,7 +78,7 @@ impl<'a> Context<'a> {
         requires there { (x : Function) × FuncStands self.now.modules (tables_of state.old) func x }
         requires absent { value_of name.now.name state.old.graph.exports ≡ None }
         ensures keeps { Keeps (tables_of state.old) (tables_of state.new) }
-        ensures adds { Adds self.now.table.now 0 8 (tables_of state.old) (tables_of state.new) }
+        ensures adds { Adds self.now.table.now 0 4 (tables_of state.old) (tables_of state.new) }
         ensures names { OnOk result
             (names_of state.new.graph.exports ≡ names_of state.old.graph.exports ++ name.now.name ∷ []) }
         ensures numbers { OnOk result (NumbersExports state.old.graph → NumbersExports state.new.graph) }
@@ -109,7 +110,7 @@ impl<'a> Context<'a> {
         requires unexported { HasNoExports state.old.graph }
         requires distinct { distinct_names (map export_name exports.now) ≡ true }
         ensures keeps { Keeps (tables_of state.old) (tables_of state.new) }
-        ensures adds { Adds self.now.table.now 0 (8 * length exports.now)
+        ensures adds { Adds self.now.table.now 0 (4 * length exports.now)
             (tables_of state.old) (tables_of state.new) }
         ensures numbers { OnOk result (NumbersExports state.new.graph) }
         ensures exports { Exports self.now.table.now self.now.modules exports.now

@@ -1,12 +1,14 @@
 //! A component instance while its items are read.
 
-ghost use Rattle.std.specs.Prelude.{◌≡◌, [], OnOk, OnErr};
+ghost use Rattle.std.specs.Prelude.{◌≡◌, [], slice_get, OnOk, OnErr};
 ghost use Rattle.pc_types.specs.declared.error.Place.TheVariants as place;
-ghost use Rattle.pc_inline.specs.Lists.{core_ids, with_core_id};
+ghost use Rattle.pc_inline.specs.Lists.{core_ids, item_ids, with_core_id, with_item_id};
 
 use crate::definition::{CoreId, DefinitionId};
+use crate::lookup::at;
 use pc_entity::{NoMemory, RuntimeComponentInstanceIndex, Seq, StaticModuleIndex, TextMap};
 use pc_intern::InstanceId;
+use pc_parsed::ItemKind;
 use pc_types::{CoreKind, Place};
 use std::alloc::Global;
 
@@ -40,7 +42,11 @@ pub struct Frame {
 
 impl Frame {
     /// A component instance in which nothing was read yet.
-    pub(crate) fn new(alloc: Global, component_instance: RuntimeComponentInstanceIndex) -> Frame
+    pub(crate) fn new(
+        alloc: Global,
+        component_instance: RuntimeComponentInstanceIndex,
+        arguments: TextMap<DefinitionId>,
+    ) -> Frame
         ensures { result ≡ record {
           core_funcs = [];
           memories = [];
@@ -52,7 +58,7 @@ impl Frame {
           components = [];
           instances = [];
           core_instances = [];
-          arguments = [];
+          arguments = arguments;
           component_instance = component_instance;
         } }
     {
@@ -67,7 +73,7 @@ impl Frame {
             components: Seq::new(alloc),
             instances: Seq::new(alloc),
             core_instances: Seq::new(alloc),
-            arguments: TextMap::new(alloc),
+            arguments,
             component_instance,
         }
     }
@@ -106,6 +112,33 @@ impl Frame {
             CoreKind::Memory => self.memories.push(id),
             CoreKind::Global => self.globals.push(id),
             CoreKind::Tag => self.tags.push(id),
+        }
+    }
+
+    /// The item of a kind at an index. Types and values stand in no list.
+    pub(crate) fn item(&self, kind: ItemKind, index: u32) -> Option<DefinitionId>
+        ensures { result ≡ slice_get (item_ids self.now kind) index }
+    {
+        match kind {
+            ItemKind::Func => at(self.funcs.as_slice(), index),
+            ItemKind::Module => at(self.modules.as_slice(), index),
+            ItemKind::Instance => at(self.instances.as_slice(), index),
+            ItemKind::Component => at(self.components.as_slice(), index),
+            ItemKind::Type_ | ItemKind::Value => None,
+        }
+    }
+
+    /// Adds an item of a kind. A type or a value adds nothing.
+    pub(crate) fn push_item(&mut self, kind: ItemKind, id: DefinitionId) -> Result<(), NoMemory>
+        ensures ok { OnOk result (self.new ≡ with_item_id self.old kind id) }
+        ensures err { OnErr result (self.new ≡ self.old) }
+    {
+        match kind {
+            ItemKind::Func => self.funcs.push(id),
+            ItemKind::Module => self.modules.push(id),
+            ItemKind::Instance => self.instances.push(id),
+            ItemKind::Component => self.components.push(id),
+            ItemKind::Type_ | ItemKind::Value => Ok(()),
         }
     }
 }

@@ -18,6 +18,7 @@ use pc_types::Unsupported;
 
 impl<'a> Context<'a> {
     /// A core function, lifted.
+    #[tactic(auto, using(crate::proofs::ConvertedLemmas::types_few))]
     pub(crate) fn step_lift(
         &self,
         state: &mut State<'_>,
@@ -48,6 +49,7 @@ impl<'a> Context<'a> {
     }
 
     /// A function, lowered. That of a lifted function isn't built yet.
+    #[tactic(auto, using(crate::proofs::ConvertedLemmas::types_few))]
     pub(crate) fn step_lower(
         &self,
         state: &mut State<'_>,

@@ -4,7 +4,9 @@ ghost use Rattle.std.specs.Prelude.{◌≡◌, IfOk, OnErr, OnOk};
 ghost use Rattle.pc_entity.specs.FirstValues.{with_first};
 ghost use Rattle.pc_reading.specs.Item.{import_item};
 ghost use Rattle.pc_reading.specs.Nodes.{extern_data};
+ghost use Rattle.pc_reading.specs.Types.{names_entry};
 ghost use Rattle.pc_inline.specs.Adds.{Adds};
+ghost use Rattle.pc_inline.specs.Kinds.{import_kind, kinds_of};
 ghost use Rattle.pc_inline.specs.Points.{IsInput, IsPoint, Steps, StepsItem};
 ghost use Rattle.pc_inline.specs.Tables.{Keeps, tables_of};
 ghost use Rattle.pc_inline.specs.Today.{built_prepare};
@@ -13,11 +15,14 @@ use crate::context::Context;
 use crate::definition::{Definition, DefinitionId};
 use crate::error::{ItemError, ItemFault};
 use crate::frame::Frame;
+use crate::instances::is_instance_type;
+use crate::modules::is_module_type;
+use crate::plain::TableKinds;
 use crate::state::State;
 use crate::types::is_func_type;
 use pc_entity::{NoMemory, TryClone};
-use pc_parsed::ExternName;
-use pc_types::{ComponentExtern, ComponentExternData, Entity, TypeDef, Unsupported};
+use pc_parsed::{ExternName, ItemKind};
+use pc_types::{ComponentExtern, ComponentExternData, Entity, TypeDef, TypeTable, Unsupported};
 use std::alloc::Global;
 
 /// What a name says of itself.
@@ -30,6 +35,33 @@ pub(crate) fn extern_data(alloc: Global, name: &ExternName) -> Result<ComponentE
         implements,
         external_id,
     })
+}
+
+/// The kind of item that an import takes, if that is built.
+fn import_kind(kinds: TableKinds, entity: Entity) -> Option<ItemKind>
+    ensures { result ≡ import_kind kinds entity }
+{
+    match entity {
+        Entity::Func(_) => Some(ItemKind::Func),
+        Entity::Module(_) => Some(ItemKind::Module),
+        Entity::Component(_) => Some(ItemKind::Component),
+        Entity::Instance(_) if kinds.has_no_resource => Some(ItemKind::Instance),
+        _ => None,
+    }
+}
+
+/// Whether an entity names an entry of its kind. A type may be any entry.
+fn names_entry(table: &TypeTable, entity: Entity) -> bool
+    ensures { result ≡ names_entry table.now entity }
+{
+    match entity {
+        Entity::Func(ty) => is_func_type(table, ty),
+        Entity::Instance(ty) => is_instance_type(table, ty),
+        Entity::Component(ty) => table.entry(ty).is_some_and(|entry| entry.is_component()),
+        Entity::Module(ty) => is_module_type(table, ty),
+        Entity::Type_(ty) => table.entry(ty).is_some(),
+        Entity::Value => false,
+    }
 }
 
 impl Frame {
@@ -96,18 +128,19 @@ impl<'a> Context<'a> {
     ) -> Result<(), ItemError>
         requires input { IsInput self.now.table.now self.now.modules }
         requires here { IsPoint self.now.table.now self.now.modules state.now frame.old }
+        requires kinds { self.now.kinds ≡ kinds_of self.now.table.now }
         ensures same { frame.new.component_instance ≡ frame.old.component_instance }
         ensures steps { StepsItem self.now.table.now self.now.modules (import_item name.now entity)
             state.now frame.old state.now frame.new result }
     {
-        let Entity::Func(ty) = entity else {
+        let Some(kind) = import_kind(self.kinds, entity) else {
             return Err(ItemError::Fault(ItemFault::Unsupported(Unsupported::NotBuilt)));
         };
-        if !is_func_type(self.table, ty) {
+        if !names_entry(self.table, entity) {
             return Err(ItemError::Fault(ItemFault::BadType));
         }
         match frame.arguments.get(name.name.as_str()).copied() {
-            Some(id) if state.is_func(id) => Ok(frame.funcs.push(id)?),
+            Some(id) if state.is_of_kind(id, kind) => Ok(frame.push_item(kind, id)?),
             _ => Err(ItemError::Fault(ItemFault::Invalid)),
         }
     }

@@ -1,6 +1,6 @@
 //! The root: it begins, its imports are prepared, its items are read in order, and it exports.
 
-ghost use Rattle.std.specs.Prelude.{◌≡◌, ◌≤◌, ◌*◌, None, true, length, map, sum_by, IfOk};
+ghost use Rattle.std.specs.Prelude.{◌≡◌, ◌*◌, None, true, map, sum_by, IfOk};
 ghost use Rattle.std.specs.List.{list_all};
 ghost use Rattle.pc_types.specs.Names.{distinct_names};
 ghost use Rattle.pc_types.specs.Record.{is_sound};
@@ -9,31 +9,35 @@ ghost use Rattle.pc_builder.specs.Types.{KeepsTypes};
 ghost use Rattle.pc_reading.specs.Item.{Items};
 ghost use Rattle.pc_local.specs.Standing.{BodyStands, no_names};
 ghost use Rattle.pc_dfg.specs.Grows.{Grows};
-ghost use Rattle.pc_dfg.specs.Lists.{ListName, entries_of};
-ghost use Rattle.pc_inline.specs.Adds.{Adds, AddsTypes, functions_in, imports_in, is_plain_table, item_count};
-ghost use Rattle.pc_inline.specs.Begins.{Begins, InlinesRoot, IsFresh, RootHasFew, no_resources};
+ghost use Rattle.pc_inline.specs.Adds.{Adds, imports_in};
+ghost use Rattle.pc_inline.specs.Begins.{Begins, BeginsRoot, EndsRoot, IsFresh};
 ghost use Rattle.pc_inline.specs.Inlines.{Inlines, export_name};
+ghost use Rattle.pc_inline.specs.Kinds.{kinds_of};
+ghost use Rattle.pc_inline.specs.Plain.{is_plain_table};
 ghost use Rattle.pc_inline.specs.Points.{IsInput, IsPoint};
-ghost use Rattle.pc_inline.specs.Reads.{AreItems, Prepared, Read};
+ghost use Rattle.pc_inline.specs.Reads.{AreItems, Prepared};
 ghost use Rattle.pc_inline.specs.StepsLocal.{PreparesLocal};
 ghost use Rattle.pc_inline.specs.Tables.{Keeps, tables_of};
+ghost use Rattle.pc_inline.specs.Totals.{CountsGraph, GainsFew};
+ghost use Rattle.pc_inline.specs.Typed.{no_resources};
 
 use crate::context::Context;
 use crate::core_modules::CoreModules;
 use crate::error::{ItemError, error_at};
 use crate::frame::Frame;
 use crate::numbers::Numbers;
+use crate::plain::kinds_of;
 use crate::state::State;
 use pc_builder::{ComponentTypesBuilder, ResourcesBuilder};
 use pc_dfg::{ComponentDfg, PushError};
-use pc_entity::RuntimeComponentInstanceIndex;
+use pc_entity::{RuntimeComponentInstanceIndex, TextMap};
 use pc_local::{LocalInitializer, LocalProgram, Translation};
 use pc_types::{Error, TypeTable};
 use std::alloc::Global;
 use std::mem;
 
 /// A component instance begins, unless as many as the limit have begun. Nothing else counts component instances.
-fn begin_instance(
+pub(crate) fn begin_instance(
     graph: &mut ComponentDfg,
     limit: u32,
 ) -> Result<RuntimeComponentInstanceIndex, Error>
@@ -62,7 +66,8 @@ impl<'a> Context<'a> {
         requires here { IsPoint self.now.table.now self.now.modules state.old frame.old }
         ensures keeps { Keeps (tables_of state.old) (tables_of state.new) }
         ensures same { frame.new.component_instance ≡ frame.old.component_instance }
-        ensures adds { Adds self.now.table.now (imports_in item.now) 4 (tables_of state.old) (tables_of state.new) }
+        ensures adds { Adds self.now.table.now (imports_in item.now) (4 * imports_in item.now)
+            (tables_of state.old) (tables_of state.new) }
         ensures steps { PreparesLocal self.now.table.now self.now.modules item.now
             state.old frame.old state.new frame.new result }
     {
@@ -84,7 +89,7 @@ impl<'a> Context<'a> {
         requires items { AreItems state.old.bodies.now items.now }
         ensures keeps { Keeps (tables_of state.old) (tables_of state.new) }
         ensures same { frame.new.component_instance ≡ frame.old.component_instance }
-        ensures adds { Adds self.now.table.now (sum_by imports_in items.now) (4 * length items.now)
+        ensures adds { Adds self.now.table.now (sum_by imports_in items.now) (4 * sum_by imports_in items.now)
             (tables_of state.old) (tables_of state.new) }
         ensures prepared { Prepared self.now.table.now self.now.modules items.now
             state.old frame.old state.new frame.new result }
@@ -97,29 +102,22 @@ impl<'a> Context<'a> {
         Ok(())
     }
 
-    /// The items of the root are read, in order.
-    pub(crate) fn read_items(
+    /// The root begins, and its imports are prepared.
+    fn begin_root(
         &self,
         state: &mut State<'_>,
-        frame: &mut Frame,
-        items: &[LocalInitializer],
-    ) -> Result<(), Error>
+        root: &Translation,
+        limit: u32,
+    ) -> Result<Frame, Error>
         requires input { IsInput self.now.table.now self.now.modules }
-        requires here { IsPoint self.now.table.now self.now.modules state.old frame.old }
-        requires items { AreItems state.old.bodies.now items.now }
-        ensures keeps { Keeps (tables_of state.old) (tables_of state.new) }
-        ensures same { frame.new.component_instance ≡ frame.old.component_instance }
-        ensures adds { Adds self.now.table.now (sum_by functions_in items.now) (4 * length items.now)
-            (tables_of state.old) (tables_of state.new) }
-        ensures read { Read self.now.table.now self.now.modules items.now
-            state.old frame.old state.new frame.new result }
+        requires fresh { IsFresh self.now.table.now state.old }
+        requires stands { (body : Items) × BodyStands state.old.bodies.now no_names root.now body }
+        ensures { BeginsRoot self.now.table.now self.now.modules limit root.now state.old state.new result }
     {
-        for (n, item) in items.iter().enumerate() {
-            if let Err(error) = self.step(state, frame, item) {
-                return Err(error_at(error, frame.place_of(n)));
-            }
-        }
-        Ok(())
+        let instance = begin_instance(&mut state.graph, limit)?;
+        let mut frame = Frame::new(self.alloc, instance, TextMap::new(self.alloc));
+        self.prepare_all(state, &mut frame, root.initializers.as_slice())?;
+        Ok(frame)
     }
 
     /// The root: it begins, its imports are prepared, its items are read, and it exports.
@@ -130,19 +128,14 @@ impl<'a> Context<'a> {
         limit: u32,
     ) -> Result<(), Error>
         requires input { IsInput self.now.table.now self.now.modules }
+        requires kinds { self.now.kinds ≡ kinds_of self.now.table.now }
         requires fresh { IsFresh self.now.table.now state.old }
         requires stands { (body : Items) × BodyStands state.old.bodies.now no_names root.now body }
         requires distinct { distinct_names (map export_name root.now.exports) ≡ true }
-        ensures keeps { Keeps (tables_of state.old) (tables_of state.new) }
-        ensures few { RootHasFew self.now.table.now root.now (tables_of state.old) (tables_of state.new) }
-        ensures inlines { InlinesRoot self.now.table.now self.now.modules limit state.old.bodies.now root.now
-            state.new result }
+        ensures { EndsRoot self.now.table.now self.now.modules limit root.now state.old state.new result }
     {
-        let instance = begin_instance(&mut state.graph, limit)?;
-        let mut frame = Frame::new(self.alloc, instance);
-        let items = root.initializers.as_slice();
-        self.prepare_all(state, &mut frame, items)?;
-        self.read_items(state, &mut frame, items)?;
+        let begun = self.begin_root(state, root, limit)?;
+        let frame = self.run(state, root, begun, limit)?;
         self.export_all(state, &frame, root.exports.as_slice())
     }
 }
@@ -171,15 +164,17 @@ pub fn inline_run(
     ensures inlines { (body : Items) → BodyStands program.now.components no_names program.now.root body
         → Inlines table.now program.now.modules limit body types.new result }
     ensures few { (body : Items) → BodyStands program.now.components no_names program.now.root body
-        → IfOk result (λ g. (l : ListName) → length (entries_of g l) ≤ 16 * item_count body) }
+        → IfOk result (CountsGraph table.now program.now.modules limit body types.old types.new) }
     ensures keeps { KeepsTypes types.old types.new }
     ensures adds { (body : Items) → BodyStands program.now.components no_names program.now.root body
-        → is_plain_table table.now ≡ true → AddsTypes (item_count body) types.old types.new }
+        → is_plain_table table.now ≡ true
+        → GainsFew table.now program.now.modules limit body types.old types.new }
 {
     let modules = CoreModules::new(alloc, program.modules.as_slice())?;
     let context = Context {
         alloc,
         table,
+        kinds: kinds_of(table),
         modules,
     };
     let numbers = Numbers::new(alloc, table)?;

@@ -31,7 +31,8 @@ use pc_entity::{
 use pc_types::{CoreEntity, CoreKind, TypeTable, entity_number};
 use std::alloc::Global;
 
-fn is_module_type(table: &TypeTable, ty: u32) -> bool
+/// Whether a number is of a module type.
+pub(crate) fn is_module_type(table: &TypeTable, ty: u32) -> bool
     ensures { result ≡ has_entry table.now is_module ty }
 {
     match table.entry(ty) {
@@ -178,6 +179,7 @@ impl<'a> Context<'a> {
     }
 
     /// A core instance of a module of the component instance, which is a side effect.
+    #[tactic(auto, using(crate::proofs::AddsLemmas::adds_refl, crate::proofs::InstantiationLemmas::instance_keeps, crate::proofs::StepLemmas::steps_memory))]
     pub(crate) fn step_core_instance(
         &self,
         state: &mut State<'_>,
@@ -212,6 +214,7 @@ impl<'a> Context<'a> {
     }
 
     /// An item of a core instance.
+    #[tactic(auto, using(crate::proofs::AddsLemmas::adds_refl, crate::proofs::AddsLemmas::core_few))]
     pub(crate) fn step_core_alias(
         &self,
         state: &mut State<'_>,

@@ -1,11 +1,14 @@
-//! Tables whose functions are over primitives: those of which the types builder is known to gain few types.
+//! Tables whose functions are over primitives: those of which the types builder is known to gain few types. And tables
+//! without resources.
 
 ghost use Rattle.std.specs.Prelude.{◌≡◌, is_some};
 ghost use Rattle.std.specs.List.{list_all};
 ghost use Rattle.pc_types.specs.Table.{is_none_or};
 ghost use Rattle.pc_interned.specs.Primitive.{plain_type};
 ghost use Rattle.pc_builder.specs.Few.{is_plain_param, is_plain_val};
-ghost use Rattle.pc_inline.specs.Adds.{is_plain_entry, is_plain_table};
+ghost use Rattle.pc_inline.specs.Kinds.{kinds_of};
+ghost use Rattle.pc_inline.specs.Plain.{is_plain_entry, is_plain_table};
+ghost use Rattle.pc_inline.specs.Today.{has_no_resource};
 
 use pc_entity::Text;
 use pc_types::{DeclType, PrimType, TypeTable, ValType};
@@ -64,4 +67,30 @@ pub fn is_plain_table(table: &TypeTable) -> bool
     ensures { result ≡ is_plain_table table.now }
 {
     table.types.iter().all(is_plain_entry)
+}
+
+/// What is built with a type table, found out once.
+#[derive(Clone, Copy)]
+pub struct TableKinds {
+    pub has_no_resource: bool,
+    /// Whether components can be instantiated: there is no resource, and each function is over primitives.
+    pub can_instantiate: bool,
+}
+
+/// Whether no entry of a table is a resource.
+fn has_no_resource(table: &TypeTable) -> bool
+    ensures { result ≡ has_no_resource table.now }
+{
+    table.types.iter().all(|entry| !entry.is_resource())
+}
+
+/// What is built with a type table.
+pub fn kinds_of(table: &TypeTable) -> TableKinds
+    ensures { result ≡ kinds_of table.now }
+{
+    let has_no_resource = has_no_resource(table);
+    TableKinds {
+        has_no_resource,
+        can_instantiate: has_no_resource && is_plain_table(table),
+    }
 }

@@ -9,7 +9,6 @@ ghost use Rattle.pc_semantics.specs.PlanView as plan;
 ghost use Rattle.pc_parsed.specs.Mark.{Mark};
 ghost use Rattle.pc_dfg.specs.Held.{HeldModel, HeldSlot};
 ghost use Rattle.pc_dfg.specs.Numbers.{memory_def, model_entry};
-ghost use Rattle.pc_inline.specs.Adds.{Adds};
 ghost use Rattle.pc_inline.specs.AddsEach.{AddsEach, in_options, in_slots};
 ghost use Rattle.pc_inline.specs.Prepares.{Prepares};
 ghost use Rattle.pc_inline.specs.Refused.{LacksRoom};
@@ -182,8 +181,7 @@ impl<'a> Context<'a> {
     ) -> Result<OptionsId, ItemError>
         requires there { OptionsThere self.now.modules (tables_of state.old) options }
         ensures prepares { Prepares self.now.table.now self.now.modules state.old state.new }
-        ensures each { AddsEach in_options 0 0 (tables_of state.old) (tables_of state.new) }
-        ensures adds { Adds self.now.table.now 0 4 (tables_of state.old) (tables_of state.new) }
+        ensures adds { AddsEach in_options 0 0 (tables_of state.old) (tables_of state.new) }
         ensures entry { IfOk result (λ id. (v : value.Options Mark)
             → OptionsStand self.now.modules (tables_of state.old) options v
             → EntryStands (tables_of state.new) id.0 v) }

@@ -2,14 +2,16 @@
 
 ghost use Rattle.std.specs.Prelude.{◌≡◌, ◌++◌, ◌∷◌, [], length, None, Some, slice_get, option_and_then, IfOk, IfErr};
 ghost use Rattle.std.specs.Prelude.{OnOk, OnErr};
+ghost use Rattle.pc_entity.specs.Lists.{value_of};
 ghost use Rattle.pc_types.specs.declared.parsed.TypeTable.{TypeTable};
 ghost use Rattle.pc_types.specs.Table.{is_some_and};
 ghost use Rattle.pc_inline.specs.AddsEach.{AddsEach, nowhere};
-ghost use Rattle.pc_inline.specs.Begins.{IsFresh, counted_tables, no_resources};
-ghost use Rattle.pc_inline.specs.Definitions.{host_import, is_func, module_index};
+ghost use Rattle.pc_inline.specs.Begins.{IsFresh, counted_tables};
+ghost use Rattle.pc_inline.specs.Definitions.{exports_of, host_import, is_func, is_of_kind, module_index};
+ghost use Rattle.pc_inline.specs.declared.definition.ExportsId.{ExportsId};
 ghost use Rattle.pc_inline.specs.Refused.{LacksRoom};
 ghost use Rattle.pc_inline.specs.Tables.{Keeps, tables_of};
-ghost use Rattle.pc_inline.specs.Typed.{AreNumbers};
+ghost use Rattle.pc_inline.specs.Typed.{AreNumbers, no_resources};
 
 use crate::closure::Closure;
 use crate::definition::{ClosureId, CoreId, Definition, DefinitionId, ExportsId};
@@ -22,6 +24,7 @@ use pc_entity::{
     TextMap,
 };
 use pc_local::Translation;
+use pc_parsed::ItemKind;
 use pc_types::TypeKind;
 use std::alloc::Global;
 use std::mem;
@@ -164,6 +167,30 @@ impl<'a> State<'a> {
         match self.definitions.get(id) {
             Some(definition) => definition.is_func(),
             None => false,
+        }
+    }
+
+    /// Whether a definition is of a kind.
+    pub(crate) fn is_of_kind(&self, id: DefinitionId, kind: ItemKind) -> bool
+        ensures { result ≡ is_some_and (is_of_kind kind) (slice_get self.now.definitions id.0) }
+    {
+        match self.definitions.get(id) {
+            Some(definition) => definition.is_of_kind(kind),
+            None => false,
+        }
+    }
+
+    /// The definition that a component instance exports under a name.
+    pub(crate) fn member(&self, id: DefinitionId, name: &str) -> Option<DefinitionId>
+        ensures { result ≡ option_and_then (value_of name.now) (option_and_then (λ (n : ExportsId).
+            slice_get self.now.instances n.0) (option_and_then exports_of (slice_get self.now.definitions id.0))) }
+    {
+        match self.definitions.get(id) {
+            Some(Definition::Instance(exports)) => match self.instances.get(*exports) {
+                Some(members) => members.get(name).copied(),
+                None => None,
+            },
+            _ => None,
         }
     }
 

@@ -61,8 +61,8 @@ fault_excludes input plan modules (faulty {k = k} {p = p} at) is = done_or_fault
 fault_excludes input plan modules (endless at) is = done_or_over _ is.2.result is.2.outcome at
 fault_excludes input plan modules (later x) is =
     let b = is.2.can_be_read.built in
-    false_not_true (are_built x.0) x.2
-    (subst (λ (body : Items). are_built body ≡ true) (same_Some b.0 x.0 (sym b.1 ∙ x.1)) b.2)
+    false_not_true (are_built input.table x.0) x.2
+    (subst (λ (body : Items). are_built input.table body ≡ true) (same_Some b.0 x.0 (sym b.1 ∙ x.1)) b.2)
 fault_excludes input plan modules (unbuilt {k = k} {p = p} at) is = done_or_fault _ is.2.result k p is.2.built at
 
 -- bytes with a reason to be refused have no text of a command

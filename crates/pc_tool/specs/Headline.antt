@@ -19,7 +19,7 @@ use Rattle.pc_reading.specs.Reading.{Reading}
 use Rattle.pc_form.specs.declared.input.Input.{Input}
 use Rattle.pc_form.specs.Input.{input_in, input_of, tree_of}
 use Rattle.pc_form.specs.Rules.{plain}
-use Rattle.pc_inline.specs.Adds.{is_plain_table}
+use Rattle.pc_inline.specs.Plain.{is_plain_table}
 use Rattle.pc_translate.specs.Causes.{HasRoot, are_built, built_meaning, meaning}
 use Rattle.pc_translate.specs.Translation.{IsPlanOf, IsRefusalOf}
 use Rattle.pc_tool.specs.declared.words.Command.{Command}
@@ -66,8 +66,8 @@ pub data HasFault (input : Input) : Type 0 where
   faulty : {k : Fault} {p : Place} → meaning_of input ≡ Some (fault k p) → HasFault input
   endless : meaning_of input ≡ Some over → HasFault input
   -- an item of the root is of a kind that isn't built
-  later : HasRoot input.intrinsics input.payloads (λ body. are_built body ≡ false) → HasFault input
-  -- an adapter is needed
+  later : HasRoot input.intrinsics input.payloads (λ body. are_built input.table body ≡ false) → HasFault input
+  -- an item isn't built where it is read, or an adapter is needed
   unbuilt : {k : Fault} {p : Place} → built_meaning_of input ≡ Some (fault k p) → HasFault input
 
 -- a text is the one that a command makes of a plan and its modules

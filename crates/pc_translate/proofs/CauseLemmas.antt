@@ -26,33 +26,49 @@ use Rattle.pc_reading.specs.Section.{modules_of, named_item}
 use Rattle.pc_local.specs.declared.item.LocalProgram.{LocalProgram}
 use Rattle.pc_local.specs.Program.{ProgramStands}
 use Rattle.pc_local.specs.Standing.{BodyStands, no_names}
-use Rattle.pc_inline.specs.Adds.{AddsTypes, item_count}
 use Rattle.pc_inline.specs.Inlines.{IsFault, export_name}
+use Rattle.pc_inline.specs.Totals.{GainsFew}
 use Rattle.pc_translate.proofs.FlawLemmas.{IsFlawError, static_flaw}
 use Rattle.pc_translate.proofs.TranslatesLemmas.{root_built, root_end, translates}
 use Rattle.pc_translate.specs.Causes.{CanBeRead, HasCause, IsFirstFault}
 use Rattle.pc_translate.specs.Planning.{IsPlanOfBody, Plans, as_handed_in}
-use Rattle.pc_translate.specs.Translation.{Gains, Translates}
+use Rattle.pc_translate.specs.Translation.{CountsGained, Gains, GainsCounted, Translates}
 
--- nothing was gained
-pub gains_nothing : (exposed : Option (List ℕ)) (ps : List Payload) (types : Types) → Gains exposed ps types types
-unfolding Gains
-gains_nothing exposed ps types body root = record {
-  rest = refl;
-  funcs = omega arith;
-  tuples = omega arith;
-  signatures = omega arith;
-}
+module _ (t : TypeTable) (exposed : Option (List ℕ)) (limit : ℕ) (ps : List Payload) where
+  -- nothing was gained
+  pub gains_nothing : (types : Types) → Gains t exposed limit ps types types
+  unfolding Gains
+  gains_nothing types body root = record {
+    functions = 0;
+    types = record { rest = refl; funcs = omega arith; tuples = omega arith; signatures = omega arith };
+    few = inr (omega arith);
+  }
 
--- what was gained for the body of a program was gained for its payloads
-pub gains : (exposed : Option (List ℕ)) (ps : List Payload) (program : LocalProgram) (old new : Types)
-    → ProgramStands exposed ps program
-    → ((body : Items) → BodyStands program.components no_names program.root body → AddsTypes (item_count body) old new)
-    → Gains exposed ps old new
-unfolding Gains
-gains exposed ps program old new stands adds body root =
-    subst (λ (b : Items). AddsTypes (item_count b) old new) (same_Some stands.body body (sym stands.nests ∙ root))
-    (adds stands.body stands.root)
+  -- what holds of the body of a program holds of the root of its payloads
+  of_root : (program : LocalProgram) → ProgramStands exposed ps program → (P : List ModuleRecord → Items → Type 0)
+      → ((body : Items) → BodyStands program.components no_names program.root body → P program.modules body)
+      → (body : Items) → root_of exposed ps ≡ Some body → P (modules_of ps) body
+  of_root program stands P holds body root =
+      subst (λ (b : Items). P (modules_of ps) b) (same_Some stands.body body (sym stands.nests ∙ root))
+      (subst (λ (ms : List ModuleRecord). P ms stands.body) stands.modules (holds stands.body stands.root))
+
+  -- what was gained for the body of a program was gained for its payloads
+  pub gains : (program : LocalProgram) (old new : Types) → ProgramStands exposed ps program
+      → ((body : Items) → BodyStands program.components no_names program.root body
+      → GainsFew t program.modules limit body old new)
+      → Gains t exposed limit ps old new
+  unfolding Gains
+  gains program old new stands few =
+      of_root program stands (λ ms body. GainsFew t ms limit body old new) few
+
+  -- also where it is counted
+  pub counts_gained : (program : LocalProgram) (old new : Types) → ProgramStands exposed ps program
+      → ((body : Items) → BodyStands program.components no_names program.root body
+      → GainsCounted t program.modules limit body old new)
+      → CountsGained t exposed limit ps old new
+  unfolding CountsGained
+  counts_gained program old new stands few =
+      of_root program stands (λ ms body. GainsCounted t ms limit body old new) few
 
 module _ (t : TypeTable) (exposed : Option (List ℕ)) (limit : ℕ) (ps : List Payload) (types : Types) where
   module _ (can : CanBeRead t exposed ps) (body : Items) (root : root_of exposed ps ≡ Some body) where

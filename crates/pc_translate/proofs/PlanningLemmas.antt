@@ -1,5 +1,5 @@
 -- A plan of a body, or why there is none, from the graph that stands for its reading.
-use Rattle.std.proofs.Common.{◌≡◌, ℕ, ◌≤◌, ◌*◌, ◌⊎◌, inl, inr, List, length, Some, None, Result, Ok, Err, IfOk}
+use Rattle.std.proofs.Common.{◌≡◌, ℕ, ◌≤◌, ◌<◌, ◌⊎◌, inl, inr, true, List, length, Some, None, Result, Ok, Err, IfOk}
 use Rattle.std.proofs.Common.{Contains, arith, refl, sym, ap, subst, ◌∙◌}
 use Rattle.std.specs.Prelude.{IsSomeAnd, MatchResult}
 use Rattle.std.specs.Result.{IsErrAnd}
@@ -16,16 +16,18 @@ use Rattle.pc_reading.specs.Item.{Items}
 use Rattle.pc_dfg.specs.declared.dfg.ComponentDfg.{ComponentDfg}
 use Rattle.pc_dfg.specs.declared.export.Export.{Export}
 use Rattle.pc_dfg.specs.declared.export.Export.TheVariants as export
-use Rattle.pc_dfg.specs.Lists.{ListName, entries_of, slots, options, trampolines, instances, resources}
+use Rattle.pc_dfg.specs.Lists.{slots, options, trampolines, instances, resources}
 use Rattle.pc_finish.specs.declared.error.FinishError.{FinishError}
 use Rattle.pc_finish.specs.declared.error.FinishError.TheVariants as finish_error
 use Rattle.pc_finish.specs.Finished.{IsFinished}
 use Rattle.pc_finish.specs.Full.{HasTooMany, of_slots, of_options, of_trampolines, of_instances, of_resources}
 use Rattle.pc_finish.specs.ModuleTypes.{HasNoPlace, static_type}
-use Rattle.pc_inline.specs.Adds.{item_count, most_items}
 use Rattle.pc_inline.specs.Inlines.{HasNoRoom, Inlines, IsFault, StandsForReading}
+use Rattle.pc_inline.specs.Plain.{is_plain_table}
+use Rattle.pc_inline.specs.Totals.{CountsGraph, GainsFew, IsCounted, IsPast}
 use Rattle.pc_inline.specs.Worlds.{IsLifted, IsPlain}
 use Rattle.pc_translate.specs.Planning.{Plans, error_of_finish}
+use Rattle.pc_translate.specs.Translation.{GainsCounted}
 
 -- the graph that was answered stands for the reading
 pub graph_stands : (t : TypeTable) (ms : List ModuleRecord) (limit : ℕ) (body : Items) (types : Types)
@@ -39,9 +41,26 @@ pub fault_plans : (t : TypeTable) (ms : List ModuleRecord) (limit : ℕ) (body :
 unfolding Inlines Plans
 fault_plans t ms limit body types e h = h
 
--- so long a list takes so many items
-many_items : (n len : ℕ) → len ≤ 16 * n → 4294967294 ≤ len → most_items ≤ n
-many_items n len few many = omega (arith, few, many)
+-- where the lists of a graph are counted, how much was gained is
+pub gains_counted : (t : TypeTable) (ms : List ModuleRecord) (limit : ℕ) (body : Items) (old new : Types)
+    (g : ComponentDfg) → is_plain_table t ≡ true → CountsGraph t ms limit body old new g
+    → GainsFew t ms limit body old new → GainsCounted t ms limit body old new
+gains_counted t ms limit body old new g plain (inl past) few =
+    record { functions = few.functions; types = few.types; few = inl past }
+gains_counted t ms limit body old new g plain (inr c) few = record {
+  functions = c.functions;
+  types = c.types plain;
+  few = inr (c.total, c.is_total, c.below, c.few_functions);
+}
+
+-- what holds anyway holds of each answer
+pub of_each : {A E : Type 0} (r : Result A E) (X : Type 0) → X → IfOk r (λ _. X)
+of_each (Ok a) X x = x
+of_each (Err e) X x = tt
+
+-- a list of fewer entries than a total below the greatest has no 4294967294 entries
+too_few : (len total : ℕ) → len < total → total < 4294967295 → 4294967294 ≤ len → ⊥
+too_few len total few below many = omega (arith, few, below, many)
 
 -- no exported function is a module
 not_static : (e : Export) → IsLifted e → static_type e ≡ None
@@ -52,24 +71,30 @@ not_static (export.Instance ty es) h = absurd h
 not_static (export.Type_ ty) h = absurd h
 
 module _ (t : TypeTable) (ms : List ModuleRecord) (limit : ℕ) (body : Items) (types : Types) (g : ComponentDfg)
-    (stands : StandsForReading t ms limit body types g)
-    (few : (l : ListName) → length (entries_of g l) ≤ 16 * item_count body) where
+    (stands : StandsForReading t ms limit body types g) (old : Types) where
   plain : IsPlain g
   plain = stands.stands.plain
 
-  -- a list that is too long takes so many items as may fill one
-  too_long : HasTooMany g → most_items ≤ item_count body
-  too_long (of_slots k many) = many_items (item_count body) (length (entries_of g (slots k))) (few (slots k)) many
-  too_long (of_options many) = many_items (item_count body) (length g.options) (few options) many
-  too_long (of_trampolines many) = many_items (item_count body) (length g.trampolines) (few trampolines) many
-  too_long (of_instances many) =
+  -- no list that is counted is too long
+  none_long : IsCounted t ms limit body old types g → HasTooMany g → ⊥
+  none_long c (of_slots k many) = too_few _ c.total (c.few (slots k)) c.below many
+  none_long c (of_options many) = too_few _ c.total (c.few options) c.below many
+  none_long c (of_trampolines many) = too_few _ c.total (c.few trampolines) c.below many
+  none_long c (of_instances many) =
       let none : length g.adapter_modules ≡ 0 = ap length plain.adapter_modules in
-      let own = few instances in
-      omega (arith, none, own, many)
-  too_long (of_resources many) =
+      let own = c.few instances in
+      let below = c.below in
+      omega (arith, none, own, below, many)
+  none_long c (of_resources many) =
       let none : length g.imported_resources ≡ 0 = ap length plain.imported_resources in
-      let own = few resources in
-      omega (arith, none, own, many)
+      let own = c.few resources in
+      let below = c.below in
+      omega (arith, none, own, below, many)
+
+  -- so where one is, the total of the reading is too much
+  too_long : CountsGraph t ms limit body old types g → HasTooMany g → IsPast t ms limit body
+  too_long (inl past) many = past
+  too_long (inr c) many = absurd (none_long c many)
 
   -- the type of a core module that is exported has no place
   abbrev LacksPlace : Type 0
@@ -83,18 +108,19 @@ module _ (t : TypeTable) (ms : List ModuleRecord) (limit : ℕ) (body : Items) (
       subst (λ o. IsSomeAnd o (λ ty. IsTooFullFor types
       (λ next. (i : TypeModuleIndex) × IsEntry next t ty (def.Module i)))) none l.2
 
-  no_room : HasTooMany g ⊎ LacksPlace → HasNoRoom types body
-  no_room (inl many) = inr (too_long many)
-  no_room (inr lacks) = absurd (lacks_none lacks)
+  no_room : CountsGraph t ms limit body old types g → HasTooMany g ⊎ LacksPlace → HasNoRoom t ms limit body types
+  no_room counts (inl many) = inr (too_long counts many)
+  no_room counts (inr lacks) = absurd (lacks_none lacks)
 
   -- the plan, or the cause for want of one
-  pub planned : (r : Result ComponentTranslation FinishError) → IfOk r (λ p. IsFinished types t g p)
+  pub planned : CountsGraph t ms limit body old types g → (r : Result ComponentTranslation FinishError)
+      → IfOk r (λ p. IsFinished types t g p)
       → (r ≡ Err finish_error.TooMany → HasTooMany g ⊎ LacksPlace)
       → (out : Result ComponentTranslation Error)
       → MatchResult r (λ x. out ≡ Ok x) (λ e. IsErrAnd out (λ y. y ≡ error_of_finish e))
       → Plans t ms limit body types out
   unfolding Plans
-  planned (Ok plan) finished full (Ok p) same =
+  planned counts (Ok plan) finished full (Ok p) same =
       record {
         graph = g;
         stands = stands;
@@ -103,9 +129,9 @@ module _ (t : TypeTable) (ms : List ModuleRecord) (limit : ℕ) (body : Items) (
     where
       the : (a b : ComponentTranslation) → ◌≡◌ {A = Result ComponentTranslation Error} (Ok a) (Ok b) → a ≡ b
       the a b h = cc
-  planned (Ok plan) finished full (Err e) same = absurd (let x : ⊥ = cc in x)
-  planned (Err finish_error.TooMany) finished full (Err e) same =
-      subst (λ (x : Error). IsFault t ms limit body types x) (sym same) (no_room (full refl))
-  planned (Err finish_error.NoMemory) finished full (Err e) same =
+  planned counts (Ok plan) finished full (Err e) same = absurd (let x : ⊥ = cc in x)
+  planned counts (Err finish_error.TooMany) finished full (Err e) same =
+      subst (λ (x : Error). IsFault t ms limit body types x) (sym same) (no_room counts (full refl))
+  planned counts (Err finish_error.NoMemory) finished full (Err e) same =
       subst (λ (x : Error). IsFault t ms limit body types x) (sym same) tt
-  planned (Err e) finished full (Ok p) same = absurd same
+  planned counts (Err e) finished full (Ok p) same = absurd same

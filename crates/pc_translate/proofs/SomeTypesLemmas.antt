@@ -1,9 +1,9 @@
 -- What an answer says with a types builder that held no types before.
-use Rattle.std.proofs.Common.{◌≡◌, ◌≤◌, inl, inr, ℕ, List, Option, None, Some, Result, Ok, Err, IfOk, IfErr, refl, sym}
-use Rattle.std.proofs.Common.{ap, subst, ◌∙◌, arith}
+use Rattle.std.proofs.Common.{◌≡◌, ◌<◌, ◌*◌, ◌⊎◌, inl, inr, ℕ, List, Option, None, Some, Result, Ok, Err, IfOk}
+use Rattle.std.proofs.Common.{IfErr, refl, sym, ap, subst, ◌∙◌, arith}
 use Rattle.std.specs.Prelude.{option_map}
 use Rattle.std.proofs.lemmas.Option.{none-some}
-use Rattle.pc_interned.specs.Types.{IsBuilder, Types, held, no_types}
+use Rattle.pc_interned.specs.Types.{IsBuilder, IsFull, Types, held, no_types}
 use Rattle.pc_types.specs.declared.error.Error.{Error}
 use Rattle.pc_types.specs.declared.error.Error.TheVariants as error
 use Rattle.pc_types.specs.declared.error.Place.{Place}
@@ -20,23 +20,26 @@ use Rattle.pc_reading.specs.Nest.{root_of}
 use Rattle.pc_reading.specs.Outcome.{Outcome}
 use Rattle.pc_reading.specs.Reading.{Reading, reading, reading_of}
 use Rattle.pc_reading.specs.Section.{modules_of}
-use Rattle.pc_inline.specs.Adds.{AddsTypes, item_count, most_items}
+use Rattle.pc_reading.specs.World.{full}
+use Rattle.pc_inline.specs.Adds.{AddsTypes}
+use Rattle.pc_inline.specs.Totals.{GainsFew, IsPast}
 use Rattle.pc_translate.specs.Causes.{HasCause, meaning}
-use Rattle.pc_translate.specs.Translation.{Gains, HasTooManyItems, IsPlanOf, IsRefusalOf, Translates}
+use Rattle.pc_translate.specs.Translation.{CountsGained, Gains, GainsCounted, HasTooMuch, IsPlanOf}
+use Rattle.pc_translate.specs.Translation.{IsRefusalOf, Translates}
 
--- a full list of a builder that held no types holds two for each of many items
-full_needs : (n : ℕ) (types : Types) → AddsTypes n no_types types → (k : TypeKind) → held types k ≡ 4294967294
-    → most_items ≤ n
-full_needs n types adds k full = by k full
+-- no list of a builder that held no types is full of those of few functions
+never_full : (n : ℕ) (types : Types) → AddsTypes n no_types types → 8 * n < full → (k : TypeKind)
+    → held types k ≡ 4294967294 → ⊥
+never_full n types adds below k full = by k full
   where
     -- kinds of which none were added
-    empty : (k : TypeKind) → held types k ≡ 4294967294 → held types k ≡ 0 → most_items ≤ n
-    empty k full none = let never : 4294967294 ≡ 0 = sym full ∙ none in absurd (omega (arith, never))
+    empty : (k : TypeKind) → held types k ≡ 4294967294 → held types k ≡ 0 → ⊥
+    empty k full none = let never : 4294967294 ≡ 0 = sym full ∙ none in omega (arith, never)
 
-    by : (k : TypeKind) → held types k ≡ 4294967294 → most_items ≤ n
-    by kind.Func full = let few = adds.funcs in omega (arith, few, full)
-    by kind.Tuple full = let few = adds.tuples in omega (arith, few, full)
-    by kind.Signature full = let few = adds.signatures in omega (arith, few, full)
+    by : (k : TypeKind) → held types k ≡ 4294967294 → ⊥
+    by kind.Func full = let few = adds.funcs in omega (arith, few, full, below)
+    by kind.Tuple full = let few = adds.tuples in omega (arith, few, full, below)
+    by kind.Signature full = let few = adds.signatures in omega (arith, few, full, below)
     by kind.Record full = empty kind.Record full (ap (λ b. held b kind.Record) adds.rest)
     by kind.Variant full = empty kind.Variant full (ap (λ b. held b kind.Variant) adds.rest)
     by kind.List full = empty kind.List full (ap (λ b. held b kind.List) adds.rest)
@@ -56,10 +59,18 @@ full_needs n types adds k full = by k full
 module _ (t : TypeTable) (exposed : Option (List ℕ)) (limit : ℕ) (ps : List Payload) (old types : Types)
     (fresh : old ≡ no_types) where
   -- what was gained by one who held nothing
-  gained_by : Gains exposed ps old types → (body : Items) → root_of exposed ps ≡ Some body
-      → AddsTypes (item_count body) no_types types
+  few_by : Gains t exposed limit ps old types → (body : Items) → root_of exposed ps ≡ Some body
+      → GainsFew t (modules_of ps) limit body no_types types
   unfolding Gains
-  gained_by gains body root = subst (λ o. AddsTypes (item_count body) o types) fresh (gains body root)
+  few_by gains body root =
+      subst (λ o. GainsFew t (modules_of ps) limit body o types) fresh (gains body root)
+
+  -- also where it is counted
+  counted_by : CountsGained t exposed limit ps old types → (body : Items) → root_of exposed ps ≡ Some body
+      → GainsCounted t (modules_of ps) limit body no_types types
+  unfolding CountsGained
+  counted_by gained body root =
+      subst (λ o. GainsCounted t (modules_of ps) limit body o types) fresh (gained body root)
 
   -- payloads that mean something have a root
   has_root : (o : Outcome Reading) → meaning t exposed limit ps ≡ Some o
@@ -73,14 +84,14 @@ module _ (t : TypeTable) (exposed : Option (List ℕ)) (limit : ℕ) (ps : List 
       by None is h = absurd (none-some o h)
       by (Some body) is h = (body, is)
 
-  pub plan_alone : IsBuilder types → Gains exposed ps old types
-      → (r : Result (ComponentTranslation × List ModuleTranslation) Error)
+  pub plan_alone : IsBuilder types → (r : Result (ComponentTranslation × List ModuleTranslation) Error)
+      → IfOk r (λ _. CountsGained t exposed limit ps old types)
       → IfOk r (λ x. Translates t exposed limit ps types x.0 x.1) → IfOk r (λ x. IsPlanOf t exposed limit ps x.0 x.1)
   unfolding IsPlanOf
-  plan_alone builder gains (Ok x) h =
+  plan_alone builder (Ok x) gained h =
       let root = has_root _ h.outcome in
-      (types, record { builder = builder; few = (root.0, root.1, gained_by gains root.0 root.1) }, h)
-  plan_alone builder gains (Err e) h = tt
+      (types, record { builder = builder; few = (root.0, root.1, counted_by gained root.0 root.1) }, h)
+  plan_alone builder (Err e) gained h = tt
 
   -- a cause but for a list that is too long doesn't speak of the builder
   of_kind : (u : Unsupported) (p : Place) → HasCause t exposed limit ps types (error.Unsupported u p)
@@ -100,19 +111,24 @@ module _ (t : TypeTable) (exposed : Option (List ℕ)) (limit : ℕ) (ps : List 
   of_kind unsupported.ExportedComponent p h = h
   of_kind unsupported.NotBuilt p h = h
 
-  -- a builder that is full has got so much from the items of the root
-  too_many : Gains exposed ps old types → HasCause t exposed limit ps types error.TooMany → HasTooManyItems t exposed ps
+  -- a builder that held nothing is full only where the total is too much
+  past_of : (body : Items) → GainsFew t (modules_of ps) limit body no_types types
+      → IsFull types ⊎ IsPast t (modules_of ps) limit body → IsPast t (modules_of ps) limit body
+  past_of body gains (inr past) = past
+  past_of body gains (inl full) = elim gains.few [
+    | inl past ↦ past
+    | inr few ↦ absurd (never_full gains.functions types gains.types few full.0 full.1)
+  ]
+
+  too_many : Gains t exposed limit ps old types → HasCause t exposed limit ps types error.TooMany
+      → HasTooMuch t exposed limit ps
   too_many gains (inl unnumbered) = inl unnumbered
   too_many gains (inr h) =
       let body = h.1.0 in
       let root = h.1.1 in
-      let many : most_items ≤ item_count body = elim h.1.2 [
-        | inl full ↦ full_needs (item_count body) types (gained_by gains body root) full.0 full.1
-        | inr many ↦ many
-      ] in
-      inr (h.0, (body, root, many))
+      inr (h.0, (body, root, past_of body (few_by gains body root) h.1.2))
 
-  alone : Gains exposed ps old types → (e : Error) → HasCause t exposed limit ps types e
+  alone : Gains t exposed limit ps old types → (e : Error) → HasCause t exposed limit ps types e
       → IsRefusalOf t exposed limit ps e
   unfolding IsRefusalOf
   alone gains error.TooMany h = too_many gains h
@@ -128,7 +144,7 @@ module _ (t : TypeTable) (exposed : Option (List ℕ)) (limit : ℕ) (ps : List 
   alone gains (error.BadOptions p) h = h
   alone gains error.TooManyInstances h = h
 
-  pub refusal_alone : Gains exposed ps old types
+  pub refusal_alone : Gains t exposed limit ps old types
       → (r : Result (ComponentTranslation × List ModuleTranslation) Error)
       → IfErr r (λ e. HasCause t exposed limit ps types e) → IfErr r (λ e. IsRefusalOf t exposed limit ps e)
   refusal_alone gains (Ok x) h = tt

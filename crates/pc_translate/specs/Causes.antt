@@ -1,5 +1,5 @@
 -- Why a translation is refused.
-use Rattle.std.specs.Prelude.{◌≡◌, ◌≤◌, ◌⊎◌, ◌&&◌, ℕ, Bool, true, false, List, Option, None, Some, option_map}
+use Rattle.std.specs.Prelude.{◌≡◌, ◌⊎◌, ◌&&◌, ℕ, Bool, true, false, List, Option, None, Some, option_map}
 use Rattle.pc_interned.specs.Types.{IsFull, Types}
 use Rattle.pc_types.specs.declared.error.Error.{Error}
 use Rattle.pc_types.specs.declared.error.Error.TheVariants as error
@@ -15,8 +15,9 @@ use Rattle.pc_reading.specs.Nest.{root_of}
 use Rattle.pc_reading.specs.Outcome.{Outcome, bad_type, fault, invalid, over, unsupported}
 use Rattle.pc_reading.specs.Reading.{Reading, reading}
 use Rattle.pc_reading.specs.Section.{modules_of}
-use Rattle.pc_inline.specs.Adds.{is_plain_table, item_count, most_items}
-use Rattle.pc_inline.specs.Today.{built_reading, is_built}
+use Rattle.pc_inline.specs.Plain.{is_plain_table}
+use Rattle.pc_inline.specs.Today.{built_reading, is_built_item}
+use Rattle.pc_inline.specs.Totals.{IsPast}
 
 -- what payloads mean; no total is counted yet
 unfoldable pub meaning : TypeTable → (exposed : Option (List ℕ)) → (limit : ℕ) → List Payload → Option (Outcome Reading)
@@ -39,10 +40,10 @@ EndsAs t exposed limit ps o = (meaning t exposed limit ps ≡ Some o) × (built_
 abbrev pub HasRoot : (exposed : Option (List ℕ)) → List Payload → (Items → Type 0) → Type 0
 HasRoot exposed ps P = (body : Items) × (root_of exposed ps ≡ Some body) × P body
 
--- items that are all of kinds that are built
-abbrev pub are_built : Items → Bool
-are_built no_items = true
-are_built (and_item i is) = is_built i && are_built is
+-- items that are all of kinds that are built; those of a nested body are looked at where it is instantiated
+abbrev pub are_built : TypeTable → Items → Bool
+are_built t no_items = true
+are_built t (and_item i is) = is_built_item t i && are_built t is
 
 -- an input can be numbered, has no static fault, its functions are over primitives, and its root's items are of kinds
 -- that are built
@@ -50,20 +51,21 @@ pub record CanBeRead (t : TypeTable) (exposed : Option (List ℕ)) (ps : List Pa
   pub numbered : is_numbered t ps ≡ true
   pub sound : static_fault t exposed ps ≡ None
   pub plain : is_plain_table t ≡ true
-  pub built : HasRoot exposed ps (λ body. are_built body ≡ true)
+  pub built : HasRoot exposed ps (λ body. are_built t body ≡ true)
 
 -- an input can be numbered and has no static fault, but a function of its table is over other types than primitives, or
 -- an item of its root is of a kind that isn't built
 pub record HasUnbuilt (t : TypeTable) (exposed : Option (List ℕ)) (ps : List Payload) : Type 0 where
   pub numbered : is_numbered t ps ≡ true
   pub sound : static_fault t exposed ps ≡ None
-  pub unbuilt : (is_plain_table t ≡ false) ⊎ HasRoot exposed ps (λ body. are_built body ≡ false)
+  pub unbuilt : (is_plain_table t ≡ false) ⊎ HasRoot exposed ps (λ body. are_built t body ≡ false)
 
--- the types builder is full, or the root has so many items that a list of the graph may be
-abbrev pub HasNoRoom : (exposed : Option (List ℕ)) → List Payload → Types → Type 0
-HasNoRoom exposed ps types = HasRoot exposed ps (λ body. IsFull types ⊎ (most_items ≤ item_count body))
+-- the types builder is full, or the total of the root's reading is too much
+abbrev pub HasNoRoom : TypeTable → (exposed : Option (List ℕ)) → (limit : ℕ) → List Payload → Types → Type 0
+HasNoRoom t exposed limit ps types = HasRoot exposed ps (λ body. IsFull types ⊎ IsPast t (modules_of ps) limit body)
 
--- something isn't built: a type of the table or a kind of item is told at the first payload, an adapter at its item
+-- something isn't built: a type of the table or a kind of item of the root is told at the first payload; at its place
+-- an import or an export of the root that is no function, an item of a nested body that is instantiated, or an adapter
 abbrev pub IsUnbuilt : TypeTable → (exposed : Option (List ℕ)) → (limit : ℕ) → List Payload → Place → Type 0
 IsUnbuilt t exposed limit ps p =
     (HasUnbuilt t exposed ps × (p ≡ place.Payload 0 0))
@@ -87,6 +89,6 @@ HasCause t exposed limit ps types (error.BadType p) =
 HasCause t exposed limit ps types error.TooManyInstances =
     CanBeRead t exposed ps × EndsAs t exposed limit ps over
 HasCause t exposed limit ps types error.TooMany =
-    (is_numbered t ps ≡ false) ⊎ (CanBeRead t exposed ps × HasNoRoom exposed ps types)
+    (is_numbered t ps ≡ false) ⊎ (CanBeRead t exposed ps × HasNoRoom t exposed limit ps types)
 HasCause t exposed limit ps types error.NoMemory = Unit {0}
 HasCause t exposed limit ps types (error.BadOptions p) = ⊥

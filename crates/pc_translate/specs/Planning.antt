@@ -1,12 +1,17 @@
 -- What comes of a local program: a plan that stands for the reading of its root, or why there is none.
-use Rattle.std.specs.Prelude.{ℕ, Bool, true, false, [], List, Result, Ok, Err}
+use Rattle.std.specs.Prelude.{◌&&◌, ℕ, Bool, true, false, [], List, Result, Ok, Err}
+use Rattle.std.specs.List.{list_all}
 use Rattle.pc_interned.specs.Types.{Types}
 use Rattle.pc_types.specs.declared.error.Error.{Error}
 use Rattle.pc_types.specs.declared.error.Error.TheVariants as error
 use Rattle.pc_types.specs.declared.module_record.ModuleRecord.{ModuleRecord}
+use Rattle.pc_types.specs.declared.parsed.Entity.{Entity}
+use Rattle.pc_types.specs.declared.parsed.Entity.TheVariants as entity
 use Rattle.pc_types.specs.declared.parsed.TypeTable.{TypeTable}
 use Rattle.pc_info.specs.declared.component.ComponentTranslation.{ComponentTranslation}
 use Rattle.pc_info.specs.declared.module.ModuleTranslation.{ModuleTranslation}
+use Rattle.pc_parsed.specs.declared.payload.ExternName.{ExternName}
+use Rattle.pc_parsed.specs.declared.payload.ItemKind.{ItemKind}
 use Rattle.pc_reading.specs.Item.{Items}
 use Rattle.pc_local.specs.declared.item.LocalInitializer.{LocalInitializer}
 use Rattle.pc_local.specs.declared.item.LocalInitializer.TheVariants as local
@@ -15,25 +20,48 @@ use Rattle.pc_finish.specs.declared.error.FinishError.{FinishError}
 use Rattle.pc_finish.specs.declared.error.FinishError.TheVariants as finish_error
 use Rattle.pc_finish.specs.Finished.{IsFinished}
 use Rattle.pc_inline.specs.Inlines.{IsFault, StandsForReading}
-use Rattle.pc_inline.specs.Today.{is_built_entity, is_built_kind}
+use Rattle.pc_inline.specs.Today.{is_built_kind}
+use Rattle.pc_inline.specs.declared.plain.TableKinds.{TableKinds}
 
 -- why a graph has no plan, as an error of the translation
 abbrev pub error_of_finish : FinishError → Error
 error_of_finish finish_error.TooMany = error.TooMany
 error_of_finish finish_error.NoMemory = error.NoMemory
 
--- a local item of a kind that is built
-abbrev pub is_built_item : LocalInitializer → Bool
-is_built_item (local.Import name ty) = is_built_entity ty
-is_built_item (local.Lift func ty signature opts) = true
-is_built_item (local.Lower func ty signature opts) = true
-is_built_item (local.ModuleStatic index ty) = true
-is_built_item (local.ModuleInstantiate m args) = true
-is_built_item (local.ModuleSynthetic items) = true
-is_built_item (local.ComponentStatic index vars) = true
-is_built_item (local.AliasCoreExport k n name) = true
-is_built_item (local.Export name k n) = is_built_kind k
-is_built_item _ = false
+-- an argument of a component, of a kind that is built
+abbrev pub is_built_argument : List ℕ × ItemKind × ℕ → Bool
+is_built_argument a = is_built_kind a.1
+
+-- an item that a component instance exports, of a kind that is built
+abbrev pub is_built_export : ExternName × ItemKind × ℕ → Bool
+is_built_export e = is_built_kind e.1
+
+module _ (kinds : TableKinds) where
+  -- an import of a kind that is built
+  abbrev pub is_built_entity : Entity → Bool
+  is_built_entity (entity.Func n) = true
+  is_built_entity (entity.Module n) = true
+  is_built_entity (entity.Component n) = true
+  is_built_entity (entity.Instance n) = kinds.has_no_resource
+  is_built_entity _ = false
+
+  -- a local item of a kind that is built
+  abbrev pub is_built_local : LocalInitializer → Bool
+  is_built_local (local.Import name ty) = is_built_entity ty
+  is_built_local (local.Lift func ty signature opts) = true
+  is_built_local (local.Lower func ty signature opts) = true
+  is_built_local (local.ModuleStatic index ty) = true
+  is_built_local (local.ModuleInstantiate m args) = true
+  is_built_local (local.ModuleSynthetic items) = true
+  is_built_local (local.ComponentStatic index vars) = true
+  is_built_local (local.ComponentInstantiate c args ty) = kinds.can_instantiate && list_all is_built_argument args
+  is_built_local (local.ComponentSynthetic exports ty) = list_all is_built_export exports
+  is_built_local (local.AliasCoreExport k n name) = true
+  is_built_local (local.AliasComponentExport k n name) = is_built_kind k
+  is_built_local (local.AliasModule v) = true
+  is_built_local (local.AliasComponent v) = true
+  is_built_local (local.Export name k n) = is_built_kind k
+  is_built_local _ = false
 
 -- a module as it was handed in
 abbrev pub as_handed_in : ModuleRecord → ModuleTranslation

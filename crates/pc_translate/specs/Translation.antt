@@ -1,9 +1,10 @@
 -- The theorem: the plan that a translation answers does what the nested reading of the payloads says.
-use Rattle.std.specs.Prelude.{◌≡◌, ◌≤◌, ◌⊎◌, ℕ, true, false, List, map, length, option_map, Option, Some}
+use Rattle.std.specs.Prelude.{◌≡◌, ◌≤◌, ◌<◌, ◌*◌, ◌⊎◌, ℕ, true, false, List, map, length, option_map, Option, Some}
 use Rattle.pc_builder.specs.Types.{IsBuilder, no_types}
 use Rattle.pc_interned.specs.Types.{Types}
 use Rattle.pc_types.specs.declared.error.Error.{Error}
 use Rattle.pc_types.specs.declared.error.Error.TheVariants as error
+use Rattle.pc_types.specs.declared.module_record.ModuleRecord.{ModuleRecord}
 use Rattle.pc_types.specs.declared.parsed.TypeTable.{TypeTable}
 use Rattle.pc_semantics.specs.Counts.{own_counts}
 use Rattle.pc_semantics.specs.ExportNode.{erase_named}
@@ -23,7 +24,9 @@ use Rattle.pc_reading.specs.Nest.{root_of}
 use Rattle.pc_reading.specs.Outcome.{done}
 use Rattle.pc_reading.specs.Reading.{Reading}
 use Rattle.pc_reading.specs.Section.{modules_of}
-use Rattle.pc_inline.specs.Adds.{AddsTypes, item_count, most_items}
+use Rattle.pc_reading.specs.World.{full}
+use Rattle.pc_inline.specs.Adds.{AddsTypes}
+use Rattle.pc_inline.specs.Totals.{GainsFew, HasTotal, IsPast}
 use Rattle.pc_translate.specs.Asked.{AreSigned, AsksHost, Declares}
 use Rattle.pc_translate.specs.Causes.{CanBeRead, HasCause, HasRoot, built_meaning, meaning}
 use Rattle.pc_translate.specs.Lists.{FindsExports, IsTidy, NamesHeld, NumbersItems}
@@ -74,29 +77,47 @@ pub record Translates (t : TypeTable) (exposed : Option (List ℕ)) (limit : ℕ
   -- and is found under its name
   pub finds : FindsExports plan.component
 
--- a builder gains at most the types that the items of the root may need
-unfoldable pub Gains : (exposed : Option (List ℕ)) → List Payload → (old new : Types) → Type 0
-Gains exposed ps old new =
-    (body : Items) → root_of exposed ps ≡ Some body → AddsTypes (item_count body) old new
+-- a builder gains the types of few functions over primitives, unless the total of the root's reading is too much
+unfoldable pub Gains : TypeTable → (exposed : Option (List ℕ)) → (limit : ℕ) → List Payload → (old new : Types) → Type 0
+Gains t exposed limit ps old new =
+    (body : Items) → root_of exposed ps ≡ Some body → GainsFew t (modules_of ps) limit body old new
 
--- the types of a builder that held none before the payloads were translated: at most so many as their items may need
-pub record AreGained (exposed : Option (List ℕ)) (ps : List Payload) (types : Types) : Type 0 where
+-- a builder gained the types of so many functions over primitives. The total of the reading is at least 8 times as
+-- many, unless it is too much
+pub record GainsCounted (t : TypeTable) (ms : List ModuleRecord) (limit : ℕ) (body : Items) (old new : Types)
+    : Type 0 where
+  pub functions : ℕ
+  pub types : AddsTypes functions old new
+  pub few : IsPast t ms limit body
+      ⊎ ((total : ℕ) × HasTotal t ms limit body total × (total < full) × (8 * functions ≤ total))
+
+-- so it is where payloads were translated
+unfoldable pub CountsGained : TypeTable → (exposed : Option (List ℕ)) → (limit : ℕ) → List Payload
+    → (old new : Types) → Type 0
+CountsGained t exposed limit ps old new =
+    (body : Items) → root_of exposed ps ≡ Some body → GainsCounted t (modules_of ps) limit body old new
+
+-- the types of a builder that held none before the payloads were translated: those of functions over primitives, of no
+-- more than their reading counts
+pub record AreGained (t : TypeTable) (exposed : Option (List ℕ)) (limit : ℕ) (ps : List Payload) (types : Types)
+    : Type 0 where
   pub builder : IsBuilder types
-  pub few : HasRoot exposed ps (λ body. AddsTypes (item_count body) no_types types)
+  pub few : HasRoot exposed ps (λ body. GainsCounted t (modules_of ps) limit body no_types types)
 
 -- a plan and its modules are what a translation is to answer, with a types builder that held no types before
 unfoldable pub IsPlanOf : TypeTable → (exposed : Option (List ℕ)) → (limit : ℕ) → List Payload
     → ComponentTranslation → List ModuleTranslation → Type 0
 IsPlanOf t exposed limit ps plan modules =
-    (types : Types) × AreGained exposed ps types × Translates t exposed limit ps types plan modules
+    (types : Types) × AreGained t exposed limit ps types × Translates t exposed limit ps types plan modules
 
--- the root has so many items that a list may be full, or a list is too long for its numbers
-abbrev pub HasTooManyItems : TypeTable → (exposed : Option (List ℕ)) → List Payload → Type 0
-HasTooManyItems t exposed ps =
-    (is_numbered t ps ≡ false) ⊎ (CanBeRead t exposed ps × HasRoot exposed ps (λ body. most_items ≤ item_count body))
+-- a list is too long for its numbers, or the total of the root's reading is too much
+abbrev pub HasTooMuch : TypeTable → (exposed : Option (List ℕ)) → (limit : ℕ) → List Payload → Type 0
+HasTooMuch t exposed limit ps =
+    (is_numbered t ps ≡ false)
+    ⊎ (CanBeRead t exposed ps × HasRoot exposed ps (λ body. IsPast t (modules_of ps) limit body))
 
 -- an error has its cause, with a types builder that held no types before; no cause but `TooMany` looks at the types, so
 -- none are given here
 unfoldable pub IsRefusalOf : TypeTable → (exposed : Option (List ℕ)) → (limit : ℕ) → List Payload → Error → Type 0
-IsRefusalOf t exposed limit ps error.TooMany = HasTooManyItems t exposed ps
+IsRefusalOf t exposed limit ps error.TooMany = HasTooMuch t exposed limit ps
 IsRefusalOf t exposed limit ps e = HasCause t exposed limit ps no_types e

@@ -9,11 +9,13 @@ ghost use Rattle.pc_types.specs.Table.{table_fault};
 ghost use Rattle.pc_builder.specs.Types.{KeepsTypes, no_types};
 ghost use Rattle.pc_reading.specs.Item.{Items};
 ghost use Rattle.pc_local.specs.Standing.{BodyStands, no_names};
-ghost use Rattle.pc_inline.specs.Adds.{AddsTypes, is_plain_table, item_count};
 ghost use Rattle.pc_inline.specs.Inlines.{export_name};
+ghost use Rattle.pc_inline.specs.Plain.{is_plain_table};
+ghost use Rattle.pc_inline.specs.Totals.{GainsFew};
 ghost use Rattle.pc_translate.specs.Causes.{HasCause};
 ghost use Rattle.pc_translate.specs.Planning.{Plans, as_handed_in, error_of_finish};
-ghost use Rattle.pc_translate.specs.Translation.{Gains, IsPlanOf, IsRefusalOf, Translates};
+ghost use Rattle.pc_translate.specs.Translation.{CountsGained, Gains, GainsCounted, IsPlanOf, IsRefusalOf};
+ghost use Rattle.pc_translate.specs.Translation.{Translates};
 
 use crate::built::is_built_program;
 use pc_builder::ComponentTypesBuilder;
@@ -73,7 +75,11 @@ fn plan_of(
         → Plans table.now program.now.modules tunables.now.max_component_instances body types.new result }
     ensures keeps { KeepsTypes types.old types.new }
     ensures adds { (body : Items) → BodyStands program.now.components no_names program.now.root body
-        → is_plain_table table.now ≡ true → AddsTypes (item_count body) types.old types.new }
+        → is_plain_table table.now ≡ true
+        → GainsFew table.now program.now.modules tunables.now.max_component_instances body types.old types.new }
+    ensures counts { (body : Items) → BodyStands program.now.components no_names program.now.root body
+        → is_plain_table table.now ≡ true → IfOk result (λ _. GainsCounted table.now program.now.modules
+        tunables.now.max_component_instances body types.old types.new) }
 {
     let graph = inline_run(
         alloc,
@@ -107,14 +113,19 @@ pub fn translate(
 
     ensures keeps { KeepsTypes types.old types.new }
 
-    // The builder gains no more than the items of the root may need.
-    ensures adds { Gains (option_map (λ name. name.now) exposed.entry) payloads.now types.old types.new }
+    // The builder gains few types, unless the total of the reading is too much.
+    ensures adds { Gains table.now (option_map (λ name. name.now) exposed.entry)
+        tunables.now.max_component_instances payloads.now types.old types.new }
+
+    // And a plan's are those of so many functions as the reading counts.
+    ensures counts { IfOk result (λ _. CountsGained table.now (option_map (λ name. name.now) exposed.entry)
+        tunables.now.max_component_instances payloads.now types.old types.new) }
 {
     if !is_numbered(table, payloads) {
         return Err(Error::TooMany);
     }
     let program = translate_payloads(alloc, table, exposed, payloads)?;
-    if !is_plain_table(table) || !is_built_program(&program) {
+    if !is_plain_table(table) || !is_built_program(table, &program) {
         return Err(not_built());
     }
     let plan = plan_of(alloc, tunables, table, types, &program)?;
@@ -234,9 +245,14 @@ impl<'a> Translator<'a> {
 
         ensures keeps { KeepsTypes self.entry.types.now self.exit.0.now }
 
-        // The builder gains no more than the items of the root may need.
-        ensures adds { Gains (option_map (λ name. name.now) self.entry.exposed) component.now
-            self.entry.types.now self.exit.0.now }
+        // The builder gains few types, unless the total of the reading is too much.
+        ensures adds { Gains self.entry.table.now (option_map (λ name. name.now) self.entry.exposed)
+            self.entry.tunables.now.max_component_instances component.now self.entry.types.now self.exit.0.now }
+
+        // And a plan's are those of so many functions as the reading counts.
+        ensures counts { IfOk result (λ _. CountsGained self.entry.table.now
+            (option_map (λ name. name.now) self.entry.exposed) self.entry.tunables.now.max_component_instances
+            component.now self.entry.types.now self.exit.0.now) }
     {
         let Translator {
             types,

@@ -1,9 +1,6 @@
-use Rattle.std.proofs.Common.{◌≤◌, ◌*◌, length, refl, ap, sym, subst, ◌∙◌}
-use Rattle.pc_dfg.specs.Lists.{entries_of}
-use Rattle.pc_inline.specs.Adds.{item_count}
-use Rattle.pc_inline.proofs.AddsLemmas.{types_same}
-use Rattle.pc_inline.proofs.RootFewLemmas.{counted_few, run_adds}
-use Rattle.pc_inline.proofs.RunLemmas.{run_done, run_fails, run_keeps, run_unfed, stands_among}
+use Rattle.std.proofs.Common.{Ok, Err, ap, ◌∙◌}
+use Rattle.pc_inline.proofs.RunLemmas.{gains_nothing, run_counts, run_done, run_fails, run_gains, run_keeps, run_unfed}
+use Rattle.pc_inline.proofs.RunLemmas.{stands_among}
 use Rattle.pc_inline.proofs.inliner.inline_run.Goals as goal
 
 pub inline_root-inlined-requires-clause-fresh : goal.inline_root-inlined-requires-clause-fresh
@@ -25,11 +22,12 @@ returns-in-Ok-clause-inlines c body stands =
     c.take_graph-graph.ensures.graph _ c.in-Ok.ensures.inlines
 
 pub returns-in-Ok-clause-few : goal.returns-in-Ok-clause-few
-returns-in-Ok-clause-few c body stands l =
-    subst (λ g. length (entries_of g l) ≤ 16 * item_count body) (sym c.take_graph-graph.ensures.graph)
-    (counted_few c.inline_root-inlined.new.state.graph c.inline_root-inlined.new.state.types _
-    (c.in-Ok.ensures.few body (stands_among _ _ c.new-state.ensures.bodies c.args.program.now.root body
-    stands)).lists l)
+returns-in-Ok-clause-few c body stands =
+    run_counts _ _ _ _ (c.in_ok-modules.ensures ∙ c.as_slice.ensures) c.args.program.now.root
+    c.inline_root-inlined.new.state _ (c.swap.ensures.x_after ∙ c.take_graph-graph.ensures.types) _ body
+    (stands_among _ _ c.new-state.ensures.bodies c.args.program.now.root body stands) c.args.types.now
+    c.replace-builder.result c.new-state.result (c.replace-builder.ensures.value ∙ c.forget_resources.ensures)
+    c.new-state.ensures.types _ c.take_graph-graph.ensures.graph _ c.in-Ok.ensures.few
 
 pub returns-in-Ok-clause-keeps : goal.returns-in-Ok-clause-keeps
 returns-in-Ok-clause-keeps c =
@@ -39,17 +37,17 @@ returns-in-Ok-clause-keeps c =
 
 pub returns-in-Ok-clause-adds : goal.returns-in-Ok-clause-adds
 returns-in-Ok-clause-adds c body stands plain =
-    run_adds _ c.args.types.now c.replace-builder.result _ c.new-state.result c.inline_root-inlined.new.state
-    (c.replace-builder.ensures.value ∙ c.forget_resources.ensures) c.new-state.ensures.types
-    (c.swap.ensures.x_after ∙ c.take_graph-graph.ensures.types)
-    ((c.in-Ok.ensures.few body (stands_among _ _ c.new-state.ensures.bodies c.args.program.now.root body
-    stands)).types plain)
+    run_gains _ _ _ _ (c.in_ok-modules.ensures ∙ c.as_slice.ensures) c.args.program.now.root
+    c.inline_root-inlined.new.state _ (c.swap.ensures.x_after ∙ c.take_graph-graph.ensures.types) _ body
+    (stands_among _ _ c.new-state.ensures.bodies c.args.program.now.root body stands) c.args.types.now
+    c.replace-builder.result c.new-state.result (c.replace-builder.ensures.value ∙ c.forget_resources.ensures)
+    c.new-state.ensures.types plain (Ok tt) c.in-Ok.ensures.adds c.in-Ok.ensures.few
 
 pub returns-clause-inlines : goal.returns-clause-inlines
 returns-clause-inlines c body stands =
     run_fails _ _ _ _ (c.in_ok-modules.ensures ∙ c.as_slice.ensures) c.args.program.now.root _ _
     (c.swap.ensures.x_after ∙ c.take_graph-graph.ensures.types) _ body
-    (stands_among _ _ c.new-state.ensures.bodies c.args.program.now.root body stands) _ refl c.in-Err.ensures.few _
+    (stands_among _ _ c.new-state.ensures.bodies c.args.program.now.root body stands) _ _ c.in-Err.ensures.few
     c.in-Err.ensures.inlines
 
 pub returns-clause-keeps : goal.returns-clause-keeps
@@ -60,21 +58,21 @@ returns-clause-keeps c =
 
 pub returns-clause-adds : goal.returns-clause-adds
 returns-clause-adds c body stands plain =
-    run_adds _ c.args.types.now c.replace-builder.result _ c.new-state.result c.inline_root-inlined.new.state
-    (c.replace-builder.ensures.value ∙ c.forget_resources.ensures) c.new-state.ensures.types
-    (c.swap.ensures.x_after ∙ c.take_graph-graph.ensures.types)
-    ((c.in-Err.ensures.few body (stands_among _ _ c.new-state.ensures.bodies c.args.program.now.root body
-    stands)).types plain)
+    run_gains _ _ _ _ (c.in_ok-modules.ensures ∙ c.as_slice.ensures) c.args.program.now.root
+    c.inline_root-inlined.new.state _ (c.swap.ensures.x_after ∙ c.take_graph-graph.ensures.types) _ body
+    (stands_among _ _ c.new-state.ensures.bodies c.args.program.now.root body stands) c.args.types.now
+    c.replace-builder.result c.new-state.result (c.replace-builder.ensures.value ∙ c.forget_resources.ensures)
+    c.new-state.ensures.types plain (Err c.in-Err.error) c.in-Err.ensures.adds c.in-Err.ensures.few
 
 pub returns-in_err-modules-clause-inlines : goal.returns-in_err-modules-clause-inlines
 returns-in_err-modules-clause-inlines c body stands = run_unfed _ _ _ body _ _ c.from_residual.ensures.1
 
 pub returns-in_err-modules-clause-adds : goal.returns-in_err-modules-clause-adds
-returns-in_err-modules-clause-adds c body stands plain = types_same _ _
+returns-in_err-modules-clause-adds c body stands plain = gains_nothing _ _ _ body _
 
 pub returns-in_err-numbers-clause-inlines : goal.returns-in_err-numbers-clause-inlines
 returns-in_err-numbers-clause-inlines c body stands =
     run_unfed _ _ _ body _ _ c.from_residual-in_err-numbers.ensures.1
 
 pub returns-in_err-numbers-clause-adds : goal.returns-in_err-numbers-clause-adds
-returns-in_err-numbers-clause-adds c body stands plain = types_same _ _
+returns-in_err-numbers-clause-adds c body stands plain = gains_nothing _ _ _ body _

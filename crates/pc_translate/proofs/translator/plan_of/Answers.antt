@@ -1,11 +1,12 @@
 use Rattle.std.proofs.Common.{◌≡◌, subst, sym}
 use Rattle.pc_interned.specs.Types.{KeepsTypes}
-use Rattle.pc_inline.specs.Adds.{AddsTypes, item_count}
 use Rattle.pc_inline.specs.Inlines.{StandsForReading}
+use Rattle.pc_inline.specs.Totals.{CountsGraph, GainsFew}
 use Rattle.pc_translate.proofs.PassingLemmas.{passed_err}
-use Rattle.pc_translate.proofs.PlanningLemmas.{fault_plans, graph_stands, planned}
+use Rattle.pc_translate.proofs.PlanningLemmas.{fault_plans, gains_counted, graph_stands, of_each, planned}
 use Rattle.pc_translate.proofs.WiredLemmas.{are_modules, grouped, no_static}
 use Rattle.pc_translate.specs.Planning.{Plans}
+use Rattle.pc_translate.specs.Translation.{GainsCounted}
 use Rattle.pc_translate.proofs.translator.plan_of.Goals as goal
 
 pub returns-in_err-graph-clause-plan : goal.returns-in_err-graph-clause-plan
@@ -36,7 +37,10 @@ returns-clause-plan c = λ body stands.
     c.finish.ensures.unchanged (no_static _ old.stands.plain) in
     let now = subst (λ x. StandsForReading c.args.table.now c.args.program.now.modules
     c.args.tunables.now.max_component_instances body x c.in_ok-graph.graph) (sym same) old in
-    planned _ _ _ body _ _ now (c.in_ok-graph.ensures.few body stands) c.finish.result c.finish.ensures.plan
+    let counts = subst (λ x. CountsGraph c.args.table.now c.args.program.now.modules
+    c.args.tunables.now.max_component_instances body c.args.types.now x c.in_ok-graph.graph) (sym same)
+    (c.in_ok-graph.ensures.few body stands) in
+    planned _ _ _ body _ _ now _ counts c.finish.result c.finish.ensures.plan
     c.finish.ensures.full c.map_err.result c.map_err.ensures.cases
 
 pub returns-clause-keeps : goal.returns-clause-keeps
@@ -52,5 +56,15 @@ returns-clause-adds c = λ body stands plain.
     let old = graph_stands _ _ _ _ _ _ (c.in_ok-graph.ensures.inlines body stands) in
     let same : c.finish.new.types ≡ c.inline_run.new.types =
     c.finish.ensures.unchanged (no_static _ old.stands.plain) in
-    subst (λ x. AddsTypes (item_count body) c.args.types.now x) (sym same)
-    (c.in_ok-graph.ensures.adds body stands plain)
+    subst (λ x. GainsFew c.args.table.now c.args.program.now.modules c.args.tunables.now.max_component_instances body
+    c.args.types.now x) (sym same) (c.in_ok-graph.ensures.adds body stands plain)
+
+pub returns-clause-counts : goal.returns-clause-counts
+returns-clause-counts c = λ body stands plain.
+    let old = graph_stands _ _ _ _ _ _ (c.in_ok-graph.ensures.inlines body stands) in
+    let same : c.finish.new.types ≡ c.inline_run.new.types =
+    c.finish.ensures.unchanged (no_static _ old.stands.plain) in
+    of_each _ _ (subst (λ x. GainsCounted c.args.table.now c.args.program.now.modules
+    c.args.tunables.now.max_component_instances body c.args.types.now x) (sym same)
+    (gains_counted _ _ _ body _ _ _ plain (c.in_ok-graph.ensures.few body stands)
+    (c.in_ok-graph.ensures.adds body stands plain)))

@@ -5,18 +5,18 @@ use Rattle.pc_types.specs.declared.error.Error.{Error}
 use Rattle.pc_types.specs.Record.{is_sound}
 use Rattle.pc_parsed.specs.Program.{is_numbered}
 use Rattle.pc_local.proofs.NameLemmas.{modules_sound, root_names, table_sound}
-use Rattle.pc_inline.specs.Adds.{is_plain_table}
+use Rattle.pc_inline.specs.Plain.{is_plain_table}
 use Rattle.pc_translate.specs.Causes.{CanBeRead, HasCause}
 use Rattle.pc_translate.proofs.PassingLemmas.{passed_err}
 use Rattle.pc_translate.proofs.BuiltLemmas.{later_cause, root_built}
-use Rattle.pc_translate.proofs.CauseLemmas.{gains, gains_nothing, names_distinct, payload_cause, plan_cause}
-use Rattle.pc_translate.proofs.CauseLemmas.{translates_program}
+use Rattle.pc_translate.proofs.CauseLemmas.{counts_gained, gains, gains_nothing, names_distinct, payload_cause}
+use Rattle.pc_translate.proofs.CauseLemmas.{plan_cause, translates_program}
 use Rattle.pc_translate.proofs.translator.translate.Goals as goal
 use Rattle.pc_translate.proofs.translator.translate.Goals.{then-not-is_plain_table-via-then-not-is_plain_table}
 use Rattle.pc_translate.proofs.translator.translate.Goals.{then-not-is_plain_table-via-else-not-is_plain_table+then-not-is_built_program}
 
 pub returns-then-not-is_numbered-clause-adds : goal.returns-then-not-is_numbered-clause-adds
-returns-then-not-is_numbered-clause-adds c = gains_nothing _ _ _
+returns-then-not-is_numbered-clause-adds c = gains_nothing _ _ _ _ _
 
 pub returns-in_err-program-clause-refused : goal.returns-in_err-program-clause-refused
 returns-in_err-program-clause-refused c =
@@ -30,7 +30,7 @@ returns-in_err-program-clause-refused c =
     numbered c.in_err-program.ensures.refused)
 
 pub returns-in_err-program-clause-adds : goal.returns-in_err-program-clause-adds
-returns-in_err-program-clause-adds c = gains_nothing _ _ _
+returns-in_err-program-clause-adds c = gains_nothing _ _ _ _ _
 
 pub returns-then-not-is_plain_table-clause-refused : goal.returns-then-not-is_plain_table-clause-refused
 returns-then-not-is_plain_table-clause-refused c =
@@ -43,12 +43,12 @@ returns-then-not-is_plain_table-clause-refused c =
       | then-not-is_plain_table-via-then-not-is_plain_table w ↦
           inl (grind (rules, w.if-not-is_plain_table.true, c.is_plain_table.ensures))
       | then-not-is_plain_table-via-else-not-is_plain_table+then-not-is_built_program w ↦
-          inr (root_built exposed c.args.payloads.now c.in_ok-program.program false c.in_ok-program.ensures.program
-          (grind (rules, w.if-not-is_built_program.true, w.is_built_program.ensures)))
+          inr (root_built c.args.table.now exposed c.args.payloads.now c.in_ok-program.program false
+          c.in_ok-program.ensures.program (grind (rules, w.if-not-is_built_program.true, w.is_built_program.ensures)))
     ])
 
 pub returns-then-not-is_plain_table-clause-adds : goal.returns-then-not-is_plain_table-clause-adds
-returns-then-not-is_plain_table-clause-adds c = gains_nothing _ _ _
+returns-then-not-is_plain_table-clause-adds c = gains_nothing _ _ _ _ _
 
 pub plan_of-requires-clause-table : goal.plan_of-requires-clause-table
 plan_of-requires-clause-table c = table_sound _ _ _ c.in_ok-program.ensures.sound
@@ -71,8 +71,8 @@ returns-in_err-plan-clause-refused c =
       numbered = grind (rules, c.if-not-is_numbered.false, c.is_numbered.ensures);
       sound = c.in_ok-program.ensures.sound;
       plain = grind (rules, c.if-not-is_plain_table.false, c.is_plain_table.ensures);
-      built = root_built exposed c.args.payloads.now c.in_ok-program.program true c.in_ok-program.ensures.program
-          (grind (rules, c.if-not-is_built_program.false, c.is_built_program.ensures));
+      built = root_built c.args.table.now exposed c.args.payloads.now c.in_ok-program.program true
+          c.in_ok-program.ensures.program (grind (rules, c.if-not-is_built_program.false, c.is_built_program.ensures));
     } in
     let p = c.in_ok-program.ensures.program in
     passed_err _ _ (λ r. IfErr r (λ (x : Error). HasCause c.args.table.now exposed limit c.args.payloads.now
@@ -84,22 +84,29 @@ pub returns-in_err-plan-clause-adds : goal.returns-in_err-plan-clause-adds
 returns-in_err-plan-clause-adds c =
     let plain : is_plain_table c.args.table.now ≡ true =
     grind (rules, c.if-not-is_plain_table.false, c.is_plain_table.ensures) in
-    gains _ _ c.in_ok-program.program _ _ c.in_ok-program.ensures.program
+    gains _ _ _ _ c.in_ok-program.program _ _ c.in_ok-program.ensures.program
     (λ body stands. c.in_err-plan.ensures.adds body stands plain)
 
 pub returns-in_err-modules-clause-adds : goal.returns-in_err-modules-clause-adds
 returns-in_err-modules-clause-adds c =
     let plain : is_plain_table c.args.table.now ≡ true =
     grind (rules, c.if-not-is_plain_table.false, c.is_plain_table.ensures) in
-    gains _ _ c.in_ok-program.program _ _ c.in_ok-program.ensures.program
+    gains _ _ _ _ c.in_ok-program.program _ _ c.in_ok-program.ensures.program
     (λ body stands. c.in_ok-plan.ensures.adds body stands plain)
 
 pub returns-clause-adds : goal.returns-clause-adds
 returns-clause-adds c =
     let plain : is_plain_table c.args.table.now ≡ true =
     grind (rules, c.if-not-is_plain_table.false, c.is_plain_table.ensures) in
-    gains _ _ c.in_ok-program.program _ _ c.in_ok-program.ensures.program
+    gains _ _ _ _ c.in_ok-program.program _ _ c.in_ok-program.ensures.program
     (λ body stands. c.in_ok-plan.ensures.adds body stands plain)
+
+pub returns-clause-counts : goal.returns-clause-counts
+returns-clause-counts c =
+    let plain : is_plain_table c.args.table.now ≡ true =
+    grind (rules, c.if-not-is_plain_table.false, c.is_plain_table.ensures) in
+    counts_gained _ _ _ _ c.in_ok-program.program _ _ c.in_ok-program.ensures.program
+    (λ body stands. c.in_ok-plan.ensures.counts body stands plain)
 
 pub returns-clause-translated : goal.returns-clause-translated
 returns-clause-translated c =
@@ -109,8 +116,8 @@ returns-clause-translated c =
       numbered = grind (rules, c.if-not-is_numbered.false, c.is_numbered.ensures);
       sound = c.in_ok-program.ensures.sound;
       plain = grind (rules, c.if-not-is_plain_table.false, c.is_plain_table.ensures);
-      built = root_built exposed c.args.payloads.now c.in_ok-program.program true c.in_ok-program.ensures.program
-          (grind (rules, c.if-not-is_built_program.false, c.is_built_program.ensures));
+      built = root_built c.args.table.now exposed c.args.payloads.now c.in_ok-program.program true
+          c.in_ok-program.ensures.program (grind (rules, c.if-not-is_built_program.false, c.is_built_program.ensures));
     } in
     let p = c.in_ok-program.ensures.program in
     translates_program c.args.table.now exposed limit c.args.payloads.now c.in_ok-program.program p can

@@ -1,6 +1,6 @@
 use Rattle.std.proofs.Common.{◌<◌, ◌≤◌, ◌+◌, length, ap, sym, ◌∙◌, arith}
 use Rattle.std.specs.Prelude.{slice_get}
-use Rattle.pc_inline.proofs.ExportAddsLemmas.{adds_all, adds_eight}
+use Rattle.pc_inline.proofs.ExportAddsLemmas.{adds_all, adds_export}
 use Rattle.pc_inline.proofs.ExportAllLemmas.{export_absent, exported_as, exports_begin, exports_end, exports_fail}
 use Rattle.pc_inline.proofs.ExportAllLemmas.{exports_more, exports_none, exports_passed, exports_unbuilt}
 use Rattle.pc_inline.proofs.ExportAllLemmas.{function_there}
@@ -53,7 +53,7 @@ returns-in_err-export_func-clause-keeps c =
 pub returns-in_err-export_func-clause-adds : goal.returns-in_err-export_func-clause-adds
 returns-in_err-export_func-clause-adds c =
     let within : c.loop-export.export-index + 1 ≤ length c.args.exports.now = omega (arith, c.loop-export-test.true) in
-    adds_eight c.args.self.now.table.now c.loop-export.export-index (length c.args.exports.now)
+    adds_export c.args.self.now.table.now c.loop-export.export-index (length c.args.exports.now)
     (tables_of c.args.state.now) (tables_of c.loop-export.state) (tables_of c.export_func.new.state) within
     c.loop-export.invariant.adds c.export_func.ensures.adds
 

@@ -1,8 +1,7 @@
-use Rattle.std.proofs.Common.{arith, ◌++◌, ◌∷◌, [], Err, length, ap, sym, subst, ◌∙◌}
+use Rattle.std.proofs.Common.{◌++◌, ◌∷◌, [], Err, length, ap, sym, subst, ◌∙◌}
 use Rattle.pc_dfg.specs.Lists.{NamedExport}
 use Rattle.pc_inline.specs.Exporting.{ExportsFunc, ReachesNode}
-use Rattle.pc_inline.proofs.AddsLemmas.{adds_weaken}
-use Rattle.pc_inline.proofs.ExportAddsLemmas.{adds_one, name_adds}
+use Rattle.pc_inline.proofs.ExportAddsLemmas.{exported_few, name_adds, reached_few}
 use Rattle.pc_inline.specs.Tables.{tables_of}
 use Rattle.pc_inline.proofs.ExportAllLemmas.{numbers_push}
 use Rattle.pc_inline.proofs.ExportLemmas.{exports_made, exports_refused, exports_unfed}
@@ -52,29 +51,26 @@ returns-clause-numbers c old =
 
 pub returns-in-Err-clause-adds : goal.returns-in-Err-clause-adds
 returns-in-Err-clause-adds c =
-    adds_weaken c.args.self.now.table.now 0 5 0 8 _ (tables_of c.reach_node.new.state) (omega arith) (omega arith)
-    c.reach_node.ensures.adds
+    reached_few c.args.self.now.table.now _ (tables_of c.reach_node.new.state) c.reach_node.ensures.adds
 
 pub returns-in_err-data_-clause-adds : goal.returns-in_err-data_-clause-adds
 returns-in_err-data_-clause-adds c =
-    adds_weaken c.args.self.now.table.now 0 5 0 8 _ (tables_of c.reach_node.new.state) (omega arith) (omega arith)
-    c.reach_node.ensures.adds
+    reached_few c.args.self.now.table.now _ (tables_of c.reach_node.new.state) c.reach_node.ensures.adds
 
 pub returns-in_err-name-clause-adds : goal.returns-in_err-name-clause-adds
 returns-in_err-name-clause-adds c =
-    adds_weaken c.args.self.now.table.now 0 5 0 8 _ (tables_of c.reach_node.new.state) (omega arith) (omega arith)
-    c.reach_node.ensures.adds
+    reached_few c.args.self.now.table.now _ (tables_of c.reach_node.new.state) c.reach_node.ensures.adds
 
 pub returns-in_err-push_export-clause-adds : goal.returns-in_err-push_export-clause-adds
 returns-in_err-push_export-clause-adds c =
-    adds_one c.args.self.now.table.now 5 8 (tables_of c.args.state.now) (tables_of c.reach_node.new.state) _
-    (omega arith) c.reach_node.ensures.adds
-    (name_adds _ (tables_of c.reach_node.new.state) c.push_export.new.self c.push_export.result _
+    exported_few c.args.self.now.table.now (tables_of c.args.state.now) (tables_of c.reach_node.new.state) _
+    c.reach_node.ensures.adds
+    (name_adds (tables_of c.reach_node.new.state) c.push_export.new.self c.push_export.result _
     c.push_export.ensures.rest c.push_export.ensures.ok c.push_export.ensures.err)
 
 pub returns-clause-adds : goal.returns-clause-adds
 returns-clause-adds c =
-    adds_one c.args.self.now.table.now 5 8 (tables_of c.args.state.now) (tables_of c.reach_node.new.state) _
-    (omega arith) c.reach_node.ensures.adds
-    (name_adds _ (tables_of c.reach_node.new.state) c.push_export.new.self c.push_export.result _
+    exported_few c.args.self.now.table.now (tables_of c.args.state.now) (tables_of c.reach_node.new.state) _
+    c.reach_node.ensures.adds
+    (name_adds (tables_of c.reach_node.new.state) c.push_export.new.self c.push_export.result _
     c.push_export.ensures.rest c.push_export.ensures.ok c.push_export.ensures.err)

@@ -1,4 +1,4 @@
-use Rattle.std.proofs.Common.{rules, refl, sym, subst}
+use Rattle.std.proofs.Common.{◌*◌, rules, refl, sym, subst}
 use Rattle.pc_local.specs.Plain.{plain_item}
 use Rattle.pc_inline.specs.Adds.{Adds, imports_in}
 use Rattle.pc_inline.specs.Tables.{tables_of}
@@ -14,7 +14,7 @@ returns-in-Import-clause-steps c =
 
 pub returns-in-Import-clause-adds : goal.returns-in-Import-clause-adds
 returns-in-Import-clause-adds c =
-    subst (λ l. Adds c.args.self.now.table.now (imports_in l) 4 (tables_of c.args.state.now)
+    subst (λ l. Adds c.args.self.now.table.now (imports_in l) (4 * imports_in l) (tables_of c.args.state.now)
     (tables_of c.prepare.new.state)) (sym c.in-Import.is) c.prepare.ensures.adds
 
 pub returns-in_default : goal.returns-in_default

@@ -1,29 +1,22 @@
-use Rattle.std.proofs.Common.{refl, ap, sym, ◌∙◌}
-use Rattle.std.specs.Prelude.{slice_get, option_and_then}
-use Rattle.std.proofs.lemmas.Option.{slice_get_past, slice_get_read}
+use Rattle.std.proofs.Common.{ap, sym, ◌∙◌}
+use Rattle.std.specs.Prelude.{option_and_then}
 use Rattle.pc_inline.specs.Bags.{export_item}
 use Rattle.pc_inline.proofs.CoreAliasLemmas.{alias_made, alias_missing}
+use Rattle.pc_inline.proofs.GotLemmas.{got_none, got_some}
 use Rattle.pc_inline.proofs.StepLemmas.{steps_lacking, steps_memory}
-use Rattle.pc_inline.proofs.AddsLemmas.{adds_refl, core_few}
-use Rattle.pc_inline.specs.Tables.{tables_of}
 use Rattle.pc_inline.proofs.context.Context.step_core_alias.Goals as goal
 
 pub returns-in_default-clause-steps : goal.returns-in_default-clause-steps
 returns-in_default-clause-steps c =
-    alias_missing c.args.self.now.table.now c.args.self.now.modules c.requires.input c.args.state.now c.args.frame.now
-    c.args.kind c.args.instance c.args.name.now _ _
+    alias_missing _ _ c.requires.input c.args.state.now c.args.frame.now c.args.kind c.args.instance c.args.name.now _ _
     (ap (option_and_then (export_item c.args.self.now.modules c.args.kind c.args.name.now))
-    (ap (λ xs. slice_get xs c.args.instance) (sym c.as_slice.ensures)
-    ∙ slice_get_past c.as_slice.result.now c.args.instance c.in_default.ensures.lookup.3))
+    (got_none _ _ c.args.instance c.as_slice.ensures c.in_default.ensures.lookup.3))
 
 pub returns-in_default-export-clause-steps : goal.returns-in_default-export-clause-steps
 returns-in_default-export-clause-steps c =
-    let instance = ap (λ xs. slice_get xs c.args.instance) (sym c.as_slice.ensures)
-    ∙ slice_get_read c.as_slice.result.now _ c.args.instance c.in-Some.instance.now refl c.in-Some.ensures.lookup.3.0
-    c.in-Some.ensures.lookup.1 in
-    alias_missing c.args.self.now.table.now c.args.self.now.modules c.requires.input c.args.state.now c.args.frame.now
-    c.args.kind c.args.instance c.args.name.now _ _
-    (ap (option_and_then (export_item c.args.self.now.modules c.args.kind c.args.name.now)) instance
+    alias_missing _ _ c.requires.input c.args.state.now c.args.frame.now c.args.kind c.args.instance c.args.name.now _ _
+    (ap (option_and_then (export_item c.args.self.now.modules c.args.kind c.args.name.now))
+    (got_some _ _ _ c.as_slice.ensures _ c.in-Some.ensures.lookup.3.0 c.in-Some.ensures.lookup.1)
     ∙ ap (λ name. export_item c.args.self.now.modules c.args.kind name c.in-Some.instance.now) (sym c.as_str.ensures)
     ∙ sym c.export.ensures ∙ c.in_default-export.is)
 
@@ -39,33 +32,10 @@ returns-in_err-push_core-clause-steps c =
 
 pub returns-clause-steps : goal.returns-clause-steps
 returns-clause-steps c =
-    let instance = ap (λ xs. slice_get xs c.args.instance) (sym c.as_slice.ensures)
-    ∙ slice_get_read c.as_slice.result.now _ c.args.instance c.in-Some.instance.now refl c.in-Some.ensures.lookup.3.0
-    c.in-Some.ensures.lookup.1 in
-    alias_made c.args.self.now.table.now c.args.self.now.modules c.requires.input c.args.state.now c.args.frame.now
-    c.args.kind c.args.instance c.args.name.now _ _ c.in-Some-export.item c.in_ok-id.id _
-    (ap (option_and_then (export_item c.args.self.now.modules c.args.kind c.args.name.now)) instance
+    alias_made _ _ c.requires.input c.args.state.now c.args.frame.now c.args.kind c.args.instance c.args.name.now _ _
+    c.in-Some-export.item c.in_ok-id.id _
+    (ap (option_and_then (export_item c.args.self.now.modules c.args.kind c.args.name.now))
+    (got_some _ _ _ c.as_slice.ensures _ c.in-Some.ensures.lookup.3.0 c.in-Some.ensures.lookup.1)
     ∙ ap (λ name. export_item c.args.self.now.modules c.args.kind name c.in-Some.instance.now) (sym c.as_str.ensures)
     ∙ sym c.export.ensures ∙ c.in-Some-export.is)
     c.in_ok-id.ensures.prepares c.in_ok-id.ensures.id c.in_ok-push_core.ensures.ok
-
-pub returns-in_default-clause-adds : goal.returns-in_default-clause-adds
-returns-in_default-clause-adds c = adds_refl c.args.self.now.table.now 0 4 (tables_of c.args.state.now)
-
-pub returns-in_default-export-clause-adds : goal.returns-in_default-export-clause-adds
-returns-in_default-export-clause-adds c = adds_refl c.args.self.now.table.now 0 4 (tables_of c.args.state.now)
-
-pub returns-in_err-id-clause-adds : goal.returns-in_err-id-clause-adds
-returns-in_err-id-clause-adds c =
-    core_few c.args.self.now.table.now (tables_of c.args.state.now) (tables_of c.found_id.new.state)
-    c.found_id.ensures.adds
-
-pub returns-in_err-push_core-clause-adds : goal.returns-in_err-push_core-clause-adds
-returns-in_err-push_core-clause-adds c =
-    core_few c.args.self.now.table.now (tables_of c.args.state.now) (tables_of c.found_id.new.state)
-    c.found_id.ensures.adds
-
-pub returns-clause-adds : goal.returns-clause-adds
-returns-clause-adds c =
-    core_few c.args.self.now.table.now (tables_of c.args.state.now) (tables_of c.found_id.new.state)
-    c.found_id.ensures.adds

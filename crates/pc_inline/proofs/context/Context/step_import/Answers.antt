@@ -1,57 +1,50 @@
-use Rattle.std.proofs.Common.{ap, sym, subst, ◌∙◌}
+use Rattle.std.proofs.Common.{ap, sym, ◌∙◌}
 use Rattle.pc_entity.specs.Lists.{value_of}
-use Rattle.pc_inline.proofs.StepLemmas.{steps_memory}
+use Rattle.pc_inline.specs.Kinds.{import_kind}
+use Rattle.pc_inline.proofs.PassedLemmas.{passed_unfed}
 use Rattle.pc_inline.proofs.TakenLemmas.{import_absent, import_other, import_taken, import_unbuilt, import_untyped}
-use Rattle.pc_reading.specs.Item.{import_item}
-use Rattle.pc_inline.specs.Points.{StepsItem}
 use Rattle.pc_inline.proofs.context.Context.step_import.Goals as goal
 
-pub returns-in_default : goal.returns-in_default
-returns-in_default c = record {
-  same = λ i. c.args.frame.now.component_instance;
-  steps = import_unbuilt c.args.self.now.table.now c.args.self.now.modules c.args.state.now c.args.frame.now
-      c.args.name.now c.args.entity _ c.in_default.not-Func;
-}
+pub returns-in_default-clause-steps : goal.returns-in_default-clause-steps
+returns-in_default-clause-steps c =
+    import_unbuilt c.args.self.now.table.now c.args.self.now.modules c.args.state.now c.args.frame.now
+    c.args.name.now c.args.entity c.args.frame.now
+    (ap (λ k. import_kind k c.args.entity) (sym c.requires.kinds) ∙ sym c.import_kind.ensures ∙ c.in_default.is)
 
-pub returns-then-not-is_func_type-clause-steps : goal.returns-then-not-is_func_type-clause-steps
-returns-then-not-is_func_type-clause-steps c =
-    subst (λ e. StepsItem c.args.self.now.table.now c.args.self.now.modules (import_item c.args.name.now e)
-    c.args.state.now c.args.frame.now c.args.state.now c.args.frame.now _) (sym c.in-Func.is)
-    (import_untyped c.args.self.now.table.now c.args.self.now.modules c.args.state.now c.args.frame.now
-    c.args.name.now c.in-Func.ty _ (sym c.is_func_type.ensures ∙ c.if-not-is_func_type.true))
+pub returns-then-not-names_entry-clause-steps : goal.returns-then-not-names_entry-clause-steps
+returns-then-not-names_entry-clause-steps c =
+    import_untyped c.args.self.now.table.now c.args.self.now.modules c.args.state.now c.args.frame.now
+    c.args.name.now c.args.entity c.in-Some.kind
+    (ap (λ k. import_kind k c.args.entity) (sym c.requires.kinds) ∙ sym c.import_kind.ensures ∙ c.in-Some.is)
+    c.args.frame.now (sym c.names_entry.ensures ∙ c.if-not-names_entry.true)
 
-pub returns-in_err-push-in-Some-clause-steps : goal.returns-in_err-push-in-Some-clause-steps
-returns-in_err-push-in-Some-clause-steps c =
-    steps_memory c.args.self.now.table.now c.args.self.now.modules _ c.args.state.now c.args.frame.now _ _ _
-    c.from_residual.ensures.1
+pub returns-in_err-push_item-in-Some-copied-clause-steps : goal.returns-in_err-push_item-in-Some-copied-clause-steps
+returns-in_err-push_item-in-Some-copied-clause-steps c = passed_unfed _ _ _ _ _ _ _ _ c.from_residual.ensures.1
 
-pub returns-in_ok-push-in-Some-clause-steps : goal.returns-in_ok-push-in-Some-clause-steps
-returns-in_ok-push-in-Some-clause-steps c =
-    subst (λ e. StepsItem c.args.self.now.table.now c.args.self.now.modules (import_item c.args.name.now e)
-    c.args.state.now c.args.frame.now c.args.state.now (record c.args.frame.now { funcs = c.push.new.self }) _)
-    (sym c.in-Func.is)
-    (import_taken c.args.self.now.table.now c.args.self.now.modules c.args.state.now c.args.frame.now
-    c.args.name.now c.in-Func.ty (sym c.is_func_type.ensures ∙ c.if-not-is_func_type.false) c.in-Some.id
+pub returns-in_ok-push_item-in-Some-copied-clause-steps : goal.returns-in_ok-push_item-in-Some-copied-clause-steps
+returns-in_ok-push_item-in-Some-copied-clause-steps c =
+    import_taken c.args.self.now.table.now c.args.self.now.modules c.args.state.now c.args.frame.now
+    c.args.name.now c.args.entity c.in-Some.kind
+    (ap (λ k. import_kind k c.args.entity) (sym c.requires.kinds) ∙ sym c.import_kind.ensures ∙ c.in-Some.is)
+    (sym c.names_entry.ensures ∙ c.if-not-names_entry.false) c.in-Some-copied.id
     (ap (λ k. value_of k c.args.frame.now.arguments) (sym c.as_str.ensures) ∙ sym c.get.ensures ∙ sym c.copied.ensures
-    ∙ c.in-Some.is) _ _
-    (sym c.is_func.ensures ∙ c.if-is_func.true) (λ i. record c.args.frame.now
-    { funcs = c.in_ok-push-in-Some.ensures.ok i }))
+    ∙ c.in-Some-copied.is) _ tt (sym c.is_of_kind.ensures ∙ c.if-is_of_kind.true)
+    c.in_ok-push_item-in-Some-copied.ensures.ok
 
 pub returns-in_default-copied-clause-steps : goal.returns-in_default-copied-clause-steps
 returns-in_default-copied-clause-steps c =
-    subst (λ e. StepsItem c.args.self.now.table.now c.args.self.now.modules (import_item c.args.name.now e)
-    c.args.state.now c.args.frame.now c.args.state.now c.args.frame.now _) (sym c.in-Func.is)
-    (import_other c.args.self.now.table.now c.args.self.now.modules c.args.state.now c.args.frame.now
-    c.args.name.now c.in-Func.ty (sym c.is_func_type.ensures ∙ c.if-not-is_func_type.false) c.in-Some.id
+    import_other c.args.self.now.table.now c.args.self.now.modules c.args.state.now c.args.frame.now
+    c.args.name.now c.args.entity c.in-Some.kind
+    (ap (λ k. import_kind k c.args.entity) (sym c.requires.kinds) ∙ sym c.import_kind.ensures ∙ c.in-Some.is)
+    (sym c.names_entry.ensures ∙ c.if-not-names_entry.false) c.in-Some-copied.id
     (ap (λ k. value_of k c.args.frame.now.arguments) (sym c.as_str.ensures) ∙ sym c.get.ensures ∙ sym c.copied.ensures
-    ∙ c.in-Some.is) _
-    (sym c.is_func.ensures ∙ c.if-is_func.false))
+    ∙ c.in-Some-copied.is) c.args.frame.now (sym c.is_of_kind.ensures ∙ c.if-is_of_kind.false)
 
 pub returns-in_default-copied-2-clause-steps : goal.returns-in_default-copied-2-clause-steps
 returns-in_default-copied-2-clause-steps c =
-    subst (λ e. StepsItem c.args.self.now.table.now c.args.self.now.modules (import_item c.args.name.now e)
-    c.args.state.now c.args.frame.now c.args.state.now c.args.frame.now _) (sym c.in-Func.is)
-    (import_absent c.args.self.now.table.now c.args.self.now.modules c.args.state.now c.args.frame.now
-    c.args.name.now c.in-Func.ty (sym c.is_func_type.ensures ∙ c.if-not-is_func_type.false) _
+    import_absent c.args.self.now.table.now c.args.self.now.modules c.args.state.now c.args.frame.now
+    c.args.name.now c.args.entity c.in-Some.kind
+    (ap (λ k. import_kind k c.args.entity) (sym c.requires.kinds) ∙ sym c.import_kind.ensures ∙ c.in-Some.is)
+    (sym c.names_entry.ensures ∙ c.if-not-names_entry.false) c.args.frame.now
     (ap (λ k. value_of k c.args.frame.now.arguments) (sym c.as_str.ensures) ∙ sym c.get.ensures ∙ sym c.copied.ensures
-    ∙ c.in_default-copied.is))
+    ∙ c.in_default-copied.is)

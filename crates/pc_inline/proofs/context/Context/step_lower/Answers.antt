@@ -1,118 +1,73 @@
-use Rattle.std.proofs.Common.{ap, sym, ◌∙◌, arith}
-use Rattle.std.specs.Prelude.{slice_get}
-use Rattle.pc_inline.proofs.LowerLemmas.{lower_adapts, lower_lacks_types, lower_misses, lower_misses_option}
+use Rattle.std.proofs.Common.{sym, ◌∙◌}
+use Rattle.pc_inline.proofs.ConvertedLemmas.{lower_adds, lower_keeps}
+use Rattle.pc_inline.proofs.GotLemmas.{got_by}
+use Rattle.pc_inline.proofs.LowerLemmas.{lower_adapts, lower_lacks, lower_misses, lower_misses_option}
 use Rattle.pc_inline.proofs.LowerLemmas.{lower_ready, lower_steps}
-use Rattle.pc_inline.proofs.PassedLemmas.{passed_lacking, passed_unfed, steps_passed}
-use Rattle.pc_inline.specs.Tables.{tables_of}
-use Rattle.pc_inline.proofs.StateLemmas.{converts_prepares, keeps_trans}
-use Rattle.pc_inline.proofs.AddsLemmas.{adds_refl, adds_then}
+use Rattle.pc_inline.proofs.PassedLemmas.{passed_lacking, passed_unfed}
 use Rattle.pc_inline.proofs.context.Context.step_lower.Goals as goal
 
 pub returns-in_err-ty-clause-steps : goal.returns-in_err-ty-clause-steps
 returns-in_err-ty-clause-steps c =
-    steps_passed _ _ _ _ _ _ _ _ _ c.from_residual.ensures.1
-    (lower_lacks_types _ _ c.args.func c.args.ty c.args.core c.args.opts.now _ _ _ _ _ c.in_err-ty.ensures.err)
+    lower_lacks _ _ _ _ _ _ _ _ _ _ _ _ c.from_residual.ensures.1 c.in_err-ty.ensures.err
 
 pub returns-in_default-clause-steps : goal.returns-in_default-clause-steps
 returns-in_default-clause-steps c =
-    lower_misses _ _ c.args.func c.args.ty c.args.core c.args.opts.now _ c.args.frame.now _ c.in_ok-ty.ensures.converts
-    _ _ c.in_ok-ty.ensures.are
-    (ap (λ l. slice_get l c.args.func) (sym c.as_slice.ensures) ∙ sym c.at.ensures ∙ c.in_default.is)
+    lower_misses _ _ _ _ _ _ _ _ _ c.in_ok-ty.ensures.converts _ _ c.in_ok-ty.ensures.are
+    (got_by _ _ _ c.as_slice.ensures _ _ c.at.ensures c.in_default.is)
 
 pub returns-in_default-options_in-clause-steps : goal.returns-in_default-options_in-clause-steps
 returns-in_default-options_in-clause-steps c =
-    lower_misses_option _ _ c.args.func c.args.ty c.args.core c.args.opts.now _ c.args.frame.now _
-    c.in_ok-ty.ensures.converts _ _ c.in_ok-ty.ensures.are c.in-Some.func
-    (ap (λ l. slice_get l c.args.func) (sym c.as_slice.ensures) ∙ sym c.at.ensures ∙ c.in-Some.is)
+    lower_misses_option _ _ _ _ _ _ _ _ _ c.in_ok-ty.ensures.converts _ _ c.in_ok-ty.ensures.are _
+    (got_by _ _ _ c.as_slice.ensures _ _ c.at.ensures c.in-Some.is)
     (sym c.options_in.ensures ∙ c.in_default-options_in.is)
 
 pub returns-in_default-host_func-clause-steps : goal.returns-in_default-host_func-clause-steps
 returns-in_default-host_func-clause-steps c =
-    lower_adapts _ _ c.args.func c.args.ty c.args.core c.args.opts.now _ c.args.frame.now _
-    c.in_ok-ty.ensures.converts _ _ c.in_ok-ty.ensures.are c.in-Some.func
-    (ap (λ l. slice_get l c.args.func) (sym c.as_slice.ensures) ∙ sym c.at.ensures ∙ c.in-Some.is)
-    c.in-Some-options_in.options (sym c.options_in.ensures ∙ c.in-Some-options_in.is)
-    (sym c.host_func.ensures ∙ c.in_default-host_func.is)
+    lower_adapts _ _ _ _ _ _ _ _ _ c.in_ok-ty.ensures.converts _ _ c.in_ok-ty.ensures.are _
+    (got_by _ _ _ c.as_slice.ensures _ _ c.at.ensures c.in-Some.is) _
+    (sym c.options_in.ensures ∙ c.in-Some-options_in.is) (sym c.host_func.ensures ∙ c.in_default-host_func.is)
 
 pub lower_host-requires : goal.lower_host-requires
 lower_host-requires c =
-    let ready = lower_ready c.args.self.now.table.now c.args.self.now.modules c.args.func c.args.ty c.args.core
-    c.args.opts.now _ c.args.frame.now _
+    let ready = lower_ready _ _ c.args.func c.args.ty c.args.core c.args.opts.now _ c.args.frame.now _
     c.in_ok-ty.ensures.converts _ _ c.in_ok-ty.ensures.are c.requires.here c.in-Some.func
-    (ap (λ l. slice_get l c.args.func) (sym c.as_slice.ensures) ∙ sym c.at.ensures ∙ c.in-Some.is)
-    c.in-Some-options_in.options (sym c.options_in.ensures ∙ c.in-Some-options_in.is) c.in-Some-host_func.import
+    (got_by _ _ _ c.as_slice.ensures _ _ c.at.ensures c.in-Some.is) c.in-Some-options_in.options
+    (sym c.options_in.ensures ∙ c.in-Some-options_in.is) c.in-Some-host_func.import
     (sym c.host_func.ensures ∙ c.in-Some-host_func.is) in
     record { sound = ready.0; there = ready.1; options = ready.2 }
-
-pub returns-in_err-id-clause-keeps : goal.returns-in_err-id-clause-keeps
-returns-in_err-id-clause-keeps c =
-    keeps_trans (tables_of c.args.state.now) (tables_of c.function_types.new.state) (tables_of c.lower_host.new.state)
-    (converts_prepares c.args.self.now.table.now c.args.self.now.modules c.args.state.now c.function_types.new.state
-    c.in_ok-ty.ensures.converts).keeps c.lower_host.ensures.keeps
 
 pub returns-in_err-id-clause-steps : goal.returns-in_err-id-clause-steps
 returns-in_err-id-clause-steps c =
     passed_lacking _ _ _ _ _ _ _ _ _ c.from_residual-in_err-id.ensures.1 c.in_err-id.ensures.err
 
-pub returns-in_err-push-clause-keeps : goal.returns-in_err-push-clause-keeps
-returns-in_err-push-clause-keeps c =
-    keeps_trans (tables_of c.args.state.now) (tables_of c.function_types.new.state) (tables_of c.lower_host.new.state)
-    (converts_prepares c.args.self.now.table.now c.args.self.now.modules c.args.state.now c.function_types.new.state
-    c.in_ok-ty.ensures.converts).keeps c.lower_host.ensures.keeps
-
 pub returns-in_err-push-clause-steps : goal.returns-in_err-push-clause-steps
 returns-in_err-push-clause-steps c = passed_unfed _ _ _ _ _ _ _ _ c.from_residual-in_err-push.ensures.1
 
-pub returns-clause-keeps : goal.returns-clause-keeps
-returns-clause-keeps c =
-    keeps_trans (tables_of c.args.state.now) (tables_of c.function_types.new.state) (tables_of c.lower_host.new.state)
-    (converts_prepares c.args.self.now.table.now c.args.self.now.modules c.args.state.now c.function_types.new.state
-    c.in_ok-ty.ensures.converts).keeps c.lower_host.ensures.keeps
-
 pub returns-clause-steps : goal.returns-clause-steps
 returns-clause-steps c =
-    lower_steps _ _ c.args.func c.args.ty c.args.core c.args.opts.now _ c.args.frame.now _
-    c.in_ok-ty.ensures.converts _ _ c.in_ok-ty.ensures.are c.in-Some.func
-    (ap (λ l. slice_get l c.args.func) (sym c.as_slice.ensures) ∙ sym c.at.ensures ∙ c.in-Some.is)
-    c.in-Some-options_in.options (sym c.options_in.ensures ∙ c.in-Some-options_in.is) c.in-Some-host_func.import
+    lower_steps _ _ _ _ _ _ _ _ _ c.in_ok-ty.ensures.converts _ _ c.in_ok-ty.ensures.are _
+    (got_by _ _ _ c.as_slice.ensures _ _ c.at.ensures c.in-Some.is) _
+    (sym c.options_in.ensures ∙ c.in-Some-options_in.is) c.in-Some-host_func.import
     (sym c.host_func.ensures ∙ c.in-Some-host_func.is) c.lower_host.new.state c.in_ok-id.id c.in_ok-id.ensures.lowers _
     (λ i. record c.args.frame.now { core_funcs = c.in_ok-push.ensures.ok i }) tt
 
-pub returns-in_err-ty-clause-adds : goal.returns-in_err-ty-clause-adds
-returns-in_err-ty-clause-adds c =
-    adds_then c.args.self.now.table.now 0 (tables_of c.args.state.now) (tables_of c.function_types.new.state)
-    (tables_of c.function_types.new.state) (omega arith) c.function_types.ensures.adds
-    (adds_refl c.args.self.now.table.now 0 0 (tables_of c.function_types.new.state))
+pub returns-in_err-id-clause-keeps : goal.returns-in_err-id-clause-keeps
+returns-in_err-id-clause-keeps c =
+    lower_keeps _ c.args.self.now.modules _ _ _ c.in_ok-ty.ensures.converts c.lower_host.ensures.keeps
 
-pub returns-in_default-clause-adds : goal.returns-in_default-clause-adds
-returns-in_default-clause-adds c =
-    adds_then c.args.self.now.table.now 0 (tables_of c.args.state.now) (tables_of c.function_types.new.state)
-    (tables_of c.function_types.new.state) (omega arith) c.function_types.ensures.adds
-    (adds_refl c.args.self.now.table.now 0 0 (tables_of c.function_types.new.state))
+pub returns-in_err-push-clause-keeps : goal.returns-in_err-push-clause-keeps
+returns-in_err-push-clause-keeps c =
+    lower_keeps _ c.args.self.now.modules _ _ _ c.in_ok-ty.ensures.converts c.lower_host.ensures.keeps
 
-pub returns-in_default-options_in-clause-adds : goal.returns-in_default-options_in-clause-adds
-returns-in_default-options_in-clause-adds c =
-    adds_then c.args.self.now.table.now 0 (tables_of c.args.state.now) (tables_of c.function_types.new.state)
-    (tables_of c.function_types.new.state) (omega arith) c.function_types.ensures.adds
-    (adds_refl c.args.self.now.table.now 0 0 (tables_of c.function_types.new.state))
-
-pub returns-in_default-host_func-clause-adds : goal.returns-in_default-host_func-clause-adds
-returns-in_default-host_func-clause-adds c =
-    adds_then c.args.self.now.table.now 0 (tables_of c.args.state.now) (tables_of c.function_types.new.state)
-    (tables_of c.function_types.new.state) (omega arith) c.function_types.ensures.adds
-    (adds_refl c.args.self.now.table.now 0 0 (tables_of c.function_types.new.state))
+pub returns-clause-keeps : goal.returns-clause-keeps
+returns-clause-keeps c =
+    lower_keeps _ c.args.self.now.modules _ _ _ c.in_ok-ty.ensures.converts c.lower_host.ensures.keeps
 
 pub returns-in_err-id-clause-adds : goal.returns-in_err-id-clause-adds
-returns-in_err-id-clause-adds c =
-    adds_then c.args.self.now.table.now 4 (tables_of c.args.state.now) (tables_of c.function_types.new.state)
-    (tables_of c.lower_host.new.state) (omega arith) c.function_types.ensures.adds c.lower_host.ensures.adds
+returns-in_err-id-clause-adds c = lower_adds _ _ _ _ c.function_types.ensures.adds c.lower_host.ensures.adds
 
 pub returns-in_err-push-clause-adds : goal.returns-in_err-push-clause-adds
-returns-in_err-push-clause-adds c =
-    adds_then c.args.self.now.table.now 4 (tables_of c.args.state.now) (tables_of c.function_types.new.state)
-    (tables_of c.lower_host.new.state) (omega arith) c.function_types.ensures.adds c.lower_host.ensures.adds
+returns-in_err-push-clause-adds c = lower_adds _ _ _ _ c.function_types.ensures.adds c.lower_host.ensures.adds
 
 pub returns-clause-adds : goal.returns-clause-adds
-returns-clause-adds c =
-    adds_then c.args.self.now.table.now 4 (tables_of c.args.state.now) (tables_of c.function_types.new.state)
-    (tables_of c.lower_host.new.state) (omega arith) c.function_types.ensures.adds c.lower_host.ensures.adds
+returns-clause-adds c = lower_adds _ _ _ _ c.function_types.ensures.adds c.lower_host.ensures.adds

@@ -1,0 +1,198 @@
+-- What a child begins with, or why it can't begin.
+use Rattle.std.proofs.Common.{◌≡◌, ℕ, Bool, true, false, List, [], ◌∷◌, None, Some, Result, Ok, Err, map, refl, sym}
+use Rattle.std.proofs.Common.{ap, subst, ◌∙◌, true≢false}
+use Rattle.std.specs.Prelude.{◌&&◌, option_and_then, slice_get}
+use Rattle.std.specs.List.{list_all}
+use Rattle.std.specs.Result.{IsErrAnd}
+use Rattle.std.proofs.lemmas.Option.{none-some, same_Some}
+use Rattle.pc_entity.specs.Lists.{map_all}
+use Rattle.pc_types.specs.declared.error.Unsupported.TheVariants.{NotBuilt}
+use Rattle.pc_types.specs.declared.module_record.ModuleRecord.{ModuleRecord}
+use Rattle.pc_types.specs.declared.parsed.TypeTable.{TypeTable}
+use Rattle.pc_types.specs.Table.{is_instance}
+use Rattle.pc_parsed.specs.declared.payload.ItemKind.{ItemKind}
+use Rattle.pc_parsed.specs.declared.payload.ItemKind.TheVariants as kind
+use Rattle.pc_numbers.specs.declared.component_entity.StaticComponentIndex.{StaticComponentIndex}
+use Rattle.pc_reading.specs.Components.{read_call}
+use Rattle.pc_reading.specs.Item.{ArgumentOf}
+use Rattle.pc_reading.specs.Items.{argument_value, is_typed_argument, is_typed_item}
+use Rattle.pc_reading.specs.Outcome.{held}
+use Rattle.pc_reading.specs.Scope.{Scope}
+use Rattle.pc_reading.specs.Section.{argument_of}
+use Rattle.pc_reading.specs.Types.{has_entry}
+use Rattle.pc_reading.specs.Value.{Component, Value, component_value}
+use Rattle.pc_inline.specs.declared.definition.ClosureId.{ClosureId}
+use Rattle.pc_inline.specs.declared.definition.DefinitionId.{DefinitionId}
+use Rattle.pc_inline.specs.declared.driver.Call.{Call}
+use Rattle.pc_inline.specs.declared.error.ItemError.{ItemError}
+use Rattle.pc_inline.specs.declared.error.ItemError.TheVariants as item_error
+use Rattle.pc_inline.specs.declared.error.ItemFault.TheVariants as item_fault
+use Rattle.pc_inline.specs.declared.frame.Frame.{Frame}
+use Rattle.pc_inline.specs.declared.state.State.{State}
+use Rattle.pc_inline.specs.Calls.{CallStands, CallFollows, Calls, Given, are_built_arguments, built_call}
+use Rattle.pc_inline.specs.Captures.{IsEnclosed}
+use Rattle.pc_inline.specs.Definitions.{component_parts}
+use Rattle.pc_inline.specs.Frames.{ComponentStands, SameNames}
+use Rattle.pc_inline.specs.Stands.{Stands, stands, stands_component}
+use Rattle.pc_inline.specs.Tables.{tables_of}
+use Rattle.pc_inline.specs.Today.{can_instantiate, is_built_call, is_built_kind}
+use Rattle.pc_inline.proofs.EnclosedLemmas.{child_enclosed}
+use Rattle.pc_inline.proofs.ZipLemmas.{both_missing, both_there, zip_at}
+
+-- of a built kind no type number is asked for
+typed_item : (t : TypeTable) (k : ItemKind) (n : ℕ) → is_built_kind k ≡ true → is_typed_item t k n ≡ true
+typed_item t kind.Func n built = refl
+typed_item t kind.Module n built = refl
+typed_item t kind.Instance n built = refl
+typed_item t kind.Component n built = refl
+typed_item t kind.Type_ n built = absurd (true≢false (sym built))
+typed_item t kind.Value n built = absurd (true≢false (sym built))
+
+both_hold : (a b : Bool) → (a && b) ≡ true → (a ≡ true) × (b ≡ true)
+both_hold true b h = (refl, h)
+both_hold false b h = absurd (true≢false (sym h))
+
+-- nor of many
+typed_arguments : (t : TypeTable) (xs : List (List ℕ × ItemKind × ℕ)) → are_built_arguments xs ≡ true
+    → list_all (is_typed_argument t) (map argument_of xs) ≡ true
+typed_arguments t [] built = refl
+typed_arguments t (x ∷ xs) built =
+    let both = both_hold (is_built_kind x.1) (are_built_arguments xs) built in
+    rw (typed_item t x.1 x.2 both.0) (typed_arguments t xs both.1)
+
+-- whether arguments are built is found out with their names
+same_built : (xs : List (List ℕ × ItemKind × ℕ))
+    → list_all (λ (a : ArgumentOf). is_built_kind a.kind) (map argument_of xs) ≡ are_built_arguments xs
+same_built [] = refl
+same_built (x ∷ xs) = ap (λ b. is_built_kind x.1 && b) (same_built xs)
+
+-- whether a call is built
+pub call_built : (t : TypeTable) (xs : List (List ℕ × ItemKind × ℕ)) (a b : Bool) → can_instantiate t ≡ a
+    → are_built_arguments xs ≡ b → is_built_call t (map argument_of xs) ≡ (a && b)
+call_built t xs a b can built = rw (can, same_built xs ∙ built) refl
+
+-- what a call that is built begins with
+call_made : (t : TypeTable) (s : Scope) (n : ℕ) (as_ : List ArgumentOf) (ty : ℕ) (c : Component)
+    (vs : List (List ℕ × Value)) → is_built_call t as_ ≡ true → list_all (is_typed_argument t) as_ ≡ true
+    → has_entry t is_instance ty ≡ true → slice_get s.components n ≡ Some c
+    → map_all (argument_value t s) as_ ≡ Some vs
+    → built_call t s n as_ ty ≡ Ok (record { component = c; arguments = vs })
+unfolding built_call read_call
+call_made t s n as_ ty c vs built typed is at given = rw (built, typed, is, at, given) refl
+
+module _ (t : TypeTable) (ms : List ModuleRecord) (st : State) (f : Frame) (n : ℕ) (xs : List (List ℕ × ItemKind × ℕ))
+    (ty : ℕ) where
+  -- it isn't
+  pub call_unbuilt : is_built_call t (map argument_of xs) ≡ false
+      → Calls t ms n (map argument_of xs) ty st f (Err (item_error.Fault (item_fault.Unsupported NotBuilt)))
+  unfolding Calls CallFollows built_call
+  call_unbuilt not_built now at = rw (not_built) refl
+
+  -- no memory
+  pub call_unfed : Calls t ms n (map argument_of xs) ty st f (Err item_error.NoMemory)
+  unfolding Calls CallFollows
+  call_unfed now at = tt
+
+  -- whatever is answered then
+  pub call_starved : (r : Result Call ItemError) → IsErrAnd r (λ x. x ≡ item_error.NoMemory)
+      → Calls t ms n (map argument_of xs) ty st f r
+  call_starved (Ok x) is = absurd is
+  call_starved (Err x) is = subst (λ e. Calls t ms n (map argument_of xs) ty st f (Err e)) (sym is) call_unfed
+
+  module _ (can : can_instantiate t ≡ true) (built : are_built_arguments xs ≡ true) where
+    is_built : is_built_call t (map argument_of xs) ≡ true
+    is_built = call_built t xs true true can built
+
+    -- no instance type
+    pub call_untyped : has_entry t is_instance ty ≡ false
+        → Calls t ms n (map argument_of xs) ty st f (Err (item_error.Fault item_fault.BadType))
+    unfolding Calls CallFollows built_call read_call
+    call_untyped other now at = rw (is_built, typed_arguments t xs built, other) refl
+
+    module _ (typed : has_entry t is_instance ty ≡ true) where
+      -- no such component
+      pub call_missing : slice_get f.components n ≡ None
+          → Calls t ms n (map argument_of xs) ty st f (Err (item_error.Fault item_fault.Invalid))
+      unfolding Calls CallFollows built_call read_call
+      call_missing none now at =
+          rw (
+            is_built,
+            typed_arguments t xs built,
+            typed,
+            both_missing _ _ _ (zip_at (ComponentStands ms (tables_of st)) f.components now.scope.components n
+                at.frame.components) none,
+          ) refl
+
+      module _ (id : DefinitionId) (there : slice_get f.components n ≡ Some id) where
+        -- an argument is missing
+        pub call_lacks : Given xs f None
+            → Calls t ms n (map argument_of xs) ty st f (Err (item_error.Fault item_fault.Invalid))
+        unfolding Calls CallFollows built_call read_call
+        call_lacks given now at =
+            let c = both_there _ _ _ id (zip_at (ComponentStands ms (tables_of st)) f.components now.scope.components n
+            at.frame.components) there in
+            rw (
+              is_built,
+              typed_arguments t xs built,
+              typed,
+              c.1,
+              both_missing _ _ _ (given t ms (tables_of st) now.scope
+                  at.frame) refl,
+            ) refl
+
+        -- what stands there is a component
+        pub call_other : option_and_then component_parts (slice_get st.definitions id.0) ≡ None
+            → Calls t ms n (map argument_of xs) ty st f (Err (item_error.Fault item_fault.Invalid))
+        unfolding Calls CallFollows
+        call_other none now at =
+            let c = both_there _ _ _ id (zip_at (ComponentStands ms (tables_of st)) f.components now.scope.components n
+            at.frame.components) there in
+            absurd (by c.0 c.2)
+          where
+            by : (c : Component) → Stands ms (tables_of st) id (component_value c) → ⊥
+            by c (stands held (stands_component {s = s} {k = k} tr body leaving closure modules components)) =
+                absurd (none-some (s, k) (sym none ∙ ap (option_and_then component_parts) held))
+
+        -- the child can begin
+        pub call_ready : (given : List (List ℕ × DefinitionId)) → Given xs f (Some given) → (s : StaticComponentIndex)
+            (k : ClosureId) → option_and_then component_parts (slice_get st.definitions id.0) ≡ Some (s, k)
+            → Calls t ms n (map argument_of xs) ty st f
+            (Ok (record { body = s; closure = k; arguments = given }))
+        unfolding Calls CallFollows built_call read_call
+        call_ready given are s k parts now at =
+            let c = both_there _ _ _ id (zip_at (ComponentStands ms (tables_of st)) f.components now.scope.components n
+            at.frame.components) there in
+            let as_ = both_there _ _ _ given (are t ms (tables_of st) now.scope at.frame) refl in
+            record {
+              read = record { component = c.0; arguments = as_.0 };
+              done = call_made t now.scope n (map argument_of xs) ty c.0 as_.0 is_built (typed_arguments t xs built) typed
+                  c.1 as_.1;
+              stands = component_stands c.0 c.2 as_.0 as_.2;
+              built = can;
+              is_typed = typed;
+            }
+          where
+            component_stands : (c : Component) → Stands ms (tables_of st) id (component_value c)
+                → (vs : List (List ℕ × Value)) → SameNames (Stands ms (tables_of st)) given vs
+                → CallStands t ms (tables_of st) (record { body = s; closure = k; arguments = given })
+                (record { component = c; arguments = vs })
+            component_stands c (stands held (stands_component {s = i} {k = j} {tr = tr} {inner = inner} {body = body}
+                {closure = closure} {chain = chain} at stand leaving captured modules components)) vs same =
+                let pair : (i, j) ≡ (s, k) =
+                same_Some _ _ (sym (ap (option_and_then component_parts) held) ∙ parts) in
+                let index : i ≡ s = ap (λ p. p.0) pair in
+                let number : j ≡ k = ap (λ p. p.1) pair in
+                record {
+                  names = inner;
+                  body = body;
+                  chain = chain;
+                  translation = tr;
+                  is = refl;
+                  there = subst (λ (x : StaticComponentIndex). slice_get st.bodies.now x.0 ≡ Some tr) index at;
+                  stands = stand;
+                  closure = closure;
+                  captured = subst (λ (x : ClosureId). slice_get st.closures x.0 ≡ Some closure) number captured;
+                  enclosed = subst (λ (x : ClosureId). IsEnclosed ms (tables_of st) inner (Some x) chain) number
+                      (child_enclosed ms (tables_of st) inner j closure chain captured modules components);
+                  arguments = same;
+                }

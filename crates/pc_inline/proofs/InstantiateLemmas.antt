@@ -1,0 +1,177 @@
+-- What a root gives, from what its steps give.
+use Rattle.std.proofs.Common.{◌≡◌, ◌<◌, ◌≤◌, ◌*◌, ℕ, List, [], length, map, sum_by, true, Result, Ok, Err, refl, sym}
+use Rattle.std.proofs.Common.{subst}
+use Rattle.std.specs.Prelude.{⊤, OnOk}
+use Rattle.std.specs.Result.{IsErrAnd}
+use Rattle.pc_numbers.specs.declared.runtime.RuntimeComponentInstanceIndex.{RuntimeComponentInstanceIndex}
+use Rattle.pc_types.specs.declared.error.Error.{Error}
+use Rattle.pc_types.specs.declared.module_record.ModuleRecord.{ModuleRecord}
+use Rattle.pc_types.specs.declared.parsed.TypeTable.{TypeTable}
+use Rattle.pc_types.specs.Names.{distinct_names}
+use Rattle.pc_parsed.specs.declared.payload.ExternName.{ExternName}
+use Rattle.pc_parsed.specs.declared.payload.ItemKind.{ItemKind}
+use Rattle.pc_reading.specs.Item.{Items}
+use Rattle.pc_reading.specs.Scope.{Scope}
+use Rattle.pc_reading.specs.World.{World}
+use Rattle.pc_local.specs.declared.item.LocalInitializer.{LocalInitializer}
+use Rattle.pc_local.specs.declared.item.Translation.{Translation}
+use Rattle.pc_local.specs.Standing.{BodyStands, no_names}
+use Rattle.pc_dfg.specs.declared.dfg.ComponentDfg.{ComponentDfg}
+use Rattle.pc_dfg.specs.Grows as graph
+use Rattle.pc_inline.specs.declared.definition.DefinitionId.{DefinitionId}
+use Rattle.pc_inline.specs.declared.frame.Frame.{Frame}
+use Rattle.pc_inline.specs.declared.state.State.{State}
+use Rattle.pc_inline.specs.Adds.{Adds, imports_in}
+use Rattle.pc_inline.specs.Begins.{Begins, BeginsBody, BeginsRoot, EndsRoot, IsFresh, RootBegun}
+use Rattle.pc_inline.specs.Driving.{Counts, Runs}
+use Rattle.pc_inline.specs.Exporting.{Exports, RootStands}
+use Rattle.pc_inline.specs.Exports.{NumbersExports}
+use Rattle.pc_inline.specs.Inlines.{export_name}
+use Rattle.pc_inline.specs.Points.{IsPoint, PointStands}
+use Rattle.pc_inline.specs.Reads.{AreItems, Prepared}
+use Rattle.pc_inline.specs.Tables.{Keeps, tables_of}
+use Rattle.pc_inline.specs.Worlds.{HasNoExports}
+use Rattle.pc_inline.proofs.FreshLemmas.{first_frame}
+use Rattle.pc_inline.proofs.InlineLemmas.{Each, IsRead, begins_end, begins_fail, begun_below, begun_point, each_ends}
+use Rattle.pc_inline.proofs.InlineLemmas.{export_point, graph_keeps, has_begun, root_begun, root_exports, root_is_read}
+use Rattle.pc_inline.proofs.InlineLemmas.{root_items, root_unprepared, root_unread, run_point, unbegun}
+use Rattle.pc_inline.proofs.RootFewLemmas.{begun_graph, begun_none, begun_prepared, few_begun, few_exported, few_failed}
+use Rattle.pc_inline.proofs.RootFewLemmas.{few_unbegun, few_unread, most_more}
+use Rattle.pc_inline.proofs.RootLemmas.{first_moment}
+use Rattle.pc_inline.proofs.StateLemmas.{keeps_trans}
+
+-- what a root exports has distinct names
+pub names_distinct : (root : Translation) (es : List (ExternName × ItemKind × ℕ)) → es ≡ root.exports
+    → distinct_names (map export_name root.exports) ≡ true → distinct_names (map export_name es) ≡ true
+names_distinct root es are distinct = subst (λ xs. distinct_names (map export_name xs) ≡ true) (sym are) distinct
+
+module _ (t : TypeTable) (ms : List ModuleRecord) (limit : ℕ) (root : Translation) where
+  module _ (old : State) (fresh : IsFresh t old) (g : ComponentDfg) (grows : graph.Grows old.graph g) where
+    abbrev there : State
+    there = record old { graph = g }
+
+    -- no root begins
+    pub begins_not : (e : Error) → Begins limit old.graph g (Err e) → (r : Result Frame Error)
+        → IsErrAnd r (λ x. x ≡ e) → BeginsRoot t ms limit root old there r
+    begins_not e begins r is =
+        let none = begun_graph t old fresh g limit (Err e) begins in
+        record {
+          keeps = graph_keeps old g grows;
+          most = begun_none t old fresh g none (sum_by imports_in root.initializers)
+              (4 * sum_by imports_in root.initializers);
+          few = few_unbegun t ms limit old.bodies.now root old.types (tables_of there)
+              (begun_none t old fresh g none 0 0);
+          begins = begins_end t ms limit old.bodies.now root there r e is
+              (λ body stands. unbegun t ms limit old fresh g body e begins);
+        }
+
+    module _ (c : RuntimeComponentInstanceIndex) (begins : Begins limit old.graph g (Ok c)) (f : Frame)
+        (args : List (List ℕ × DefinitionId)) (none : args ≡ [])
+        (is : f ≡ record (first_frame c) { arguments = args }) where
+      at : PointStands t ms there f first_moment
+      at = begun_point t ms limit old fresh g c begins f args none is
+
+      within : 0 < limit
+      within = begun_below t ms limit old fresh g c begins
+
+      -- the root has begun, and its imports can be prepared
+      pub prepare_point : IsPoint t ms there f
+      prepare_point = (first_moment, at)
+
+      module _ (ls : List LocalInitializer) (are : ls ≡ root.initializers) (st : State) (f' : Frame)
+          (keeps : Keeps (tables_of there) (tables_of st))
+          (adds : Adds t (sum_by imports_in ls) (4 * sum_by imports_in ls) (tables_of there) (tables_of st)) where
+        begins_with : (r : Result Frame Error)
+            → Each t ms limit old.bodies.now root (λ body. BeginsBody t ms limit body st r)
+            → BeginsRoot t ms limit root old st r
+        begins_with r each =
+            let most = begun_prepared t old fresh g (begun_graph t old fresh g limit (Ok c) begins) ls root.initializers
+            are (tables_of st) adds in
+            record {
+              keeps = keeps_trans (tables_of old) (tables_of there) (tables_of st) (graph_keeps old g grows) keeps;
+              most = most;
+              few = few_begun t ms limit old.bodies.now root old.types within (tables_of st) most;
+              begins = each;
+            }
+
+        -- they were
+        pub begins_done : (r : ⊤) → Prepared t ms ls there f st f' (Ok r) → BeginsRoot t ms limit root old st (Ok f')
+        begins_done r prepared =
+            begins_with (Ok f')
+            (root_begun t ms limit old.bodies.now root there f st f' ls are refl within at r prepared)
+
+        -- or they weren't
+        pub begins_undone : (e : Error) → Prepared t ms ls there f st f' (Err e) → (r : Result Frame Error)
+            → IsErrAnd r (λ x. x ≡ e) → BeginsRoot t ms limit root old st r
+        begins_undone e prepared r is =
+            begins_with r (begins_end t ms limit old.bodies.now root st r e is
+            (root_unprepared t ms limit old.bodies.now root there f st f' ls are refl within at e prepared))
+
+  -- the error of the beginning is that of the root
+  pub root_unbegun : (old st : State) (e : Error) → BeginsRoot t ms limit root old st (Err e) → (r : Result ⊤ Error)
+      → IsErrAnd r (λ x. x ≡ e) → EndsRoot t ms limit root old st r
+  root_unbegun old st e begun r is = record {
+    keeps = begun.keeps;
+    adds = (sum_by imports_in root.initializers, 4 * sum_by imports_in root.initializers, begun.most);
+    few = few_failed t ms limit old.bodies.now root old.types (tables_of st) r e is begun.few;
+    inlines = begins_fail t ms limit old.bodies.now root st r e is begun.begins;
+  }
+
+  module _ (old st : State) (f : Frame) (begun : BeginsRoot t ms limit root old st (Ok f)) where
+    -- its items can be read
+    pub run_starts : ((body : Items) × BodyStands old.bodies.now no_names root body)
+        → IsPoint t ms st f × AreItems st.bodies.now root.initializers
+        × (0 < st.graph.num_runtime_component_instances) × (st.graph.num_runtime_component_instances ≤ limit)
+    run_starts stands =
+        let here = run_point t ms limit old.bodies.now root st f begun.begins stands in
+        let items = root_items old.bodies.now st.bodies.now begun.keeps.bodies root root.initializers refl stands in
+        (here.0, items, here.1, here.2)
+
+    has : (body : Items) → BodyStands old.bodies.now no_names root body → RootBegun t ms limit body st f
+    has = has_begun t ms limit old.bodies.now root st f begun.begins
+
+    module _ (st' : State) (keeps : Keeps (tables_of st) (tables_of st'))
+        (adds : (n : ℕ) × Adds t n (4 * n) (tables_of st) (tables_of st')) where
+      kept : Keeps (tables_of old) (tables_of st')
+      kept = keeps_trans (tables_of old) (tables_of st) (tables_of st') begun.keeps keeps
+
+      -- one of them is refused
+      pub root_undone : (e : Error) → Runs t ms limit root.initializers st f st' (Err e)
+          → Counts t ms limit root.initializers st f st' (Err e) → (r : Result ⊤ Error) → IsErrAnd r (λ x. x ≡ e)
+          → EndsRoot t ms limit root old st' r
+      root_undone e runs counts r is = record {
+        keeps = kept;
+        adds = (_, _, most_more t _ _ _ _ old.types (tables_of st) (tables_of st') begun.most adds.1);
+        few = few_failed t ms limit old.bodies.now root old.types (tables_of st') r e is
+            (few_unread t ms limit old.bodies.now root old.types st f begun.keeps.bodies has begun.most st' e counts);
+        inlines = each_ends t ms limit old.bodies.now root st' r e is
+            (root_unread t ms limit old.bodies.now root st f begun.begins begun.keeps.bodies st' e runs);
+      }
+
+      module _ (g : Frame) (runs : Runs t ms limit root.initializers st f st' (Ok g)) where
+        is_read : IsRead t ms limit old.bodies.now root st' g
+        is_read = root_is_read t ms limit old.bodies.now root st f begun.begins begun.keeps.bodies st' g runs
+
+        -- they were, and the root can export
+        pub export_starts : ((body : Items) × BodyStands old.bodies.now no_names root body)
+            → ((s : Scope) × (w : World) × RootStands t ms st' g s w []) × HasNoExports st'.graph
+        export_starts stands = export_point t ms limit old.bodies.now root st' g is_read stands
+
+        -- it exports
+        pub root_done : Counts t ms limit root.initializers st f st' (Ok g)
+            → (es : List (ExternName × ItemKind × ℕ)) → es ≡ root.exports → (end : State)
+            → Keeps (tables_of st') (tables_of end) → Adds t 0 (4 * length es) (tables_of st') (tables_of end)
+            → (r : Result ⊤ Error) → OnOk r (NumbersExports end.graph) → Exports t ms es st' end g r
+            → EndsRoot t ms limit root old end r
+        root_done counts es are end more added r numbers exports = record {
+          keeps = keeps_trans (tables_of old) (tables_of st') (tables_of end) kept more;
+          adds = (
+            _,
+            _,
+            most_more t _ _ _ _ old.types (tables_of st') (tables_of end) (most_more t _ _ _ _ old.types
+                (tables_of st) (tables_of st') begun.most adds.1) added,
+          );
+          few = few_exported t ms limit old.bodies.now root old.types st f begun.keeps.bodies has begun.most st' g
+              counts es are (tables_of end) added r;
+          inlines = root_exports t ms limit old.bodies.now root st' g is_read end es are r numbers exports;
+        }

@@ -1,0 +1,223 @@
+-- How the total of a reading grows as far as it is built.
+use Rattle.std.proofs.Common.{◌≡◌, ◌≤◌, ◌+◌, ℕ, zero, suc, Bool, true, false, List, [], ◌∷◌, Option, None, Some, Result}
+use Rattle.std.proofs.Common.{Ok, Err, refl, sym, subst, ◌∙◌, if◌then◌else◌, arith}
+use Rattle.std.specs.Prelude.{IfOk, length, nat_lt}
+use Rattle.pc_types.specs.declared.error.Place.TheVariants as place
+use Rattle.pc_types.specs.declared.error.Unsupported.TheVariants.{NotBuilt}
+use Rattle.pc_types.specs.declared.module_record.ModuleRecord.{ModuleRecord}
+use Rattle.pc_types.specs.declared.parsed.Entity.{Entity}
+use Rattle.pc_types.specs.declared.parsed.Entity.TheVariants as entity
+use Rattle.pc_types.specs.declared.parsed.TypeTable.{TypeTable}
+use Rattle.pc_types.specs.TypeTree.{Identity}
+use Rattle.pc_parsed.specs.declared.payload.ExternName.{ExternName}
+use Rattle.pc_reading.specs.Components.{Call, read_call, read_return}
+use Rattle.pc_reading.specs.Imports.{import_resources, importing, prepare}
+use Rattle.pc_reading.specs.Item.{ArgumentOf, Item, Items, and_item, exports_in, import_item}
+use Rattle.pc_reading.specs.Item.{instantiate_component_item, no_items}
+use Rattle.pc_reading.specs.Items.{exports_at}
+use Rattle.pc_reading.specs.Outcome.{Fault, Outcome, and_then, at_item, bad_type, done, fault, found, held, over, past}
+use Rattle.pc_reading.specs.Outcome.{unsupported}
+use Rattle.pc_reading.specs.Reading.{Enter, Return, beginning, begun_in, instantiate, returning}
+use Rattle.pc_reading.specs.Resource.{ResourcePath, is_known, resource_paths}
+use Rattle.pc_reading.specs.Scope.{Moment}
+use Rattle.pc_reading.specs.Total.{body_weight}
+use Rattle.pc_reading.specs.Types.{declared_tree, names_entry}
+use Rattle.pc_reading.specs.Value.{Component, Value, closed}
+use Rattle.pc_reading.specs.World.{World, grown, has_room}
+use Rattle.pc_inline.specs.Today.{built_body, built_child, built_enter, built_item, built_items, built_prepare}
+use Rattle.pc_inline.specs.Today.{built_prepare_all, built_row, is_built_call}
+use Rattle.pc_inline.proofs.RowLemmas.{return_keeps, row_keeps}
+
+-- what goes on and is done was done before
+pub then_done : {A B : Type 0} (o : Outcome A) (go : A → Outcome B) (y : B) → and_then o go ≡ done y
+    → (x : A) × (o ≡ done x) × (go x ≡ done y)
+then_done (done x) go y is = (x, refl, is)
+then_done (fault k p) go y is = let x : ⊥ = cc in absurd x
+then_done over go y is = let x : ⊥ = cc in absurd x
+then_done past go y is = let x : ⊥ = cc in absurd x
+
+-- what is done is so with one result
+same_done : {A : Type 0} (x y : A) → done x ≡ done y → x ≡ y
+same_done x y is = cc
+
+not_over : {A : Type 0} (x : A) → over ≡ done x → ⊥
+not_over x is = cc
+
+not_ok : {A : Type 0} (f : Fault) (x : A) → Err f ≡ Ok x → ⊥
+not_ok f x is = cc
+
+-- an item that is done has a result
+item_done : {A : Type 0} (c n : ℕ) (r : Result A Fault) (x : A) → at_item c n r ≡ done x → r ≡ Ok x
+item_done c n (Ok y) x is = cc
+item_done c n (Err f) x is = let x : ⊥ = cc in absurd x
+
+-- a total that isn't counted stays so, and one that is counted is no less
+abbrev pub HasGrown : Option ℕ → Option ℕ → Type 0
+HasGrown None after = after ≡ None
+HasGrown (Some n) after = (m : ℕ) × (after ≡ Some m) × (n ≤ m)
+
+grown_refl : (o : Option ℕ) → HasGrown o o
+grown_refl None = refl
+grown_refl (Some n) = (n, refl, omega arith)
+
+grown_trans : (a b c : Option ℕ) → HasGrown a b → HasGrown b c → HasGrown a c
+grown_trans None b c is more = subst (λ o. HasGrown o c) is more
+grown_trans (Some n) b c is more =
+    let next : HasGrown (Some is.0) c = subst (λ o. HasGrown o c) is.1 more in
+    (next.0, next.1, let one = is.2 in let two = next.2 in omega (arith, one, two))
+
+grown_more : (o : Option ℕ) (n : ℕ) → HasGrown o (grown o n)
+grown_more None n = refl
+grown_more (Some k) n = (k + n, refl, omega arith)
+
+-- a component instance that begins adds to the total
+begins_grow : {A : Type 0} (limit weight : ℕ) (w : World) (go : World → Outcome A) (x : A)
+    → beginning limit weight w go ≡ done x → (v : World) × HasGrown w.total v.total × (go v ≡ done x)
+begins_grow {A} limit weight w go x is = by (nat_lt w.begun limit) (has_room (grown w.total (1 + weight))) is
+  where
+    by : (a b : Bool)
+        → ◌≡◌ {A = Outcome A}
+        (if a
+        then (if b then go (record w { begun = w.begun + 1; total = grown w.total (1 + weight) }) else past)
+        else over)
+        (done x) → (v : World) × HasGrown w.total v.total × (go v ≡ done x)
+    by true true is =
+        (record w { begun = w.begun + 1; total = grown w.total (1 + weight) }, grown_more w.total (1 + weight), is)
+    by true false is = let x : ⊥ = cc in absurd x
+    by false b is = let x : ⊥ = cc in absurd x
+
+module _ (t : TypeTable) (ms : List ModuleRecord) where
+  -- the total of a moment after another
+  abbrev pub Grows : Moment → Moment → Type 0
+  Grows now last = HasGrown now.world.total last.world.total
+
+  -- the same of a child
+  abbrev ChildGrows : Enter → Type 0
+  ChildGrows enter = (c : Call) (known : List (ℕ × Identity)) (w : World) (r : Return) → enter c known w ≡ done r
+      → HasGrown w.total r.world.total
+
+  module _ (enter : Enter) (child : ChildGrows enter) where
+    instance_grows : (n component : ℕ) (args : List ArgumentOf) (ty : ℕ) (now last : Moment)
+        → instantiate t ms enter n component args ty now ≡ done last → Grows now last
+    unfolding instantiate
+    instance_grows n component args ty now last is =
+        let c = now.scope.component_instance in
+        let called = then_done (at_item c n (read_call t now.scope component args ty)) _ last is in
+        let entered = then_done (enter called.0 now.scope.known now.world) _ last called.2 in
+        let back = item_done c n (read_return t (record now { world = entered.0.world }) entered.0.exports ty) last
+        entered.2 in
+        subst (HasGrown now.world.total)
+        (sym (return_keeps t ms (record now { world = entered.0.world }) last entered.0.exports ty back).total)
+        (child called.0 now.scope.known now.world entered.0 entered.1)
+
+    row_grows : (n : ℕ) (i : Item) (now last : Moment)
+        → at_item now.scope.component_instance n (built_row t ms now i) ≡ done last → Grows now last
+    row_grows n i now last is =
+        subst (HasGrown now.world.total)
+        (sym (row_keeps t ms now last i (item_done now.scope.component_instance n _ last is)).total)
+        (grown_refl now.world.total)
+
+    item_grows : (n : ℕ) (i : Item) (now last : Moment) → built_item t ms enter n i now ≡ done last → Grows now last
+    unfolding built_item
+    item_grows n (instantiate_component_item component args ty) now last is = by (is_built_call t args) is
+      where
+        by : (b : Bool)
+            → (if b then instantiate t ms enter n component args ty now
+            else fault (unsupported NotBuilt) (place.Reading now.scope.component_instance n)) ≡ done last
+            → Grows now last
+        by true is = instance_grows n component args ty now last is
+        by false is = let x : ⊥ = cc in absurd x
+    item_grows n i now last is = row_grows n i now last is
+
+    -- the items of a body
+    pub items_grow : (is : Items) (n : ℕ) (now last : Moment) → built_items t ms enter n is now ≡ done last
+        → Grows now last
+    unfolding built_items
+    items_grow no_items n now last is = subst (Grows now) (same_done now last is) (grown_refl now.world.total)
+    items_grow (and_item i is) n now last read =
+        let next = then_done (built_item t ms enter n i now) (built_items t ms enter (n + 1) is) last read in
+        grown_trans now.world.total next.0.world.total last.world.total (item_grows n i now next.0 next.1)
+        (items_grow is (n + 1) next.0 last next.2)
+
+  module _ (limit : ℕ) where
+    returned : (body : Items) (last : Moment) (r : Return) → returning t ms limit body last ≡ done r
+        → record { exports = exports_at t last.scope (exports_in body); world = last.world } ≡ r
+    returned body last r is = same_done _ r is
+
+    body_grows : (enter : Enter) → ChildGrows enter → (k : Component) (args : List (List ℕ × Value))
+        (known : List (ℕ × Identity)) (w : World) (r : Return) → built_child t ms limit enter k args known w ≡ done r
+        → HasGrown w.total r.world.total
+    unfolding built_body
+    body_grows enter child (closed body chain) args known w r is =
+        let begins = begins_grow limit (body_weight t ms body) w (λ v.
+        and_then (built_items t ms enter 0 body (begun_in args known chain w.begun v)) (returning t ms limit body)) r is
+        in
+        let v = begins.0 in
+        let read = then_done (built_items t ms enter 0 body (begun_in args known chain w.begun v))
+        (returning t ms limit body) r begins.2 in
+        let grows = items_grow enter child body 0 (begun_in args known chain w.begun v) read.0 read.1 in
+        grown_trans w.total v.total r.world.total begins.1
+        (subst (λ (x : Return). HasGrown v.total x.world.total) (returned body read.0 r read.2) grows)
+
+    -- a child, however deep
+    pub child_grows : (levels : ℕ) → ChildGrows (built_enter t ms limit levels)
+    unfolding built_enter
+    child_grows zero c known w r is = absurd (not_over r is)
+    child_grows (suc levels) c known w r is =
+        body_grows (built_enter t ms limit levels) (child_grows levels) c.component c.arguments known w r is
+
+-- the total and how many component instances began are as before
+abbrev pub IsCountedAs : Moment → Moment → Type 0
+IsCountedAs now last = (last.world.total ≡ now.world.total) × (last.world.begun ≡ now.world.begun)
+
+module _ (old : Moment) where
+  counts_found : {A : Type 0} (f : Fault) (o : Option A) (go : A → Result Moment Fault)
+      → ((x : A) → IfOk (go x) (IsCountedAs old)) → IfOk (found f o go) (IsCountedAs old)
+  counts_found f None go each = tt
+  counts_found f (Some x) go each = each x
+
+  counts_held : (f : Fault) (b : Bool) (r : Result Moment Fault) → IfOk r (IsCountedAs old)
+      → IfOk (held f b r) (IsCountedAs old)
+  counts_held f true r h = h
+  counts_held f false r h = tt
+
+-- resources that come with an import
+resources_count : (now : Moment) (i : ℕ) (ps : List ResourcePath) → IsCountedAs now (import_resources now i ps)
+unfolding import_resources
+resources_count now i [] = (refl, refl)
+resources_count now i (p ∷ ps) =
+    by (is_known now.scope.known p.number) (resources_count now i ps) (resources_count (importing now i p) i ps)
+  where
+    by : (b : Bool) → IsCountedAs now (import_resources now i ps)
+        → IsCountedAs now (import_resources (importing now i p) i ps)
+        → IsCountedAs now (import_resources (if b then now else importing now i p) i ps)
+    by true known unknown = known
+    by false known unknown = unknown
+
+module _ (t : TypeTable) (ms : List ModuleRecord) where
+  -- an import that is prepared
+  prepare_counts : (name : ExternName) (e : Entity) (now last : Moment) → built_prepare t ms name e now ≡ Ok last
+      → IsCountedAs now last
+  unfolding built_prepare prepare
+  prepare_counts name (entity.Func n) now last is =
+      let i = length now.world.imports in
+      let known = import_resources now i (resource_paths t (entity.Func n)) in
+      let more = resources_count now i (resource_paths t (entity.Func n)) in
+      subst (λ r. IfOk r (IsCountedAs now)) is
+      (counts_held now bad_type (names_entry t (entity.Func n)) _
+      (counts_found now bad_type (declared_tree t known.scope (entity.Func n)) _ (λ tree. more)))
+  prepare_counts name e now last is = absurd (not_ok (unsupported NotBuilt) last is)
+
+  -- the imports of a root
+  pub prepared_counts : (is : Items) (n : ℕ) (now last : Moment) → built_prepare_all t ms n is now ≡ done last
+      → IsCountedAs now last
+  unfolding built_prepare_all
+  prepared_counts no_items n now last is = subst (IsCountedAs now) (same_done now last is) (refl, refl)
+  prepared_counts (and_item (import_item name e) is) n now last read =
+      let c = now.scope.component_instance in
+      let next = then_done (at_item c n (built_prepare t ms name e now)) (built_prepare_all t ms (n + 1) is) last read
+      in
+      let one = prepare_counts name e now next.0 (item_done c n _ next.0 next.1) in
+      let rest = prepared_counts is (n + 1) next.0 last next.2 in
+      (rest.0 ∙ one.0, rest.1 ∙ one.1)
+  prepared_counts (and_item i is) n now last read = prepared_counts is (n + 1) now last read
