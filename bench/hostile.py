@@ -545,6 +545,90 @@ def types_that_hash_alike(room):
     return document(types, BASE + [lifts, '"end"'])
 
 
+# types of an instance and of a component beside those of `PLAIN_TYPES`
+NEST_TYPES = PLAIN_TYPES[:-2] + ',{"instance":[]},{"component":[[],[]]}]}'
+CHILD = '"component","version","end"'
+CHILD_ITSELF = '{"component-instances":[{"instantiate":[0,[["c","component",0]],2]}]}'
+ONE_CHILD = '{"instantiate":[0,[],2]}'
+BEGINS_CHILD = '{"component-instances":[%s]}' % ONE_CHILD
+
+
+def many_children(room):
+    """Instances of a component without content."""
+    count = min(room // (len(ONE_CHILD) + 1), MOST - 1)
+    return document(NEST_TYPES, ['"version"', CHILD, fill('{"component-instances":[', lambda n: ONE_CHILD, "]}", count), '"end"'], MOST)
+
+
+def children_in_children(room):
+    """Components within components, each instantiated by the one around it."""
+    close = '"end",' + BEGINS_CHILD
+    depth = min(room // len('"component","version",%s,' % close), MOST - 1)
+    return document(NEST_TYPES, ['"version"', ",".join(['"component","version"'] * depth), ",".join([close] * depth), '"end"'], MOST)
+
+
+def child_of_itself(room):
+    """A component that is given itself and instantiates it, until as many have begun as the limit."""
+    child = '"component","version",{"imports":[["c",["component",3]]]},%s,"end"' % CHILD_ITSELF
+    return document(NEST_TYPES, ['"version"', child, CHILD_ITSELF, '"end"'], MOST)
+
+
+def children_with_arguments(room):
+    """One component, instantiated over and over with a hundred arguments."""
+    piece = '{"instantiate":[0,[%s],2]}' % ",".join('["a%d","func",0]' % n for n in range(100))
+    return document(NEST_TYPES, ['"version"', IMPORT, CHILD, listed('{"component-instances":[', lambda n: piece, "]}", room), '"end"'], MOST)
+
+
+def child_with_imports(room):
+    """A component with very many imports, and one instance that is given them all."""
+    count = room // len('["a0000000",["func",1]],["a0000000","func",0],')
+    return document(NEST_TYPES, ['"version"', IMPORT, '"component","version"', fill('{"imports":[', lambda n: '["a%07d",["func",1]]' % n, "]}", count), '"end"',
+                                 fill('{"component-instances":[{"instantiate":[0,[', lambda n: '["a%07d","func",0]' % n, "],2]}]}", count), '"end"'], MOST)
+
+
+def exports_of_a_child(room):
+    """A component with very many exports, each of which is taken out of one instance of it."""
+    count = room // len('["e0000000","func",0],{"export":["func",0,"e0000000"]},')
+    return document(NEST_TYPES, ['"version"', IMPORT, '"component","version",{"imports":[["f",["func",1]]]}',
+                                 fill('{"exports":[', lambda n: '["e%07d","func",0]' % n, "]}", count), '"end"',
+                                 '{"component-instances":[{"instantiate":[0,[["f","func",0]],2]}]}',
+                                 fill('{"aliases":[', lambda n: '{"export":["func",0,"e%07d"]}' % n, "]}", count), '"end"'], MOST)
+
+
+def items_of_an_instance(room):
+    """An instance from very many items, each of which is taken out of it."""
+    count = room // len('["e0000000","func",0],{"export":["func",0,"e0000000"]},')
+    return document(NEST_TYPES, ['"version"', IMPORT, fill('{"component-instances":[{"exports":[[', lambda n: '["e%07d","func",0]' % n, "],2]}]}", count),
+                                 fill('{"aliases":[', lambda n: '{"export":["func",0,"e%07d"]}' % n, "]}", count), '"end"'], MOST)
+
+
+def instances_of_instances(room):
+    """Instances from items, each of which has the one before it twice."""
+    return document(NEST_TYPES, ['"version"', listed(
+        '{"component-instances":[{"exports":[[],2]},', lambda n: '{"exports":[[["a","instance",%d],["b","instance",%d]],2]}' % (n, n), "]}", room), '"end"'], MOST)
+
+
+def aliases_of_one_member(room):
+    """One item of an instance, taken out over and over."""
+    return document(NEST_TYPES, ['"version"', IMPORT, '{"component-instances":[{"exports":[[["f","func",0]],2]}]}',
+                                 aliases(lambda n: '{"export":["func",0,"f"]}', room), '"end"'], MOST)
+
+
+def captures_of_a_child(room):
+    """Very many components, and one that captures them all and is instantiated."""
+    count = room // (len(CHILD) + 1 + len('{"outer":["component",1,1000000]},'))
+    capturing = fill('{"aliases":[', lambda n: '{"outer":["component",1,%d]}' % n, "]}", count)
+    return document(NEST_TYPES, ['"version"', ",".join([CHILD] * count), '"component","version"', capturing, '"end"',
+                                 '{"component-instances":[{"instantiate":[%d,[],2]}]}' % count, '"end"'], MOST)
+
+
+def captures_at_each_level(room):
+    """Components within components, each of which captures one module of the root and is instantiated."""
+    opened, close = '"component","version",{"aliases":[{"outer":["core-module",%d,0]}]}', '"end",' + BEGINS_CHILD
+    depth = min(room // len(opened % 1000000 + "," + close + ","), MOST - 1)
+    levels = ",".join(opened % (n + 1) for n in range(depth))
+    return document(NEST_TYPES, ['"version"', ONE_FUNC, levels, ",".join([close] * depth), '"end"'], MOST)
+
+
 def many_ends(room):
     """Ends of what never began."""
     return document(PLAIN_TYPES, ['"version"'] + list(repeated(lambda n: '"end"', room)))
@@ -569,7 +653,9 @@ FAMILIES = {
     unused_imports: 0, used_imports: 0, long_signature_lowered: 0, lifts_with_post_return: 0, options_in_one_slot: 0,
     options_of_one_function: 0, repeated_options: 0, versions_of_one_name: 0, exports_that_hash_alike: 0,
     module_names_that_hash_alike: 0, bag_that_hashes_alike: 0, arguments_that_hash_alike: 0, imports_that_hash_alike: 0,
-    types_that_hash_alike: 0, many_ends: 1, not_utf8: 1,
+    types_that_hash_alike: 0, many_children: 0, children_in_children: 0, child_of_itself: 1, children_with_arguments: 0,
+    child_with_imports: 0, exports_of_a_child: 0, items_of_an_instance: 0, instances_of_instances: 0,
+    aliases_of_one_member: 0, captures_of_a_child: 0, captures_at_each_level: 0, many_ends: 1, not_utf8: 1,
 }
 
 

@@ -3,29 +3,31 @@
 use crate::inputs::{are_not_built, are_refused};
 use std::test::Fail;
 
-/// Imports of the root, and exports of them.
-const IMPORTS: [(&str, &str); 3] = [
+/// Imports of the root that are no functions, told at their place.
+const IMPORTS: [(&str, &str); 2] = [
     (
-        "host module",
         r#"{"limit":100,"intrinsics":null,"types":{"core":[],
            "types":[{"module":[[["e","m",["memory",false]]],[["g",["table"]]]]},{"module":[[],[]]}]},
            "payloads":["version",{"imports":[["h",["module",0]]]},
            {"module":{"ty":1,"imports":[],"funcs":[],"tables":0,"memories":[false],"globals":0,"tags":0,
            "exports":[["m","memory",0]]}},{"instances":[{"instantiate":[1,[]]},{"instantiate":[0,[["e",0]]]}]},
            {"exports":[["h2","module",0]]},"end"]}"#,
+        "fault unsupported not-built at instance 0 item 0\n",
     ),
     (
-        "host resource",
-        r#"{"limit":100,"intrinsics":null,"types":{"core":[],"types":["resource",{"instance":[["r",["type",0]]]}]},
-           "payloads":["version",{"imports":[["i",["instance",1]]]},"end"]}"#,
-    ),
-    (
-        "re export from host instance",
         r#"{"limit":100,"intrinsics":null,"types":{"core":[],
            "types":[{"func":{"params":[],"result":null,"async":false}},{"instance":[["f",["func",0]]]}]},
            "payloads":["version",{"imports":[["i",["instance",1]]]},{"exports":[["e","instance",0]]},"end"]}"#,
+        "fault unsupported not-built at instance 0 item 0\n",
     ),
 ];
+
+/// An import with a resource, which is refused as a whole.
+const RESOURCES: [(&str, &str); 1] = [(
+    "host resource",
+    r#"{"limit":100,"intrinsics":null,"types":{"core":[],"types":["resource",{"instance":[["r",["type",0]]]}]},
+           "payloads":["version",{"imports":[["i",["instance",1]]]},"end"]}"#,
+)];
 
 /// Built-in functions, resources and the unsafe intrinsics.
 const BUILTINS: [(&str, &str); 5] = [
@@ -132,7 +134,8 @@ const INTRINSIC_OF_ANOTHER_TYPE: [(&str, &str); 1] = [(
 #[test]
 fn hosts_and_builtins_are_not_built(rt: HostRuntime) -> Result<(), Fail> {
     are_refused(&rt, rt.alloc(), &INTRINSIC_OF_ANOTHER_TYPE)?;
-    are_not_built(&rt, rt.alloc(), &IMPORTS)?;
+    are_refused(&rt, rt.alloc(), &IMPORTS)?;
+    are_not_built(&rt, rt.alloc(), &RESOURCES)?;
     are_not_built(&rt, rt.alloc(), &BUILTINS)?;
     Ok(())
 }

@@ -1,4 +1,4 @@
-//! Inputs that are deep, which are read, and a long one with its plan.
+//! Inputs that are deep, and a long one, with their plans.
 
 use crate::inputs::is_answered;
 use crate::root::EMPTY_PLAN;
@@ -16,6 +16,12 @@ const DEPTHS: [(&str, &str, usize); 3] = [
     ("2000", INSTANTIATED, 8002),
     ("1", r#""end","#, 6002),
 ];
+
+/// The plan of 2001 component instances without content.
+const DEEP_PLAN: &str = "plan 1
+modules 0 0
+counts 0 2001 0 0 0 0 0 0 0 0 0 0
+";
 
 /// What stands between the limit and the payloads.
 const TYPES: &str = r#","intrinsics":null,"types":{"core":[],"types":[{"instance":[]}]},
@@ -136,6 +142,27 @@ fn deep_components_are_defined(rt: HostRuntime) -> Result<(), Fail> {
     let input = nested(rt.alloc(), "1", 2000, r#""end","#)?;
     let planned = is_answered(rt.alloc(), "translate", &input, Status::Done, EMPTY_PLAN)?;
     assert!(rt; planned);
+    Ok(())
+}
+
+/// Whether components that stand in each other, each instantiated by the one around it, have this answer under a limit.
+fn is_instantiated(
+    alloc: Global,
+    limit: &str,
+    status: Status,
+    text: &str,
+) -> Result<bool, AllocError> {
+    let input = nested(alloc, limit, 2000, INSTANTIATED)?;
+    is_answered(alloc, "translate", &input, status, text)
+}
+
+#[test]
+fn deep_components_are_instantiated(rt: HostRuntime) -> Result<(), Fail> {
+    let planned = is_instantiated(rt.alloc(), "2001", Status::Done, DEEP_PLAN)?;
+    assert!(rt; planned);
+    let fault = "fault too-many-instances\n";
+    let refused = is_instantiated(rt.alloc(), "2000", Status::Refused, fault)?;
+    assert!(rt; refused);
     Ok(())
 }
 

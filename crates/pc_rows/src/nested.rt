@@ -1,7 +1,11 @@
-//! Components that stand in each other. They are defined, and none is instantiated yet.
+//! Components that stand in each other: defined, instantiated, and given functions, modules, components and instances.
 
-use crate::inputs::{are_not_built, are_planned, are_refused};
+use crate::inputs::{
+    NOT_BUILT, SMALLEST_PLAN, are_not_built, are_planned, are_refused, is_answered,
+};
 use crate::root::EMPTY_PLAN;
+use pc_tool::Status;
+use std::alloc::{AllocError, Global};
 use std::test::Fail;
 
 /// Components that are never instantiated: one without content, one that stands in another, and one that imports the name
@@ -42,44 +46,25 @@ const BAD_CAPTURES: [(&str, &str); 2] = [
     ),
 ];
 
-/// Components that are instantiated, with what they are given and what they capture.
-const CHILDREN: [(&str, &str); 7] = [
+/// Components that are instantiated, with what they are given and what they capture, and the plans.
+const PLANS: [(&str, &str); 3] = [
+    // two instances of one component, each given another module
     (
-        "component import",
-        r#"{"limit":100,"intrinsics":null,"types":{"core":[],"types":[{"component":[[],[]]}]},
-           "payloads":["version",{"imports":[["c",["component",0]]]},"end"]}"#,
-    ),
-    (
-        "component missing",
-        r#"{"limit":100,"intrinsics":null,"types":{"core":[],"types":[{"instance":[]}]},
-           "payloads":["version","component","version","end",{"component-instances":[{"instantiate":[1,[],0]}]},
-           "end"]}"#,
-    ),
-    (
-        "argument of another kind",
-        r#"{"limit":100,"intrinsics":null,"types":{"core":[],
-           "types":[{"module":[[],[]]},{"instance":[]},"resource",
-           {"func":{"params":[],"result":null,"async":false}}]},
-           "payloads":["version",{"imports":[["h",["func",3]]]},
-           {"module":{"ty":0,"imports":[],"funcs":[],"tables":0,"memories":[],"globals":0,"tags":0,"exports":[]}},
-           {"module":{"ty":0,"imports":[],"funcs":[],"tables":0,"memories":[],"globals":0,"tags":0,"exports":[]}},
-           "component","version",{"imports":[["m",["module",0]]]},{"types":[{"resource":[2,"i32",null]}]},
-           {"instances":[{"instantiate":[0,[]]}]},"end",{"component-instances":[{"instantiate":[0,[["m","func",0]],
-           1]},{"instantiate":[0,[["m","module",1]],1]}]},"end"]}"#,
-    ),
-    (
-        "type import without argument",
-        r#"{"limit":100,"intrinsics":null,"types":{"core":[],
-           "types":[{"module":[[],[]]},{"instance":[]},"resource"]},
+        r#"{"limit":100,"intrinsics":null,"types":{"core":[],"types":[{"module":[[],[]]},{"instance":[]}]},
            "payloads":["version",{"module":{"ty":0,"imports":[],"funcs":[],"tables":0,"memories":[],"globals":0,
            "tags":0,"exports":[]}},{"module":{"ty":0,"imports":[],"funcs":[],"tables":0,"memories":[],"globals":0,
-           "tags":0,"exports":[]}},"component","version",{"imports":[["m",["module",0]],["t",["type",1]]]},
-           {"types":[{"resource":[2,"i32",null]}]},{"instances":[{"instantiate":[0,[]]}]},"end",
-           {"component-instances":[{"instantiate":[0,[["m","module",0]],1]},
-           {"instantiate":[0,[["m","module",1]],1]}]},"end"]}"#,
+           "tags":0,"exports":[]}},"component","version",{"imports":[["m",["module",0]]]},
+           {"instances":[{"instantiate":[0,[]]}]},"end",{"component-instances":[{"instantiate":[0,
+           [["m","module",0]],1]},{"instantiate":[0,[["m","module",1]],1]}]},"end"]}"#,
+        "plan 1
+modules 2 0
+counts 2 3 0 0 0 0 0 0 0 0 0 0
+init static 0 1 []
+init static 1 2 []
+",
     ),
+    // a component that captures across two bodies, handed out of one and instantiated in another
     (
-        "capture by count two",
         r#"{"limit":100,"intrinsics":null,"types":{"core":[],
            "types":[{"module":[[],[]]},{"instance":[]},{"component":[[],[]]},{"instance":[["b",["component",2]]]}]},
            "payloads":["version",{"module":{"ty":0,"imports":[],"funcs":[],"tables":0,"memories":[],"globals":0,
@@ -90,57 +75,14 @@ const CHILDREN: [(&str, &str); 7] = [
            {"component-instances":[{"instantiate":[0,[],1]}]},"end",
            {"component-instances":[{"instantiate":[0,[],3]}]},{"aliases":[{"export":["component",0,"b"]}]},
            {"component-instances":[{"instantiate":[1,[["b","component",2]],1]}]},"end"]}"#,
+        "plan 1
+modules 2 0
+counts 1 4 0 0 0 0 0 0 0 0 0 0
+init static 0 3 []
+",
     ),
+    // instances from items, each of which has the one before it twice
     (
-        "instance export",
-        r#"{"limit":100,"intrinsics":null,"types":{"core":[[["i32"],["i32"]]],
-           "types":[{"func":{"params":[["x","u32"]],"result":"u32","async":false}},{"module":[[],[]]},
-           {"instance":[["f",["func",0]]]}]},"payloads":["version",
-           {"module":{"ty":1,"imports":[],"funcs":[0],"tables":0,"memories":[],"globals":0,"tags":0,
-           "exports":[["f","func",0]]}},{"instances":[{"instantiate":[0,[]]}]},
-           {"aliases":[{"core-export":["func",0,"f"]}]},{"canon":[["lift",0,0,0,[]]]},
-           {"component-instances":[{"exports":[[["f","func",0]],2]}]},{"exports":[["api","instance",0]]},"end"]}"#,
-    ),
-    (
-        "instantiated twice",
-        r#"{"limit":100,"intrinsics":null,"types":{"core":[],
-           "types":[{"module":[[],[]]},{"instance":[]},"resource"]},
-           "payloads":["version",{"module":{"ty":0,"imports":[],"funcs":[],"tables":0,"memories":[],"globals":0,
-           "tags":0,"exports":[]}},{"module":{"ty":0,"imports":[],"funcs":[],"tables":0,"memories":[],"globals":0,
-           "tags":0,"exports":[]}},"component","version",{"imports":[["m",["module",0]]]},
-           {"types":[{"resource":[2,"i32",null]}]},{"instances":[{"instantiate":[0,[]]}]},"end",
-           {"component-instances":[{"instantiate":[0,[["m","module",0]],1]},
-           {"instantiate":[0,[["m","module",1]],1]}]},"end"]}"#,
-    ),
-];
-
-/// Many instances, and exports of exports.
-const TREES: [(&str, &str); 6] = [
-    (
-        "two children",
-        r#"{"limit":100,"intrinsics":null,"types":{"core":[],"types":[{"module":[[],[]]},{"instance":[]}]},
-           "payloads":["version",{"module":{"ty":0,"imports":[],"funcs":[],"tables":0,"memories":[],"globals":0,
-           "tags":0,"exports":[]}},{"module":{"ty":0,"imports":[],"funcs":[],"tables":0,"memories":[],"globals":0,
-           "tags":0,"exports":[]}},"component","version",{"imports":[["m",["module",0]]]},
-           {"instances":[{"instantiate":[0,[]]}]},"end",{"component-instances":[{"instantiate":[0,
-           [["m","module",0]],1]},{"instantiate":[0,[["m","module",1]],1]}]},"end"]}"#,
-    ),
-    (
-        "self application",
-        r#"{"limit":5,"intrinsics":null,"types":{"core":[],"types":[{"component":[[],[]]},{"instance":[]}]},
-           "payloads":["version","component","version",{"imports":[["c",["component",0]]]},
-           {"component-instances":[{"instantiate":[0,[["c","component",0]],1]}]},"end",
-           {"component-instances":[{"instantiate":[0,[["c","component",0]],1]}]},"end"]}"#,
-    ),
-    (
-        "self application limit two thousand",
-        r#"{"limit":2000,"intrinsics":null,"types":{"core":[],"types":[{"component":[[],[]]},{"instance":[]}]},
-           "payloads":["version","component","version",{"imports":[["c",["component",0]]]},
-           {"component-instances":[{"instantiate":[0,[["c","component",0]],1]}]},"end",
-           {"component-instances":[{"instantiate":[0,[["c","component",0]],1]}]},"end"]}"#,
-    ),
-    (
-        "shared instances depth forty",
         r#"{"limit":100,"intrinsics":null,"types":{"core":[],"types":[{"instance":[]}]},
            "payloads":["version",{"component-instances":[{"exports":[[],0]},
            {"exports":[[["a","instance",0],["b","instance",0]],0]},
@@ -183,9 +125,53 @@ const TREES: [(&str, &str); 6] = [
            {"exports":[[["a","instance",37],["b","instance",37]],0]},
            {"exports":[[["a","instance",38],["b","instance",38]],0]},
            {"exports":[[["a","instance",39],["b","instance",39]],0]}]},"end"]}"#,
+        EMPTY_PLAN,
+    ),
+];
+
+/// Inputs whose reading isn't done, and why.
+const FAULTS: [(&str, &str); 3] = [
+    (
+        r#"{"limit":100,"intrinsics":null,"types":{"core":[],"types":[{"instance":[]}]},
+           "payloads":["version","component","version","end",{"component-instances":[{"instantiate":[1,[],0]}]},
+           "end"]}"#,
+        "fault invalid at instance 0 item 1\n",
+    ),
+    // a component that is given itself, and instantiates it
+    (
+        r#"{"limit":5,"intrinsics":null,"types":{"core":[],"types":[{"component":[[],[]]},{"instance":[]}]},
+           "payloads":["version","component","version",{"imports":[["c",["component",0]]]},
+           {"component-instances":[{"instantiate":[0,[["c","component",0]],1]}]},"end",
+           {"component-instances":[{"instantiate":[0,[["c","component",0]],1]}]},"end"]}"#,
+        "fault too-many-instances\n",
     ),
     (
-        "export tree too large",
+        r#"{"limit":2000,"intrinsics":null,"types":{"core":[],"types":[{"component":[[],[]]},{"instance":[]}]},
+           "payloads":["version","component","version",{"imports":[["c",["component",0]]]},
+           {"component-instances":[{"instantiate":[0,[["c","component",0]],1]}]},"end",
+           {"component-instances":[{"instantiate":[0,[["c","component",0]],1]}]},"end"]}"#,
+        "fault too-many-instances\n",
+    ),
+];
+
+/// Imports and exports of the root that aren't built, which are told at their place.
+const ROOTS: [(&str, &str); 4] = [
+    (
+        r#"{"limit":100,"intrinsics":null,"types":{"core":[],"types":[{"component":[[],[]]}]},
+           "payloads":["version",{"imports":[["c",["component",0]]]},"end"]}"#,
+        "fault unsupported not-built at instance 0 item 0\n",
+    ),
+    (
+        r#"{"limit":100,"intrinsics":null,"types":{"core":[[["i32"],["i32"]]],
+           "types":[{"func":{"params":[["x","u32"]],"result":"u32","async":false}},{"module":[[],[]]},
+           {"instance":[["f",["func",0]]]}]},"payloads":["version",
+           {"module":{"ty":1,"imports":[],"funcs":[0],"tables":0,"memories":[],"globals":0,"tags":0,
+           "exports":[["f","func",0]]}},{"instances":[{"instantiate":[0,[]]}]},
+           {"aliases":[{"core-export":["func",0,"f"]}]},{"canon":[["lift",0,0,0,[]]]},
+           {"component-instances":[{"exports":[[["f","func",0]],2]}]},{"exports":[["api","instance",0]]},"end"]}"#,
+        "fault unsupported not-built at export 0\n",
+    ),
+    (
         r#"{"limit":100,"intrinsics":null,"types":{"core":[],"types":[{"instance":[]}]},
            "payloads":["version",{"component-instances":[{"exports":[[],0]},
            {"exports":[[["a","instance",0],["b","instance",0]],0]},
@@ -228,9 +214,9 @@ const TREES: [(&str, &str); 6] = [
            {"exports":[[["a","instance",37],["b","instance",37]],0]},
            {"exports":[[["a","instance",38],["b","instance",38]],0]},
            {"exports":[[["a","instance",39],["b","instance",39]],0]}]},{"exports":[["x","instance",40]]},"end"]}"#,
+        "fault unsupported not-built at export 0\n",
     ),
     (
-        "export tree function too large",
         r#"{"limit":100,"intrinsics":null,"types":{"core":[],
            "types":[{"instance":[]},{"func":{"params":[],"result":null,"async":false}}]},
            "payloads":["version",{"imports":[["h",["func",1]]]},
@@ -275,19 +261,244 @@ const TREES: [(&str, &str); 6] = [
            {"exports":[[["a","instance",37],["b","instance",37]],0]},
            {"exports":[[["a","instance",38],["b","instance",38]],0]},
            {"exports":[[["a","instance",39],["b","instance",39]],0]}]},{"exports":[["x","instance",40]]},"end"]}"#,
+        "fault unsupported not-built at export 0\n",
     ),
 ];
 
-#[test]
-fn nested_components_are_not_built(rt: HostRuntime) -> Result<(), Fail> {
-    are_not_built(&rt, rt.alloc(), &CHILDREN)?;
-    are_not_built(&rt, rt.alloc(), &TREES)?;
-    Ok(())
+/// Instantiations over a table with a resource, which are refused as a whole.
+const RESOURCES: [(&str, &str); 3] = [
+    (
+        "argument of another kind",
+        r#"{"limit":100,"intrinsics":null,"types":{"core":[],
+           "types":[{"module":[[],[]]},{"instance":[]},"resource",
+           {"func":{"params":[],"result":null,"async":false}}]},
+           "payloads":["version",{"imports":[["h",["func",3]]]},
+           {"module":{"ty":0,"imports":[],"funcs":[],"tables":0,"memories":[],"globals":0,"tags":0,"exports":[]}},
+           {"module":{"ty":0,"imports":[],"funcs":[],"tables":0,"memories":[],"globals":0,"tags":0,"exports":[]}},
+           "component","version",{"imports":[["m",["module",0]]]},{"types":[{"resource":[2,"i32",null]}]},
+           {"instances":[{"instantiate":[0,[]]}]},"end",{"component-instances":[{"instantiate":[0,[["m","func",0]],
+           1]},{"instantiate":[0,[["m","module",1]],1]}]},"end"]}"#,
+    ),
+    (
+        "type import without argument",
+        r#"{"limit":100,"intrinsics":null,"types":{"core":[],
+           "types":[{"module":[[],[]]},{"instance":[]},"resource"]},
+           "payloads":["version",{"module":{"ty":0,"imports":[],"funcs":[],"tables":0,"memories":[],"globals":0,
+           "tags":0,"exports":[]}},{"module":{"ty":0,"imports":[],"funcs":[],"tables":0,"memories":[],"globals":0,
+           "tags":0,"exports":[]}},"component","version",{"imports":[["m",["module",0]],["t",["type",1]]]},
+           {"types":[{"resource":[2,"i32",null]}]},{"instances":[{"instantiate":[0,[]]}]},"end",
+           {"component-instances":[{"instantiate":[0,[["m","module",0]],1]},
+           {"instantiate":[0,[["m","module",1]],1]}]},"end"]}"#,
+    ),
+    (
+        "instantiated twice",
+        r#"{"limit":100,"intrinsics":null,"types":{"core":[],
+           "types":[{"module":[[],[]]},{"instance":[]},"resource"]},
+           "payloads":["version",{"module":{"ty":0,"imports":[],"funcs":[],"tables":0,"memories":[],"globals":0,
+           "tags":0,"exports":[]}},{"module":{"ty":0,"imports":[],"funcs":[],"tables":0,"memories":[],"globals":0,
+           "tags":0,"exports":[]}},"component","version",{"imports":[["m",["module",0]]]},
+           {"types":[{"resource":[2,"i32",null]}]},{"instances":[{"instantiate":[0,[]]}]},"end",
+           {"component-instances":[{"instantiate":[0,[["m","module",0]],1]},
+           {"instantiate":[0,[["m","module",1]],1]}]},"end"]}"#,
+    ),
+];
+
+/// What stands before the payloads of the rows below. The types are those of a function, of a module, of two instances,
+/// the second of which has the function, and of a component.
+const BEGIN: &str = r#"{"limit":3,"intrinsics":null,"types":{"core":[[[],[]]],
+       "types":[{"func":{"params":[],"result":null,"async":false}},{"module":[[],[]]},{"instance":[]},
+       {"instance":[["f",["func",0]]]},{"component":[[],[]]}]},"payloads":["version","#;
+
+/// Payloads in which items go from one component instance to another, and the plan.
+const GIVEN: [(&str, &str); 6] = [
+    // a function of the host, lowered by a child
+    (
+        r#"{"imports":[["h",["func",0]]]},"component","version",{"imports":[["f",["func",0]]]},
+           {"canon":[["lower",0,0,0,[]]]},{"module":{"ty":1,"imports":[["env","f",["func",0]]],"funcs":[],"tables":0,
+           "memories":[],"globals":0,"tags":0,"exports":[]}},
+           {"instances":[{"exports":[["f","func",0]]},{"instantiate":[0,[["env",0]]]}]},"end",
+           {"component-instances":[{"instantiate":[0,[["f","func",0]],2]}]}"#,
+        "plan 1
+modules 1 0
+counts 1 2 1 0 0 0 0 0 0 0 0 0
+import-type 0 \"h\" func
+import 0 0
+init lower 0 0
+init static 0 1 [trampoline(0)]
+options 0 1 utf8 sync - - - -
+trampoline 0 component-lower-import[0] 0 0
+",
+    ),
+    // a function that a child lifted, exported by the root
+    (
+        r#""component","version",{"module":{"ty":1,"imports":[],"funcs":[0],"tables":0,"memories":[],"globals":0,
+           "tags":0,"exports":[["f","func",0]]}},{"instances":[{"instantiate":[0,[]]}]},
+           {"aliases":[{"core-export":["func",0,"f"]}]},{"canon":[["lift",0,0,0,[]]]},
+           {"exports":[["f","func",0]]},"end",
+           {"component-instances":[{"instantiate":[0,[],3]}]},{"aliases":[{"export":["func",0,"f"]}]},
+           {"exports":[["g","func",0]]}"#,
+        "plan 1
+modules 1 0
+counts 1 2 0 0 0 0 0 0 0 0 0 0
+init static 0 1 []
+options 0 1 utf8 sync - - - -
+export \"g\" lifted export(0 func 0) options 0
+",
+    ),
+    // the same through a second child, which is given the instance of the first
+    (
+        r#""component","version",{"module":{"ty":1,"imports":[],"funcs":[0],"tables":0,"memories":[],"globals":0,
+           "tags":0,"exports":[["f","func",0]]}},{"instances":[{"instantiate":[0,[]]}]},
+           {"aliases":[{"core-export":["func",0,"f"]}]},{"canon":[["lift",0,0,0,[]]]},
+           {"exports":[["f","func",0]]},"end",
+           "component","version",{"imports":[["i",["instance",3]]]},{"aliases":[{"export":["func",0,"f"]}]},
+           {"exports":[["e","func",0]]},"end",
+           {"component-instances":[{"instantiate":[0,[],3]},{"instantiate":[1,[["i","instance",0]],2]}]},
+           {"aliases":[{"export":["func",1,"e"]}]},{"exports":[["g","func",0]]}"#,
+        "plan 1
+modules 1 0
+counts 1 3 0 0 0 0 0 0 0 0 0 0
+init static 0 1 []
+options 0 1 utf8 sync - - - -
+export \"g\" lifted export(0 func 0) options 0
+",
+    ),
+    // an instance from items, and its item
+    (
+        r#"{"module":{"ty":1,"imports":[],"funcs":[0],"tables":0,"memories":[],"globals":0,"tags":0,
+           "exports":[["f","func",0]]}},{"instances":[{"instantiate":[0,[]]}]},
+           {"aliases":[{"core-export":["func",0,"f"]}]},{"canon":[["lift",0,0,0,[]]]},
+           {"component-instances":[{"exports":[[["f","func",0]],3]}]},{"aliases":[{"export":["func",0,"f"]}]},
+           {"exports":[["f","func",1]]}"#,
+        SMALLEST_PLAN,
+    ),
+    // a component, instantiated by the child that it is given to
+    (
+        r#""component","version",{"module":{"ty":1,"imports":[],"funcs":[0],"tables":0,"memories":[],"globals":0,
+           "tags":0,"exports":[["f","func",0]]}},{"instances":[{"instantiate":[0,[]]}]},"end",
+           "component","version",{"imports":[["c",["component",4]]]},{"component-instances":[{"instantiate":[0,[],2]}]},
+           "end",{"component-instances":[{"instantiate":[1,[["c","component",0]],2]}]}"#,
+        "plan 1
+modules 1 0
+counts 1 3 0 0 0 0 0 0 0 0 0 0
+init static 0 2 []
+",
+    ),
+    // a module that a child has, instantiated by the root
+    (
+        r#""component","version",{"module":{"ty":1,"imports":[],"funcs":[0],"tables":0,"memories":[],"globals":0,
+           "tags":0,"exports":[["f","func",0]]}},
+           {"exports":[["m","module",0]]},"end",{"component-instances":[{"instantiate":[0,[],2]}]},
+           {"aliases":[{"export":["module",0,"m"]}]},{"instances":[{"instantiate":[0,[]]}]}"#,
+        "plan 1
+modules 1 0
+counts 1 2 0 0 0 0 0 0 0 0 0 0
+init static 0 0 []
+",
+    ),
+];
+
+/// Payloads whose reading ends elsewhere, and the fault.
+const ENDS: [(&str, &str); 10] = [
+    // an argument that is missing, or of another kind
+    (
+        r#""component","version",{"imports":[["f",["func",0]]]},"end",
+           {"component-instances":[{"instantiate":[0,[],2]}]}"#,
+        "fault invalid at instance 1 item 0\n",
+    ),
+    (
+        r#"{"module":{"ty":1,"imports":[],"funcs":[0],"tables":0,"memories":[],"globals":0,"tags":0,
+           "exports":[["f","func",0]]}},
+           "component","version",{"imports":[["f",["func",0]]]},"end",
+           {"component-instances":[{"instantiate":[0,[["f","module",0]],2]}]}"#,
+        "fault invalid at instance 1 item 0\n",
+    ),
+    // an argument that names nothing, and a type of another kind
+    (
+        r#""component","version","end",{"component-instances":[{"instantiate":[0,[["f","func",0]],2]}]}"#,
+        "fault invalid at instance 0 item 1\n",
+    ),
+    (
+        r#""component","version","end",{"component-instances":[{"instantiate":[0,[],0]}]}"#,
+        "fault bad-type at instance 0 item 1\n",
+    ),
+    // an item of a child that names nothing
+    (
+        r#""component","version",{"instances":[{"instantiate":[0,[]]}]},"end",
+           {"component-instances":[{"instantiate":[0,[],2]}]}"#,
+        "fault invalid at instance 1 item 0\n",
+    ),
+    // a name that the child doesn't export, whatever its type says
+    (
+        r#""component","version","end",{"component-instances":[{"instantiate":[0,[],3]}]},
+           {"aliases":[{"export":["func",0,"f"]}]}"#,
+        "fault invalid at instance 0 item 2\n",
+    ),
+    // one component instance too many
+    (
+        r#""component","version","end",
+           {"component-instances":[{"instantiate":[0,[],2]},{"instantiate":[0,[],2]},{"instantiate":[0,[],2]}]}"#,
+        "fault too-many-instances\n",
+    ),
+    // an item of a child that isn't built, and a type as an item of the root
+    (
+        r#""component","version",{"canon":[["task.cancel",0]]},"end",
+           {"component-instances":[{"instantiate":[0,[],2]}]}"#,
+        "fault unsupported not-built at instance 1 item 0\n",
+    ),
+    (
+        r#"{"component-instances":[{"exports":[[["t","type",0]],2]}]}"#,
+        NOT_BUILT,
+    ),
+    // a function of the host that comes back from a child
+    (
+        r#"{"imports":[["h",["func",0]]]},"component","version",{"imports":[["f",["func",0]]]},
+           {"exports":[["e","func",0]]},"end",{"component-instances":[{"instantiate":[0,[["f","func",0]],2]}]},
+           {"aliases":[{"export":["func",0,"e"]}]},{"exports":[["g","func",1]]}"#,
+        "fault unsupported reexported-function at export 0\n",
+    ),
+];
+
+/// Whether payloads behind these types have this answer.
+fn has_answer(
+    alloc: Global,
+    payloads: &str,
+    status: Status,
+    text: &str,
+) -> Result<bool, AllocError> {
+    let input = [BEGIN, payloads, r#","end"]}"#].join(alloc, "")?;
+    is_answered(alloc, "translate", &input, status, text)
 }
 
 #[test]
 fn components_are_defined(rt: HostRuntime) -> Result<(), Fail> {
     are_planned(&rt, rt.alloc(), &DEFINED)?;
     are_refused(&rt, rt.alloc(), &BAD_CAPTURES)?;
+    Ok(())
+}
+
+#[test]
+fn components_are_instantiated(rt: HostRuntime) -> Result<(), Fail> {
+    are_planned(&rt, rt.alloc(), &PLANS)?;
+    are_refused(&rt, rt.alloc(), &FAULTS)?;
+    are_refused(&rt, rt.alloc(), &ROOTS)?;
+    are_not_built(&rt, rt.alloc(), &RESOURCES)?;
+    Ok(())
+}
+
+#[test]
+fn items_go_from_one_instance_to_another(rt: HostRuntime) -> Result<(), Fail> {
+    for (payloads, plan) in GIVEN {
+        assert!(rt;
+            has_answer(rt.alloc(), payloads, Status::Done, plan)?,
+            "{payloads}"
+        );
+    }
+    for (payloads, fault) in ENDS {
+        assert!(rt;
+            has_answer(rt.alloc(), payloads, Status::Refused, fault)?,
+            "{payloads}"
+        );
+    }
     Ok(())
 }

@@ -101,7 +101,7 @@ const ROWS: [(&str, &str); 15] = [
 ];
 
 /// The same with imports, lowerings, options and core items. The module is type 1, and exports a function alone.
-const LOWERINGS: [(&str, &str); 14] = [
+const LOWERINGS: [(&str, &str); 15] = [
     // an import whose type is of another kind or isn't there, before any fault of an item
     (
         r#"{"imports":[["h",["func",1]]]}"#,
@@ -111,10 +111,14 @@ const LOWERINGS: [(&str, &str); 14] = [
         r#"{"instances":[{"instantiate":[1,[]]}]},{"imports":[["h",["func",0]],["i",["func",2]]]}"#,
         "fault bad-type at instance 0 item 3\n",
     ),
-    // an import of another kind than a function, which isn't built yet
+    // an import of another kind than a function, which isn't built yet: it is told in the order of the imports
+    (
+        r#"{"imports":[["h",["func",0]],["i",["module",1]]]}"#,
+        "fault unsupported not-built at instance 0 item 2\n",
+    ),
     (
         r#"{"imports":[["h",["func",1]],["i",["module",1]]]}"#,
-        NOT_BUILT,
+        "fault bad-type at instance 0 item 1\n",
     ),
     // a lowering of a function that isn't there, of another type, and under a signature that isn't there
     (
