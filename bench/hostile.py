@@ -551,74 +551,87 @@ CHILD = '"component","version","end"'
 CHILD_ITSELF = '{"component-instances":[{"instantiate":[0,[["c","component",0]],2]}]}'
 ONE_CHILD = '{"instantiate":[0,[],2]}'
 BEGINS_CHILD = '{"component-instances":[%s]}' % ONE_CHILD
+# how long a member of an instance is, with the alias of it
+MEMBER = len('["e0000000","func",0],{"export":["func",0,"e0000000"]},')
+
+
+def nesting(*payloads):
+    """An input of these pieces of its root, in which as many component instances may begin as the limit allows."""
+    return document(NEST_TYPES, ['"version"', *payloads, '"end"'], MOST)
 
 
 def many_children(room):
     """Instances of a component without content."""
     count = min(room // (len(ONE_CHILD) + 1), MOST - 1)
-    return document(NEST_TYPES, ['"version"', CHILD, fill('{"component-instances":[', lambda n: ONE_CHILD, "]}", count), '"end"'], MOST)
+    return nesting(CHILD, fill('{"component-instances":[', lambda n: ONE_CHILD, "]}", count))
 
 
 def children_in_children(room):
     """Components within components, each instantiated by the one around it."""
-    close = '"end",' + BEGINS_CHILD
-    depth = min(room // len('"component","version",%s,' % close), MOST - 1)
-    return document(NEST_TYPES, ['"version"', ",".join(['"component","version"'] * depth), ",".join([close] * depth), '"end"'], MOST)
+    opened, close = '"component","version"', '"end",' + BEGINS_CHILD
+    depth = min(room // len(opened + "," + close + ","), MOST - 1)
+    return nesting(",".join([opened] * depth), ",".join([close] * depth))
 
 
 def child_of_itself(room):
     """A component that is given itself and instantiates it, until as many have begun as the limit."""
     child = '"component","version",{"imports":[["c",["component",3]]]},%s,"end"' % CHILD_ITSELF
-    return document(NEST_TYPES, ['"version"', child, CHILD_ITSELF, '"end"'], MOST)
+    return nesting(child, CHILD_ITSELF)
 
 
 def children_with_arguments(room):
     """One component, instantiated over and over with a hundred arguments."""
     piece = '{"instantiate":[0,[%s],2]}' % ",".join('["a%d","func",0]' % n for n in range(100))
-    return document(NEST_TYPES, ['"version"', IMPORT, CHILD, listed('{"component-instances":[', lambda n: piece, "]}", room), '"end"'], MOST)
+    return nesting(IMPORT, CHILD, listed('{"component-instances":[', lambda n: piece, "]}", room))
 
 
 def child_with_imports(room):
     """A component with very many imports, and one instance that is given them all."""
     count = room // len('["a0000000",["func",1]],["a0000000","func",0],')
-    return document(NEST_TYPES, ['"version"', IMPORT, '"component","version"', fill('{"imports":[', lambda n: '["a%07d",["func",1]]' % n, "]}", count), '"end"',
-                                 fill('{"component-instances":[{"instantiate":[0,[', lambda n: '["a%07d","func",0]' % n, "],2]}]}", count), '"end"'], MOST)
+    imports = fill('{"imports":[', lambda n: '["a%07d",["func",1]]' % n, "]}", count)
+    given = fill('{"component-instances":[{"instantiate":[0,[', lambda n: '["a%07d","func",0]' % n, "],2]}]}", count)
+    return nesting(IMPORT, '"component","version"', imports, '"end"', given)
+
+
+def members(begin, end, count):
+    """So many functions under names in a list that begins and ends so, and an alias of each, by its name."""
+    named = fill(begin, lambda n: '["e%07d","func",0]' % n, end, count)
+    taken = fill('{"aliases":[', lambda n: '{"export":["func",0,"e%07d"]}' % n, "]}", count)
+    return named, taken
 
 
 def exports_of_a_child(room):
     """A component with very many exports, each of which is taken out of one instance of it."""
-    count = room // len('["e0000000","func",0],{"export":["func",0,"e0000000"]},')
-    return document(NEST_TYPES, ['"version"', IMPORT, '"component","version",{"imports":[["f",["func",1]]]}',
-                                 fill('{"exports":[', lambda n: '["e%07d","func",0]' % n, "]}", count), '"end"',
-                                 '{"component-instances":[{"instantiate":[0,[["f","func",0]],2]}]}',
-                                 fill('{"aliases":[', lambda n: '{"export":["func",0,"e%07d"]}' % n, "]}", count), '"end"'], MOST)
+    exports, taken = members('{"exports":[', "]}", room // MEMBER)
+    begins = '{"component-instances":[{"instantiate":[0,[["f","func",0]],2]}]}'
+    child = '"component","version",{"imports":[["f",["func",1]]]}'
+    return nesting(IMPORT, child, exports, '"end"', begins, taken)
 
 
 def items_of_an_instance(room):
     """An instance from very many items, each of which is taken out of it."""
-    count = room // len('["e0000000","func",0],{"export":["func",0,"e0000000"]},')
-    return document(NEST_TYPES, ['"version"', IMPORT, fill('{"component-instances":[{"exports":[[', lambda n: '["e%07d","func",0]' % n, "],2]}]}", count),
-                                 fill('{"aliases":[', lambda n: '{"export":["func",0,"e%07d"]}' % n, "]}", count), '"end"'], MOST)
+    items, taken = members('{"component-instances":[{"exports":[[', "],2]}]}", room // MEMBER)
+    return nesting(IMPORT, items, taken)
 
 
 def instances_of_instances(room):
     """Instances from items, each of which has the one before it twice."""
-    return document(NEST_TYPES, ['"version"', listed(
-        '{"component-instances":[{"exports":[[],2]},', lambda n: '{"exports":[[["a","instance",%d],["b","instance",%d]],2]}' % (n, n), "]}", room), '"end"'], MOST)
+    twice = '{"exports":[[["a","instance",%d],["b","instance",%d]],2]}'
+    return nesting(listed('{"component-instances":[{"exports":[[],2]},', lambda n: twice % (n, n), "]}", room))
 
 
 def aliases_of_one_member(room):
     """One item of an instance, taken out over and over."""
-    return document(NEST_TYPES, ['"version"', IMPORT, '{"component-instances":[{"exports":[[["f","func",0]],2]}]}',
-                                 aliases(lambda n: '{"export":["func",0,"f"]}', room), '"end"'], MOST)
+    made = '{"component-instances":[{"exports":[[["f","func",0]],2]}]}'
+    return nesting(IMPORT, made, aliases(lambda n: '{"export":["func",0,"f"]}', room))
 
 
 def captures_of_a_child(room):
     """Very many components, and one that captures them all and is instantiated."""
     count = room // (len(CHILD) + 1 + len('{"outer":["component",1,1000000]},'))
     capturing = fill('{"aliases":[', lambda n: '{"outer":["component",1,%d]}' % n, "]}", count)
-    return document(NEST_TYPES, ['"version"', ",".join([CHILD] * count), '"component","version"', capturing, '"end"',
-                                 '{"component-instances":[{"instantiate":[%d,[],2]}]}' % count, '"end"'], MOST)
+    begins = '{"component-instances":[{"instantiate":[%d,[],2]}]}' % count
+    return nesting(",".join([CHILD] * count), '"component","version"', capturing, '"end"', begins)
 
 
 def captures_at_each_level(room):
@@ -626,7 +639,7 @@ def captures_at_each_level(room):
     opened, close = '"component","version",{"aliases":[{"outer":["core-module",%d,0]}]}', '"end",' + BEGINS_CHILD
     depth = min(room // len(opened % 1000000 + "," + close + ","), MOST - 1)
     levels = ",".join(opened % (n + 1) for n in range(depth))
-    return document(NEST_TYPES, ['"version"', ONE_FUNC, levels, ",".join([close] * depth), '"end"'], MOST)
+    return nesting(ONE_FUNC, levels, ",".join([close] * depth))
 
 
 def many_ends(room):
