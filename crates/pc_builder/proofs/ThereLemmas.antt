@@ -1,5 +1,5 @@
 -- A builder that has the type of an entry has the type that the conversion makes for it.
-use Rattle.std.proofs.Common.{◌≡◌, ℕ, List, Option, Some, ap, ◌∙◌}
+use Rattle.std.proofs.Common.{ℕ, List, Option, Some, ap, ◌∙◌}
 use Rattle.std.specs.List.{AllZip}
 use Rattle.pc_types.specs.declared.parsed.CoreEntity.{CoreEntity}
 use Rattle.pc_types.specs.declared.parsed.TypeTable.{TypeTable}

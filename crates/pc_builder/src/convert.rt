@@ -298,6 +298,7 @@ impl ComponentTypesBuilder {
         Ok(self.interned.put_tuple(TypeTuple { types })?)
     }
 
+    /// The value type that entry `n` of the table is, if it is a defined type.
     fn defined_type(&mut self, table: &TypeTable, n: u32) -> Result<InterfaceType, TypeError>
         requires sound { table_fault table.now ≡ None }
         ensures tree { IfOk result (λ w. IsEntry self.new table.now n (def.Interface w)) }
@@ -319,7 +320,7 @@ impl ComponentTypesBuilder {
     }
 }
 
-// Whether entry `n` is there and a defined type.
+/// Whether entry `n` is there and a defined type.
 fn is_defined_at(table: &TypeTable, n: u32) -> bool
     ensures { result ≡ is_some_and is_defined_type (slice_get table.now.types n) }
 {
@@ -329,7 +330,7 @@ fn is_defined_at(table: &TypeTable, n: u32) -> bool
     }
 }
 
-// The number in an entity that isn't a component value.
+/// The number in an entity that isn't a component value.
 fn number_of(e: Entity) -> u32
     requires not_value { is_value e ≡ false }
     ensures { entity_parts e ≡ result ∷ [] }

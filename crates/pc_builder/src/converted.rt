@@ -36,14 +36,14 @@ impl Converted {
         Ok(Converted { done })
     }
 
-    // The types, by number.
+    /// The types, by number.
     pub(crate) fn as_slice(&self) -> &[Option<TypeDef>]
         ensures { result.now ≡ self.now }
     {
         self.done.as_slice()
     }
 
-    // Those of the entries in front of a number.
+    /// Those of the entries in front of a number.
     pub(crate) fn in_front(&self, k: u32) -> &[Option<TypeDef>]
         requires { k ≤ length self.now }
         ensures { result.now ≡ take k self.now }
@@ -51,7 +51,7 @@ impl Converted {
         &self.done[..k as usize]
     }
 
-    // An entry gets its type.
+    /// An entry gets its type.
     pub(crate) fn put(&mut self, k: u32, type_: TypeDef)
         requires { k < length self.old }
         ensures { self.new ≡ slice_set self.old k (Some type_) }

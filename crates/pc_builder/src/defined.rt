@@ -18,6 +18,7 @@ use pc_types::{
     TypeResourceTableIndex, TypeResult, TypeStreamTable, TypeTuple, TypeVariant, ValType,
 };
 
+/// The type of an entry that is a value type.
 pub(crate) fn val_entry(
     interned: &mut InternedTypes,
     done: &[Option<TypeDef>],
@@ -32,6 +33,7 @@ pub(crate) fn val_entry(
     Ok(TypeDef::Interface(value(interned, done, v)?))
 }
 
+/// The type of an entry that is a record.
 pub(crate) fn record_entry(
     interned: &mut InternedTypes,
     done: &[Option<TypeDef>],
@@ -48,6 +50,7 @@ pub(crate) fn record_entry(
     Ok(TypeDef::Interface(InterfaceType::Record(interned.put_record_type(TypeRecord { fields })?)))
 }
 
+/// The type of an entry that is a variant.
 pub(crate) fn variant_entry(
     interned: &mut InternedTypes,
     done: &[Option<TypeDef>],
@@ -64,6 +67,7 @@ pub(crate) fn variant_entry(
     Ok(TypeDef::Interface(InterfaceType::Variant(interned.put_variant(TypeVariant { cases })?)))
 }
 
+/// The type of an entry that is a list.
 pub(crate) fn list_entry(
     interned: &mut InternedTypes,
     done: &[Option<TypeDef>],
@@ -80,6 +84,7 @@ pub(crate) fn list_entry(
     Ok(TypeDef::Interface(InterfaceType::List(interned.put_list(TypeList { element })?)))
 }
 
+/// The type of an entry that is a tuple.
 pub(crate) fn tuple_entry(
     interned: &mut InternedTypes,
     done: &[Option<TypeDef>],
@@ -96,6 +101,7 @@ pub(crate) fn tuple_entry(
     Ok(TypeDef::Interface(InterfaceType::Tuple(interned.put_tuple(TypeTuple { types })?)))
 }
 
+/// The type of an entry that is flags.
 pub(crate) fn flags_entry(
     interned: &mut InternedTypes,
     names: &Seq<Text>,
@@ -109,6 +115,7 @@ pub(crate) fn flags_entry(
     Ok(TypeDef::Interface(InterfaceType::Flags(interned.put_flags(TypeFlags { names })?)))
 }
 
+/// The type of an entry that is an enum.
 pub(crate) fn enum_entry(
     interned: &mut InternedTypes,
     names: &Seq<Text>,
@@ -122,6 +129,7 @@ pub(crate) fn enum_entry(
     Ok(TypeDef::Interface(InterfaceType::Enum(interned.put_enum_type(TypeEnum { names })?)))
 }
 
+/// The type of an entry that is an option.
 pub(crate) fn option_entry(
     interned: &mut InternedTypes,
     done: &[Option<TypeDef>],
@@ -138,6 +146,7 @@ pub(crate) fn option_entry(
     Ok(TypeDef::Interface(InterfaceType::Option(interned.put_option(TypeOption { ty })?)))
 }
 
+/// The type of an entry that is a result.
 pub(crate) fn result_entry(
     interned: &mut InternedTypes,
     done: &[Option<TypeDef>],
@@ -157,6 +166,7 @@ pub(crate) fn result_entry(
     Ok(TypeDef::Interface(InterfaceType::Result(interned.put_result(TypeResult { ok, err })?)))
 }
 
+/// The type of an entry that is a stream.
 pub(crate) fn stream_entry(
     interned: &mut InternedTypes,
     done: &[Option<TypeDef>],
@@ -176,6 +186,7 @@ pub(crate) fn stream_entry(
     })?)))
 }
 
+/// The type of an entry that is a future.
 pub(crate) fn future_entry(
     interned: &mut InternedTypes,
     done: &[Option<TypeDef>],
@@ -195,7 +206,7 @@ pub(crate) fn future_entry(
     })?)))
 }
 
-// The named value types of a list, in order.
+/// The named value types of a list, in order.
 fn field_types(
     interned: &mut InternedTypes,
     done: &[Option<TypeDef>],
@@ -215,7 +226,7 @@ fn field_types(
     Ok(types)
 }
 
-// The named value types of a list, in order, where a name may stand without a type.
+/// The named value types of a list, in order, where a name may stand without a type.
 fn case_types(
     interned: &mut InternedTypes,
     done: &[Option<TypeDef>],
@@ -235,7 +246,7 @@ fn case_types(
     Ok(types)
 }
 
-// The value types of a list, in order.
+/// The value types of a list, in order.
 fn value_types(
     interned: &mut InternedTypes,
     done: &[Option<TypeDef>],
@@ -254,7 +265,7 @@ fn value_types(
     Ok(types)
 }
 
-// A value type that may be left out.
+/// A value type that may be left out.
 fn maybe_value(
     interned: &mut InternedTypes,
     done: &[Option<TypeDef>],
@@ -272,7 +283,7 @@ fn maybe_value(
     }
 }
 
-// The handles of a done resource, owned.
+/// The handles of a done resource, owned.
 pub(crate) fn own_entry(done: &[Option<TypeDef>], n: u32) -> TypeDef
     requires { HasHandles done.now n }
     ensures { OwnIs done.now n result }
@@ -280,7 +291,7 @@ pub(crate) fn own_entry(done: &[Option<TypeDef>], n: u32) -> TypeDef
     TypeDef::Interface(InterfaceType::Own(handles_at(done, n)))
 }
 
-// The handles of a done resource, borrowed.
+/// The handles of a done resource, borrowed.
 pub(crate) fn borrow_entry(done: &[Option<TypeDef>], n: u32) -> TypeDef
     requires { HasHandles done.now n }
     ensures { BorrowIs done.now n result }
@@ -288,7 +299,7 @@ pub(crate) fn borrow_entry(done: &[Option<TypeDef>], n: u32) -> TypeDef
     TypeDef::Interface(InterfaceType::Borrow(handles_at(done, n)))
 }
 
-// The number of a done resource's handles.
+/// The number of a done resource's handles.
 fn handles_at(done: &[Option<TypeDef>], n: u32) -> TypeResourceTableIndex
     requires { HasHandles done.now n }
     ensures { slice_get done.now n ≡ Some (Some (def.Resource result)) }

@@ -22,6 +22,7 @@ use pc_types::{
 };
 use std::alloc::Global;
 
+/// The type of an entry that is a function type.
 pub(crate) fn func_type_entry(
     interned: &mut InternedTypes,
     done: &[Option<TypeDef>],
@@ -44,7 +45,7 @@ pub(crate) fn func_type_entry(
     Ok(TypeDef::ComponentFunc(func_entry(interned, done, params, returns, async_)?))
 }
 
-// The number of a function type.
+/// The number of a function type.
 fn func_entry(
     interned: &mut InternedTypes,
     done: &[Option<TypeDef>],
@@ -72,7 +73,7 @@ fn func_entry(
     })
 }
 
-// The number of the tuple of the parameters.
+/// The number of the tuple of the parameters.
 fn params_tuple(
     interned: &mut InternedTypes,
     done: &[Option<TypeDef>],
@@ -90,7 +91,7 @@ fn params_tuple(
     interned.put_tuple(TypeTuple { types })
 }
 
-// The number of the tuple of what is returned.
+/// The number of the tuple of what is returned.
 fn results_tuple(
     interned: &mut InternedTypes,
     done: &[Option<TypeDef>],
@@ -108,7 +109,7 @@ fn results_tuple(
     interned.put_tuple(TypeTuple { types })
 }
 
-// The types of the parameters, in order.
+/// The types of the parameters, in order.
 fn param_types(
     interned: &mut InternedTypes,
     done: &[Option<TypeDef>],
@@ -128,7 +129,7 @@ fn param_types(
     Ok(types)
 }
 
-// The type that is returned, if there is one.
+/// The type that is returned, if there is one.
 fn return_types(
     interned: &mut InternedTypes,
     done: &[Option<TypeDef>],
@@ -147,7 +148,7 @@ fn return_types(
     }
 }
 
-// The list of one type.
+/// The list of one type.
 fn one_type(
     interned: &mut InternedTypes,
     done: &[Option<TypeDef>],
@@ -166,7 +167,7 @@ fn one_type(
     Ok(types)
 }
 
-// The names of a list.
+/// The names of a list.
 fn names<V>(alloc: Global, items: &[(Text, V)]) -> Result<Seq<Text>, NoMemory>
     ensures { IfOk result (λ names. names ≡ names_of items.now) }
 {

@@ -19,6 +19,7 @@ use pc_types::{
 };
 use std::alloc::Global;
 
+/// The type of an entry that is a resource: the handles of it.
 pub(crate) fn resource_entry(interned: &mut InternedTypes, n: u32) -> Result<TypeDef, NoPlace>
     ensures is { IfOk result (λ d. ResourceIs interned.new n d) }
     ensures grows { Grows interned.old interned.new }
@@ -27,7 +28,7 @@ pub(crate) fn resource_entry(interned: &mut InternedTypes, n: u32) -> Result<Typ
     Ok(TypeDef::Resource(handles(interned, n)?))
 }
 
-// The handles of the resource of a table number.
+/// The handles of the resource of a table number.
 fn handles(interned: &mut InternedTypes, n: u32) -> Result<TypeResourceTableIndex, NoPlace>
     ensures is { IfOk result
         (λ i. slice_get interned.new.resource_tables i.0 ≡ Some (handles_of interned.new.resources n)) }
@@ -42,6 +43,7 @@ fn handles(interned: &mut InternedTypes, n: u32) -> Result<TypeResourceTableInde
     }
 }
 
+/// The type of an entry that is an instance type.
 pub(crate) fn instance_entry(
     interned: &mut InternedTypes,
     done: &[Option<TypeDef>],
@@ -57,6 +59,7 @@ pub(crate) fn instance_entry(
     Ok(TypeDef::ComponentInstance(interned.put_instance(TypeComponentInstance { exports })?))
 }
 
+/// The type of an entry that is a component type.
 pub(crate) fn component_entry(
     interned: &mut InternedTypes,
     done: &[Option<TypeDef>],
@@ -75,6 +78,7 @@ pub(crate) fn component_entry(
     Ok(TypeDef::Component(interned.put_component(TypeComponent { imports, exports })?))
 }
 
+/// The type of an entry that is a module type.
 pub(crate) fn module_entry(
     interned: &mut InternedTypes,
     table: &TypeTable,
@@ -93,6 +97,7 @@ pub(crate) fn module_entry(
     Ok(TypeDef::Module(interned.put_module(TypeModule { imports, exports })?))
 }
 
+/// The imports of a module type, with signatures of the builder.
 fn module_imports(
     interned: &mut InternedTypes,
     table: &TypeTable,
@@ -111,6 +116,7 @@ fn module_imports(
     Ok(types)
 }
 
+/// An import of a module type, with a signature of the builder.
 fn module_import(
     interned: &mut InternedTypes,
     table: &TypeTable,
@@ -128,6 +134,7 @@ fn module_import(
     Ok((module, name, entity))
 }
 
+/// The exports of a module type, with signatures of the builder.
 fn module_exports(
     interned: &mut InternedTypes,
     table: &TypeTable,
@@ -147,7 +154,7 @@ fn module_exports(
     Ok(types)
 }
 
-// An entity of a core module, with the builder's number of its signature.
+/// An entity of a core module, with the builder's number of its signature.
 fn core_entity(
     interned: &mut InternedTypes,
     table: &TypeTable,
@@ -165,7 +172,7 @@ fn core_entity(
     }
 }
 
-// The named types of a list, in order.
+/// The named types of a list, in order.
 fn externs(
     alloc: Global,
     done: &[Option<TypeDef>],
@@ -182,7 +189,7 @@ fn externs(
     Ok(types)
 }
 
-// The type of a done entity.
+/// The type of a done entity.
 fn entity_at(done: &[Option<TypeDef>], e: Entity) -> TypeDef
     requires { IsThere done.now e }
     ensures { EntityIs done.now e result }
@@ -197,7 +204,7 @@ fn entity_at(done: &[Option<TypeDef>], e: Entity) -> TypeDef
     }
 }
 
-// The type of a done entry.
+/// The type of a done entry.
 pub(crate) fn type_at(done: &[Option<TypeDef>], n: u32) -> TypeDef
     requires { (d : TypeDef) × (slice_get done.now n ≡ Some (Some d)) }
     ensures { slice_get done.now n ≡ Some (Some result) }

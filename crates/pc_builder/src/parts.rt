@@ -40,7 +40,7 @@ pub(crate) fn needed(
     Ok(order)
 }
 
-// Entry `k`, which is there.
+/// Entry `k`, which is there.
 pub(crate) fn entry_at(table: &TypeTable, k: u32) -> &DeclType
     requires { k < length table.now.types }
     ensures { slice_get table.now.types k ≡ Some result.now }
@@ -48,7 +48,7 @@ pub(crate) fn entry_at(table: &TypeTable, k: u32) -> &DeclType
     table.entry(k).unwrap()
 }
 
-// An entry is opened, unless it is done.
+/// An entry is opened, unless it is done.
 fn open_entry(opened: &mut BTreeSet<u32>, done: &[Option<TypeDef>], n: u32) -> Result<(), NoMemory>
     ensures kept { OnOk result ((m : ℕ) → IsAmong m opened.old.keys → IsAmong m opened.new.keys) }
     ensures met { OnOk result (IsDone done.now n ⊎ IsAmong n opened.new.keys) }
@@ -63,7 +63,7 @@ fn open_entry(opened: &mut BTreeSet<u32>, done: &[Option<TypeDef>], n: u32) -> R
     }
 }
 
-// Each of some entries is opened, unless it is done.
+/// Each of some entries is opened, unless it is done.
 fn open_entries(
     opened: &mut BTreeSet<u32>,
     done: &[Option<TypeDef>],
@@ -79,7 +79,7 @@ fn open_entries(
     Ok(())
 }
 
-// The entries that an entry names.
+/// The entries that an entry names.
 fn parts(alloc: Global, entry: &DeclType) -> Result<Vec<u32>, NoMemory>
     ensures { IfOk result (λ ns. ns.items ≡ parts_of entry.now) }
 {
@@ -88,6 +88,7 @@ fn parts(alloc: Global, entry: &DeclType) -> Result<Vec<u32>, NoMemory>
     Ok(ns)
 }
 
+/// Adds the entries that an entry names.
 fn push_parts(ns: &mut Vec<u32>, entry: &DeclType) -> Result<(), NoMemory>
     ensures { OnOk result (ns.new.items ≡ ns.old.items ++ parts_of entry.now) }
 {
@@ -97,28 +98,24 @@ fn push_parts(ns: &mut Vec<u32>, entry: &DeclType) -> Result<(), NoMemory>
             result,
             async_: _,
         } => push_func(ns, params.as_slice(), *result),
-        DeclType::Val(v) => push_val(ns, *v),
+        DeclType::Val(v) | DeclType::List(v) | DeclType::Option(v) => push_val(ns, *v),
         DeclType::Record(fields) => push_fields(ns, fields.as_slice()),
         DeclType::Variant(cases) => push_cases(ns, cases.as_slice()),
-        DeclType::List(v) => push_val(ns, *v),
         DeclType::Tuple(vs) => push_vals(ns, vs.as_slice()),
-        DeclType::Option(v) => push_val(ns, *v),
         DeclType::Result { ok, err } => push_both(ns, *ok, *err),
-        DeclType::Own(n) => push(ns, *n),
-        DeclType::Borrow(n) => push(ns, *n),
-        DeclType::Stream(v) => push_maybe(ns, *v),
-        DeclType::Future(v) => push_maybe(ns, *v),
+        DeclType::Own(n) | DeclType::Borrow(n) => push(ns, *n),
+        DeclType::Stream(v) | DeclType::Future(v) => push_maybe(ns, *v),
         DeclType::Instance { exports } => push_externs(ns, exports.as_slice()),
         DeclType::Component { imports, exports } => {
             push_component(ns, imports.as_slice(), exports.as_slice())
         }
-        DeclType::Resource => Ok(()),
-        DeclType::Flags(_) => Ok(()),
-        DeclType::Enum(_) => Ok(()),
-        DeclType::Module { .. } => Ok(()),
+        DeclType::Resource | DeclType::Flags(_) | DeclType::Enum(_) | DeclType::Module { .. } => Ok(
+            (),
+        ),
     }
 }
 
+/// Adds those that a function type names.
 fn push_func(
     ns: &mut Vec<u32>,
     params: &[(Text, ValType)],
@@ -130,6 +127,7 @@ fn push_func(
     push_maybe(ns, returns)
 }
 
+/// Adds those that either type of a result names.
 fn push_both(ns: &mut Vec<u32>, ok: Option<ValType>, err: Option<ValType>) -> Result<(), NoMemory>
     ensures { OnOk result (ns.new.items ≡ ns.old.items ++ (maybe_parts ok ++ maybe_parts err)) }
 {
@@ -137,6 +135,7 @@ fn push_both(ns: &mut Vec<u32>, ok: Option<ValType>, err: Option<ValType>) -> Re
     push_maybe(ns, err)
 }
 
+/// Adds those that imports and exports name.
 fn push_component(
     ns: &mut Vec<u32>,
     imports: &[(Text, Entity)],
@@ -149,6 +148,7 @@ fn push_component(
     push_externs(ns, exports)
 }
 
+/// Adds those that fields name.
 fn push_fields(ns: &mut Vec<u32>, fields: &[(Text, ValType)]) -> Result<(), NoMemory>
     ensures { OnOk result (ns.new.items ≡ ns.old.items ++ flat_map field_parts fields.now) }
 {
@@ -158,6 +158,7 @@ fn push_fields(ns: &mut Vec<u32>, fields: &[(Text, ValType)]) -> Result<(), NoMe
     Ok(())
 }
 
+/// Adds those that cases name.
 fn push_cases(ns: &mut Vec<u32>, cases: &[(Text, Option<ValType>)]) -> Result<(), NoMemory>
     ensures { OnOk result (ns.new.items ≡ ns.old.items ++ flat_map case_parts cases.now) }
 {
@@ -167,6 +168,7 @@ fn push_cases(ns: &mut Vec<u32>, cases: &[(Text, Option<ValType>)]) -> Result<()
     Ok(())
 }
 
+/// Adds those that value types name.
 fn push_vals(ns: &mut Vec<u32>, vs: &[ValType]) -> Result<(), NoMemory>
     ensures { OnOk result (ns.new.items ≡ ns.old.items ++ flat_map val_parts vs.now) }
 {
@@ -176,6 +178,7 @@ fn push_vals(ns: &mut Vec<u32>, vs: &[ValType]) -> Result<(), NoMemory>
     Ok(())
 }
 
+/// Adds those that imports or exports name.
 fn push_externs(ns: &mut Vec<u32>, externs: &[(Text, Entity)]) -> Result<(), NoMemory>
     ensures { OnOk result (ns.new.items ≡ ns.old.items ++ flat_map extern_parts externs.now) }
 {
@@ -185,6 +188,7 @@ fn push_externs(ns: &mut Vec<u32>, externs: &[(Text, Entity)]) -> Result<(), NoM
     Ok(())
 }
 
+/// Adds the one that a value type names, if there is one.
 fn push_maybe(ns: &mut Vec<u32>, v: Option<ValType>) -> Result<(), NoMemory>
     ensures { OnOk result (ns.new.items ≡ ns.old.items ++ maybe_parts v) }
 {
@@ -194,6 +198,7 @@ fn push_maybe(ns: &mut Vec<u32>, v: Option<ValType>) -> Result<(), NoMemory>
     }
 }
 
+/// Adds the one that a value type names.
 fn push_val(ns: &mut Vec<u32>, v: ValType) -> Result<(), NoMemory>
     ensures { OnOk result (ns.new.items ≡ ns.old.items ++ val_parts v) }
 {
@@ -203,19 +208,21 @@ fn push_val(ns: &mut Vec<u32>, v: ValType) -> Result<(), NoMemory>
     }
 }
 
+/// Adds the one that an entity names.
 fn push_entity(ns: &mut Vec<u32>, e: Entity) -> Result<(), NoMemory>
     ensures { OnOk result (ns.new.items ≡ ns.old.items ++ entity_parts e) }
 {
     match e {
-        Entity::Func(n) => push(ns, n),
-        Entity::Instance(n) => push(ns, n),
-        Entity::Component(n) => push(ns, n),
-        Entity::Module(n) => push(ns, n),
-        Entity::Type_(n) => push(ns, n),
+        Entity::Func(n)
+        | Entity::Instance(n)
+        | Entity::Component(n)
+        | Entity::Module(n)
+        | Entity::Type_(n) => push(ns, n),
         Entity::Value => Ok(()),
     }
 }
 
+/// Adds an entry by its number.
 fn push(ns: &mut Vec<u32>, n: u32) -> Result<(), NoMemory>
     ensures { OnOk result (ns.new.items ≡ ns.old.items ++ n ∷ []) }
 {

@@ -13,6 +13,7 @@ pub struct PreInliningComponentTypes<'a> {
 }
 
 impl<'a> PreInliningComponentTypes<'a> {
+    /// The builder, lent until inlining begins.
     pub fn new(types: &'a mut ComponentTypesBuilder) -> Self
         ensures same_builder { result.types.ghost_name ≡ types.entry.ghost_name }
         ensures types { result.types.now ≡ types.old }

@@ -22,6 +22,7 @@ use pc_types::{
 };
 
 impl ComponentTypesBuilder {
+    /// The function type under a number.
     pub fn func(&self, i: TypeFuncIndex) -> &TypeFunc
         requires held { i.0 < length self.now.funcs }
         ensures is { slice_get self.now.funcs i.0 ≡ Some result.now }
@@ -31,6 +32,7 @@ impl ComponentTypesBuilder {
         self.interned.func(i)
     }
 
+    /// The tuple type under a number.
     pub fn tuple(&self, i: TypeTupleIndex) -> &TypeTuple
         requires held { i.0 < length self.now.tuples }
         ensures { slice_get self.now.tuples i.0 ≡ Some result.now }
@@ -38,6 +40,7 @@ impl ComponentTypesBuilder {
         self.interned.tuple(i)
     }
 
+    /// The record type under a number.
     pub fn record_type(&self, i: TypeRecordIndex) -> &TypeRecord
         requires held { i.0 < length self.now.records }
         ensures { slice_get self.now.records i.0 ≡ Some result.now }
@@ -45,6 +48,7 @@ impl ComponentTypesBuilder {
         self.interned.record_type(i)
     }
 
+    /// The variant type under a number.
     pub fn variant(&self, i: TypeVariantIndex) -> &TypeVariant
         requires held { i.0 < length self.now.variants }
         ensures { slice_get self.now.variants i.0 ≡ Some result.now }
@@ -52,6 +56,7 @@ impl ComponentTypesBuilder {
         self.interned.variant(i)
     }
 
+    /// The list type under a number.
     pub fn list(&self, i: TypeListIndex) -> &TypeList
         requires held { i.0 < length self.now.lists }
         ensures { slice_get self.now.lists i.0 ≡ Some result.now }
@@ -59,6 +64,7 @@ impl ComponentTypesBuilder {
         self.interned.list(i)
     }
 
+    /// The option type under a number.
     pub fn option(&self, i: TypeOptionIndex) -> &TypeOption
         requires held { i.0 < length self.now.options }
         ensures { slice_get self.now.options i.0 ≡ Some result.now }
@@ -66,6 +72,7 @@ impl ComponentTypesBuilder {
         self.interned.option(i)
     }
 
+    /// The result type under a number.
     pub fn result(&self, i: TypeResultIndex) -> &TypeResult
         requires held { i.0 < length self.now.results }
         ensures { slice_get self.now.results i.0 ≡ Some result.now }
@@ -73,6 +80,7 @@ impl ComponentTypesBuilder {
         self.interned.result(i)
     }
 
+    /// The flags type under a number.
     pub fn flags(&self, i: TypeFlagsIndex) -> &TypeFlags
         requires held { i.0 < length self.now.flags }
         ensures { slice_get self.now.flags i.0 ≡ Some result.now }
@@ -80,6 +88,7 @@ impl ComponentTypesBuilder {
         self.interned.flags(i)
     }
 
+    /// The enum type under a number.
     pub fn enum_type(&self, i: TypeEnumIndex) -> &TypeEnum
         requires held { i.0 < length self.now.enums }
         ensures { slice_get self.now.enums i.0 ≡ Some result.now }
@@ -87,6 +96,7 @@ impl ComponentTypesBuilder {
         self.interned.enum_type(i)
     }
 
+    /// The handles of a resource, under their number.
     pub fn resource_table(&self, i: TypeResourceTableIndex) -> &TypeResourceTable
         requires held { i.0 < length self.now.resource_tables }
         ensures { slice_get self.now.resource_tables i.0 ≡ Some result.now }
@@ -94,6 +104,7 @@ impl ComponentTypesBuilder {
         self.interned.resource_table(i)
     }
 
+    /// The futures of a payload type, under their number.
     pub fn future_table(&self, i: TypeFutureTableIndex) -> &TypeFutureTable
         requires held { i.0 < length self.now.future_tables }
         ensures { slice_get self.now.future_tables i.0 ≡ Some result.now }
@@ -101,6 +112,7 @@ impl ComponentTypesBuilder {
         self.interned.future_table(i)
     }
 
+    /// The streams of a payload type, under their number.
     pub fn stream_table(&self, i: TypeStreamTableIndex) -> &TypeStreamTable
         requires held { i.0 < length self.now.stream_tables }
         ensures { slice_get self.now.stream_tables i.0 ≡ Some result.now }
@@ -108,6 +120,7 @@ impl ComponentTypesBuilder {
         self.interned.stream_table(i)
     }
 
+    /// The error contexts of a component instance, under their number.
     pub fn error_context_table(
         &self,
         i: TypeComponentLocalErrorContextTableIndex,
@@ -118,6 +131,7 @@ impl ComponentTypesBuilder {
         self.interned.error_context_table(i)
     }
 
+    /// The instance type under a number.
     pub fn instance(&self, i: TypeComponentInstanceIndex) -> &TypeComponentInstance
         requires held { i.0 < length self.now.instances }
         ensures { slice_get self.now.instances i.0 ≡ Some result.now }
@@ -125,6 +139,7 @@ impl ComponentTypesBuilder {
         self.interned.instance(i)
     }
 
+    /// The component type under a number.
     pub fn component(&self, i: TypeComponentIndex) -> &TypeComponent
         requires held { i.0 < length self.now.components }
         ensures { slice_get self.now.components i.0 ≡ Some result.now }
@@ -132,6 +147,7 @@ impl ComponentTypesBuilder {
         self.interned.component(i)
     }
 
+    /// The module type under a number.
     pub fn module(&self, i: TypeModuleIndex) -> &TypeModule
         requires held { i.0 < length self.now.modules }
         ensures { slice_get self.now.modules i.0 ≡ Some result.now }
@@ -139,6 +155,7 @@ impl ComponentTypesBuilder {
         self.interned.module(i)
     }
 
+    /// The core signature under a number.
     pub fn signature(&self, i: ModuleInternedTypeIndex) -> &CoreFuncSig
         requires held { i.0 < length self.now.signatures }
         ensures { slice_get self.now.signatures i.0 ≡ Some result.now }
@@ -146,18 +163,21 @@ impl ComponentTypesBuilder {
         self.interned.signature(i)
     }
 
+    /// How many future tables there are.
     pub fn num_future_tables(&self) -> usize
         ensures { result ≡ length self.now.future_tables }
     {
         self.interned.held(TypeKind::FutureTable)
     }
 
+    /// How many stream tables there are.
     pub fn num_stream_tables(&self) -> usize
         ensures { result ≡ length self.now.stream_tables }
     {
         self.interned.held(TypeKind::StreamTable)
     }
 
+    /// How many error context tables there are.
     pub fn num_error_context_tables(&self) -> usize
         ensures { result ≡ length self.now.error_context_tables }
     {

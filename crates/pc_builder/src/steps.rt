@@ -30,7 +30,7 @@ use pc_entity::{ModuleInternedTypeIndex, TryClone};
 use pc_interned::{InternedTypes, NoPlace};
 use pc_types::{DeclType, TypeDef, TypeTable};
 
-// The number of core signature `n`, which is there.
+/// The number of core signature `n`, which is there.
 pub(crate) fn signature_at(
     interned: &mut InternedTypes,
     table: &TypeTable,
@@ -50,7 +50,7 @@ pub(crate) fn signature_at(
     interned.put_signature(signature)
 }
 
-// Entry `n`, which is there, with all that it leads to.
+/// Entry `n`, which is there, with all that it leads to.
 pub(crate) fn entry_type(
     interned: &mut InternedTypes,
     table: &TypeTable,
@@ -70,7 +70,7 @@ pub(crate) fn entry_type(
     entry_with(interned, table, n, &mut converted)
 }
 
-// Entry `n`, which is there, with all that it leads to, where some entries are converted.
+/// Entry `n`, which is there, with all that it leads to, where some entries are converted.
 pub(crate) fn entry_with(
     interned: &mut InternedTypes,
     table: &TypeTable,
@@ -94,7 +94,7 @@ pub(crate) fn entry_with(
     Ok(type_at(converted.as_slice(), n))
 }
 
-// The entries that are needed for entry `n`, in ascending order, are converted.
+/// The entries that are needed for entry `n`, in ascending order, are converted.
 fn convert_needed(
     interned: &mut InternedTypes,
     table: &TypeTable,
@@ -119,7 +119,7 @@ fn convert_needed(
     Ok(())
 }
 
-// Entry `k`, where what it names is converted.
+/// Entry `k`, where what it names is converted.
 fn step(
     interned: &mut InternedTypes,
     table: &TypeTable,
@@ -148,7 +148,7 @@ fn step(
     Ok(())
 }
 
-// Entry `n`, whose parts are done.
+/// Entry `n`, whose parts are done.
 fn convert(
     interned: &mut InternedTypes,
     table: &TypeTable,

@@ -15,7 +15,7 @@ use pc_types::{
     TypeErrorContextTable, ValType,
 };
 
-// The number of the error contexts of the current component instance.
+/// The number of the error contexts of the current component instance.
 pub(crate) fn error_contexts(
     interned: &mut InternedTypes,
 ) -> Result<TypeComponentLocalErrorContextTableIndex, NoPlace>
@@ -28,7 +28,7 @@ pub(crate) fn error_contexts(
     interned.put_error_context_table(TypeErrorContextTable { instance })
 }
 
-// A primitive.
+/// A primitive.
 pub(crate) fn primitive(interned: &mut InternedTypes, p: PrimType) -> Result<InterfaceType, NoPlace>
     ensures is { IfOk result (λ w. PrimIs interned.new p w) }
     ensures grows { Grows interned.old interned.new }
@@ -41,7 +41,7 @@ pub(crate) fn primitive(interned: &mut InternedTypes, p: PrimType) -> Result<Int
     }
 }
 
-// A value type, whose number is among the done ones.
+/// A value type, whose number is among the done ones.
 pub(crate) fn value(
     interned: &mut InternedTypes,
     done: &[Option<TypeDef>],
@@ -60,7 +60,7 @@ pub(crate) fn value(
     }
 }
 
-// The value type of a primitive that needs no table.
+/// The value type of a primitive that needs no table.
 fn plain_type(p: PrimType) -> Option<InterfaceType>
     ensures { result ≡ plain_type p }
 {
@@ -82,7 +82,7 @@ fn plain_type(p: PrimType) -> Option<InterfaceType>
     }
 }
 
-// The value type of a done entry.
+/// The value type of a done entry.
 fn value_at(done: &[Option<TypeDef>], n: u32) -> InterfaceType
     requires { (w : InterfaceType) × (slice_get done.now n ≡ Some (Some (def.Interface w))) }
     ensures { slice_get done.now n ≡ Some (Some (def.Interface result)) }

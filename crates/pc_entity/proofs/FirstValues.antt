@@ -30,15 +30,19 @@ module _ {V : Type 0} where
       by None k = h name ∙ k ∙ sym (other (bytes_eq name e.0) refl k) ∙ sym (value_of-append_absent name es (e ∷ []) k)
 
   -- an entry that goes to the end of both lists is found in both
-  met_first : (found es : List (List ℕ × V)) (e : List ℕ × V) → FindsAs found es → FindsAs (found ++ e ∷ []) (es ++ e ∷ [])
+  met_first : (found es : List (List ℕ × V)) (e : List ℕ × V) → FindsAs found es
+      → FindsAs (found ++ e ∷ []) (es ++ e ∷ [])
   met_first found es e h name = by (value_of name es) refl
     where
       by : (o : Option V) → value_of name es ≡ o → value_of name (found ++ e ∷ []) ≡ value_of name (es ++ e ∷ [])
-      by (Some v) k = value_of-append_held name found (e ∷ []) v (h name ∙ k) ∙ sym (value_of-append_held name es (e ∷ []) v k)
-      by None k = value_of-append_absent name found (e ∷ []) (h name ∙ k) ∙ sym (value_of-append_absent name es (e ∷ []) k)
+      by (Some v) k =
+          value_of-append_held name found (e ∷ []) v (h name ∙ k) ∙ sym (value_of-append_held name es (e ∷ []) v k)
+      by None k =
+          value_of-append_absent name found (e ∷ []) (h name ∙ k) ∙ sym (value_of-append_absent name es (e ∷ []) k)
 
   -- a map into which an entry went goes on answering as the list of all entries
-  pub found_next : (found es : List (List ℕ × V)) (e : List ℕ × V) → FindsAs found es → FindsAs (with_first found e) (es ++ e ∷ [])
+  pub found_next : (found es : List (List ℕ × V)) (e : List ℕ × V) → FindsAs found es
+      → FindsAs (with_first found e) (es ++ e ∷ [])
   found_next found es e h = by (is_some (value_of e.0 found)) refl
     where
       by : (b : Bool) → is_some (value_of e.0 found) ≡ b → FindsAs (if b then found else found ++ e ∷ []) (es ++ e ∷ [])

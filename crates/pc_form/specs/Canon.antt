@@ -62,6 +62,19 @@ of_nothing =
     ∷ (codes "future.forward", canon.FutureForward)
     ∷ []
 
+-- the signature alone, of threads
+unfoldable pub thread_of_signature : ℕ → List (List ℕ × CanonItem)
+thread_of_signature s =
+    (codes "thread.index", canon.ThreadIndex s)
+    ∷ (codes "thread.resume-later", canon.ThreadResumeLater s)
+    ∷ (codes "thread.suspend", canon.ThreadSuspend s)
+    ∷ (codes "thread.yield", canon.ThreadYield s)
+    ∷ (codes "thread.suspend-then-resume", canon.ThreadSuspendThenResume s)
+    ∷ (codes "thread.yield-then-resume", canon.ThreadYieldThenResume s)
+    ∷ (codes "thread.suspend-then-promote", canon.ThreadSuspendThenPromote s)
+    ∷ (codes "thread.yield-then-promote", canon.ThreadYieldThenPromote s)
+    ∷ []
+
 -- the signature alone
 unfoldable pub of_signature : ℕ → List (List ℕ × CanonItem)
 of_signature s =
@@ -73,15 +86,7 @@ of_signature s =
     ∷ (codes "waitable.join", canon.WaitableJoin s)
     ∷ (codes "subtask.drop", canon.SubtaskDrop s)
     ∷ (codes "error-context.drop", canon.ErrorContextDrop s)
-    ∷ (codes "thread.index", canon.ThreadIndex s)
-    ∷ (codes "thread.resume-later", canon.ThreadResumeLater s)
-    ∷ (codes "thread.suspend", canon.ThreadSuspend s)
-    ∷ (codes "thread.yield", canon.ThreadYield s)
-    ∷ (codes "thread.suspend-then-resume", canon.ThreadSuspendThenResume s)
-    ∷ (codes "thread.yield-then-resume", canon.ThreadYieldThenResume s)
-    ∷ (codes "thread.suspend-then-promote", canon.ThreadSuspendThenPromote s)
-    ∷ (codes "thread.yield-then-promote", canon.ThreadYieldThenPromote s)
-    ∷ []
+    ∷ thread_of_signature s
 
 -- the signature, and a number: a resource, a memory, a stream or future type
 unfoldable pub of_index : ℕ → ℕ → List (List ℕ × CanonItem)
@@ -189,11 +194,15 @@ of_rest s w (a ∷ []) = of_one s w a
 of_rest s w (a ∷ b ∷ []) = of_two s w a b
 of_rest s w _ = None
 
+-- the signature, yet to be read, and what follows it
+abbrev pub with_signature : List ℕ → Data → List Data → Option CanonItem
+with_signature w core rest = whole core >>= λ s. of_rest s w rest
+
 -- a canonical function, by its name and what follows it
 unfoldable pub canon_from : List ℕ → List Data → Option CanonItem
 canon_from w [] = value_of w of_nothing
 canon_from w (func ∷ ty ∷ core ∷ opts ∷ []) = of_four w func ty core opts
-canon_from w (core ∷ rest) = whole core >>= λ s. of_rest s w rest
+canon_from w (core ∷ rest) = with_signature w core rest
 
 -- a canonical function: an array that begins with its name
 unfoldable pub canon_item : Data → Option CanonItem

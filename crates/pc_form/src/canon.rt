@@ -1,15 +1,15 @@
 //! Canonical functions.
 //!
-//! A canonical function is an array that begins with its name. How many parts follow the name, and of which shape they
+//! In the array of a canonical function the name comes first. How many parts follow the name, and of which shape they
 //! are, tells the functions apart first. So each name stands in one place, in a table of those with the same parts.
 
 ghost use Rattle.std.specs.Prelude.{◌≡◌, map};
 ghost use Rattle.serde_json.specs.View.{view};
 ghost use Rattle.pc_entity.specs.Lists.{value_of};
-ghost use Rattle.pc_form.specs.Canon.{of_nothing, of_signature};
+ghost use Rattle.pc_form.specs.Canon.{of_nothing, of_signature, thread_of_signature};
 ghost use Rattle.pc_form.specs.Canon.{of_index, of_flag, of_options, of_one, of_cancel, of_copy, of_slot, of_start};
 ghost use Rattle.pc_form.specs.Canon.{of_two_numbered, of_two_with_options, of_two, of_function, of_four, of_rest};
-ghost use Rattle.pc_form.specs.Canon.{canon_from};
+ghost use Rattle.pc_form.specs.Canon.{canon_from, with_signature};
 ghost use Rattle.pc_form.specs.Canon.{canon_item, task_return};
 ghost use Rattle.pc_form.specs.Reads.{Reads};
 
@@ -37,6 +37,24 @@ fn of_nothing(name: &str) -> Option<CanonItem>
     }
 }
 
+/// A canonical function of threads, of a signature.
+#[tactic(auto, unfolding(crate::specs::Canon::thread_of_signature))]
+fn thread_of_signature(name: &str, core: u32) -> Option<CanonItem>
+    ensures { result ≡ value_of name.now (thread_of_signature core) }
+{
+    match name {
+        "thread.index" => Some(CanonItem::ThreadIndex(core)),
+        "thread.resume-later" => Some(CanonItem::ThreadResumeLater(core)),
+        "thread.suspend" => Some(CanonItem::ThreadSuspend(core)),
+        "thread.yield" => Some(CanonItem::ThreadYield(core)),
+        "thread.suspend-then-resume" => Some(CanonItem::ThreadSuspendThenResume(core)),
+        "thread.yield-then-resume" => Some(CanonItem::ThreadYieldThenResume(core)),
+        "thread.suspend-then-promote" => Some(CanonItem::ThreadSuspendThenPromote(core)),
+        "thread.yield-then-promote" => Some(CanonItem::ThreadYieldThenPromote(core)),
+        _ => None,
+    }
+}
+
 /// A canonical function of a signature.
 #[tactic(auto, unfolding(crate::specs::Canon::of_signature))]
 fn of_signature(name: &str, core: u32) -> Option<CanonItem>
@@ -51,15 +69,7 @@ fn of_signature(name: &str, core: u32) -> Option<CanonItem>
         "waitable.join" => Some(CanonItem::WaitableJoin(core)),
         "subtask.drop" => Some(CanonItem::SubtaskDrop(core)),
         "error-context.drop" => Some(CanonItem::ErrorContextDrop(core)),
-        "thread.index" => Some(CanonItem::ThreadIndex(core)),
-        "thread.resume-later" => Some(CanonItem::ThreadResumeLater(core)),
-        "thread.suspend" => Some(CanonItem::ThreadSuspend(core)),
-        "thread.yield" => Some(CanonItem::ThreadYield(core)),
-        "thread.suspend-then-resume" => Some(CanonItem::ThreadSuspendThenResume(core)),
-        "thread.yield-then-resume" => Some(CanonItem::ThreadYieldThenResume(core)),
-        "thread.suspend-then-promote" => Some(CanonItem::ThreadSuspendThenPromote(core)),
-        "thread.yield-then-promote" => Some(CanonItem::ThreadYieldThenPromote(core)),
-        _ => None,
+        _ => thread_of_signature(name, core),
     }
 }
 
@@ -316,6 +326,20 @@ fn of_rest<F: Form>(
     }
 }
 
+/// A canonical function of a signature, yet to be read, and what follows it.
+fn with_signature<F: Form>(
+    form: &F,
+    alloc: Global,
+    name: &str,
+    core: &Value,
+    rest: &[Value],
+) -> Result<CanonItem, DecodeError>
+    ensures { Reads result (with_signature name.now (view core.now) (map view rest.now)) }
+{
+    let core = u32::read(form, alloc, core)?;
+    of_rest(form, alloc, name, core, rest)
+}
+
 /// A canonical function, by its name and what follows it.
 #[tactic(auto, unfolding(crate::specs::Canon::canon_from))]
 fn from_parts<F: Form>(
@@ -329,10 +353,7 @@ fn from_parts<F: Form>(
     match parts {
         [] => of_nothing(name).ok_or(DecodeError::BadForm),
         [func, ty, core, opts] => of_four(form, alloc, name, func, ty, core, opts),
-        [core, rest @ ..] => {
-            let core = u32::read(form, alloc, core)?;
-            of_rest(form, alloc, name, core, rest)
-        }
+        [core, rest @ ..] => with_signature(form, alloc, name, core, rest),
     }
 }
 

@@ -9,7 +9,7 @@ ghost use Rattle.serde_json.specs.Find.{as_bool, get};
 ghost use Rattle.pc_entity.specs.Lists.{map_all, value_of};
 ghost use Rattle.pc_form.specs.Rules.{Rules, plain, section};
 ghost use Rattle.pc_form.specs.Reads.{Reads};
-ghost use Rattle.pc_form.specs.Tree.{whole, word, or_null, list_of, each, two, pair, triple, field};
+ghost use Rattle.pc_form.specs.Tree.{whole, word, or_null, list_of, each, two, pair, three, triple, field};
 
 use crate::DecodeError;
 use crate::tree::list;
@@ -52,6 +52,7 @@ impl Form for Plain {
 pub trait ReadForm {
     ghost shape: { Rules → Data → Option Self };
 
+    /// A value, read as this type.
     fn read<F: Form>(form: &F, alloc: Global, value: &Value) -> Result<Self, DecodeError>
         ensures { Reads result (shape (F.rules form.now) (view value.now)) };
 }
@@ -60,6 +61,7 @@ pub trait ReadForm {
 pub trait Word {
     ghost words: { List (List ℕ × Self) };
 
+    /// What a word stands for, if it is one of these.
     fn of(word: &str) -> Option<Self>
         ensures { result ≡ value_of word.now words };
 }
@@ -144,16 +146,28 @@ impl<A: ReadForm + Drop, B: ReadForm> ReadForm for (A, B) {
     }
 }
 
+/// Three values, each read.
+fn three<A: ReadForm + Drop, B: ReadForm + Drop, C: ReadForm, F: Form>(
+    form: &F,
+    alloc: Global,
+    a: &Value,
+    b: &Value,
+    c: &Value,
+) -> Result<(A, B, C), DecodeError>
+    ensures { Reads result (three (A.shape (F.rules form.now)) (B.shape (F.rules form.now))
+        (C.shape (F.rules form.now)) (view a.now ∷ view b.now ∷ view c.now ∷ [])) }
+{
+    let (first, second) = two(form, alloc, a, b)?;
+    let third = C::read(form, alloc, c)?;
+    Ok((first, second, third))
+}
+
 impl<A: ReadForm + Drop, B: ReadForm + Drop, C: ReadForm> ReadForm for (A, B, C) {
     ghost shape = { λ rules. triple (A.shape rules) (B.shape rules) (C.shape rules) };
 
     fn read<F: Form>(form: &F, alloc: Global, value: &Value) -> Result<(A, B, C), DecodeError> {
         match list(value) {
-            Some([a, b, c]) => {
-                let (first, second) = two(form, alloc, a, b)?;
-                let third = C::read(form, alloc, c)?;
-                Ok((first, second, third))
-            }
+            Some([a, b, c]) => three(form, alloc, a, b, c),
             _ => Err(DecodeError::BadForm),
         }
     }

@@ -32,14 +32,17 @@ pub struct Input {
 fn members<F: Form>(form: &F, alloc: Global, value: &Value) -> Result<Input, DecodeError>
     ensures { Reads result (input_from (F.rules form.now) (view value.now)) }
 {
-    let limit = field(form, alloc, value, "limit")?;
+    let max_component_instances = field(form, alloc, value, "limit")?;
+    let intrinsics = field(form, alloc, value, "intrinsics")?;
+    let table = field(form, alloc, value, "types")?;
+    let payloads = field(form, alloc, value, "payloads")?;
     Ok(Input {
         tunables: Tunables {
-            max_component_instances: limit,
+            max_component_instances,
         },
-        intrinsics: field(form, alloc, value, "intrinsics")?,
-        table: field(form, alloc, value, "types")?,
-        payloads: field(form, alloc, value, "payloads")?,
+        intrinsics,
+        table,
+        payloads,
     })
 }
 

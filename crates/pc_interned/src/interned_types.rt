@@ -79,6 +79,7 @@ impl Drop for InternedTypes {
     }
 }
 
+/// Lets go of the types of values.
 fn drop_values(
     _funcs: Interner<TypeFunc>,
     _tuples: Interner<TypeTuple>,
@@ -87,6 +88,7 @@ fn drop_values(
     _lists: Interner<TypeList>,
 ) {}
 
+/// Lets go of the other types of values.
 fn drop_more_values(
     _options: Interner<TypeOption>,
     _results: Interner<TypeResult>,
@@ -94,6 +96,7 @@ fn drop_more_values(
     _enums: Interner<TypeEnum>,
 ) {}
 
+/// Lets go of the tables of handles.
 fn drop_tables(
     _resource_tables: Interner<TypeResourceTable>,
     _future_tables: Interner<TypeFutureTable>,
@@ -101,8 +104,10 @@ fn drop_tables(
     _error_context_tables: Interner<TypeErrorContextTable>,
 ) {}
 
+/// Lets go of the facts.
 fn drop_facts(_facts: FactTable) {}
 
+/// Lets go of what imports and exports are typed by, and of the resources.
 fn drop_externs(
     _instances: Interner<TypeComponentInstance>,
     _components: Interner<TypeComponent>,

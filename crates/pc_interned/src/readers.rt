@@ -22,6 +22,7 @@ use pc_types::{
 };
 
 impl InternedTypes {
+    /// The function type under a number.
     pub fn func(&self, i: TypeFuncIndex) -> &TypeFunc
         requires held { i.0 < length self.now.funcs }
         ensures is { slice_get self.now.funcs i.0 ≡ Some result.now }
@@ -31,6 +32,7 @@ impl InternedTypes {
         self.funcs.get(i.0).unwrap()
     }
 
+    /// The tuple type under a number.
     pub fn tuple(&self, i: TypeTupleIndex) -> &TypeTuple
         requires held { i.0 < length self.now.tuples }
         ensures { slice_get self.now.tuples i.0 ≡ Some result.now }
@@ -38,6 +40,7 @@ impl InternedTypes {
         self.tuples.get(i.0).unwrap()
     }
 
+    /// The record type under a number.
     pub fn record_type(&self, i: TypeRecordIndex) -> &TypeRecord
         requires held { i.0 < length self.now.records }
         ensures { slice_get self.now.records i.0 ≡ Some result.now }
@@ -45,6 +48,7 @@ impl InternedTypes {
         self.records.get(i.0).unwrap()
     }
 
+    /// The variant type under a number.
     pub fn variant(&self, i: TypeVariantIndex) -> &TypeVariant
         requires held { i.0 < length self.now.variants }
         ensures { slice_get self.now.variants i.0 ≡ Some result.now }
@@ -52,6 +56,7 @@ impl InternedTypes {
         self.variants.get(i.0).unwrap()
     }
 
+    /// The list type under a number.
     pub fn list(&self, i: TypeListIndex) -> &TypeList
         requires held { i.0 < length self.now.lists }
         ensures { slice_get self.now.lists i.0 ≡ Some result.now }
@@ -59,6 +64,7 @@ impl InternedTypes {
         self.lists.get(i.0).unwrap()
     }
 
+    /// The option type under a number.
     pub fn option(&self, i: TypeOptionIndex) -> &TypeOption
         requires held { i.0 < length self.now.options }
         ensures { slice_get self.now.options i.0 ≡ Some result.now }
@@ -66,6 +72,7 @@ impl InternedTypes {
         self.options.get(i.0).unwrap()
     }
 
+    /// The result type under a number.
     pub fn result(&self, i: TypeResultIndex) -> &TypeResult
         requires held { i.0 < length self.now.results }
         ensures { slice_get self.now.results i.0 ≡ Some result.now }
@@ -73,6 +80,7 @@ impl InternedTypes {
         self.results.get(i.0).unwrap()
     }
 
+    /// The flags type under a number.
     pub fn flags(&self, i: TypeFlagsIndex) -> &TypeFlags
         requires held { i.0 < length self.now.flags }
         ensures { slice_get self.now.flags i.0 ≡ Some result.now }
@@ -80,6 +88,7 @@ impl InternedTypes {
         self.flags.get(i.0).unwrap()
     }
 
+    /// The enum type under a number.
     pub fn enum_type(&self, i: TypeEnumIndex) -> &TypeEnum
         requires held { i.0 < length self.now.enums }
         ensures { slice_get self.now.enums i.0 ≡ Some result.now }
@@ -87,6 +96,7 @@ impl InternedTypes {
         self.enums.get(i.0).unwrap()
     }
 
+    /// The handles of a resource, under their number.
     pub fn resource_table(&self, i: TypeResourceTableIndex) -> &TypeResourceTable
         requires held { i.0 < length self.now.resource_tables }
         ensures { slice_get self.now.resource_tables i.0 ≡ Some result.now }
@@ -94,6 +104,7 @@ impl InternedTypes {
         self.resource_tables.get(i.0).unwrap()
     }
 
+    /// The futures of a payload type, under their number.
     pub fn future_table(&self, i: TypeFutureTableIndex) -> &TypeFutureTable
         requires held { i.0 < length self.now.future_tables }
         ensures { slice_get self.now.future_tables i.0 ≡ Some result.now }
@@ -101,6 +112,7 @@ impl InternedTypes {
         self.future_tables.get(i.0).unwrap()
     }
 
+    /// The streams of a payload type, under their number.
     pub fn stream_table(&self, i: TypeStreamTableIndex) -> &TypeStreamTable
         requires held { i.0 < length self.now.stream_tables }
         ensures { slice_get self.now.stream_tables i.0 ≡ Some result.now }
@@ -108,6 +120,7 @@ impl InternedTypes {
         self.stream_tables.get(i.0).unwrap()
     }
 
+    /// The error contexts of a component instance, under their number.
     pub fn error_context_table(
         &self,
         i: TypeComponentLocalErrorContextTableIndex,
@@ -118,6 +131,7 @@ impl InternedTypes {
         self.error_context_tables.get(i.0).unwrap()
     }
 
+    /// The instance type under a number.
     pub fn instance(&self, i: TypeComponentInstanceIndex) -> &TypeComponentInstance
         requires held { i.0 < length self.now.instances }
         ensures { slice_get self.now.instances i.0 ≡ Some result.now }
@@ -125,6 +139,7 @@ impl InternedTypes {
         self.instances.get(i.0).unwrap()
     }
 
+    /// The component type under a number.
     pub fn component(&self, i: TypeComponentIndex) -> &TypeComponent
         requires held { i.0 < length self.now.components }
         ensures { slice_get self.now.components i.0 ≡ Some result.now }
@@ -132,6 +147,7 @@ impl InternedTypes {
         self.components.get(i.0).unwrap()
     }
 
+    /// The module type under a number.
     pub fn module(&self, i: TypeModuleIndex) -> &TypeModule
         requires held { i.0 < length self.now.modules }
         ensures { slice_get self.now.modules i.0 ≡ Some result.now }
@@ -139,6 +155,7 @@ impl InternedTypes {
         self.modules.get(i.0).unwrap()
     }
 
+    /// The core signature under a number.
     pub fn signature(&self, i: ModuleInternedTypeIndex) -> &CoreFuncSig
         requires held { i.0 < length self.now.signatures }
         ensures { slice_get self.now.signatures i.0 ≡ Some result.now }

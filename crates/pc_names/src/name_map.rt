@@ -106,7 +106,8 @@ impl<K: Eq + Ord + Hash + TryClone + Drop, V: Drop> NameMap<K, V> {
     fn place_for(&self, key: &K, allow_shadowing: bool) -> Result<Option<usize>, NameError>
         ensures place { IfOk result (λ place. place ≡ place_in K.cmp self.now.definitions key.now) }
         ensures once { OnOk result (¬ IsHeld K.cmp self.now key.now allow_shadowing) }
-        ensures twice { IfErr result (λ e. (e ≡ NameError.DefinedTwice) × IsHeld K.cmp self.now key.now allow_shadowing) }
+        ensures twice { IfErr result
+            (λ e. (e ≡ NameError.DefinedTwice) × IsHeld K.cmp self.now key.now allow_shadowing) }
     {
         let place = self.definitions.place_of(key);
         if place.is_some() && !allow_shadowing {

@@ -11,7 +11,7 @@ use pc_entity::{EntityIndex, NoMemory, Seq, Text};
 use pc_types::{ByKind, CoreEntity, CoreKind};
 use std::alloc::Global;
 
-// No entity of any kind was met.
+/// No entity of any kind was met.
 fn none_met() -> ByKind<u32>
     ensures { (k : CoreKind) → of_kind result k ≡ 0 }
 {
@@ -24,7 +24,7 @@ fn none_met() -> ByKind<u32>
     }
 }
 
-// Counts one entity of a kind.
+/// Counts one entity of a kind.
 fn count(counts: &mut ByKind<u32>, kind: CoreKind)
     requires small { of_kind counts.old kind < 4294967295 }
     ensures { (k : CoreKind)

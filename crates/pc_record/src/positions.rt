@@ -25,7 +25,7 @@ pub(crate) fn positions(
     })
 }
 
-// The places of the imports of a kind, in order.
+/// The places of the imports of a kind, in order.
 fn places(
     alloc: Global,
     imports: &[(Text, Text, CoreEntity)],

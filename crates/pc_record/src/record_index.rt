@@ -114,7 +114,7 @@ impl<'a> RecordIndex<'a> {
     }
 }
 
-// The item at a place of two lists, one behind the other.
+/// The item at a place of two lists, one behind the other.
 fn at<T: Copy>(first: &[T], second: &[T], place: u32) -> Option<T>
     ensures { result ≡ slice_get (first.now ++ second.now) place }
 {
@@ -126,7 +126,7 @@ fn at<T: Copy>(first: &[T], second: &[T], place: u32) -> Option<T>
     }
 }
 
-// The item at a place.
+/// The item at a place.
 fn item<T: Copy>(items: &[T], place: usize) -> Option<T>
     ensures { result ≡ slice_get items.now place }
 {

@@ -63,16 +63,20 @@ module _ {τ υ : Type 0} (f : τ → υ) where
   abbrev pub map_argument : NamedArgument τ → NamedArgument υ
   map_argument a = record { module_name = a.module_name; name = a.name; value = map_value f a.value }
 
+  -- what makes an instance likewise
   abbrev pub map_instantiation : Instantiation τ → Instantiation υ
   map_instantiation (of_static n args) = of_static n (map (map_value f) args)
   map_instantiation (of_host path args) = of_host path (map map_argument args)
 
+  -- a made instance likewise
   abbrev pub map_owned : Owned τ → Owned υ
   map_owned o = record { instantiation = map_instantiation o.instantiation; component_instance = o.component_instance }
 
+  -- an entry of a log likewise
   abbrev pub map_entry : Entry τ → Entry υ
   map_entry (instantiated i c) = instantiated (map_instantiation i) c
-  map_entry (declared_resource representation destructor c) = declared_resource representation (map_maybe f destructor) c
+  map_entry (declared_resource representation destructor c) =
+      declared_resource representation (map_maybe f destructor) c
   map_entry (declared v) = declared (map_value f v)
   map_entry (made v) = made (map_value f v)
   map_entry (needed path) = needed path

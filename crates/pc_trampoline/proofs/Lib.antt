@@ -1,2 +1,3 @@
 pub mod BuiltinLemmas
+pub mod ListLemmas
 pub mod ShapeLemmas

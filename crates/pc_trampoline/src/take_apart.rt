@@ -1,9 +1,9 @@
 //! Trampolines taken apart. What asks for all kinds goes by the parts, so this is the one place that looks at each;
 //! `put_together` has the way back.
 
-ghost use Rattle.std.specs.Prelude.{◌≡◌};
-ghost use Rattle.pc_trampoline.specs.Parts.{error_context_part, future_part, parts_of, resource_part, stream_part};
-ghost use Rattle.pc_trampoline.specs.Parts.{tuple_part};
+ghost use Rattle.std.specs.Prelude.{◌≡◌, slice_get};
+ghost use Rattle.pc_trampoline.specs.Parts.{error_context_part, future_part, list_of, parts_of, resource_part};
+ghost use Rattle.pc_trampoline.specs.Parts.{stream_part, tuple_part};
 ghost use Rattle.pc_trampoline.specs.Shape.{IsShaped};
 
 use crate::{Head, Part, PartList, Parts, Trampoline};
@@ -47,66 +47,50 @@ fn error_context<O, M, T, C, P>(ty: TypeComponentLocalErrorContextTableIndex) ->
     Part::Type_(TypeDef::Interface(InterfaceType::ErrorContext(ty)))
 }
 
+/// The kind of a trampoline, by the variant of the same name.
+macro_rules! same_name {
+    ($trampoline:expr; $($kind:ident)*) => {
+        match $trampoline {
+            $(Trampoline::$kind { .. } => Kind::$kind,)*
+        }
+    };
+}
+
+/// A trampoline of one of these kinds, which all have this field.
+macro_rules! with {
+    ($field:ident; $($kind:ident)*) => { $(Trampoline::$kind { $field, .. })|* };
+}
+
+/// A trampoline of one of these kinds.
+macro_rules! any_of {
+    ($($kind:ident)*) => { $(Trampoline::$kind { .. })|* };
+}
+
 impl<L: Copy, O: Copy, M: Copy, T: Copy, C: Copy, P: Copy> Trampoline<L, O, M, T, C, P> {
     /// Its kind.
     #[tactic(auto, unfolding(crate::specs::Parts::parts_of))]
     fn kind(&self) -> Kind
         ensures { result ≡ (parts_of self.now).kind }
     {
-        match self {
-            Trampoline::LowerImport { .. } => Kind::LowerImport,
-            Trampoline::ResourceNew { .. } => Kind::ResourceNew,
-            Trampoline::ResourceRep { .. } => Kind::ResourceRep,
-            Trampoline::ResourceDrop { .. } => Kind::ResourceDrop,
-            Trampoline::BackpressureInc { .. } => Kind::BackpressureInc,
-            Trampoline::BackpressureDec { .. } => Kind::BackpressureDec,
-            Trampoline::TaskReturn { .. } => Kind::TaskReturn,
-            Trampoline::TaskCancel { .. } => Kind::TaskCancel,
-            Trampoline::WaitableSetNew { .. } => Kind::WaitableSetNew,
-            Trampoline::WaitableSetWait { .. } => Kind::WaitableSetWait,
-            Trampoline::WaitableSetPoll { .. } => Kind::WaitableSetPoll,
-            Trampoline::WaitableSetDrop { .. } => Kind::WaitableSetDrop,
-            Trampoline::WaitableJoin { .. } => Kind::WaitableJoin,
-            Trampoline::SubtaskDrop { .. } => Kind::SubtaskDrop,
-            Trampoline::SubtaskCancel { .. } => Kind::SubtaskCancel,
-            Trampoline::StreamNew { .. } => Kind::StreamNew,
-            Trampoline::StreamRead { .. } => Kind::StreamRead,
-            Trampoline::StreamWrite { .. } => Kind::StreamWrite,
-            Trampoline::StreamCancelRead { .. } => Kind::StreamCancelRead,
-            Trampoline::StreamCancelWrite { .. } => Kind::StreamCancelWrite,
-            Trampoline::StreamDropReadable { .. } => Kind::StreamDropReadable,
-            Trampoline::StreamDropWritable { .. } => Kind::StreamDropWritable,
-            Trampoline::FutureNew { .. } => Kind::FutureNew,
-            Trampoline::FutureRead { .. } => Kind::FutureRead,
-            Trampoline::FutureWrite { .. } => Kind::FutureWrite,
-            Trampoline::FutureCancelRead { .. } => Kind::FutureCancelRead,
-            Trampoline::FutureCancelWrite { .. } => Kind::FutureCancelWrite,
-            Trampoline::FutureDropReadable { .. } => Kind::FutureDropReadable,
-            Trampoline::FutureDropWritable { .. } => Kind::FutureDropWritable,
-            Trampoline::ErrorContextNew { .. } => Kind::ErrorContextNew,
-            Trampoline::ErrorContextDebugMessage { .. } => Kind::ErrorContextDebugMessage,
-            Trampoline::ErrorContextDrop { .. } => Kind::ErrorContextDrop,
-            Trampoline::ThreadIndex { .. } => Kind::ThreadIndex,
-            Trampoline::ThreadNewIndirect { .. } => Kind::ThreadNewIndirect,
-            Trampoline::ThreadResumeLater { .. } => Kind::ThreadResumeLater,
-            Trampoline::ThreadSuspend { .. } => Kind::ThreadSuspend,
-            Trampoline::ThreadYield { .. } => Kind::ThreadYield,
-            Trampoline::ThreadSuspendThenResume { .. } => Kind::ThreadSuspendThenResume,
-            Trampoline::ThreadYieldThenResume { .. } => Kind::ThreadYieldThenResume,
-            Trampoline::ThreadSuspendThenPromote { .. } => Kind::ThreadSuspendThenPromote,
-            Trampoline::ThreadYieldThenPromote { .. } => Kind::ThreadYieldThenPromote,
-            Trampoline::Transcoder { .. } => Kind::Transcoder,
-            Trampoline::ResourceTransferOwn => Kind::ResourceTransferOwn,
-            Trampoline::ResourceTransferBorrow => Kind::ResourceTransferBorrow,
-            Trampoline::PrepareCall { .. } => Kind::PrepareCall,
-            Trampoline::StartCall { .. } => Kind::StartCall,
-            Trampoline::FutureTransfer => Kind::FutureTransfer,
-            Trampoline::StreamTransfer => Kind::StreamTransfer,
-            Trampoline::ErrorContextTransfer => Kind::ErrorContextTransfer,
-            Trampoline::Trap(_) => Kind::Trap,
-            Trampoline::EnterSyncCall => Kind::EnterSyncCall,
-            Trampoline::ExitSyncCall => Kind::ExitSyncCall,
-        }
+        same_name!(self;
+            LowerImport
+            ResourceNew ResourceRep ResourceDrop
+            BackpressureInc BackpressureDec TaskReturn TaskCancel
+            WaitableSetNew WaitableSetWait WaitableSetPoll WaitableSetDrop WaitableJoin
+            SubtaskDrop SubtaskCancel
+            StreamNew StreamRead StreamWrite StreamCancelRead
+            StreamCancelWrite StreamDropReadable StreamDropWritable
+            FutureNew FutureRead FutureWrite FutureCancelRead
+            FutureCancelWrite FutureDropReadable FutureDropWritable
+            ErrorContextNew ErrorContextDebugMessage ErrorContextDrop
+            ThreadIndex ThreadNewIndirect ThreadResumeLater ThreadSuspend ThreadYield
+            ThreadSuspendThenResume ThreadYieldThenResume
+            ThreadSuspendThenPromote ThreadYieldThenPromote
+            Transcoder
+            ResourceTransferOwn ResourceTransferBorrow PrepareCall StartCall
+            FutureTransfer StreamTransfer ErrorContextTransfer
+            Trap EnterSyncCall ExitSyncCall
+        )
     }
 
     /// What stands before its parts.
@@ -120,6 +104,20 @@ impl<L: Copy, O: Copy, M: Copy, T: Copy, C: Copy, P: Copy> Trampoline<L, O, M, T
                 lower_ty,
                 options,
             } => Head::Lowering(*index, *lower_ty, *options),
+            with!(instance;
+                ResourceNew ResourceRep ResourceDrop
+                BackpressureInc BackpressureDec TaskReturn TaskCancel
+                WaitableSetNew WaitableSetWait WaitableSetPoll WaitableSetDrop WaitableJoin
+                SubtaskDrop SubtaskCancel
+                StreamNew StreamRead StreamWrite StreamCancelRead
+                StreamCancelWrite StreamDropReadable StreamDropWritable
+                FutureNew FutureRead FutureWrite FutureCancelRead
+                FutureCancelWrite FutureDropReadable FutureDropWritable
+                ErrorContextNew ErrorContextDebugMessage ErrorContextDrop
+                ThreadIndex ThreadNewIndirect ThreadResumeLater ThreadSuspend ThreadYield
+                ThreadSuspendThenResume ThreadYieldThenResume
+                ThreadSuspendThenPromote ThreadYieldThenPromote
+            ) => Head::Builtin(*instance),
             Trampoline::Transcoder {
                 op,
                 from64,
@@ -127,148 +125,100 @@ impl<L: Copy, O: Copy, M: Copy, T: Copy, C: Copy, P: Copy> Trampoline<L, O, M, T
                 ..
             } => Head::Transcoding(*op, *from64, *to64),
             Trampoline::Trap(code) => Head::Trapping(*code),
-            Trampoline::ResourceNew { instance, .. }
-            | Trampoline::ResourceRep { instance, .. }
-            | Trampoline::ResourceDrop { instance, .. }
-            | Trampoline::BackpressureInc { instance }
-            | Trampoline::BackpressureDec { instance }
-            | Trampoline::TaskReturn { instance, .. }
-            | Trampoline::TaskCancel { instance }
-            | Trampoline::WaitableSetNew { instance }
-            | Trampoline::WaitableSetWait { instance, .. }
-            | Trampoline::WaitableSetPoll { instance, .. }
-            | Trampoline::WaitableSetDrop { instance }
-            | Trampoline::WaitableJoin { instance }
-            | Trampoline::SubtaskDrop { instance }
-            | Trampoline::SubtaskCancel { instance, .. }
-            | Trampoline::StreamNew { instance, .. }
-            | Trampoline::StreamRead { instance, .. }
-            | Trampoline::StreamWrite { instance, .. }
-            | Trampoline::StreamCancelRead { instance, .. }
-            | Trampoline::StreamCancelWrite { instance, .. }
-            | Trampoline::StreamDropReadable { instance, .. }
-            | Trampoline::StreamDropWritable { instance, .. }
-            | Trampoline::FutureNew { instance, .. }
-            | Trampoline::FutureRead { instance, .. }
-            | Trampoline::FutureWrite { instance, .. }
-            | Trampoline::FutureCancelRead { instance, .. }
-            | Trampoline::FutureCancelWrite { instance, .. }
-            | Trampoline::FutureDropReadable { instance, .. }
-            | Trampoline::FutureDropWritable { instance, .. }
-            | Trampoline::ErrorContextNew { instance, .. }
-            | Trampoline::ErrorContextDebugMessage { instance, .. }
-            | Trampoline::ErrorContextDrop { instance, .. }
-            | Trampoline::ThreadIndex { instance }
-            | Trampoline::ThreadNewIndirect { instance, .. }
-            | Trampoline::ThreadResumeLater { instance }
-            | Trampoline::ThreadSuspend { instance }
-            | Trampoline::ThreadYield { instance }
-            | Trampoline::ThreadSuspendThenResume { instance }
-            | Trampoline::ThreadYieldThenResume { instance }
-            | Trampoline::ThreadSuspendThenPromote { instance }
-            | Trampoline::ThreadYieldThenPromote { instance } => Head::Builtin(*instance),
-            Trampoline::ResourceTransferOwn
-            | Trampoline::ResourceTransferBorrow
-            | Trampoline::PrepareCall { .. }
-            | Trampoline::StartCall { .. }
-            | Trampoline::FutureTransfer
-            | Trampoline::StreamTransfer
-            | Trampoline::ErrorContextTransfer
-            | Trampoline::EnterSyncCall
-            | Trampoline::ExitSyncCall => Head::Helper,
+            any_of!(
+                ResourceTransferOwn ResourceTransferBorrow PrepareCall StartCall
+                FutureTransfer StreamTransfer ErrorContextTransfer
+                EnterSyncCall ExitSyncCall
+            ) => Head::Helper,
+        }
+    }
+
+    /// Its first part, if it has one.
+    #[tactic(auto, unfolding(crate::specs::Parts::parts_of))]
+    fn first(&self) -> Option<Part<O, M, T, C, P>>
+        ensures { result ≡ slice_get (list_of (parts_of self.now).parts) 0 }
+    {
+        match self {
+            with!(ty; ResourceNew ResourceRep ResourceDrop) => Some(resource(*ty)),
+            Trampoline::TaskReturn { results, .. } => Some(tuple(*results)),
+            with!(options; WaitableSetWait WaitableSetPoll) => Some(Part::Options(*options)),
+            Trampoline::SubtaskCancel { async_, .. } => Some(Part::Flag(*async_)),
+            with!(ty;
+                StreamNew StreamRead StreamWrite StreamCancelRead
+                StreamCancelWrite StreamDropReadable StreamDropWritable
+            ) => Some(stream(*ty)),
+            with!(ty;
+                FutureNew FutureRead FutureWrite FutureCancelRead
+                FutureCancelWrite FutureDropReadable FutureDropWritable
+            ) => Some(future(*ty)),
+            with!(ty;
+                ErrorContextNew ErrorContextDebugMessage ErrorContextDrop
+            ) => Some(error_context(*ty)),
+            Trampoline::ThreadNewIndirect {
+                start_func_ty_idx: ty,
+                ..
+            } => Some(Part::Number(ty.0)),
+            Trampoline::Transcoder { from, .. } => Some(Part::Memory(*from)),
+            Trampoline::PrepareCall { memory } => Some(Part::MaybeMemory(*memory)),
+            Trampoline::StartCall { callback, .. } => Some(Part::Callback(*callback)),
+            any_of!(
+                LowerImport BackpressureInc BackpressureDec TaskCancel
+                WaitableSetNew WaitableSetDrop WaitableJoin SubtaskDrop
+                ThreadIndex ThreadResumeLater ThreadSuspend ThreadYield
+                ThreadSuspendThenResume ThreadYieldThenResume
+                ThreadSuspendThenPromote ThreadYieldThenPromote
+                ResourceTransferOwn ResourceTransferBorrow
+                FutureTransfer StreamTransfer ErrorContextTransfer
+                Trap EnterSyncCall ExitSyncCall
+            ) => None,
+        }
+    }
+
+    /// Its second part, if it has one.
+    #[tactic(auto, unfolding(crate::specs::Parts::parts_of))]
+    fn second(&self) -> Option<Part<O, M, T, C, P>>
+        ensures { result ≡ slice_get (list_of (parts_of self.now).parts) 1 }
+    {
+        match self {
+            with!(options;
+                TaskReturn StreamRead StreamWrite FutureRead FutureWrite
+                ErrorContextNew ErrorContextDebugMessage
+            ) => Some(Part::Options(*options)),
+            with!(async_;
+                StreamCancelRead StreamCancelWrite FutureCancelRead FutureCancelWrite
+            ) => Some(Part::Flag(*async_)),
+            Trampoline::ThreadNewIndirect {
+                start_func_table_idx: table,
+                ..
+            } => Some(Part::Table(*table)),
+            Trampoline::Transcoder { to, .. } => Some(Part::Memory(*to)),
+            Trampoline::StartCall { post_return, .. } => Some(Part::PostReturn(*post_return)),
+            any_of!(
+                LowerImport ResourceNew ResourceRep ResourceDrop
+                BackpressureInc BackpressureDec TaskCancel
+                WaitableSetNew WaitableSetWait WaitableSetPoll WaitableSetDrop WaitableJoin
+                SubtaskDrop SubtaskCancel StreamNew
+                StreamDropReadable StreamDropWritable FutureNew
+                FutureDropReadable FutureDropWritable ErrorContextDrop
+                ThreadIndex ThreadResumeLater ThreadSuspend ThreadYield
+                ThreadSuspendThenResume ThreadYieldThenResume
+                ThreadSuspendThenPromote ThreadYieldThenPromote
+                ResourceTransferOwn ResourceTransferBorrow PrepareCall
+                FutureTransfer StreamTransfer ErrorContextTransfer
+                Trap EnterSyncCall ExitSyncCall
+            ) => None,
         }
     }
 
     /// Its parts.
-    #[tactic(auto, unfolding(crate::specs::Parts::parts_of))]
+    #[tactic(auto, using(crate::proofs::ListLemmas::list_again))]
     fn list(&self) -> PartList<Part<O, M, T, C, P>>
         ensures { result ≡ (parts_of self.now).parts }
     {
-        match self {
-            Trampoline::ResourceNew { ty, .. }
-            | Trampoline::ResourceRep { ty, .. }
-            | Trampoline::ResourceDrop { ty, .. } => PartList::One(resource(*ty)),
-            Trampoline::TaskReturn {
-                results,
-                options,
-                ..
-            } => PartList::Two(tuple(*results), Part::Options(*options)),
-            Trampoline::WaitableSetWait { options, .. }
-            | Trampoline::WaitableSetPoll { options, .. } => PartList::One(Part::Options(*options)),
-            Trampoline::SubtaskCancel { async_, .. } => PartList::One(Part::Flag(*async_)),
-            Trampoline::StreamNew { ty, .. }
-            | Trampoline::StreamDropReadable { ty, .. }
-            | Trampoline::StreamDropWritable { ty, .. } => PartList::One(stream(*ty)),
-            Trampoline::StreamRead { ty, options, .. }
-            | Trampoline::StreamWrite { ty, options, .. } => PartList::Two(
-                stream(*ty),
-                Part::Options(*options),
-            ),
-            Trampoline::StreamCancelRead { ty, async_, .. }
-            | Trampoline::StreamCancelWrite { ty, async_, .. } => PartList::Two(
-                stream(*ty),
-                Part::Flag(*async_),
-            ),
-            Trampoline::FutureNew { ty, .. }
-            | Trampoline::FutureDropReadable { ty, .. }
-            | Trampoline::FutureDropWritable { ty, .. } => PartList::One(future(*ty)),
-            Trampoline::FutureRead { ty, options, .. }
-            | Trampoline::FutureWrite { ty, options, .. } => PartList::Two(
-                future(*ty),
-                Part::Options(*options),
-            ),
-            Trampoline::FutureCancelRead { ty, async_, .. }
-            | Trampoline::FutureCancelWrite { ty, async_, .. } => PartList::Two(
-                future(*ty),
-                Part::Flag(*async_),
-            ),
-            Trampoline::ErrorContextNew { ty, options, .. }
-            | Trampoline::ErrorContextDebugMessage { ty, options, .. } => PartList::Two(
-                error_context(*ty),
-                Part::Options(*options),
-            ),
-            Trampoline::ErrorContextDrop { ty, .. } => PartList::One(error_context(*ty)),
-            Trampoline::ThreadNewIndirect {
-                start_func_ty_idx,
-                start_func_table_idx,
-                ..
-            } => PartList::Two(
-                Part::Number(start_func_ty_idx.0),
-                Part::Table(*start_func_table_idx),
-            ),
-            Trampoline::Transcoder { from, to, .. } => PartList::Two(
-                Part::Memory(*from),
-                Part::Memory(*to),
-            ),
-            Trampoline::PrepareCall { memory } => PartList::One(Part::MaybeMemory(*memory)),
-            Trampoline::StartCall {
-                callback,
-                post_return,
-            } => PartList::Two(Part::Callback(*callback), Part::PostReturn(*post_return)),
-            Trampoline::LowerImport { .. }
-            | Trampoline::BackpressureInc { .. }
-            | Trampoline::BackpressureDec { .. }
-            | Trampoline::TaskCancel { .. }
-            | Trampoline::WaitableSetNew { .. }
-            | Trampoline::WaitableSetDrop { .. }
-            | Trampoline::WaitableJoin { .. }
-            | Trampoline::SubtaskDrop { .. }
-            | Trampoline::ThreadIndex { .. }
-            | Trampoline::ThreadResumeLater { .. }
-            | Trampoline::ThreadSuspend { .. }
-            | Trampoline::ThreadYield { .. }
-            | Trampoline::ThreadSuspendThenResume { .. }
-            | Trampoline::ThreadYieldThenResume { .. }
-            | Trampoline::ThreadSuspendThenPromote { .. }
-            | Trampoline::ThreadYieldThenPromote { .. }
-            | Trampoline::ResourceTransferOwn
-            | Trampoline::ResourceTransferBorrow
-            | Trampoline::FutureTransfer
-            | Trampoline::StreamTransfer
-            | Trampoline::ErrorContextTransfer
-            | Trampoline::Trap(_)
-            | Trampoline::EnterSyncCall
-            | Trampoline::ExitSyncCall => PartList::Empty,
+        match (self.first(), self.second()) {
+            (Some(first), Some(second)) => PartList::Two(first, second),
+            (Some(part), None) => PartList::One(part),
+            (None, _) => PartList::Empty,
         }
     }
 

@@ -2,5 +2,6 @@
 pub mod KindLemmas
 pub mod NameLemmas
 -- What the functions of this crate rest on.
+mod IntrinsicLemmas
 mod RecordLemmas
 mod Walking

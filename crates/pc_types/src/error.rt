@@ -35,12 +35,12 @@ impl fmt::Display for Place {
     }
 }
 
-// A thing by its number.
+/// A thing by its number.
 fn put<W: fmt::Write>(f: &mut fmt::Formatter<W>, what: &str, number: u64) -> fmt::Result {
     write!(f, "{what} {number}")
 }
 
-// An item of a thing, both by number.
+/// An item of a thing, both by number.
 fn put_item<W: fmt::Write>(
     f: &mut fmt::Formatter<W>,
     what: &str,

@@ -4,6 +4,8 @@ ghost use Rattle.std.specs.Prelude.{◌≡◌, ◌<◌, Contains, IfErr, IfOk, S
 ghost use Rattle.pc_types.specs.Intrinsic.{intrinsic_names};
 ghost use Rattle.pc_types.specs.IntrinsicType.{core_type, interface_type, intrinsic_place, intrinsic_type};
 
+use crate::InterfaceType::{U8, U16, U32, U64};
+use crate::WasmValType::{I32, I64};
 use crate::{InterfaceType, WasmValType};
 
 /// An unsafe intrinsic.
@@ -137,63 +139,26 @@ impl UnsafeIntrinsic {
         ensures { option_map (λ t. map core_type t.params) (intrinsic_type self.now) ≡ Some result.now }
     {
         match self {
-            UnsafeIntrinsic::StoreDataAddress => &[],
-            UnsafeIntrinsic::U8NativeLoad => &[WasmValType::I64],
-            UnsafeIntrinsic::U8NativeStore => &[WasmValType::I64, WasmValType::I32],
-            UnsafeIntrinsic::U16NativeLoad => &[WasmValType::I64],
-            UnsafeIntrinsic::U16NativeStore => &[WasmValType::I64, WasmValType::I32],
-            UnsafeIntrinsic::U32NativeLoad => &[WasmValType::I64],
-            UnsafeIntrinsic::U32NativeStore => &[WasmValType::I64, WasmValType::I32],
-            UnsafeIntrinsic::U64NativeLoad => &[WasmValType::I64],
-            UnsafeIntrinsic::U64NativeStore => &[WasmValType::I64, WasmValType::I64],
-            UnsafeIntrinsic::U8CheckedNativeLoad => &[
-                WasmValType::I64,
-                WasmValType::I64,
-                WasmValType::I64,
-            ],
-            UnsafeIntrinsic::U8CheckedNativeStore => &[
-                WasmValType::I64,
-                WasmValType::I64,
-                WasmValType::I64,
-                WasmValType::I32,
-            ],
-            UnsafeIntrinsic::U16CheckedNativeLoad => &[
-                WasmValType::I64,
-                WasmValType::I64,
-                WasmValType::I64,
-            ],
-            UnsafeIntrinsic::U16CheckedNativeStore => &[
-                WasmValType::I64,
-                WasmValType::I64,
-                WasmValType::I64,
-                WasmValType::I32,
-            ],
-            UnsafeIntrinsic::U32CheckedNativeLoad => &[
-                WasmValType::I64,
-                WasmValType::I64,
-                WasmValType::I64,
-            ],
-            UnsafeIntrinsic::U32CheckedNativeStore => &[
-                WasmValType::I64,
-                WasmValType::I64,
-                WasmValType::I64,
-                WasmValType::I32,
-            ],
-            UnsafeIntrinsic::U64CheckedNativeLoad => &[
-                WasmValType::I64,
-                WasmValType::I64,
-                WasmValType::I64,
-            ],
-            UnsafeIntrinsic::U64CheckedNativeStore => &[
-                WasmValType::I64,
-                WasmValType::I64,
-                WasmValType::I64,
-                WasmValType::I64,
-            ],
-            UnsafeIntrinsic::ContextGetI32_0 => &[],
-            UnsafeIntrinsic::ContextSetI32_0 => &[WasmValType::I32],
-            UnsafeIntrinsic::ContextGetI32_1 => &[],
-            UnsafeIntrinsic::ContextSetI32_1 => &[WasmValType::I32],
+            UnsafeIntrinsic::StoreDataAddress
+            | UnsafeIntrinsic::ContextGetI32_0
+            | UnsafeIntrinsic::ContextGetI32_1 => &[],
+            UnsafeIntrinsic::U8NativeLoad
+            | UnsafeIntrinsic::U16NativeLoad
+            | UnsafeIntrinsic::U32NativeLoad
+            | UnsafeIntrinsic::U64NativeLoad => &[I64],
+            UnsafeIntrinsic::U8NativeStore
+            | UnsafeIntrinsic::U16NativeStore
+            | UnsafeIntrinsic::U32NativeStore => &[I64, I32],
+            UnsafeIntrinsic::U64NativeStore => &[I64, I64],
+            UnsafeIntrinsic::U8CheckedNativeLoad
+            | UnsafeIntrinsic::U16CheckedNativeLoad
+            | UnsafeIntrinsic::U32CheckedNativeLoad
+            | UnsafeIntrinsic::U64CheckedNativeLoad => &[I64, I64, I64],
+            UnsafeIntrinsic::U8CheckedNativeStore
+            | UnsafeIntrinsic::U16CheckedNativeStore
+            | UnsafeIntrinsic::U32CheckedNativeStore => &[I64, I64, I64, I32],
+            UnsafeIntrinsic::U64CheckedNativeStore => &[I64, I64, I64, I64],
+            UnsafeIntrinsic::ContextSetI32_0 | UnsafeIntrinsic::ContextSetI32_1 => &[I32],
         }
     }
 
@@ -202,27 +167,27 @@ impl UnsafeIntrinsic {
         ensures { option_map (λ t. map core_type t.results) (intrinsic_type self.now) ≡ Some result.now }
     {
         match self {
-            UnsafeIntrinsic::StoreDataAddress => &[WasmValType::I64],
-            UnsafeIntrinsic::U8NativeLoad => &[WasmValType::I32],
-            UnsafeIntrinsic::U8NativeStore => &[],
-            UnsafeIntrinsic::U16NativeLoad => &[WasmValType::I32],
-            UnsafeIntrinsic::U16NativeStore => &[],
-            UnsafeIntrinsic::U32NativeLoad => &[WasmValType::I32],
-            UnsafeIntrinsic::U32NativeStore => &[],
-            UnsafeIntrinsic::U64NativeLoad => &[WasmValType::I64],
-            UnsafeIntrinsic::U64NativeStore => &[],
-            UnsafeIntrinsic::U8CheckedNativeLoad => &[WasmValType::I32],
-            UnsafeIntrinsic::U8CheckedNativeStore => &[],
-            UnsafeIntrinsic::U16CheckedNativeLoad => &[WasmValType::I32],
-            UnsafeIntrinsic::U16CheckedNativeStore => &[],
-            UnsafeIntrinsic::U32CheckedNativeLoad => &[WasmValType::I32],
-            UnsafeIntrinsic::U32CheckedNativeStore => &[],
-            UnsafeIntrinsic::U64CheckedNativeLoad => &[WasmValType::I64],
-            UnsafeIntrinsic::U64CheckedNativeStore => &[],
-            UnsafeIntrinsic::ContextGetI32_0 => &[WasmValType::I32],
-            UnsafeIntrinsic::ContextSetI32_0 => &[],
-            UnsafeIntrinsic::ContextGetI32_1 => &[WasmValType::I32],
-            UnsafeIntrinsic::ContextSetI32_1 => &[],
+            UnsafeIntrinsic::StoreDataAddress
+            | UnsafeIntrinsic::U64NativeLoad
+            | UnsafeIntrinsic::U64CheckedNativeLoad => &[I64],
+            UnsafeIntrinsic::U8NativeLoad
+            | UnsafeIntrinsic::U16NativeLoad
+            | UnsafeIntrinsic::U32NativeLoad
+            | UnsafeIntrinsic::U8CheckedNativeLoad
+            | UnsafeIntrinsic::U16CheckedNativeLoad
+            | UnsafeIntrinsic::U32CheckedNativeLoad
+            | UnsafeIntrinsic::ContextGetI32_0
+            | UnsafeIntrinsic::ContextGetI32_1 => &[I32],
+            UnsafeIntrinsic::U8NativeStore
+            | UnsafeIntrinsic::U16NativeStore
+            | UnsafeIntrinsic::U32NativeStore
+            | UnsafeIntrinsic::U64NativeStore
+            | UnsafeIntrinsic::U8CheckedNativeStore
+            | UnsafeIntrinsic::U16CheckedNativeStore
+            | UnsafeIntrinsic::U32CheckedNativeStore
+            | UnsafeIntrinsic::U64CheckedNativeStore
+            | UnsafeIntrinsic::ContextSetI32_0
+            | UnsafeIntrinsic::ContextSetI32_1 => &[],
         }
     }
 
@@ -231,63 +196,26 @@ impl UnsafeIntrinsic {
         ensures { option_map (λ t. map interface_type t.params) (intrinsic_type self.now) ≡ Some result.now }
     {
         match self {
-            UnsafeIntrinsic::StoreDataAddress => &[],
-            UnsafeIntrinsic::U8NativeLoad => &[InterfaceType::U64],
-            UnsafeIntrinsic::U8NativeStore => &[InterfaceType::U64, InterfaceType::U8],
-            UnsafeIntrinsic::U16NativeLoad => &[InterfaceType::U64],
-            UnsafeIntrinsic::U16NativeStore => &[InterfaceType::U64, InterfaceType::U16],
-            UnsafeIntrinsic::U32NativeLoad => &[InterfaceType::U64],
-            UnsafeIntrinsic::U32NativeStore => &[InterfaceType::U64, InterfaceType::U32],
-            UnsafeIntrinsic::U64NativeLoad => &[InterfaceType::U64],
-            UnsafeIntrinsic::U64NativeStore => &[InterfaceType::U64, InterfaceType::U64],
-            UnsafeIntrinsic::U8CheckedNativeLoad => &[
-                InterfaceType::U64,
-                InterfaceType::U64,
-                InterfaceType::U64,
-            ],
-            UnsafeIntrinsic::U8CheckedNativeStore => &[
-                InterfaceType::U64,
-                InterfaceType::U64,
-                InterfaceType::U64,
-                InterfaceType::U8,
-            ],
-            UnsafeIntrinsic::U16CheckedNativeLoad => &[
-                InterfaceType::U64,
-                InterfaceType::U64,
-                InterfaceType::U64,
-            ],
-            UnsafeIntrinsic::U16CheckedNativeStore => &[
-                InterfaceType::U64,
-                InterfaceType::U64,
-                InterfaceType::U64,
-                InterfaceType::U16,
-            ],
-            UnsafeIntrinsic::U32CheckedNativeLoad => &[
-                InterfaceType::U64,
-                InterfaceType::U64,
-                InterfaceType::U64,
-            ],
-            UnsafeIntrinsic::U32CheckedNativeStore => &[
-                InterfaceType::U64,
-                InterfaceType::U64,
-                InterfaceType::U64,
-                InterfaceType::U32,
-            ],
-            UnsafeIntrinsic::U64CheckedNativeLoad => &[
-                InterfaceType::U64,
-                InterfaceType::U64,
-                InterfaceType::U64,
-            ],
-            UnsafeIntrinsic::U64CheckedNativeStore => &[
-                InterfaceType::U64,
-                InterfaceType::U64,
-                InterfaceType::U64,
-                InterfaceType::U64,
-            ],
-            UnsafeIntrinsic::ContextGetI32_0 => &[],
-            UnsafeIntrinsic::ContextSetI32_0 => &[InterfaceType::U32],
-            UnsafeIntrinsic::ContextGetI32_1 => &[],
-            UnsafeIntrinsic::ContextSetI32_1 => &[InterfaceType::U32],
+            UnsafeIntrinsic::StoreDataAddress
+            | UnsafeIntrinsic::ContextGetI32_0
+            | UnsafeIntrinsic::ContextGetI32_1 => &[],
+            UnsafeIntrinsic::U8NativeLoad
+            | UnsafeIntrinsic::U16NativeLoad
+            | UnsafeIntrinsic::U32NativeLoad
+            | UnsafeIntrinsic::U64NativeLoad => &[U64],
+            UnsafeIntrinsic::U8NativeStore => &[U64, U8],
+            UnsafeIntrinsic::U16NativeStore => &[U64, U16],
+            UnsafeIntrinsic::U32NativeStore => &[U64, U32],
+            UnsafeIntrinsic::U64NativeStore => &[U64, U64],
+            UnsafeIntrinsic::U8CheckedNativeLoad
+            | UnsafeIntrinsic::U16CheckedNativeLoad
+            | UnsafeIntrinsic::U32CheckedNativeLoad
+            | UnsafeIntrinsic::U64CheckedNativeLoad => &[U64, U64, U64],
+            UnsafeIntrinsic::U8CheckedNativeStore => &[U64, U64, U64, U8],
+            UnsafeIntrinsic::U16CheckedNativeStore => &[U64, U64, U64, U16],
+            UnsafeIntrinsic::U32CheckedNativeStore => &[U64, U64, U64, U32],
+            UnsafeIntrinsic::U64CheckedNativeStore => &[U64, U64, U64, U64],
+            UnsafeIntrinsic::ContextSetI32_0 | UnsafeIntrinsic::ContextSetI32_1 => &[U32],
         }
     }
 
@@ -296,27 +224,25 @@ impl UnsafeIntrinsic {
         ensures { option_map (λ t. map interface_type t.results) (intrinsic_type self.now) ≡ Some result.now }
     {
         match self {
-            UnsafeIntrinsic::StoreDataAddress => &[InterfaceType::U64],
-            UnsafeIntrinsic::U8NativeLoad => &[InterfaceType::U8],
-            UnsafeIntrinsic::U8NativeStore => &[],
-            UnsafeIntrinsic::U16NativeLoad => &[InterfaceType::U16],
-            UnsafeIntrinsic::U16NativeStore => &[],
-            UnsafeIntrinsic::U32NativeLoad => &[InterfaceType::U32],
-            UnsafeIntrinsic::U32NativeStore => &[],
-            UnsafeIntrinsic::U64NativeLoad => &[InterfaceType::U64],
-            UnsafeIntrinsic::U64NativeStore => &[],
-            UnsafeIntrinsic::U8CheckedNativeLoad => &[InterfaceType::U8],
-            UnsafeIntrinsic::U8CheckedNativeStore => &[],
-            UnsafeIntrinsic::U16CheckedNativeLoad => &[InterfaceType::U16],
-            UnsafeIntrinsic::U16CheckedNativeStore => &[],
-            UnsafeIntrinsic::U32CheckedNativeLoad => &[InterfaceType::U32],
-            UnsafeIntrinsic::U32CheckedNativeStore => &[],
-            UnsafeIntrinsic::U64CheckedNativeLoad => &[InterfaceType::U64],
-            UnsafeIntrinsic::U64CheckedNativeStore => &[],
-            UnsafeIntrinsic::ContextGetI32_0 => &[InterfaceType::U32],
-            UnsafeIntrinsic::ContextSetI32_0 => &[],
-            UnsafeIntrinsic::ContextGetI32_1 => &[InterfaceType::U32],
-            UnsafeIntrinsic::ContextSetI32_1 => &[],
+            UnsafeIntrinsic::StoreDataAddress
+            | UnsafeIntrinsic::U64NativeLoad
+            | UnsafeIntrinsic::U64CheckedNativeLoad => &[U64],
+            UnsafeIntrinsic::U8NativeLoad | UnsafeIntrinsic::U8CheckedNativeLoad => &[U8],
+            UnsafeIntrinsic::U16NativeLoad | UnsafeIntrinsic::U16CheckedNativeLoad => &[U16],
+            UnsafeIntrinsic::U32NativeLoad
+            | UnsafeIntrinsic::U32CheckedNativeLoad
+            | UnsafeIntrinsic::ContextGetI32_0
+            | UnsafeIntrinsic::ContextGetI32_1 => &[U32],
+            UnsafeIntrinsic::U8NativeStore
+            | UnsafeIntrinsic::U16NativeStore
+            | UnsafeIntrinsic::U32NativeStore
+            | UnsafeIntrinsic::U64NativeStore
+            | UnsafeIntrinsic::U8CheckedNativeStore
+            | UnsafeIntrinsic::U16CheckedNativeStore
+            | UnsafeIntrinsic::U32CheckedNativeStore
+            | UnsafeIntrinsic::U64CheckedNativeStore
+            | UnsafeIntrinsic::ContextSetI32_0
+            | UnsafeIntrinsic::ContextSetI32_1 => &[],
         }
     }
 
@@ -325,29 +251,12 @@ impl UnsafeIntrinsic {
         ensures ok { IfOk result (λ i. slice_get intrinsic_names (intrinsic_place i) ≡ Some s.now) }
         ensures unknown { IfErr result (λ e. ¬ Contains intrinsic_names s.now) }
     {
-        match s {
-            "store-data-address" => Ok(UnsafeIntrinsic::StoreDataAddress),
-            "u8-native-load" => Ok(UnsafeIntrinsic::U8NativeLoad),
-            "u8-native-store" => Ok(UnsafeIntrinsic::U8NativeStore),
-            "u16-native-load" => Ok(UnsafeIntrinsic::U16NativeLoad),
-            "u16-native-store" => Ok(UnsafeIntrinsic::U16NativeStore),
-            "u32-native-load" => Ok(UnsafeIntrinsic::U32NativeLoad),
-            "u32-native-store" => Ok(UnsafeIntrinsic::U32NativeStore),
-            "u64-native-load" => Ok(UnsafeIntrinsic::U64NativeLoad),
-            "u64-native-store" => Ok(UnsafeIntrinsic::U64NativeStore),
-            "u8-checked-native-load" => Ok(UnsafeIntrinsic::U8CheckedNativeLoad),
-            "u8-checked-native-store" => Ok(UnsafeIntrinsic::U8CheckedNativeStore),
-            "u16-checked-native-load" => Ok(UnsafeIntrinsic::U16CheckedNativeLoad),
-            "u16-checked-native-store" => Ok(UnsafeIntrinsic::U16CheckedNativeStore),
-            "u32-checked-native-load" => Ok(UnsafeIntrinsic::U32CheckedNativeLoad),
-            "u32-checked-native-store" => Ok(UnsafeIntrinsic::U32CheckedNativeStore),
-            "u64-checked-native-load" => Ok(UnsafeIntrinsic::U64CheckedNativeLoad),
-            "u64-checked-native-store" => Ok(UnsafeIntrinsic::U64CheckedNativeStore),
-            "context-get-i32-0" => Ok(UnsafeIntrinsic::ContextGetI32_0),
-            "context-set-i32-0" => Ok(UnsafeIntrinsic::ContextSetI32_0),
-            "context-get-i32-1" => Ok(UnsafeIntrinsic::ContextGetI32_1),
-            "context-set-i32-1" => Ok(UnsafeIntrinsic::ContextSetI32_1),
-            _ => Err(UnknownName),
+        for place in 0..UnsafeIntrinsic::len() {
+            let intrinsic = UnsafeIntrinsic::from_u32(place);
+            if intrinsic.name() == s {
+                return Ok(intrinsic);
+            }
         }
+        Err(UnknownName)
     }
 }

@@ -36,7 +36,7 @@ impl ModuleRecord {
     pub fn imported(&self, kind: CoreKind) -> usize
         ensures { result ≡ imported self.now kind }
     {
-        self.imports.iter().filter(|i| i.2.kind().is(kind)).count()
+        count_of_kind(self.imports.as_slice(), kind)
     }
 
     /// How many functions are imported.
@@ -142,14 +142,14 @@ impl ModuleRecord {
     }
 }
 
-// How many of these imports are of a kind.
+/// How many of these imports are of a kind.
 fn count_of_kind(imports: &[(Text, Text, CoreEntity)], kind: CoreKind) -> usize
     ensures { result ≡ count_by (imports_kind kind) imports.now }
 {
     imports.iter().filter(|i| i.2.kind().is(kind)).count()
 }
 
-// The item at a place.
+/// The item at a place.
 fn at<T: Copy>(items: &[T], place: u32) -> Option<T>
     ensures { result ≡ slice_get items.now place }
 {

@@ -10,7 +10,7 @@ ghost use Rattle.pc_types.specs.declared.parsed.CoreKind.TheVariants as kind;
 use crate::core_entity::entity_number;
 use crate::distinct::distinct_keys;
 use crate::{ByKind, CoreEntity, CoreKind, ModuleRecord, TypeTable};
-use pc_entity::{EntityIndex, NoMemory};
+use pc_entity::{EntityIndex, NoMemory, Text};
 use std::alloc::Global;
 
 /// The most entities of one kind that a module may have.
@@ -33,6 +33,13 @@ impl TypeTable {
             _ => true,
         }
     }
+
+    /// Whether each imported function names a core signature.
+    pub(crate) fn imports_are_typed(&self, imports: &[(Text, Text, CoreEntity)]) -> bool
+        ensures { result ≡ list_all (λ i. is_typed self.now i.2) imports.now }
+    {
+        imports.iter().all(|i| self.is_typed(i.2))
+    }
 }
 
 impl ModuleRecord {
@@ -43,7 +50,7 @@ impl ModuleRecord {
     {
         let distinct = distinct_keys(alloc, self.exports.as_slice())?;
         Ok(
-            self.imports_are_typed(table)
+            table.imports_are_typed(self.imports.as_slice())
                 && self.funcs_are_typed(table)
                 && self.is_small()
                 && self.has_exports()
@@ -51,18 +58,14 @@ impl ModuleRecord {
         )
     }
 
-    fn imports_are_typed(&self, table: &TypeTable) -> bool
-        ensures { result ≡ list_all (λ i. is_typed table.now i.2) self.now.imports }
-    {
-        self.imports.iter().all(|i| table.is_typed(i.2))
-    }
-
+    /// Whether each defined function names a core signature.
     fn funcs_are_typed(&self, table: &TypeTable) -> bool
         ensures { result ≡ list_all (has_signature table.now) self.now.funcs }
     {
         self.funcs.iter().all(|s| table.has_signature(*s))
     }
 
+    /// Whether the module has at most a million entities of each kind.
     fn is_small(&self) -> bool
         ensures { result
             ≡ (is_within self.now kind.Func && is_within self.now kind.Table && is_within self.now kind.Memory
@@ -75,6 +78,7 @@ impl ModuleRecord {
             && self.is_within(CoreKind::Tag)
     }
 
+    /// Whether it has at most a million of this kind.
     fn is_within(&self, kind: CoreKind) -> bool
         ensures { result ≡ is_within self.now kind }
     {
@@ -82,6 +86,7 @@ impl ModuleRecord {
         imported <= MAX_ENTITIES && self.defined(kind) <= MAX_ENTITIES - imported
     }
 
+    /// Whether it has each entity that it exports.
     fn has_exports(&self) -> bool
         ensures { result ≡ list_all (λ e. has_entity self.now e.1) self.now.exports }
     {
@@ -89,6 +94,7 @@ impl ModuleRecord {
         self.has_all_exports(&counts)
     }
 
+    /// The same, where it was counted how many entities of each kind are imported.
     fn has_all_exports(&self, counts: &ByKind<usize>) -> bool
         requires counted { (k : CoreKind) → of_kind counts.now k ≡ imported self.now k }
         ensures { result ≡ list_all (λ e. has_entity self.now e.1) self.now.exports }
@@ -101,7 +107,7 @@ impl ModuleRecord {
         true
     }
 
-    // How many entities of each kind are imported, counted once.
+    /// How many entities of each kind are imported, counted once.
     fn import_counts(&self) -> ByKind<usize>
         ensures { (k : CoreKind) → of_kind result k ≡ imported self.now k }
     {
@@ -114,6 +120,7 @@ impl ModuleRecord {
         }
     }
 
+    /// Whether it has an entity, where it was counted how many of each kind are imported.
     fn has_entity(&self, counts: &ByKind<usize>, entity: EntityIndex) -> bool
         requires counted { (k : CoreKind) → of_kind counts.now k ≡ imported self.now k }
         ensures { result ≡ has_entity self.now entity }

@@ -39,7 +39,7 @@ pub fn check_table(alloc: Global, table: &TypeTable) -> Result<(), Error>
     Ok(())
 }
 
-// Whether an entry after these earlier ones names what it may.
+/// Whether an entry after these earlier ones names what it may.
 fn is_sound_entry(
     alloc: Global,
     table: &TypeTable,
@@ -55,21 +55,16 @@ fn is_sound_entry(
             result,
             async_: _,
         } => is_sound_func(alloc, earlier, params.as_slice(), *result),
-        DeclType::Val(v) => Ok(is_sound_val(earlier, *v)),
+        DeclType::Val(v) | DeclType::List(v) | DeclType::Option(v) => Ok(is_sound_val(earlier, *v)),
         DeclType::Record(fields) => are_sound_fields(alloc, earlier, fields.as_slice()),
         DeclType::Variant(cases) => are_sound_cases(alloc, earlier, cases.as_slice()),
-        DeclType::List(v) => Ok(is_sound_val(earlier, *v)),
         DeclType::Tuple(vs) => Ok(are_sound_vals(earlier, vs.as_slice())),
-        DeclType::Flags(names) => distinct_texts(alloc, names.as_slice()),
-        DeclType::Enum(names) => distinct_texts(alloc, names.as_slice()),
-        DeclType::Option(v) => Ok(is_sound_val(earlier, *v)),
+        DeclType::Flags(names) | DeclType::Enum(names) => distinct_texts(alloc, names.as_slice()),
         DeclType::Result { ok, err } => {
             Ok(is_sound_maybe(earlier, *ok) && is_sound_maybe(earlier, *err))
         }
-        DeclType::Own(n) => Ok(names_resource(earlier, *n)),
-        DeclType::Borrow(n) => Ok(names_resource(earlier, *n)),
-        DeclType::Stream(v) => Ok(is_sound_maybe(earlier, *v)),
-        DeclType::Future(v) => Ok(is_sound_maybe(earlier, *v)),
+        DeclType::Own(n) | DeclType::Borrow(n) => Ok(names_resource(earlier, *n)),
+        DeclType::Stream(v) | DeclType::Future(v) => Ok(is_sound_maybe(earlier, *v)),
         DeclType::Instance { exports } => are_sound_externs(alloc, earlier, exports.as_slice()),
         DeclType::Component { imports, exports } => {
             is_sound_component(alloc, earlier, imports.as_slice(), exports.as_slice())
@@ -80,6 +75,7 @@ fn is_sound_entry(
     }
 }
 
+/// Whether a function type after these earlier entries names what it may.
 fn is_sound_func(
     alloc: Global,
     earlier: &[DeclType],
@@ -93,6 +89,7 @@ fn is_sound_func(
     Ok(are_sound && is_sound_maybe(earlier, returns))
 }
 
+/// Whether a component type after these earlier entries names what it may.
 fn is_sound_component(
     alloc: Global,
     earlier: &[DeclType],
@@ -107,6 +104,7 @@ fn is_sound_component(
     Ok(are_sound && exports_are_sound)
 }
 
+/// Whether a module type names signatures of the table, and no name stands twice in it.
 fn is_sound_module(
     alloc: Global,
     table: &TypeTable,
@@ -118,25 +116,21 @@ fn is_sound_module(
     let imports_are_distinct = distinct_pairs(alloc, imports)?;
     let exports_are_distinct = distinct_keys(alloc, exports)?;
     Ok(
-        imports_are_typed(table, imports)
+        table.imports_are_typed(imports)
             && exports_are_typed(table, exports)
             && imports_are_distinct
             && exports_are_distinct,
     )
 }
 
-fn imports_are_typed(table: &TypeTable, imports: &[(Text, Text, CoreEntity)]) -> bool
-    ensures { result ≡ list_all (λ i. is_typed table.now i.2) imports.now }
-{
-    imports.iter().all(|i| table.is_typed(i.2))
-}
-
+/// Whether each exported function has a signature of the table.
 fn exports_are_typed(table: &TypeTable, exports: &[(Text, CoreEntity)]) -> bool
     ensures { result ≡ list_all (λ e. is_typed table.now e.1) exports.now }
 {
     exports.iter().all(|e| table.is_typed(e.1))
 }
 
+/// Whether each field names what it may, and no name stands twice.
 fn are_sound_fields(
     alloc: Global,
     earlier: &[DeclType],
@@ -148,12 +142,14 @@ fn are_sound_fields(
     Ok(fields_are_typed(earlier, fields) && are_distinct)
 }
 
+/// Whether each field names what it may.
 fn fields_are_typed(earlier: &[DeclType], fields: &[(Text, ValType)]) -> bool
     ensures { result ≡ list_all (λ f. is_sound_val earlier.now f.1) fields.now }
 {
     fields.iter().all(|f| is_sound_val(earlier, f.1))
 }
 
+/// Whether each case names what it may, and no name stands twice.
 fn are_sound_cases(
     alloc: Global,
     earlier: &[DeclType],
@@ -165,12 +161,14 @@ fn are_sound_cases(
     Ok(cases_are_typed(earlier, cases) && are_distinct)
 }
 
+/// Whether each case names what it may.
 fn cases_are_typed(earlier: &[DeclType], cases: &[(Text, Option<ValType>)]) -> bool
     ensures { result ≡ list_all (λ c. is_none_or (is_sound_val earlier.now) c.1) cases.now }
 {
     cases.iter().all(|c| is_sound_maybe(earlier, c.1))
 }
 
+/// Whether each import or export names what it may, and no name stands twice.
 fn are_sound_externs(
     alloc: Global,
     earlier: &[DeclType],
@@ -182,18 +180,21 @@ fn are_sound_externs(
     Ok(externs_are_sound(earlier, externs) && are_distinct)
 }
 
+/// Whether each import or export names what it may.
 fn externs_are_sound(earlier: &[DeclType], externs: &[(Text, Entity)]) -> bool
     ensures { result ≡ list_all (λ e. is_sound_entity earlier.now e.1) externs.now }
 {
     externs.iter().all(|e| e.1.is_sound(earlier))
 }
 
+/// Whether each value type names what it may.
 fn are_sound_vals(earlier: &[DeclType], vs: &[ValType]) -> bool
     ensures { result ≡ list_all (is_sound_val earlier.now) vs.now }
 {
     vs.iter().all(|v| is_sound_val(earlier, *v))
 }
 
+/// Whether a value type, if there is one, names what it may.
 fn is_sound_maybe(earlier: &[DeclType], v: Option<ValType>) -> bool
     ensures { result ≡ is_none_or (is_sound_val earlier.now) v }
 {
@@ -203,7 +204,7 @@ fn is_sound_maybe(earlier: &[DeclType], v: Option<ValType>) -> bool
     }
 }
 
-// A type number is that of a defined type among the earlier entries.
+/// A type number is that of a defined type among the earlier entries.
 fn is_sound_val(earlier: &[DeclType], v: ValType) -> bool
     ensures { result ≡ is_sound_val earlier.now v }
 {
@@ -215,6 +216,7 @@ fn is_sound_val(earlier: &[DeclType], v: ValType) -> bool
     }
 }
 
+/// Whether a number is that of a resource among the earlier entries.
 fn names_resource(earlier: &[DeclType], n: u32) -> bool
     ensures { result ≡ is_some_and is_resource (slice_get earlier.now n) }
 {
@@ -246,7 +248,7 @@ impl Entity {
     }
 }
 
-// Whether an entry imports or exports a component value.
+/// Whether an entry imports or exports a component value.
 fn holds_value(entry: &DeclType) -> bool
     ensures { result ≡ holds_value entry.now }
 {
@@ -259,6 +261,7 @@ fn holds_value(entry: &DeclType) -> bool
     }
 }
 
+/// Whether a component value is among these.
 fn has_value(externs: &[(Text, Entity)]) -> bool
     ensures { result ≡ list_any (λ e. is_value e.1) externs.now }
 {

@@ -1,12 +1,14 @@
-use Rattle.std.proofs.Common.{◌≡◌, true, false, sym, ◌∙◌, true≢false, rules}
-use Rattle.std.specs.Cmp.Lexicographic.{nat_list_eq_equiv}
-use Rattle.std.specs.List.{list_any}
-use Rattle.std.specs.Str.{bytes_eq}
-use Rattle.std.proofs.lemmas.Map.Views.{list_any-from_Contains}
+use Rattle.std.proofs.Common.{sym, ap, ◌∙◌, slice_get, arith}
 use Rattle.pc_types.specs.Intrinsic.{intrinsic_names}
+use Rattle.pc_types.proofs.IntrinsicLemmas.{not_before_next, not_there}
 use Rattle.pc_types.proofs.intrinsic.UnsafeIntrinsic.from_str.Goals as goal
 
-pub returns-in_default-clause-unknown : goal.returns-in_default-clause-unknown
-returns-in_default-clause-unknown c there =
-    let absent : list_any (bytes_eq c.args.s.now) intrinsic_names ≡ false = search rules in
-    true≢false (sym (list_any-from_Contains nat_list_eq_equiv c.args.s.now intrinsic_names there) ∙ absent)
+pub loop-place-preserved : goal.loop-place-preserved
+loop-place-preserved c =
+    not_before_next intrinsic_names c.args.s.now c.loop-place.place c.name.result.now
+    (ap (slice_get intrinsic_names) (sym c.from_u32-intrinsic.ensures) ∙ c.name.ensures)
+    c.eq.result c.eq.ensures c.if-eq.false c.loop-place.invariant
+
+pub returns-clause-unknown : goal.returns-clause-unknown
+returns-clause-unknown c =
+    not_there intrinsic_names c.args.s.now (λ k within. c.loop-place.invariant k (omega (arith, within)))
