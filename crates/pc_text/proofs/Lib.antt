@@ -1,11 +1,10 @@
 -- What the functions of this crate rest on.
+mod AdapterLemmas
 mod Appending
-mod Arguments
 mod ByNumber
 mod Counts
 mod Entries
 mod ExportLemmas
-mod Joining
 mod Modules
 mod Sorting
 mod TrampolineLemmas

@@ -3,7 +3,6 @@ pub mod FaultText
 pub mod UsageText
 pub mod ContextText
 -- What the functions inside promise each other.
-pub mod Joined
 pub mod Placed
 pub mod ExportWalk
 pub mod TrampolineText

@@ -10,10 +10,9 @@ ghost use Rattle.pc_info.specs.Modules.{adapter_view, adapters_view};
 ghost use Rattle.pc_info.specs.Options.{side_model, side_view};
 ghost use Rattle.pc_text.specs.Placed.{placed_view};
 
-use crate::options::{async_word, encoding_word};
-use crate::piece::{put, put_key, put_maybe_number, put_number};
 use pc_entity::NoMemory;
 use pc_info::{AdapterRecord, ModuleTranslation, SideRecord};
+use pc_pieces::{async_word, encoding_word, put, put_key, put_maybe_number, put_number};
 use std::alloc::Global;
 
 /// Where the values of one side lie.
@@ -107,6 +106,7 @@ fn sort_by_number(all: &mut Vec<Placed>) -> Result<(), NoMemory>
     Ok(())
 }
 
+/// A line for each adapter, as they stand.
 fn put_all(out: &mut Vec<u8>, all: &[Placed]) -> Result<(), NoMemory>
     ensures { OnOk result (out.new.items ≡ out.old.items ++ flat_map adapter_line (map placed_view all.now)) }
 {

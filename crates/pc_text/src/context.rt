@@ -3,8 +3,8 @@
 ghost use Rattle.std.specs.Prelude.{◌≡◌, ◌++◌, IfOk, OnOk};
 ghost use Rattle.pc_text.specs.ContextText.{context_text, size_line};
 
-use crate::piece::{put, put_maybe_number};
 use pc_entity::NoMemory;
+use pc_pieces::{put, put_maybe_number};
 use std::alloc::Global;
 
 /// A line that begins with this head and ends with a size.

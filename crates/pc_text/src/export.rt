@@ -10,12 +10,10 @@ ghost use Rattle.pc_info.specs.Definitions.{def_view};
 ghost use Rattle.pc_info.specs.Exports.{are_behind_their_parts, exports_view, has_items};
 ghost use Rattle.pc_text.specs.ExportWalk.{IsOpen, Steps, item_text, node_line, opened};
 
-use crate::definition::put_definition;
-use crate::extern_data::put_extern_data;
-use crate::piece::{put, put_key, put_quoted};
 use pc_entity::{ExportIndex, NoMemory, OptionsIndex, PrimaryMap, Text};
 use pc_info::{Component, CoreDef, Export};
 use pc_names::RawIter;
+use pc_pieces::{put, put_definition, put_extern_data, put_key, put_quoted};
 use pc_types::ComponentExternData;
 use std::alloc::Global;
 
@@ -28,6 +26,7 @@ struct Open<'a> {
     path: usize,
 }
 
+/// What a lifted function is made of, and its options.
 fn put_lifted(out: &mut Vec<u8>, func: &CoreDef, options: OptionsIndex) -> Result<(), NoMemory>
     ensures { OnOk result (out.new.items
         ≡ out.old.items ++ codes " lifted " ++ definition (def_view func.now) ++ codes " options" ++ number options.0) }

@@ -4,8 +4,8 @@ ghost use Rattle.std.specs.Prelude.{◌≡◌, ◌≢◌, ◌++◌, codes, IfOk,
 ghost use Rattle.pc_semantics.specs.Text.{number};
 ghost use Rattle.pc_text.specs.FaultText.{fault_line, fault_text, place, unsupported_word};
 
-use crate::piece::{put, put_number};
 use pc_entity::NoMemory;
+use pc_pieces::{put, put_number};
 use pc_types::{Error, Place, Unsupported};
 use std::alloc::Global;
 
@@ -17,6 +17,7 @@ fn put_at(out: &mut Vec<u8>, what: &str, n: u64) -> Result<(), NoMemory>
     put_number(out, n)
 }
 
+/// Where a fault arose.
 fn put_place(out: &mut Vec<u8>, at: Place) -> Result<(), NoMemory>
     ensures { OnOk result (out.new.items ≡ out.old.items ++ place at) }
 {
@@ -35,6 +36,7 @@ fn put_place(out: &mut Vec<u8>, at: Place) -> Result<(), NoMemory>
     }
 }
 
+/// The word for what isn't supported.
 fn word(kind: Unsupported) -> &'static str
     ensures { result.now ≡ unsupported_word kind }
 {
@@ -75,6 +77,7 @@ fn put_fault_at(out: &mut Vec<u8>, kind: &str, at: Place) -> Result<(), NoMemory
     put(out, "\n")
 }
 
+/// The line of what isn't supported, with its place.
 fn put_unsupported(out: &mut Vec<u8>, kind: Unsupported, at: Place) -> Result<(), NoMemory>
     ensures { OnOk result (out.new.items
         ≡ out.old.items ++ fault_line (codes "unsupported " ++ unsupported_word kind ++ place at)) }
@@ -85,6 +88,7 @@ fn put_unsupported(out: &mut Vec<u8>, kind: Unsupported, at: Place) -> Result<()
     put(out, "\n")
 }
 
+/// The line of a refusal.
 fn put_error(out: &mut Vec<u8>, e: Error) -> Result<(), NoMemory>
     requires has_text { e ≢ Error.NoMemory }
     ensures { OnOk result (out.new.items ≡ out.old.items ++ fault_text e) }

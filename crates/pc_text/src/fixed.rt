@@ -25,7 +25,7 @@ pub fn too_long_text() -> &'static str
     "fault too-long\n"
 }
 
-/// The text for words that name no command.
+/// What is answered to words that are no command.
 pub fn usage_text() -> &'static str
     ensures { result.now ≡ usage }
 {

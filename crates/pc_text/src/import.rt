@@ -7,11 +7,11 @@ ghost use Rattle.pc_semantics.specs.Text.{number, numbered, quoted, spaced_names
 ghost use Rattle.pc_info.specs.View as seen;
 ghost use Rattle.pc_info.specs.View.{import_type_view, import_view};
 
-use crate::extern_data::put_extern_data;
-use crate::piece::{put, put_key, put_number, put_quoted};
 use pc_entity::{ImportIndex, NoMemory, RuntimeImportIndex, Seq, Text};
+use pc_pieces::{put, put_extern_data, put_key, put_number, put_quoted};
 use pc_types::{ComponentExtern, TypeDef};
 
+/// The word for a kind of import.
 fn kind_word(ty: TypeDef) -> &'static str
     ensures { result.now ≡ import_kind (seen.import_kind ty) }
 {
@@ -35,6 +35,7 @@ fn put_named_import(out: &mut Vec<u8>, n: usize, name: &str) -> Result<(), NoMem
     put(out, " ")
 }
 
+/// The line of an import of the root.
 fn put_import_type(
     out: &mut Vec<u8>,
     n: usize,
@@ -75,6 +76,7 @@ fn put_names(out: &mut Vec<u8>, names: &[Text]) -> Result<(), NoMemory>
     Ok(())
 }
 
+/// The line of a host item.
 fn put_import(
     out: &mut Vec<u8>,
     n: usize,
@@ -105,6 +107,7 @@ pub(crate) fn put_imports(
     Ok(())
 }
 
+/// The line of a resource of the host.
 fn put_imported_resource(
     out: &mut Vec<u8>,
     n: usize,

@@ -8,11 +8,6 @@ ghost use Rattle.pc_semantics.specs.Text.{core_type, definition, initializer_lin
 ghost use Rattle.pc_info.specs.Definitions.{arguments_view, def_view, initializer_view, owner_view};
 ghost use Rattle.pc_info.specs.Definitions.{resource_view, source_view};
 
-use crate::argument::put_arguments;
-use crate::definition::{
-    put_definition, put_definitions, put_maybe_definition, put_memory, put_table,
-};
-use crate::piece::{put, put_key, put_maybe_key, put_number};
 use pc_entity::{
     DefinedResourceIndex, LoweredIndex, NoMemory, RuntimeComponentInstanceIndex,
     RuntimeImportIndex, StaticModuleIndex, TextMap,
@@ -20,8 +15,13 @@ use pc_entity::{
 use pc_info::{
     CoreDef, ExtractMemory, ExtractTable, GlobalInitializer, InstantiateModule, Resource,
 };
+use pc_pieces::{
+    put, put_arguments, put_definition, put_definitions, put_key, put_maybe_definition,
+    put_maybe_key, put_memory, put_number, put_table,
+};
 use pc_types::WasmValType;
 
+/// The line of an instantiation of a module of the component.
 fn put_static(
     out: &mut Vec<u8>,
     number: StaticModuleIndex,
@@ -39,6 +39,7 @@ fn put_static(
     put(out, "]\n")
 }
 
+/// The line of an instantiation of a module of the host.
 fn put_import(
     out: &mut Vec<u8>,
     import: RuntimeImportIndex,
@@ -56,6 +57,7 @@ fn put_import(
     put(out, "]\n")
 }
 
+/// The line of an instantiation.
 fn put_instantiation(
     out: &mut Vec<u8>,
     source: &InstantiateModule,
@@ -72,6 +74,7 @@ fn put_instantiation(
     }
 }
 
+/// The line of a lowered import.
 fn put_lowering(
     out: &mut Vec<u8>,
     index: LoweredIndex,
@@ -107,6 +110,7 @@ fn put_filled(out: &mut Vec<u8>, kind: &str, index: u32, def: &CoreDef) -> Resul
     put(out, "\n")
 }
 
+/// The line of a memory that goes into a slot.
 fn put_extract_memory(out: &mut Vec<u8>, extract: &ExtractMemory) -> Result<(), NoMemory>
     ensures { OnOk result (out.new.items
         ≡ out.old.items ++ initializer_line (initializer_view (init.ExtractMemory extract.now))) }
@@ -116,6 +120,7 @@ fn put_extract_memory(out: &mut Vec<u8>, extract: &ExtractMemory) -> Result<(), 
     put(out, "\n")
 }
 
+/// The line of a table that goes into a slot.
 fn put_extract_table(out: &mut Vec<u8>, extract: &ExtractTable) -> Result<(), NoMemory>
     ensures { OnOk result (out.new.items
         ≡ out.old.items ++ initializer_line (initializer_view (init.ExtractTable extract.now))) }
@@ -125,6 +130,7 @@ fn put_extract_table(out: &mut Vec<u8>, extract: &ExtractTable) -> Result<(), No
     put(out, "\n")
 }
 
+/// The word for a core value type.
 fn type_word(ty: WasmValType) -> &'static str
     ensures { result.now ≡ core_type ty }
 {
@@ -154,6 +160,7 @@ fn put_declared(
     put(out, type_word(rep))
 }
 
+/// The line of a resource of the component.
 fn put_resource(out: &mut Vec<u8>, resource: &Resource) -> Result<(), NoMemory>
     ensures { OnOk result (out.new.items ≡ out.old.items ++ initializer_line (resource_view resource.now)) }
 {
@@ -163,6 +170,7 @@ fn put_resource(out: &mut Vec<u8>, resource: &Resource) -> Result<(), NoMemory>
     put(out, "\n")
 }
 
+/// The line of a step.
 fn put_initializer(out: &mut Vec<u8>, step: &GlobalInitializer) -> Result<(), NoMemory>
     ensures { OnOk result (out.new.items ≡ out.old.items ++ initializer_line (initializer_view step.now)) }
 {

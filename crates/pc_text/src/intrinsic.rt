@@ -5,8 +5,8 @@ ghost use Rattle.pc_semantics.specs.Text.{intrinsic_line, intrinsic_name, line_e
 ghost use Rattle.pc_types.specs.Intrinsic.{intrinsic_names};
 ghost use Rattle.pc_info.specs.View.{intrinsic_view};
 
-use crate::piece::put;
 use pc_entity::{ModuleInternedTypeIndex, NoMemory, PackedOption};
+use pc_pieces::put;
 use pc_types::UnsafeIntrinsic;
 
 /// How many unsafe intrinsics there are.

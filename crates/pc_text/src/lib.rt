@@ -5,18 +5,13 @@
 #![tactic(auto)]
 
 mod adapter;
-mod argument;
 mod context;
-mod definition;
 mod export;
-mod extern_data;
 mod fault;
 mod fixed;
 mod import;
 mod initializer;
 mod intrinsic;
-mod options;
-mod piece;
 mod plan;
 mod trampoline;
 

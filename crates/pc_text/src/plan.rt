@@ -14,11 +14,10 @@ use crate::export::put_exports;
 use crate::import::{put_import_types, put_imported_resources, put_imports};
 use crate::initializer::put_initializers;
 use crate::intrinsic::put_intrinsics;
-use crate::options::put_all_options;
-use crate::piece::{put, put_numbers};
 use crate::trampoline::put_trampolines;
 use pc_entity::{NoMemory, PrimaryMap, StaticModuleIndex};
 use pc_info::{Component, ComponentTranslation, ModuleTranslation};
+use pc_pieces::{put, put_all_options, put_numbers};
 use std::alloc::Global;
 
 /// Whether a module is one of adapters.
@@ -61,6 +60,7 @@ fn put_modules(out: &mut Vec<u8>, modules: &[ModuleTranslation]) -> Result<(), N
     put_head(out, handed_in, made)
 }
 
+/// The line of the counts.
 fn put_counts(out: &mut Vec<u8>, component: &Component) -> Result<(), NoMemory>
     ensures { OnOk result (out.new.items ≡ out.old.items ++ counts_line (counts_view component.now)) }
 {

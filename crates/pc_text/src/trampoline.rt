@@ -13,12 +13,11 @@ ghost use Rattle.pc_trampoline.specs.View.{entry_view, part_by, plan_numbers};
 ghost use Rattle.pc_info.specs.View.{trampolines_view};
 ghost use Rattle.pc_text.specs.TrampolineText.{after_symbol};
 
-use crate::options::async_word;
-use crate::piece::{put, put_key, put_maybe_key, put_number};
 use pc_entity::{
     LoweredIndex, ModuleInternedTypeIndex, NoMemory, OptionsIndex, RuntimeComponentInstanceIndex,
 };
 use pc_info::Trampoline;
+use pc_pieces::{async_word, put, put_key, put_maybe_key, put_number};
 use pc_trampoline::{Head, Part, PartList, PlanPart, PlanParts};
 use std::alloc::Global;
 
@@ -39,6 +38,7 @@ fn put_part(out: &mut Vec<u8>, which: PlanPart) -> Result<(), NoMemory>
     }
 }
 
+/// Parts, one after the other.
 fn put_parts(out: &mut Vec<u8>, parts: PartList<PlanPart>) -> Result<(), NoMemory>
     ensures { OnOk result (out.new.items
         ≡ out.old.items ++ flat_map part_text (map (part_by plan_numbers) (list_of parts))) }
