@@ -17,17 +17,17 @@ use Rattle.pc_dfg.specs.declared.core_def.CoreDef.TheVariants as def
 use Rattle.pc_dfg.specs.declared.dfg.ComponentDfg.{ComponentDfg}
 use Rattle.pc_dfg.specs.Effects.{Argument, host_arguments}
 use Rattle.pc_dfg.specs.Names.{each_of}
-use Rattle.pc_finish.specs.declared.id.Id.{Id}
-use Rattle.pc_finish.specs.declared.id.Id.TheVariants as id
-use Rattle.pc_finish.specs.declared.state.Finish.{Finish}
-use Rattle.pc_finish.specs.Arguments.{CanNumber, HasMeaning, IsNumbered, NumbersAll, OnlyFromThese, named_defs}
-use Rattle.pc_finish.specs.Arguments.{host_defs}
-use Rattle.pc_finish.specs.Closed.{Closed, Continues, Fits, Valued}
-use Rattle.pc_finish.specs.Parts.{HasNumber, in_def}
-use Rattle.pc_finish.specs.Ready.{IsReadyDef}
-use Rattle.pc_finish.proofs.AllLemmas.{all_first, all_front, all_back, all_in, all_one}
+use Rattle.pc_linearize.specs.declared.id.Id.{Id}
+use Rattle.pc_linearize.specs.declared.id.Id.TheVariants as id
+use Rattle.pc_linearize.specs.declared.state.Finish.{Finish}
+use Rattle.pc_linearize.specs.Arguments.{CanNumber, HasMeaning, IsNumbered, NumbersAll, OnlyFromThese, named_defs}
+use Rattle.pc_linearize.specs.Arguments.{host_defs}
+use Rattle.pc_linearize.specs.Closed.{Closed, Continues, Fits, Valued}
+use Rattle.pc_linearize.specs.Parts.{HasNumber, in_def}
+use Rattle.pc_linearize.specs.Ready.{IsReadyDef}
+use Rattle.pc_linearize.proofs.AllLemmas.{all_first, all_front, all_back, all_in, all_one}
 use Rattle.pc_finish.proofs.OnlyLemmas.{only_more, only_one}
-use Rattle.pc_finish.proofs.ContinueLemmas.{continues_refl, continues_then, goes_refl, goes_then}
+use Rattle.pc_linearize.proofs.ContinueLemmas.{continues_refl, continues_then, goes_refl, goes_then}
 
 module _ (g : ComponentDfg) where
   -- what a definition with a value depends on has a value

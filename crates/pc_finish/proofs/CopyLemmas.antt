@@ -1,5 +1,5 @@
 -- Trampolines and options that are converted by numbers are as they were, but for the numbers of what they name.
-use Rattle.std.proofs.Common.{◌≡◌, ◌++◌, ℕ, List, [], ◌∷◌, map, Option, None, Some, option_map, refl, ap}
+use Rattle.std.proofs.Common.{◌≡◌, ◌++◌, ℕ, [], ◌∷◌, map, Option, None, Some, option_map, refl, ap}
 use Rattle.std.specs.List.{flat_map}
 use Rattle.pc_intern.specs.declared.ids.CallbackId.{CallbackId}
 use Rattle.pc_intern.specs.declared.ids.MemoryId.{MemoryId}
@@ -18,22 +18,21 @@ use Rattle.pc_types.specs.declared.types.TypeDef.TheVariants as type
 use Rattle.pc_semantics.specs.PlanView as plan
 use Rattle.pc_trampoline.specs.declared.part.Head.{Head}
 use Rattle.pc_trampoline.specs.declared.part.Head.TheVariants as head
-use Rattle.pc_trampoline.specs.declared.part.Mark.{Mark}
 use Rattle.pc_trampoline.specs.declared.part.Mark.TheVariants as mark
 use Rattle.pc_trampoline.specs.declared.part.Part.TheVariants as part
 use Rattle.pc_trampoline.specs.declared.part.PartList.{PartList}
 use Rattle.pc_trampoline.specs.declared.part.PartList.TheVariants as list
 use Rattle.pc_trampoline.specs.Parts.{list_of}
-use Rattle.pc_trampoline.specs.View.{entry_of, part_by, parts_entry, plan_numbers, resource_numbers, signed}
+use Rattle.pc_trampoline.specs.View.{entry_of, part_by, parts_entry, plan_numbers, resource_numbers}
 use Rattle.pc_trampoline.specs.View.{symbol_numbers}
 use Rattle.pc_info.specs.Options.{model_view, options_view}
 use Rattle.pc_dfg.specs.declared.options.CanonicalOptions.{CanonicalOptions}
 use Rattle.pc_dfg.specs.declared.options.CanonicalOptionsDataModel.{CanonicalOptionsDataModel as Model}
 use Rattle.pc_dfg.specs.declared.options.CanonicalOptionsDataModel.TheVariants as model
 use Rattle.pc_dfg.specs.Numbers.{graph_numbers, model_entry, options_entry}
-use Rattle.pc_finish.specs.declared.state.Finish.{Finish}
-use Rattle.pc_finish.specs.Entries.{GraphPart, GraphParts, callback_in, head_in, list_in, memory_in, model_in}
-use Rattle.pc_finish.specs.Entries.{options_in, part_in, parts_in, post_return_in, realloc_in}
+use Rattle.pc_linearize.specs.declared.state.Finish.{Finish}
+use Rattle.pc_linearize.specs.Entries.{GraphPart, GraphParts, callback_in, head_in, list_in, memory_in, model_in}
+use Rattle.pc_linearize.specs.Entries.{options_in, part_in, parts_in, post_return_in, realloc_in}
 use Rattle.pc_finish.specs.Unnumbered.{any_slot, unnumbered, unnumbered_model, unnumbered_options, unnumbered_part}
 
 module _ (f : Finish) where

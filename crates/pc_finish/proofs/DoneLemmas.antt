@@ -21,18 +21,20 @@ use Rattle.pc_dfg.specs.declared.instance.SideEffect.TheVariants as effect
 use Rattle.pc_dfg.specs.Effects.{MeansEffect}
 use Rattle.pc_dfg.specs.Held.{HeldEffect}
 use Rattle.pc_dfg.specs.Names.{each_of, if_any}
-use Rattle.pc_dfg.specs.Ordered.{IsOrdered, declared_by, made_before, made_by}
-use Rattle.pc_finish.specs.declared.id.Id.{Id}
-use Rattle.pc_finish.specs.declared.id.Id.TheVariants as id
-use Rattle.pc_finish.specs.declared.state.Finish.{Finish}
-use Rattle.pc_finish.specs.Arguments.{IsFrom}
-use Rattle.pc_finish.specs.Made.{DoneBefore, IsDone, IsNext, Stands, declared_before, ids_in, ids_in_all, owner_of}
-use Rattle.pc_finish.specs.Once.{IsUsedBy}
-use Rattle.pc_finish.specs.Parts.{HasNumber}
-use Rattle.pc_finish.specs.Represented.{AreNamed}
-use Rattle.pc_finish.specs.Wired.{IsWired}
+use Rattle.pc_dfg.specs.Ordered.{IsOrdered, declared_by, made_by}
+use Rattle.pc_linearize.specs.declared.id.Id.{Id}
+use Rattle.pc_linearize.specs.declared.id.Id.TheVariants as id
+use Rattle.pc_linearize.specs.declared.state.Finish.{Finish}
+use Rattle.pc_linearize.specs.Arguments.{IsFrom}
+use Rattle.pc_linearize.specs.Made.{DoneBefore, IsDone, IsNext, Stands, declared_before, ids_in, ids_in_all, owner_of}
+use Rattle.pc_linearize.specs.Once.{IsUsedBy}
+use Rattle.pc_linearize.specs.Parts.{HasNumber}
+use Rattle.pc_linearize.specs.Represented.{AreNamed}
+use Rattle.pc_linearize.specs.Wired.{IsWired}
+use Rattle.pc_linearize.specs.Stages.{IsSound}
 use Rattle.pc_finish.proofs.NextLemmas.{next_held, next_resource}
-use Rattle.pc_finish.proofs.StepNameLemmas.{named_later}
+use Rattle.pc_linearize.proofs.StepNameLemmas.{named_later}
+use Rattle.pc_finish.proofs.StageLemmas.{ends_next, stages_next}
 
 -- the last of the items that are related to others
 pub record LastZip {A B : Type 0} (R : A → B → Type 0) (xs : List A) (x : A) (ys : List B) : Type 0 where
@@ -169,12 +171,25 @@ module _ (g : ComponentDfg) (ordered : IsOrdered g) (i : ℕ) (f : Finish) (done
           | inr now ↦ it.named t n now number
         ]
 
+    -- each step is of the graph
+    sound_next : IsSound g new
+    sound_next = record {
+      counts = it.counts done.counts;
+      fills = it.fills done.fills;
+      represents = it.represents done.represents;
+      are_steps = it.are_steps done.counts done.fills done.are_steps;
+    }
+
     pub done_next : DoneBefore g (i + 1) new
     done_next = record {
       fits = it.fits;
       counts = it.counts done.counts;
       fills = it.fills done.fills;
       represents = it.represents done.represents;
+      are_steps = sound_next.are_steps;
+      stages = stages_next g f new (ids_in g e) it.adds done.stages done.ends done.counts done.fills it.stay sound_next
+          it.here it.only;
+      ends = ends_next g f new (ids_in g e) it.adds;
       here =
           subst (All (HasNumber new)) (ids_next g i e at)
           (All-append (HasNumber new) (ids_in_all g (take i g.side_effects)) (ids_in g e)

@@ -1,5 +1,5 @@
 -- A side effect whose arguments have their numbers is done by its step.
-use Rattle.std.proofs.Common.{◌≡◌, ◌<◌, ◌+◌, ◌++◌, ℕ, List, [], ◌∷◌, length, map, All, Option, None, Some, refl, sym}
+use Rattle.std.proofs.Common.{◌≡◌, ◌<◌, ◌+◌, ◌++◌, ℕ, List, [], ◌∷◌, length, map, All, Option, Some, refl, sym}
 use Rattle.std.proofs.Common.{ap, subst, ◌∙◌, arith}
 use Rattle.std.specs.Prelude.{option_map, slice_get}
 use Rattle.std.specs.List.{AllZip, Contains, flat_map}
@@ -37,34 +37,37 @@ use Rattle.pc_dfg.specs.Lists as list
 use Rattle.pc_dfg.specs.Means.{Means, MeansMaybe, means_none, means_some}
 use Rattle.pc_dfg.specs.Names.{each_of, if_any, in_effect, in_instance, in_resource}
 use Rattle.pc_dfg.specs.Ordered.{IsOrdered}
-use Rattle.pc_finish.specs.declared.id.Id.{Id}
-use Rattle.pc_finish.specs.declared.id.Id.TheVariants as id
-use Rattle.pc_finish.specs.declared.state.Counts.{Counts}
-use Rattle.pc_finish.specs.declared.state.Finish.{Finish}
-use Rattle.pc_finish.specs.Arguments.{CanNumber, HasMeaning, IsNumbered, OnlyFromThese}
-use Rattle.pc_finish.specs.Closed.{Fits}
-use Rattle.pc_finish.specs.Converted.{def_in}
-use Rattle.pc_finish.specs.Grouped.{IsGrouped}
-use Rattle.pc_finish.specs.Made.{IsDone, IsNext, Makes, Prepares, PreparesAny, Stands, instance_in, with_instance}
-use Rattle.pc_finish.specs.Made.{with_resource}
-use Rattle.pc_finish.specs.Parts.{HasNumber, in_def, number_of}
-use Rattle.pc_finish.specs.Slots.{definitions_in}
-use Rattle.pc_finish.specs.Plan.{Extends, slot_count}
-use Rattle.pc_finish.specs.Reached.{Reached, all_linked}
-use Rattle.pc_finish.specs.Wired.{IsWired, Occurs}
-use Rattle.pc_finish.proofs.AllLemmas.{all_cons, all_one}
+use Rattle.pc_linearize.specs.declared.id.Id.{Id}
+use Rattle.pc_linearize.specs.declared.id.Id.TheVariants as id
+use Rattle.pc_linearize.specs.declared.state.Counts.{Counts}
+use Rattle.pc_linearize.specs.declared.state.Finish.{Finish}
+use Rattle.pc_linearize.specs.Arguments.{CanNumber, HasMeaning, IsNumbered, OnlyFromThese}
+use Rattle.pc_linearize.specs.Closed.{Fits}
+use Rattle.pc_linearize.specs.Grouped.{IsGrouped}
+use Rattle.pc_linearize.specs.Made.{IsDone, IsNext, Makes, Prepares, PreparesAny, instance_in, with_instance}
+use Rattle.pc_linearize.specs.Made.{with_resource}
+use Rattle.pc_linearize.specs.Parts.{HasNumber, in_def, number_of}
+use Rattle.pc_linearize.specs.Slots.{definitions_in}
+use Rattle.pc_linearize.specs.Plan.{Extends, slot_count}
+use Rattle.pc_linearize.specs.Reached.{Reached, all_linked}
+use Rattle.pc_linearize.specs.Wired.{IsWired, Occurs}
+use Rattle.pc_linearize.specs.Stages.{AddsEffect}
+use Rattle.pc_linearize.specs.Steps.{IsConvertible}
+use Rattle.pc_linearize.proofs.AllLemmas.{all_cons, all_one}
 use Rattle.pc_finish.proofs.ArgumentLemmas.{all_can_still}
-use Rattle.pc_finish.proofs.CountLemmas.{CountsOne, counts_more}
-use Rattle.pc_finish.proofs.FillLemmas.{instance_fills, resource_fills}
+use Rattle.pc_linearize.proofs.CountLemmas.{CountsOne, counts_more}
+use Rattle.pc_linearize.proofs.FillLemmas.{instance_fills, resource_fills}
 use Rattle.pc_finish.proofs.HereLemmas.{finish_with}
 use Rattle.pc_finish.proofs.InstanceLemmas.{instance_reached}
 use Rattle.pc_finish.proofs.NextLemmas.{next_held, next_instance, next_occurs, next_ready, next_resource}
-use Rattle.pc_finish.proofs.PartLemmas.{all_made}
+use Rattle.pc_linearize.proofs.PartLemmas.{all_made}
 use Rattle.pc_finish.proofs.PushedLemmas.{length_pushed}
-use Rattle.pc_finish.proofs.RepresentedLemmas.{represents_aside}
+use Rattle.pc_linearize.proofs.RepresentedLemmas.{represents_aside}
 use Rattle.pc_finish.proofs.ResolveLemmas.{Resolves, each_resolves, host_goes, static_goes}
 use Rattle.pc_finish.proofs.ResourceLemmas.{declare, resource_goes, resource_reached}
-use Rattle.pc_finish.proofs.StepNameLemmas.{adds_keep, destructor_named, instance_named, names_front, names_last}
+use Rattle.pc_linearize.proofs.StepNameLemmas.{adds_keep, destructor_named, instance_named, names_front, names_last}
+use Rattle.pc_linearize.proofs.OneStepLemmas.{instance_steps, resource_steps}
+use Rattle.pc_finish.proofs.StageLemmas.{adds_instance, adds_resource, all_convertible, instance_number, resource_number}
 
 -- no number is given by a step that fills no slot
 number_aside : (f : Finish) (steps : List GlobalInitializer) (instances : List RuntimeInstanceIndex) (counts : Counts)
@@ -253,6 +256,14 @@ module _ (g : ComponentDfg) (ordered : IsOrdered g) (grouped : IsGrouped g) (old
     makes ms entry wired (means_made {x = y} {v = v} there means) =
         makes_it ms wired v (subst (λ z. MeansInstance g z v) (same_Some y x (sym there ∙ at)) means)
 
+    -- its arguments can be converted
+    convertible : All (IsConvertible g new) (in_instance x)
+    convertible =
+        let can = subst (All (CanNumber g (length old.instances))) in_it
+        (next_ready g ordered old (effect.Instance i c) next grouped) in
+        all_convertible g new (in_instance x)
+        (all_can_still g old new prepares.numbers.continues (in_instance x) can) prepares.numbers.here
+
     -- so the instance is made
     pub instance_done : IsDone g old made (effect.Instance i c)
     instance_done =
@@ -268,6 +279,13 @@ module _ (g : ComponentDfg) (ordered : IsOrdered g) (grouped : IsGrouped g) (old
               represents_aside g new (continues.represents before) continues.fits made.steps made.instances
               made.counts new.resources
               (names_front new.steps (init.InstantiateModule m (Some c) ∷ []));
+          are_steps = λ before filled are.
+              instance_steps g new (continues.counts before) (continues.fills filled)
+              (continues.are_steps before filled are) x m c prepares.is convertible
+              (λ y k at. instance_number g old new continues m c y ∙ at)
+              (instance_fills new (continues.fills filled) made.steps);
+          adds = subst (λ ds. AddsEffect old made (flat_map (in_def g) ds)) (sym in_it)
+              (adds_instance g old new continues x m c prepares.is);
           only = subst (λ ds. OnlyFromThese g old made (flat_map (in_def g) ds)) (sym in_it)
               (only_aside g old new made.steps made.instances made.counts new.resources _ prepares.numbers.only);
           numbered = λ y has.
@@ -342,6 +360,14 @@ module _ (g : ComponentDfg) (ordered : IsOrdered g) (grouped : IsGrouped g) (old
         subst (λ z. Makes g ms old declared (declared_resource z.rep v z.instance.0 ∷ [])) same
         (declares_it ms wired v (subst (λ z. MeansMaybe g z.dtor v) (sym same) means))
 
+    -- its destructor can be converted
+    convertible_destructor : All (IsConvertible g new) (if_any x.dtor)
+    convertible_destructor =
+        let can = subst (All (CanNumber g (length old.instances))) in_resource_here
+        (next_ready g ordered old (effect.Resource n) next grouped) in
+        all_convertible g new (if_any x.dtor)
+        (all_can_still g old new prepares.numbers.continues (if_any x.dtor) can) prepares.numbers.here
+
     -- so the resource is declared
     pub resource_done : IsDone g old declared (effect.Resource n)
     resource_done =
@@ -357,6 +383,13 @@ module _ (g : ComponentDfg) (ordered : IsOrdered g) (grouped : IsGrouped g) (old
               represents_aside g new (continues.represents before) continues.fits declared.steps new.instances
               new.counts declared.resources
               (names_front new.steps (init.Resource resource ∷ []));
+          are_steps = λ before filled are.
+              resource_steps g new (continues.counts before) (continues.fills filled)
+              (continues.are_steps before filled are) resource x.dtor prepares.is convertible_destructor
+              (λ y k at. resource_number g old new continues resource y ∙ at)
+              (resource_fills new (continues.fills filled) declared.steps declared.resources);
+          adds = subst (λ ds. AddsEffect old declared (flat_map (in_def g) ds)) (sym in_resource_here)
+              (adds_resource g old new continues resource x.dtor prepares.is);
           only = subst (λ ds. OnlyFromThese g old declared (flat_map (in_def g) ds)) (sym in_resource_here)
               (only_aside g old new declared.steps new.instances new.counts declared.resources _ prepares.numbers.only);
           numbered = λ y has.

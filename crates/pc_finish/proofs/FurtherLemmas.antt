@@ -14,18 +14,18 @@ use Rattle.pc_dfg.specs.declared.export.Export.TheVariants as export
 use Rattle.pc_dfg.specs.Held.{IsHeld, HeldExport, HoldsEntry}
 use Rattle.pc_dfg.specs.Lists as list
 use Rattle.pc_dfg.specs.Ordered.{IsOrdered}
-use Rattle.pc_finish.specs.declared.id.Id.{Id}
-use Rattle.pc_finish.specs.declared.state.Finish.{Finish}
-use Rattle.pc_finish.specs.Arguments.{CanNumber, HasMeaning, NumbersAll}
-use Rattle.pc_finish.specs.Closed.{Closed, Continues, Fits}
+use Rattle.pc_linearize.specs.declared.id.Id.{Id}
+use Rattle.pc_linearize.specs.declared.state.Finish.{Finish}
+use Rattle.pc_linearize.specs.Arguments.{CanNumber, HasMeaning, NumbersAll}
+use Rattle.pc_linearize.specs.Closed.{Closed, Continues, Fits}
 use Rattle.pc_finish.specs.Exports.{CanExport, GoesFurther, IsExportable, IsLiftable, function_of}
-use Rattle.pc_finish.specs.Grouped.{IsGrouped}
-use Rattle.pc_finish.specs.Parts.{in_def}
-use Rattle.pc_finish.specs.Ready.{IsReady, here}
-use Rattle.pc_finish.proofs.ContinueLemmas.{continues_refl, continues_then, goes_refl, goes_then}
-use Rattle.pc_finish.proofs.PartLemmas.{all_one}
+use Rattle.pc_linearize.specs.Grouped.{IsGrouped}
+use Rattle.pc_linearize.specs.Parts.{in_def}
+use Rattle.pc_linearize.specs.Ready.{IsReady, here}
+use Rattle.pc_linearize.proofs.ContinueLemmas.{continues_refl, continues_then, goes_refl, goes_then}
+use Rattle.pc_linearize.proofs.PartLemmas.{all_one}
 use Rattle.pc_finish.proofs.ReadyLemmas.{export_ready}
-use Rattle.pc_finish.proofs.ValueLemmas.{held_means, valued}
+use Rattle.pc_linearize.proofs.ValueLemmas.{held_means, valued}
 
 module _ {A : Type 0} (ys xs : List A) (same : ys ≡ xs) (i : ℕ) where
   -- the item at a place of a list that is lent

@@ -1,6 +1,6 @@
 -- A run that only has more core instances and resources: slots, lowerings, options and trampolines stay.
-use Rattle.std.proofs.Common.{◌≡◌, ◌≤◌, ◌++◌, ℕ, Bool, List, [], ◌∷◌, length, drop, Option, None, Some, refl, sym, ap}
-use Rattle.std.proofs.Common.{subst, ◌∙◌, arith}
+use Rattle.std.proofs.Common.{◌≡◌, ◌≤◌, ℕ, List, [], ◌∷◌, length, drop, Option, None, Some, refl, ap}
+use Rattle.std.proofs.Common.{◌∙◌, arith}
 use Rattle.std.specs.Prelude.{option_and_then, option_map, slice_get, if◌then◌else◌}
 use Rattle.pc_numbers.specs.declared.runtime.RuntimeComponentInstanceIndex.{RuntimeComponentInstanceIndex}
 use Rattle.pc_numbers.specs.declared.runtime.RuntimeInstanceIndex.{RuntimeInstanceIndex}
@@ -18,11 +18,11 @@ use Rattle.pc_dfg.specs.declared.core_def.CoreDef.{CoreDef}
 use Rattle.pc_dfg.specs.declared.dfg.ComponentDfg.{ComponentDfg}
 use Rattle.pc_dfg.specs.Means.{Means}
 use Rattle.pc_dfg.specs.Numbers.{slots_of}
-use Rattle.pc_finish.specs.declared.state.Finish.{Finish}
-use Rattle.pc_finish.specs.Numbers.{number_at}
-use Rattle.pc_finish.specs.Parts.{slot_numbers}
-use Rattle.pc_finish.specs.Plan.{Extends, counted_slots, slot_count}
-use Rattle.pc_finish.specs.Reached.{Filled, Resolves}
+use Rattle.pc_linearize.specs.declared.state.Finish.{Finish}
+use Rattle.pc_linearize.specs.Numbers.{number_at}
+use Rattle.pc_linearize.specs.Parts.{slot_numbers}
+use Rattle.pc_linearize.specs.Plan.{Extends, counted_slots, slot_count}
+use Rattle.pc_linearize.specs.Reached.{Filled, Resolves}
 
 -- nothing is behind a whole list
 pub drop_whole : {A : Type 0} (xs : List A) → drop (length xs) xs ≡ []

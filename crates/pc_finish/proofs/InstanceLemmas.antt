@@ -1,19 +1,15 @@
 -- A run that makes one more core instance for a component instance.
-use Rattle.std.proofs.Common.{◌≡◌, ◌≤◌, ◌<◌, ◌+◌, ◌++◌, ◌⊎◌, inl, inr, ℕ, Bool, true, List, [], ◌∷◌, length, map, take}
-use Rattle.std.proofs.Common.{drop, Option, None, Some, refl, sym, ap, subst, ◌∙◌, arith}
+use Rattle.std.proofs.Common.{◌≡◌, ◌≤◌, ◌+◌, ◌++◌, inl, inr, ℕ, Bool, List, [], ◌∷◌, length}
+use Rattle.std.proofs.Common.{Some, refl, sym, ap, subst, ◌∙◌, arith}
 use Rattle.std.specs.Prelude.{count_by, is_some, slice_get}
-use Rattle.std.specs.List.{AllZip, filter_map}
 use Rattle.std.proofs.Math.Seq.{drop-append_seam}
-use Rattle.std.proofs.lemmas.List.{map-append, take-append-le, append-nil}
+use Rattle.std.proofs.lemmas.List.{map-append, take-append-le}
 use Rattle.std.proofs.lemmas.Option.{slice_get_within}
 use Rattle.pc_entity.proofs.Growing.{slice_get-append, slice_get-append_seam}
-use Rattle.pc_numbers.specs.declared.component_entity.StaticModuleIndex.{StaticModuleIndex}
 use Rattle.pc_numbers.specs.declared.runtime.RuntimeComponentInstanceIndex.{RuntimeComponentInstanceIndex}
 use Rattle.pc_numbers.specs.declared.runtime.RuntimeInstanceIndex.{RuntimeInstanceIndex}
-use Rattle.pc_semantics.specs.CoreValue.{CoreValue}
-use Rattle.pc_semantics.specs.Log.{Entry, Instantiation, instantiated, of_static}
+use Rattle.pc_semantics.specs.Log.{Entry, Instantiation, instantiated}
 use Rattle.pc_semantics.specs.Machine.{State, RuntimeInstance, add_instance, owned_before, start, step}
-use Rattle.pc_semantics.specs.Machine as machine
 use Rattle.pc_semantics.specs.PlanView as plan
 use Rattle.pc_semantics.specs.Trace.{gained}
 use Rattle.pc_trampoline.specs.declared.part.Mark.{Mark}
@@ -21,20 +17,17 @@ use Rattle.pc_info.specs.declared.initializer.GlobalInitializer.TheVariants as i
 use Rattle.pc_info.specs.declared.initializer.InstantiateModule.{InstantiateModule}
 use Rattle.pc_info.specs.declared.module.ModuleTranslation.{ModuleTranslation}
 use Rattle.pc_info.specs.Definitions.{initializer_view, source_view}
-use Rattle.pc_dfg.specs.declared.core_def.CoreDef.{CoreDef}
 use Rattle.pc_dfg.specs.declared.dfg.ComponentDfg.{ComponentDfg}
 use Rattle.pc_dfg.specs.declared.instance.Instance.{Instance}
 use Rattle.pc_dfg.specs.Effects.{MeansInstance}
-use Rattle.pc_dfg.specs.Means.{Means}
-use Rattle.pc_finish.specs.declared.state.Finish.{Finish}
-use Rattle.pc_finish.specs.Made.{with_instance}
-use Rattle.pc_finish.specs.Numbers.{number_at}
-use Rattle.pc_finish.specs.Plan.{Extends, steps_view}
-use Rattle.pc_finish.specs.Reached.{Placed, Reached, all_linked}
-use Rattle.pc_finish.proofs.CountLemmas.{count_by-push}
+use Rattle.pc_linearize.specs.declared.state.Finish.{Finish}
+use Rattle.pc_linearize.specs.Made.{with_instance}
+use Rattle.pc_linearize.specs.Plan.{Extends, steps_view}
+use Rattle.pc_linearize.specs.Reached.{Placed, Reached, all_linked}
+use Rattle.pc_linearize.proofs.CountLemmas.{count_by-push}
 use Rattle.pc_finish.proofs.HereLemmas.{drop_whole, extends_before, filled_here, resolves_here}
 use Rattle.pc_finish.proofs.PushedLemmas.{length_pushed, pushed_cases, take_whole}
-use Rattle.pc_finish.proofs.StepLemmas.{IsCounted, is_within_counts, run_more, trace_more}
+use Rattle.pc_linearize.proofs.StepLemmas.{IsCounted, is_within_counts, run_more, trace_more}
 
 -- whether an instance was made for a component instance
 abbrev is_owned : RuntimeInstance Mark → Bool

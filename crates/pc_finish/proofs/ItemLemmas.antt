@@ -17,7 +17,7 @@ use Rattle.pc_dfg.specs.Held.{HeldExport, HoldsEntry}
 use Rattle.pc_dfg.specs.Lists as list
 use Rattle.pc_dfg.specs.Lists.{NamedExport}
 use Rattle.pc_dfg.specs.Ordered.{IsOrdered}
-use Rattle.pc_finish.specs.declared.state.Finish.{Finish}
+use Rattle.pc_linearize.specs.declared.state.Finish.{Finish}
 use Rattle.pc_finish.specs.Exports.{IsConverted}
 use Rattle.pc_finish.specs.Finishes.{IsItem}
 use Rattle.pc_finish.proofs.FurtherLemmas.{all_of}

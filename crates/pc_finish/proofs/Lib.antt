@@ -1,20 +1,8 @@
-mod CountLemmas
-mod StepLemmas
-mod ContinueLemmas
-mod AllLemmas
 mod ArgumentLemmas
 mod NamedLemmas
 mod RefusedLemmas
-mod DefLemmas
 -- the order: what an id leads to is lower, and is ready where it is named
-mod PartLemmas
-mod RankLemmas
-mod HeldLemmas
 mod ReadyLemmas
--- what is held has a value
-mod ValueLemmas
-mod NumberLemmas
-mod GainLemmas
 -- the exports
 mod TypeLemmas
 mod NamingLemmas
@@ -28,20 +16,9 @@ mod ResourceLemmas
 mod EffectLemmas
 mod ItemLemmas
 mod NodeLemmas
--- the stack
-mod OpenLemmas
-mod SumLemmas
-mod WorkLemmas
-mod StackLemmas
 -- numbers are given once
-mod NoteLemmas
-mod FillLemmas
-mod FullLemmas
 mod OutgrownLemmas
-mod TakeLemmas
 mod CopyLemmas
-mod StepNameLemmas
-mod RepresentedLemmas
 mod SharedLemmas
 mod TwiceLemmas
 mod UsedLemmas
@@ -50,20 +27,20 @@ mod LoweringUseLemmas
 mod RangeLemmas
 mod LiftedLemmas
 mod TrampolineUseLemmas
-mod EntryLemmas
-mod GrownLemmas
-mod SlotLemmas
-mod KindLemmas
-mod ClosedSlotLemmas
+-- the steps are those of the graph
+mod StageLemmas
 mod DoneLemmas
 mod StartLemmas
 mod OwnedLemmas
+mod ApartLemmas
+-- where the steps stand
+mod PieceLemmas
+mod SealedLemmas
+mod StandingLemmas
+mod ExportPieceLemmas
+mod AdapterOnceLemmas
+mod DistinctLemmas
+mod SlotApartLemmas
 mod WholeLemmas
 mod MadeLemmas
 mod OnlyLemmas
-mod NumberedLemmas
-mod OptionsLemmas
-mod TrampolineLemmas
-mod IntrinsicLemmas
-mod LoweringLemmas
-mod ModuleLemmas

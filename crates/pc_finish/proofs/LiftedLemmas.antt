@@ -1,14 +1,13 @@
 -- The functions that a plan exports have options entries of it, and an options entry is used where it was numbered for
 -- an export.
-use Rattle.std.proofs.Common.{◌≡◌, ◌<◌, ℕ, zero, suc, List, [], ◌∷◌, ◌++◌, ◌⊎◌, inl, inr, length, All, Option, None}
+use Rattle.std.proofs.Common.{◌≡◌, ◌<◌, ℕ, zero, suc, List, [], ◌∷◌, inl, inr, length, Option}
 use Rattle.std.proofs.Common.{Some, refl, sym, ap, subst, ◌∙◌}
-use Rattle.std.specs.Prelude.{slice_get, unwrap_or, IfSome}
+use Rattle.std.specs.Prelude.{slice_get, unwrap_or}
 use Rattle.std.specs.List.{AllZip, Contains, flat_map}
 use Rattle.std.proofs.lemmas.List.Concat.{flat_map-cons}
-use Rattle.std.proofs.lemmas.List.Elements.{All-contains, All-head, All-nil, Contains-append_cases}
+use Rattle.std.proofs.lemmas.List.Elements.{All-contains, All-nil, Contains-append_cases}
 use Rattle.std.proofs.lemmas.Option.{none-some, same_Some}
 use Rattle.pc_names.specs.Contents.{Contents}
-use Rattle.pc_intern.specs.declared.ids.OptionsId.{OptionsId}
 use Rattle.pc_numbers.specs.declared.runtime.OptionsIndex.{OptionsIndex}
 use Rattle.pc_types.specs.declared.type_index.TypeFuncIndex.{TypeFuncIndex}
 use Rattle.pc_types.specs.declared.type_index.TypeModuleIndex.{TypeModuleIndex}
@@ -19,17 +18,16 @@ use Rattle.pc_dfg.specs.declared.core_def.CoreDef.{CoreDef}
 use Rattle.pc_dfg.specs.declared.dfg.ComponentDfg.{ComponentDfg}
 use Rattle.pc_dfg.specs.declared.export.Export.{Export}
 use Rattle.pc_dfg.specs.declared.export.Export.TheVariants as export
-use Rattle.pc_finish.specs.declared.id.Id.{Id}
-use Rattle.pc_finish.specs.declared.id.Id.TheVariants as id
-use Rattle.pc_finish.specs.declared.state.Finish.{Finish}
-use Rattle.pc_finish.specs.Exports.{Exports, IsConverted, IsExportable, IsLiftable, Target, in_export, in_exports}
-use Rattle.pc_finish.specs.Exports.{in_lifted, lifted_in}
-use Rattle.pc_finish.specs.Finishes.{HasOptions}
-use Rattle.pc_finish.specs.Numbers.{number_at, numbered}
-use Rattle.pc_finish.specs.Once.{Fills}
-use Rattle.pc_finish.specs.Parts.{HasNumber, in_def, number_of, options_id}
-use Rattle.pc_finish.proofs.AllLemmas.{all_at}
-use Rattle.pc_finish.proofs.PartLemmas.{all_each, all_one}
+use Rattle.pc_linearize.specs.declared.id.Id.{Id}
+use Rattle.pc_linearize.specs.declared.id.Id.TheVariants as id
+use Rattle.pc_linearize.specs.declared.state.Finish.{Finish}
+use Rattle.pc_finish.specs.Exports.{Exports, IsConverted, IsExportable, Target, in_export, in_exports}
+use Rattle.pc_linearize.specs.Numbers.{number_at}
+use Rattle.pc_linearize.specs.Once.{Fills}
+use Rattle.pc_linearize.specs.Parts.{HasNumber, in_def, number_of, options_id}
+use Rattle.pc_linearize.specs.Slots.{HasOptions}
+use Rattle.pc_linearize.proofs.AllLemmas.{all_at}
+use Rattle.pc_linearize.proofs.PartLemmas.{all_one}
 use Rattle.pc_finish.proofs.UsedLemmas.{NoOptions, no_def}
 
 module _ {A B : Type 0} (R : A → B → Type 0) where

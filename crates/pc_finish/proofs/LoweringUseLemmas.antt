@@ -20,19 +20,19 @@ use Rattle.pc_info.specs.View.{trampolines_view}
 use Rattle.pc_dfg.specs.declared.dfg.ComponentDfg.{ComponentDfg}
 use Rattle.pc_dfg.specs.Names.{each_of}
 use Rattle.pc_dfg.specs.Numbers.{SignedTrampoline, graph_numbers, options_entry, trampoline_entry}
-use Rattle.pc_finish.specs.declared.id.Id.{Id}
-use Rattle.pc_finish.specs.declared.id.Id.TheVariants as id
-use Rattle.pc_finish.specs.declared.state.Finish.{Finish}
-use Rattle.pc_finish.specs.Entries.{GraphPart, GraphParts, head_in, list_in, parts_in}
-use Rattle.pc_finish.specs.Numbers.{number_at}
-use Rattle.pc_finish.specs.Once.{Alike, IsUsedBy, unsigned}
-use Rattle.pc_finish.specs.Parts.{HasNumber, in_def, in_entry, in_model, in_part, in_trampoline, maybe_slot, number_of}
-use Rattle.pc_finish.specs.Parts.{options_id, parts, slot_id}
-use Rattle.pc_finish.specs.Ready.{Leads}
-use Rattle.pc_finish.specs.Represented.{Represents}
-use Rattle.pc_finish.specs.Slots.{TakesLowering}
-use Rattle.pc_finish.proofs.PartLemmas.{all_each, all_one}
-use Rattle.pc_finish.proofs.RepresentedLemmas.{copied_parts}
+use Rattle.pc_linearize.specs.declared.id.Id.{Id}
+use Rattle.pc_linearize.specs.declared.id.Id.TheVariants as id
+use Rattle.pc_linearize.specs.declared.state.Finish.{Finish}
+use Rattle.pc_linearize.specs.Entries.{GraphPart, GraphParts, head_in, list_in, parts_in}
+use Rattle.pc_linearize.specs.Numbers.{number_at}
+use Rattle.pc_linearize.specs.Once.{Alike, IsUsedBy, unsigned}
+use Rattle.pc_linearize.specs.Parts.{HasNumber, in_def, in_entry, in_model, in_part, in_trampoline, maybe_slot, number_of}
+use Rattle.pc_linearize.specs.Parts.{options_id, parts, slot_id}
+use Rattle.pc_linearize.specs.Ready.{Leads}
+use Rattle.pc_linearize.specs.Represented.{Represents}
+use Rattle.pc_linearize.specs.Slots.{TakesLowering}
+use Rattle.pc_linearize.proofs.PartLemmas.{all_each, all_one}
+use Rattle.pc_linearize.proofs.RepresentedLemmas.{copied_parts}
 use Rattle.pc_finish.proofs.SlotUseLemmas.{IsDirect, copied_view, direct_defs, direct_in_slot}
 use Rattle.pc_finish.proofs.UsedLemmas.{leads_last, leads_numbered}
 
@@ -112,7 +112,7 @@ module _ (f : Finish) (t : TrampolineIndex) (n : ℕ) (at : number_at f.numbers.
       absurd (without _ t (parts_lower (signed graph_numbers s (list_of ps))) inside)
 
   -- the trampoline of the plan is that lowering
-  trampoline_lowers : (s : ModuleInternedTypeIndex) (p : GraphParts)
+  pub trampoline_lowers : (s : ModuleInternedTypeIndex) (p : GraphParts)
       → Contains (in_trampoline t (parts_entry graph_numbers s p)) (id.Lowering t)
       → TakesLowering n (parts_entry plan_numbers s (parts_in f t p))
   trampoline_lowers s p inside = head_lowers s p.kind p.head p.parts inside

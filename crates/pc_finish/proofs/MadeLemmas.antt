@@ -1,7 +1,6 @@
 -- What was made, put together, is what `finish` promises.
 use Rattle.std.proofs.Common.{◌≡◌, ℕ, List, Option, None, Some, refl, sym, ap, true≢false}
-use Rattle.std.specs.Prelude.{slice_get, unwrap_or, IsSome}
-use Rattle.pc_numbers.specs.declared.component_entity.StaticModuleIndex.{StaticModuleIndex}
+use Rattle.std.specs.Prelude.{unwrap_or, IsSome}
 use Rattle.pc_names.specs.Contents.{Contents}
 use Rattle.pc_types.specs.declared.parsed.TypeTable.{TypeTable}
 use Rattle.pc_types.specs.declared.type_index.TypeModuleIndex.{TypeModuleIndex}
@@ -13,12 +12,12 @@ use Rattle.pc_info.specs.declared.export.Export.{Export as PlanItem}
 use Rattle.pc_dfg.specs.declared.dfg.ComponentDfg.{ComponentDfg}
 use Rattle.pc_dfg.specs.declared.export.Export.TheVariants as export
 use Rattle.pc_dfg.specs.Ordered.{IsOrdered}
-use Rattle.pc_finish.specs.declared.state.Finish.{Finish}
+use Rattle.pc_linearize.specs.declared.state.Finish.{Finish}
 use Rattle.pc_finish.specs.Exports.{Target}
 use Rattle.pc_finish.specs.Finished.{IsFinished}
-use Rattle.pc_finish.specs.ModuleTypes.{AreModuleTypes, IsTyped, module_mark, module_type, type_at}
+use Rattle.pc_finish.specs.ModuleTypes.{AreModuleTypes, IsTyped, module_mark, type_at}
 use Rattle.pc_finish.specs.Whole.{IsMade, translation_of}
-use Rattle.pc_finish.proofs.AllLemmas.{all_at}
+use Rattle.pc_linearize.proofs.AllLemmas.{all_at}
 use Rattle.pc_finish.proofs.WholeLemmas.{whole_finishes}
 
 -- the mark of a module type that was converted is its type
@@ -45,5 +44,5 @@ made_finished {b} {t} {g} {f} {names} {items} ordered made = record {
       let typed = all_at (IsTyped made.types) g.export_items n (export.ModuleStatic ty m) made.typed at in
       mark_typed b t made.types ty made.are typed;
   finishes = whole_finishes g ordered made.before made.done f made.further made.types names items made.exports
-      made.distinct made.apart made.only;
+      made.interned made.only;
 }

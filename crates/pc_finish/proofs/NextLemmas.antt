@@ -1,6 +1,6 @@
 -- The next side effect of an ordered graph: what it makes has the next number, and what it names can get its numbers.
-use Rattle.std.proofs.Common.{◌≡◌, ℕ, List, All, Some, length, sym, subst, ◌∙◌}
-use Rattle.std.specs.Prelude.{Contains, slice_get}
+use Rattle.std.proofs.Common.{◌≡◌, ℕ, All, Some, length, sym, subst, ◌∙◌}
+use Rattle.std.specs.Prelude.{Contains}
 use Rattle.std.proofs.lemmas.List.Elements.{All-contains_itself}
 use Rattle.pc_dfg.specs.declared.core_def.CoreDef.{CoreDef}
 use Rattle.pc_dfg.specs.declared.dfg.ComponentDfg.{ComponentDfg}
@@ -9,12 +9,12 @@ use Rattle.pc_dfg.specs.Held.{HeldEffect, HoldsEntry}
 use Rattle.pc_dfg.specs.Lists as list
 use Rattle.pc_dfg.specs.Names.{in_effect}
 use Rattle.pc_dfg.specs.Ordered.{IsOrdered, declared_by, made_by}
-use Rattle.pc_finish.specs.declared.state.Finish.{Finish}
-use Rattle.pc_finish.specs.Arguments.{CanNumber}
-use Rattle.pc_finish.specs.Grouped.{IsGrouped}
-use Rattle.pc_finish.specs.Made.{IsNext}
-use Rattle.pc_finish.specs.Parts.{in_def}
-use Rattle.pc_finish.specs.Wired.{Occurs, in_an_effect}
+use Rattle.pc_linearize.specs.declared.state.Finish.{Finish}
+use Rattle.pc_linearize.specs.Arguments.{CanNumber}
+use Rattle.pc_linearize.specs.Grouped.{IsGrouped}
+use Rattle.pc_linearize.specs.Made.{IsNext}
+use Rattle.pc_linearize.specs.Parts.{in_def}
+use Rattle.pc_linearize.specs.Wired.{Occurs, in_an_effect}
 use Rattle.pc_finish.proofs.PushedLemmas.{filter_map_at}
 use Rattle.pc_finish.proofs.ReadyLemmas.{effect_ready}
 

@@ -38,18 +38,18 @@ use Rattle.pc_dfg.specs.Nodes.{ExportsMean, MeansExport, MeansItem, MeansName, M
 use Rattle.pc_dfg.specs.Nodes.{means_host_module, means_instance, means_item, means_lifted, means_no_nodes}
 use Rattle.pc_dfg.specs.Nodes.{means_static_module, means_type}
 use Rattle.pc_dfg.specs.Ordered.{IsOrdered}
-use Rattle.pc_finish.specs.declared.state.Finish.{Finish}
-use Rattle.pc_finish.specs.Converted.{def_in}
+use Rattle.pc_linearize.specs.declared.state.Finish.{Finish}
+use Rattle.pc_linearize.specs.Converted.{def_in}
 use Rattle.pc_finish.specs.Exports.{CanExport, IsConverted, IsExportable}
 use Rattle.pc_finish.specs.ModuleTypes.{module_mark}
-use Rattle.pc_finish.specs.Numbers.{numbered}
-use Rattle.pc_finish.specs.Parts.{number_of as id_number}
-use Rattle.pc_finish.specs.Plan.{Extends}
-use Rattle.pc_finish.specs.Reached.{Reached}
-use Rattle.pc_finish.specs.Ready.{IsReadyDef}
-use Rattle.pc_finish.specs.Wired.{IsWired, in_an_export}
-use Rattle.pc_finish.proofs.AllLemmas.{all_at}
-use Rattle.pc_finish.proofs.DefLemmas.{def_resolves}
+use Rattle.pc_linearize.specs.Numbers.{numbered}
+use Rattle.pc_linearize.specs.Parts.{number_of as id_number}
+use Rattle.pc_linearize.specs.Plan.{Extends}
+use Rattle.pc_linearize.specs.Reached.{Reached}
+use Rattle.pc_linearize.specs.Ready.{IsReadyDef}
+use Rattle.pc_linearize.specs.Wired.{IsWired, in_an_export}
+use Rattle.pc_linearize.proofs.AllLemmas.{all_at}
+use Rattle.pc_linearize.proofs.DefLemmas.{def_resolves}
 use Rattle.pc_finish.proofs.FurtherLemmas.{all_of}
 use Rattle.pc_finish.proofs.ItemLemmas.{zip_length}
 use Rattle.pc_finish.proofs.ResolveLemmas.{path_here}

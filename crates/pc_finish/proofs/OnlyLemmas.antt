@@ -9,12 +9,12 @@ use Rattle.std.proofs.lemmas.List.Elements.{Contains-append_left, Contains-appen
 use Rattle.pc_entity.proofs.Growing.{take-next}
 use Rattle.pc_dfg.specs.declared.dfg.ComponentDfg.{ComponentDfg}
 use Rattle.pc_dfg.specs.declared.export.Export.{Export}
-use Rattle.pc_finish.specs.declared.id.Id.{Id}
-use Rattle.pc_finish.specs.declared.state.Finish.{Finish}
-use Rattle.pc_finish.specs.Arguments.{IsFrom, OnlyFromThese}
-use Rattle.pc_finish.specs.Once.{IsUsedBy, OnlyFrom}
+use Rattle.pc_linearize.specs.declared.id.Id.{Id}
+use Rattle.pc_linearize.specs.declared.state.Finish.{Finish}
+use Rattle.pc_linearize.specs.Arguments.{IsFrom, OnlyFromThese}
+use Rattle.pc_linearize.specs.Once.{IsUsedBy, OnlyFrom}
 use Rattle.pc_finish.specs.Exports.{in_export, in_exports}
-use Rattle.pc_finish.specs.Parts.{HasNumber}
+use Rattle.pc_linearize.specs.Parts.{HasNumber}
 
 -- nothing got a number
 pub only_none : (g : ComponentDfg) (f : Finish) (xs : List Id) → OnlyFromThese g f f xs

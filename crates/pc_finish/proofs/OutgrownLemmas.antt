@@ -5,13 +5,13 @@ use Rattle.pc_dfg.specs.declared.dfg.ComponentDfg.{ComponentDfg}
 use Rattle.pc_dfg.specs.declared.instance.Resource.{Resource}
 use Rattle.pc_dfg.specs.declared.instance.SideEffect.{SideEffect}
 use Rattle.pc_dfg.specs.Ordered.{IsOrdered, declared_by, made_before, made_by}
-use Rattle.pc_finish.specs.declared.state.Finish.{Finish}
-use Rattle.pc_finish.specs.Closed.{Continues}
-use Rattle.pc_finish.specs.Full.{HasTooMany, of_resources}
-use Rattle.pc_finish.specs.Made.{DoneBefore, IsNext, declared_before}
-use Rattle.pc_finish.specs.Outgrown.{Outgrows}
+use Rattle.pc_linearize.specs.declared.state.Finish.{Finish}
+use Rattle.pc_linearize.specs.Closed.{Continues}
+use Rattle.pc_linearize.specs.Full.{HasTooMany, of_resources}
+use Rattle.pc_linearize.specs.Made.{DoneBefore, IsNext, declared_before}
+use Rattle.pc_linearize.specs.Outgrown.{Outgrows}
 use Rattle.pc_finish.proofs.DoneLemmas.{made_at_most}
-use Rattle.pc_finish.proofs.FullLemmas.{instances_too_many}
+use Rattle.pc_linearize.proofs.FullLemmas.{instances_too_many}
 
 module _ (g : ComponentDfg) where
   -- a plan outgrows its graph where what becomes of it does

@@ -1,27 +1,26 @@
 -- The core instances that a run has in the end are those of its trace.
-use Rattle.std.proofs.Common.{◌≡◌, ◌++◌, ℕ, Bool, true, false, List, [], ◌∷◌, length, map, drop, Option, None, Some}
+use Rattle.std.proofs.Common.{◌≡◌, ◌++◌, Bool, true, false, List, [], ◌∷◌, length, map, drop, Option, None, Some}
 use Rattle.std.proofs.Common.{refl, sym, ap, ◌∙◌}
-use Rattle.std.specs.Prelude.{option_and_then, option_map, if◌then◌else◌, ◌==◌, ◌&&◌}
-use Rattle.std.specs.List.{cons_option, filter_map}
+use Rattle.std.specs.Prelude.{option_and_then, option_map, if◌then◌else◌}
+use Rattle.std.specs.List.{filter_map}
 use Rattle.std.proofs.Math.Seq.{drop-append_seam}
 use Rattle.std.proofs.lemmas.List.{append-nil, append_assoc}
 use Rattle.std.proofs.lemmas.List.Elements.{filter_map-append}
 use Rattle.std.proofs.lemmas.Option.{none-some, same_Some}
 use Rattle.pc_entity.specs.Lists.{map_all}
-use Rattle.pc_semantics.specs.CoreValue.{CoreValue, MaybeValue}
+use Rattle.pc_semantics.specs.CoreValue.{CoreValue}
 use Rattle.pc_semantics.specs.Log.{Entry, NamedArgument, Owned, instances_of, of_host, of_static}
 use Rattle.pc_semantics.specs.Log as log
-use Rattle.pc_semantics.specs.Machine.{State, PlanModule, RuntimeInstance, DeclaredResource, add_instance, can_make}
-use Rattle.pc_semantics.specs.Machine.{fill, fits}
-use Rattle.pc_semantics.specs.Machine.{is_counted, is_within, module_at, owned_instances, owned_of, path_of, resolve}
+use Rattle.pc_semantics.specs.Machine.{State, RuntimeInstance, DeclaredResource}
+use Rattle.pc_semantics.specs.Machine.{fill}
+use Rattle.pc_semantics.specs.Machine.{is_within, module_at, owned_instances, owned_of, path_of, resolve}
 use Rattle.pc_semantics.specs.Machine.{resolve_maybe}
-use Rattle.pc_semantics.specs.Machine.{resolve_named, run_from, slots_of, step}
+use Rattle.pc_semantics.specs.Machine.{resolve_named, run_from, step}
 use Rattle.pc_semantics.specs.PlanView as plan
 use Rattle.pc_semantics.specs.Trace.{gained, instance_entry, resource_entry, trace_from}
-use Rattle.pc_types.specs.TypeTree.{Path}
 use Rattle.pc_trampoline.specs.declared.part.Mark.{Mark}
-use Rattle.pc_finish.specs.Reached.{all_linked}
-use Rattle.pc_finish.proofs.GainLemmas.{behind_map, behind_then}
+use Rattle.pc_linearize.specs.Reached.{all_linked}
+use Rattle.pc_linearize.proofs.GainLemmas.{behind_map, behind_then}
 
 -- under a test that answers, what stands behind it
 behind_if : {A : Type 0} (b : Bool) (x y : A) → (if b then Some x else None) ≡ Some y → x ≡ y

@@ -1,5 +1,5 @@
 -- What options and trampolines of a plan name is there.
-use Rattle.std.proofs.Common.{◌≡◌, ◌<◌, ◌++◌, ◌⊎◌, inl, inr, ℕ, zero, suc, List, [], ◌∷◌, length, map, All, Option}
+use Rattle.std.proofs.Common.{◌≡◌, ◌<◌, ◌++◌, ℕ, zero, suc, List, [], length, map, All, Option}
 use Rattle.std.proofs.Common.{None, Some, option_map, refl, sym, ap, subst, ◌∙◌, arith}
 use Rattle.std.specs.Prelude.{slice_get, unwrap_or}
 use Rattle.std.specs.List.{Contains, flat_map}
@@ -25,22 +25,22 @@ use Rattle.pc_info.specs.Options.{options_view}
 use Rattle.pc_info.specs.View.{no_signature, trampolines_view}
 use Rattle.pc_dfg.specs.declared.dfg.ComponentDfg.{ComponentDfg}
 use Rattle.pc_dfg.specs.Numbers.{graph_numbers, options_entry}
-use Rattle.pc_finish.specs.declared.id.Id.{Id}
-use Rattle.pc_finish.specs.declared.id.Id.TheVariants as id
-use Rattle.pc_finish.specs.declared.state.Finish.{Finish}
-use Rattle.pc_finish.specs.Entries.{GraphPart, GraphParts, head_in, list_in, options_in, part_in, parts_in}
-use Rattle.pc_finish.specs.Finishes.{TakesOptions}
-use Rattle.pc_finish.specs.Numbers.{number_at, numbered}
-use Rattle.pc_finish.specs.Once.{AreGiven, Fills}
-use Rattle.pc_finish.specs.Parts.{HasNumber, in_entry, in_model, in_part, in_trampoline, maybe_slot, number_of}
-use Rattle.pc_finish.specs.Parts.{options_id, parts, slot_id, slot_numbers}
-use Rattle.pc_finish.specs.Plan.{slot_count}
-use Rattle.pc_finish.specs.Represented.{IsCopyOf, Represents}
-use Rattle.pc_finish.specs.Slots.{AtMostOne, TakesLowering, TakesSlot, model_memory, model_realloc, options_slot}
-use Rattle.pc_finish.proofs.FillLemmas.{mapped_back}
-use Rattle.pc_finish.proofs.RepresentedLemmas.{copied_parts, options_parts}
+use Rattle.pc_linearize.specs.declared.id.Id.{Id}
+use Rattle.pc_linearize.specs.declared.id.Id.TheVariants as id
+use Rattle.pc_linearize.specs.declared.state.Finish.{Finish}
+use Rattle.pc_linearize.specs.Entries.{GraphPart, head_in, list_in, options_in, part_in, parts_in}
+use Rattle.pc_linearize.specs.Numbers.{number_at, numbered}
+use Rattle.pc_linearize.specs.Once.{AreGiven, Fills}
+use Rattle.pc_linearize.specs.Parts.{HasNumber, in_entry, in_model, in_part, in_trampoline, maybe_slot, number_of}
+use Rattle.pc_linearize.specs.Parts.{options_id, slot_id, slot_numbers}
+use Rattle.pc_linearize.specs.Plan.{slot_count}
+use Rattle.pc_linearize.specs.Represented.{IsCopyOf, Represents}
+use Rattle.pc_linearize.specs.Slots.{AtMostOne, TakesLowering, TakesOptions, TakesSlot, model_memory, model_realloc}
+use Rattle.pc_linearize.specs.Slots.{options_slot}
+use Rattle.pc_linearize.proofs.FillLemmas.{mapped_back}
+use Rattle.pc_linearize.proofs.RepresentedLemmas.{copied_parts, options_parts}
 use Rattle.pc_finish.proofs.SlotUseLemmas.{copied_view, slot_number, slot_part, slots_renumbered}
-use Rattle.pc_finish.proofs.TrampolineLemmas.{first_view}
+use Rattle.pc_linearize.proofs.TrampolineLemmas.{first_view}
 
 -- a slot that is there is a part
 maybe_has : (l : plan.SlotKind) (m : Option ℕ) (i : ℕ) → m ≡ Some i → Contains (maybe_slot l m) (slot_id l i)

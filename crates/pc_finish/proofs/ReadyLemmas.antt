@@ -28,14 +28,14 @@ use Rattle.pc_dfg.specs.Names.{an_instance, an_adapter, if_any, each_of, in_inst
 use Rattle.pc_dfg.specs.Names.{names_instance, names_adapter, names_through, OneNames, Thing}
 use Rattle.pc_dfg.specs.Numbers.{SignedTrampoline, options_entry, trampoline_entry, slots_of}
 use Rattle.pc_dfg.specs.Ordered.{IsOrdered, made_before}
-use Rattle.pc_finish.specs.declared.id.Id.{Id}
-use Rattle.pc_finish.specs.declared.id.Id.TheVariants as id
-use Rattle.pc_finish.specs.Grouped.{HasArguments, IsIn, IsGrouped}
-use Rattle.pc_finish.specs.Parts.{slot_id, options_id, in_def, in_entry, in_trampoline, parts}
-use Rattle.pc_finish.specs.Ready.{CanClose, IsLowering, IsReady, IsReadyDef, Leads, LowersImport, here, through}
-use Rattle.pc_finish.specs.Wired.{Occurs, in_a_module, in_a_slot, in_an_effect, in_an_export}
-use Rattle.pc_finish.proofs.HeldLemmas.{entry_held, names_there}
-use Rattle.pc_finish.proofs.PartLemmas.{all_one, all_each, all_made, entry_parts, trampoline_parts}
+use Rattle.pc_linearize.specs.declared.id.Id.{Id}
+use Rattle.pc_linearize.specs.declared.id.Id.TheVariants as id
+use Rattle.pc_linearize.specs.Grouped.{HasArguments, IsIn, IsGrouped}
+use Rattle.pc_linearize.specs.Parts.{slot_id, options_id, in_def, in_entry, in_trampoline, parts}
+use Rattle.pc_linearize.specs.Ready.{CanClose, IsLowering, IsReady, IsReadyDef, Leads, LowersImport, here, through}
+use Rattle.pc_linearize.specs.Wired.{Occurs, in_a_module, in_a_slot, in_an_effect, in_an_export}
+use Rattle.pc_linearize.proofs.HeldLemmas.{entry_held, names_there}
+use Rattle.pc_linearize.proofs.PartLemmas.{all_one, all_each, all_made, entry_parts, trampoline_parts}
 
 module _ (g : ComponentDfg) (ordered : IsOrdered g) (grouped : IsGrouped g) (made : ℕ) where
   -- the core instances that a definition names were made, and so were those that are named by the modules up to those

@@ -1,12 +1,11 @@
 -- Arguments and modules as the plan has them stand for what they stand for in the graph.
-use Rattle.std.proofs.Common.{◌≡◌, ◌<◌, ◌++◌, ℕ, Bool, true, List, [], ◌∷◌, length, map, All, Option, None, Some, refl}
+use Rattle.std.proofs.Common.{◌≡◌, ◌<◌, ◌++◌, ℕ, true, List, [], ◌∷◌, length, map, All, Some, refl}
 use Rattle.std.proofs.Common.{sym, ap, subst, ◌∙◌, arith, eq-eqb}
-use Rattle.std.specs.Prelude.{nat_lt, option_and_then, option_map, slice_get, ◌==◌, if◌then◌else◌}
+use Rattle.std.specs.Prelude.{option_map, slice_get}
 use Rattle.std.specs.List.{AllZip, flat_map}
 use Rattle.std.proofs.lemmas.Bool.{lt-ltb}
 use Rattle.std.proofs.lemmas.List.{map-append}
 use Rattle.std.proofs.lemmas.List.Concat.{flat_map-cons}
-use Rattle.std.proofs.lemmas.List.Elements.{All-nil}
 use Rattle.std.proofs.lemmas.Option.{slice_get-map}
 use Rattle.std.proofs.lemmas.Simd.{map-map}
 use Rattle.std.proofs.lemmas.Slice.Zip.{AllZip-long}
@@ -15,9 +14,7 @@ use Rattle.pc_entity.proofs.Elements.{true_and}
 use Rattle.pc_entity.proofs.LookupLemmas.{found_at}
 use Rattle.pc_entity.proofs.MapAll.{map_all_cons}
 use Rattle.pc_numbers.specs.declared.component_entity.StaticModuleIndex.{StaticModuleIndex}
-use Rattle.pc_numbers.specs.declared.runtime.ImportIndex.{ImportIndex}
 use Rattle.pc_numbers.specs.declared.runtime.RuntimeImportIndex.{RuntimeImportIndex}
-use Rattle.pc_types.specs.declared.types.ComponentExtern.{ComponentExtern}
 use Rattle.pc_types.specs.TypeTree.{Path}
 use Rattle.pc_semantics.specs.CoreValue.{CoreValue}
 use Rattle.pc_semantics.specs.Log.{Entry, NamedArgument, of_host, of_static}
@@ -25,7 +22,7 @@ use Rattle.pc_semantics.specs.Machine.{State, add_instance, is_counted, path_of,
 use Rattle.pc_semantics.specs.PlanView as plan
 use Rattle.pc_trampoline.specs.declared.part.Mark.{Mark}
 use Rattle.pc_info.specs.declared.module.ModuleTranslation.{ModuleTranslation}
-use Rattle.pc_info.specs.Definitions.{argument_view, arguments_view, def_view, source_view}
+use Rattle.pc_info.specs.Definitions.{argument_view, arguments_view, def_view}
 use Rattle.pc_info.specs.View.{import_type_view, import_view}
 use Rattle.pc_dfg.specs.declared.core_def.CoreDef.{CoreDef}
 use Rattle.pc_dfg.specs.declared.dfg.ComponentDfg.{ComponentDfg}
@@ -34,15 +31,14 @@ use Rattle.pc_dfg.specs.Effects.{Argument, MeansArgument, host_arguments}
 use Rattle.pc_dfg.specs.Held.{AreHeld, HoldsEntry}
 use Rattle.pc_dfg.specs.Lists as list
 use Rattle.pc_dfg.specs.Means.{HasPath, Means}
-use Rattle.pc_finish.specs.declared.state.Finish.{Finish}
-use Rattle.pc_finish.specs.Arguments.{CanNumber, IsNumbered, host_defs, host_in, named_in}
-use Rattle.pc_finish.specs.Converted.{def_in}
-use Rattle.pc_finish.specs.Made.{instance_in}
-use Rattle.pc_finish.specs.Plan.{Extends}
-use Rattle.pc_finish.specs.Reached.{Reached, all_linked}
-use Rattle.pc_finish.specs.Wired.{IsWired, Occurs}
-use Rattle.pc_finish.proofs.AllLemmas.{all_cons, all_first, all_rest}
-use Rattle.pc_finish.proofs.DefLemmas.{def_resolves, handed_in_at}
+use Rattle.pc_linearize.specs.declared.state.Finish.{Finish}
+use Rattle.pc_linearize.specs.Arguments.{CanNumber, IsNumbered, host_defs, host_in, named_in}
+use Rattle.pc_linearize.specs.Converted.{def_in}
+use Rattle.pc_linearize.specs.Plan.{Extends}
+use Rattle.pc_linearize.specs.Reached.{Reached, all_linked}
+use Rattle.pc_linearize.specs.Wired.{IsWired, Occurs}
+use Rattle.pc_linearize.proofs.AllLemmas.{all_first, all_rest}
+use Rattle.pc_linearize.proofs.DefLemmas.{def_resolves, handed_in_at}
 
 -- the argument of a host module as the plan has it
 abbrev named_view : ComponentDfg → Finish → Argument → plan.NamedDefinition

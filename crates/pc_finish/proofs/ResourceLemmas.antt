@@ -1,14 +1,14 @@
 -- A run that declares one more resource.
-use Rattle.std.proofs.Common.{◌≡◌, ◌≤◌, ◌<◌, ◌+◌, ◌++◌, ℕ, Bool, true, List, [], ◌∷◌, length, map, drop, All, Option}
-use Rattle.std.proofs.Common.{None, Some, refl, sym, ap, ◌∙◌, arith, eq-eqb}
-use Rattle.std.specs.Prelude.{option_map, ◌==◌}
+use Rattle.std.proofs.Common.{◌≡◌, ◌≤◌, ◌<◌, ◌+◌, ◌++◌, ℕ, List, [], ◌∷◌, length, All, Option}
+use Rattle.std.proofs.Common.{Some, refl, sym, ap, ◌∙◌, arith, eq-eqb}
+use Rattle.std.specs.Prelude.{option_map}
 use Rattle.std.proofs.Math.Seq.{drop-append_seam}
 use Rattle.std.proofs.lemmas.List.{map-append}
 use Rattle.pc_entity.proofs.Elements.{true_and}
 use Rattle.pc_types.specs.declared.parsed.WasmValType.{WasmValType}
 use Rattle.pc_semantics.specs.CoreValue.{MaybeValue, a_value}
 use Rattle.pc_semantics.specs.Log.{Entry, declared_resource}
-use Rattle.pc_semantics.specs.Machine.{State, DeclaredResource, is_counted, resolve_maybe, start, step}
+use Rattle.pc_semantics.specs.Machine.{State, DeclaredResource, resolve_maybe, start, step}
 use Rattle.pc_semantics.specs.PlanView as plan
 use Rattle.pc_semantics.specs.Trace.{gained}
 use Rattle.pc_trampoline.specs.declared.part.Mark.{Mark}
@@ -20,17 +20,17 @@ use Rattle.pc_dfg.specs.declared.core_def.CoreDef.{CoreDef}
 use Rattle.pc_dfg.specs.declared.dfg.ComponentDfg.{ComponentDfg}
 use Rattle.pc_dfg.specs.Means.{MeansMaybe, means_none, means_some}
 use Rattle.pc_dfg.specs.Names.{if_any}
-use Rattle.pc_finish.specs.declared.state.Finish.{Finish}
-use Rattle.pc_finish.specs.Converted.{def_in}
-use Rattle.pc_finish.specs.Made.{with_resource}
-use Rattle.pc_finish.specs.Plan.{Extends, steps_view}
-use Rattle.pc_finish.specs.Reached.{Reached, all_linked}
-use Rattle.pc_finish.specs.Wired.{IsWired}
-use Rattle.pc_finish.proofs.AllLemmas.{all_first}
+use Rattle.pc_linearize.specs.declared.state.Finish.{Finish}
+use Rattle.pc_linearize.specs.Converted.{def_in}
+use Rattle.pc_linearize.specs.Made.{with_resource}
+use Rattle.pc_linearize.specs.Plan.{Extends, steps_view}
+use Rattle.pc_linearize.specs.Reached.{Reached, all_linked}
+use Rattle.pc_linearize.specs.Wired.{IsWired}
+use Rattle.pc_linearize.proofs.AllLemmas.{all_first}
 use Rattle.pc_finish.proofs.HereLemmas.{drop_whole, extends_before, filled_here, resolves_here}
 use Rattle.pc_finish.proofs.PushedLemmas.{length_pushed}
 use Rattle.pc_finish.proofs.ResolveLemmas.{Resolves, counted_here}
-use Rattle.pc_finish.proofs.StepLemmas.{IsCounted, is_within_counts, run_more, trace_more}
+use Rattle.pc_linearize.proofs.StepLemmas.{IsCounted, is_within_counts, run_more, trace_more}
 
 -- a destructor resolves to its value
 maybe_resolves : {g : ComponentDfg} {ms : List ModuleTranslation} {f : Finish} {s : State Mark}

@@ -18,15 +18,15 @@ use Rattle.pc_dfg.specs.declared.options.CanonicalOptions.{CanonicalOptions}
 use Rattle.pc_dfg.specs.declared.options.CanonicalOptionsDataModel.{CanonicalOptionsDataModel as Model}
 use Rattle.pc_dfg.specs.declared.options.CanonicalOptionsDataModel.TheVariants as model
 use Rattle.pc_dfg.specs.Numbers.{model_entry, options_entry}
-use Rattle.pc_finish.specs.declared.id.Id.TheVariants as id
-use Rattle.pc_finish.specs.declared.state.Finish.{Finish}
-use Rattle.pc_finish.specs.Entries.{callback_in, memory_in, model_in, options_in, post_return_in, realloc_in}
-use Rattle.pc_finish.specs.Numbers.{number_at, numbered}
-use Rattle.pc_finish.specs.Once.{AreGiven, Fills}
-use Rattle.pc_finish.specs.Parts.{HasNumber, in_entry, in_model, maybe_slot, number_of, options_id}
-use Rattle.pc_finish.specs.Represented.{Represents}
-use Rattle.pc_finish.proofs.PartLemmas.{all_left, all_right}
-use Rattle.pc_finish.proofs.RepresentedLemmas.{options_parts}
+use Rattle.pc_linearize.specs.declared.id.Id.TheVariants as id
+use Rattle.pc_linearize.specs.declared.state.Finish.{Finish}
+use Rattle.pc_linearize.specs.Entries.{callback_in, memory_in, model_in, options_in, post_return_in, realloc_in}
+use Rattle.pc_linearize.specs.Numbers.{number_at, numbered}
+use Rattle.pc_linearize.specs.Once.{AreGiven, Fills}
+use Rattle.pc_linearize.specs.Parts.{HasNumber, in_entry, in_model, maybe_slot, number_of, options_id}
+use Rattle.pc_linearize.specs.Represented.{Represents}
+use Rattle.pc_linearize.proofs.PartLemmas.{all_left, all_right}
+use Rattle.pc_linearize.proofs.RepresentedLemmas.{options_parts}
 
 -- one number is that of one entry
 pub one_entry : (ns : List (Option ℕ)) (count : ℕ) → AreGiven (number_at ns) count → (a b n m : ℕ)

@@ -1,5 +1,5 @@
 -- Each slot of a plan is named by an options entry or a trampoline of it.
-use Rattle.std.proofs.Common.{◌≡◌, ◌++◌, ◌⊎◌, inl, inr, ℕ, zero, suc, List, [], ◌∷◌, map, All, Option, None, Some}
+use Rattle.std.proofs.Common.{◌≡◌, ◌++◌, ◌⊎◌, inl, inr, ℕ, zero, suc, List, [], ◌∷◌, All, Option, None, Some}
 use Rattle.std.proofs.Common.{option_map, refl, sym, ap, subst, ◌∙◌, arith}
 use Rattle.std.specs.Prelude.{slice_get, unwrap_or}
 use Rattle.std.specs.List.{Contains, flat_map}
@@ -40,23 +40,23 @@ use Rattle.pc_dfg.specs.declared.options.CanonicalOptions.{CanonicalOptions}
 use Rattle.pc_dfg.specs.declared.options.CanonicalOptionsDataModel.{CanonicalOptionsDataModel as Model}
 use Rattle.pc_dfg.specs.declared.options.CanonicalOptionsDataModel.TheVariants as model
 use Rattle.pc_dfg.specs.Numbers.{graph_numbers, model_entry, options_entry, slots_of}
-use Rattle.pc_finish.specs.declared.id.Id.{Id}
-use Rattle.pc_finish.specs.declared.id.Id.TheVariants as id
-use Rattle.pc_finish.specs.declared.state.Finish.{Finish}
-use Rattle.pc_finish.specs.Entries.{GraphPart, GraphParts, callback_in, head_in, list_in, memory_in, model_in}
-use Rattle.pc_finish.specs.Entries.{options_in, part_in, parts_in, post_return_in, realloc_in}
+use Rattle.pc_linearize.specs.declared.id.Id.{Id}
+use Rattle.pc_linearize.specs.declared.id.Id.TheVariants as id
+use Rattle.pc_linearize.specs.declared.state.Finish.{Finish}
+use Rattle.pc_linearize.specs.Entries.{GraphPart, GraphParts, callback_in, head_in, list_in, memory_in, model_in}
+use Rattle.pc_linearize.specs.Entries.{options_in, part_in, parts_in, post_return_in, realloc_in}
 use Rattle.pc_finish.specs.Exports.{in_export, in_exports}
-use Rattle.pc_finish.specs.Numbers.{number_at, numbered}
-use Rattle.pc_finish.specs.Once.{Alike, IsUsedBy, unsigned}
-use Rattle.pc_finish.specs.Parts.{HasNumber, in_def, in_entry, in_model, in_part, in_slot, in_trampoline, maybe_slot}
-use Rattle.pc_finish.specs.Parts.{number_of, options_id, parts, slot_id, slot_numbers}
-use Rattle.pc_finish.specs.Ready.{Leads}
-use Rattle.pc_finish.specs.Represented.{IsCopyOf, Represents}
-use Rattle.pc_finish.specs.Slots.{TakesSlot, model_memory, model_realloc, options_slot}
-use Rattle.pc_finish.proofs.PartLemmas.{all_each, all_one}
-use Rattle.pc_finish.proofs.RepresentedLemmas.{copied_parts, options_parts}
-use Rattle.pc_finish.proofs.TakeLemmas.{none_in, one_in, signed_names}
-use Rattle.pc_finish.proofs.TrampolineLemmas.{first_view}
+use Rattle.pc_linearize.specs.Numbers.{number_at, numbered}
+use Rattle.pc_linearize.specs.Once.{Alike, IsUsedBy, unsigned}
+use Rattle.pc_linearize.specs.Parts.{HasNumber, in_def, in_entry, in_model, in_part, in_slot, in_trampoline, maybe_slot}
+use Rattle.pc_linearize.specs.Parts.{number_of, options_id, parts, slot_id, slot_numbers}
+use Rattle.pc_linearize.specs.Ready.{Leads}
+use Rattle.pc_linearize.specs.Represented.{IsCopyOf, Represents}
+use Rattle.pc_linearize.specs.Slots.{TakesSlot, model_memory, model_realloc, options_slot}
+use Rattle.pc_linearize.proofs.PartLemmas.{all_each, all_one}
+use Rattle.pc_linearize.proofs.RepresentedLemmas.{copied_parts, options_parts}
+use Rattle.pc_linearize.proofs.TakeLemmas.{none_in, one_in, signed_names}
+use Rattle.pc_linearize.proofs.TrampolineLemmas.{first_view}
 use Rattle.pc_finish.proofs.UsedLemmas.{leads_last, leads_numbered}
 
 -- an id that a definition or an export may depend on: no slot, and no lowering
@@ -177,7 +177,7 @@ module _ (f : Finish) where
 
   module _ (k : plan.SlotKind) (i n : ℕ) (has : number_at (slot_numbers f k) i ≡ Some n) where
     -- options name the slot
-    options_name : (o : CanonicalOptions) → Contains (in_entry (options_entry o)) (slot_id k i)
+    pub options_name : (o : CanonicalOptions) → Contains (in_entry (options_entry o)) (slot_id k i)
         → options_slot k (options_view (options_in f o)) ≡ Some n
     options_name o inside =
         slots_renumbered k o ∙ ap (option_map (numbered (slot_numbers f k))) (entry_names k i (options_entry o) inside)
@@ -222,7 +222,7 @@ module _ (f : Finish) where
     head_named s t b h ps inside = signed_names f (slot_id k i) (plan.slot k (Some n)) part_named s ps inside
 
     -- a trampoline names the slot
-    trampoline_names : (s : ModuleInternedTypeIndex) (t : TrampolineIndex) (p : GraphParts)
+    pub trampoline_names : (s : ModuleInternedTypeIndex) (t : TrampolineIndex) (p : GraphParts)
         → Contains (in_trampoline t (parts_entry graph_numbers s p)) (slot_id k i)
         → TakesSlot k n (parts_entry plan_numbers s (parts_in f t p))
     trampoline_names s t p inside = head_named s t p.kind p.head p.parts inside

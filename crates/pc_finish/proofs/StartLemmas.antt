@@ -4,34 +4,30 @@ use Rattle.std.specs.Prelude.{option_and_then, option_map, replicate, slice_get}
 use Rattle.std.specs.List.{AllZip}
 use Rattle.std.proofs.lemmas.List.{length-replicate}
 use Rattle.std.proofs.lemmas.List.Elements.{All-nil}
-use Rattle.std.proofs.lemmas.Option.{none-some, same_Some}
+use Rattle.std.proofs.lemmas.Option.{none-some}
 use Rattle.pc_entity.specs.PackedOption.{as_option}
 use Rattle.pc_entity.specs.declared.packed_option.PackedOption.TheVariants as packed
 use Rattle.pc_numbers.specs.declared.module_entity.ModuleInternedTypeIndex.{ModuleInternedTypeIndex}
 use Rattle.pc_types.specs.IntrinsicType.{intrinsic_place}
-use Rattle.pc_semantics.specs.CoreValue.{CoreValue}
 use Rattle.pc_semantics.specs.Log.{Entry}
 use Rattle.pc_semantics.specs.Machine.{start}
 use Rattle.pc_semantics.specs.Machine as machine
 use Rattle.pc_semantics.specs.PlanView as plan
 use Rattle.pc_trampoline.specs.declared.part.Mark.{Mark}
 use Rattle.pc_info.specs.declared.module.ModuleTranslation.{ModuleTranslation}
-use Rattle.pc_dfg.specs.declared.core_def.CoreDef.{CoreDef}
 use Rattle.pc_dfg.specs.declared.dfg.ComponentDfg.{ComponentDfg}
 use Rattle.pc_dfg.specs.Effects.{MeansEffect}
-use Rattle.pc_dfg.specs.Means.{Means}
-use Rattle.pc_dfg.specs.Numbers.{slots_of}
-use Rattle.pc_finish.specs.declared.id.Id.{Id}
-use Rattle.pc_finish.specs.declared.id.Id.TheVariants as id
-use Rattle.pc_finish.specs.Closed.{CountsSteps, Fits}
-use Rattle.pc_finish.specs.Made.{DoneBefore, Stands}
-use Rattle.pc_finish.specs.Numbers.{number_at}
-use Rattle.pc_finish.specs.Once.{AreGiven, Origin, number_in_run, of_instance, of_module}
-use Rattle.pc_finish.specs.Parts.{HasNumber, number_of, slot_numbers}
-use Rattle.pc_finish.specs.Plan.{slot_count}
-use Rattle.pc_finish.specs.Reached.{Filled, Reached}
+use Rattle.pc_linearize.specs.declared.id.Id.{Id}
+use Rattle.pc_linearize.specs.declared.id.Id.TheVariants as id
+use Rattle.pc_linearize.specs.Made.{DoneBefore, Stands}
+use Rattle.pc_linearize.specs.Numbers.{number_at}
+use Rattle.pc_linearize.specs.Once.{AreGiven, Origin, number_in_run, of_instance, of_module}
+use Rattle.pc_linearize.specs.Parts.{HasNumber, number_of, slot_numbers}
+use Rattle.pc_linearize.specs.Plan.{slot_count}
+use Rattle.pc_linearize.specs.Reached.{Reached}
 use Rattle.pc_finish.specs.Whole.{empty_plan}
-use Rattle.pc_finish.proofs.StepNameLemmas.{none_named}
+use Rattle.pc_linearize.proofs.StepNameLemmas.{none_named}
+use Rattle.pc_linearize.proofs.TakeLemmas.{none_in}
 
 -- no entry has a number
 pub none_numbered : (n k m : ℕ) → number_at (replicate n None) k ≡ Some m → ⊥
@@ -171,6 +167,15 @@ module _ (g : ComponentDfg) where
       options = λ k n at. absurd (none_numbered (length g.options) k n at);
       trampolines = λ t n at. absurd (none_numbered (length g.trampolines) t n at);
     };
+    are_steps = record {
+      slots = λ k i n at. absurd (none_filled k i n at);
+      modules = λ m n at. absurd (none_numbered (length g.adapter_modules) m n at);
+      owned = λ k n at. absurd (none-some n at);
+      carry = λ i s at. absurd (none-some s at);
+      there = λ s inside. absurd (none_in s inside);
+    };
+    stages = λ i s at. absurd (none-some s at);
+    ends = λ i s at. absurd (none-some s at);
     here = All-nil (HasNumber (empty_plan g));
     named = none_named (empty_plan g) [];
     used = λ y has. absurd (none_has y has);

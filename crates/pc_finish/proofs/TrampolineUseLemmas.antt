@@ -10,20 +10,20 @@ use Rattle.pc_info.specs.declared.export.Export.{Export as PlanItem}
 use Rattle.pc_dfg.specs.declared.dfg.ComponentDfg.{ComponentDfg}
 use Rattle.pc_dfg.specs.declared.export.Export.{Export}
 use Rattle.pc_dfg.specs.declared.export.Export.TheVariants as export
-use Rattle.pc_finish.specs.declared.id.Id.{Id}
-use Rattle.pc_finish.specs.declared.id.Id.TheVariants as id
-use Rattle.pc_finish.specs.declared.state.Finish.{Finish}
+use Rattle.pc_linearize.specs.declared.id.Id.{Id}
+use Rattle.pc_linearize.specs.declared.id.Id.TheVariants as id
+use Rattle.pc_linearize.specs.declared.state.Finish.{Finish}
 use Rattle.pc_finish.specs.Exports.{Exports, IsConverted, Target, in_export, in_exports}
-use Rattle.pc_finish.specs.Numbers.{number_at}
-use Rattle.pc_finish.specs.Once.{Alike, IsUsedBy, unsigned}
-use Rattle.pc_finish.specs.Parts.{HasNumber, in_def}
-use Rattle.pc_finish.specs.Ready.{Leads}
-use Rattle.pc_finish.specs.Represented.{Represents}
-use Rattle.pc_finish.specs.Slots.{IsTrampoline, StepsName}
+use Rattle.pc_linearize.specs.Numbers.{number_at}
+use Rattle.pc_linearize.specs.Once.{Alike, IsUsedBy, unsigned}
+use Rattle.pc_linearize.specs.Parts.{HasNumber, in_def}
+use Rattle.pc_linearize.specs.Ready.{Leads}
+use Rattle.pc_linearize.specs.Represented.{Represents}
+use Rattle.pc_linearize.specs.Slots.{IsTrampoline, StepsName}
 use Rattle.pc_finish.proofs.LiftedLemmas.{made_of, zip_on}
-use Rattle.pc_finish.proofs.PartLemmas.{all_one}
-use Rattle.pc_finish.proofs.StepNameLemmas.{NoTrampoline, def_named, no_trampoline}
-use Rattle.pc_finish.proofs.TakeLemmas.{none_in}
+use Rattle.pc_linearize.proofs.PartLemmas.{all_one}
+use Rattle.pc_linearize.proofs.StepNameLemmas.{NoTrampoline, def_named, no_trampoline}
+use Rattle.pc_linearize.proofs.TakeLemmas.{none_in}
 use Rattle.pc_finish.proofs.UsedLemmas.{leads_last, leads_numbered}
 
 module _ (g : ComponentDfg) where

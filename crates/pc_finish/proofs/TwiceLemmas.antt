@@ -24,16 +24,16 @@ use Rattle.pc_trampoline.specs.Parts.{list_of, parts_of}
 use Rattle.pc_trampoline.specs.View.{PlanTrampoline, entry_of, part_by}
 use Rattle.pc_dfg.specs.declared.dfg.ComponentDfg.{ComponentDfg}
 use Rattle.pc_dfg.specs.Numbers.{graph_numbers}
-use Rattle.pc_finish.specs.declared.id.Id.TheVariants as id
-use Rattle.pc_finish.specs.declared.state.Finish.{Finish}
-use Rattle.pc_finish.specs.Entries.{GraphPart, GraphParts, callback_in, head_in, list_in, memory_in, options_number}
-use Rattle.pc_finish.specs.Entries.{part_in, parts_in, post_return_in, table_in}
-use Rattle.pc_finish.specs.Numbers.{number_at, numbered}
-use Rattle.pc_finish.specs.Once.{Fills}
-use Rattle.pc_finish.specs.Parts.{HasNumber, in_part, in_trampoline, maybe_slot, number_of, options_id}
-use Rattle.pc_finish.specs.Represented.{Represents}
-use Rattle.pc_finish.proofs.PartLemmas.{all_left, all_right}
-use Rattle.pc_finish.proofs.RepresentedLemmas.{copied_parts}
+use Rattle.pc_linearize.specs.declared.id.Id.TheVariants as id
+use Rattle.pc_linearize.specs.declared.state.Finish.{Finish}
+use Rattle.pc_linearize.specs.Entries.{GraphPart, GraphParts, callback_in, head_in, list_in, memory_in, options_number}
+use Rattle.pc_linearize.specs.Entries.{part_in, parts_in, post_return_in, table_in}
+use Rattle.pc_linearize.specs.Numbers.{number_at}
+use Rattle.pc_linearize.specs.Once.{Fills}
+use Rattle.pc_linearize.specs.Parts.{HasNumber, in_part, in_trampoline, maybe_slot, number_of, options_id}
+use Rattle.pc_linearize.specs.Represented.{Represents}
+use Rattle.pc_linearize.proofs.PartLemmas.{all_left, all_right}
+use Rattle.pc_linearize.proofs.RepresentedLemmas.{copied_parts}
 use Rattle.pc_finish.proofs.SharedLemmas.{Callbacks, Memories, PostReturns, one_callback, one_entry, one_maybe}
 use Rattle.pc_finish.proofs.SharedLemmas.{one_memory, one_post_return}
 

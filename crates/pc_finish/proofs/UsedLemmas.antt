@@ -16,20 +16,20 @@ use Rattle.pc_dfg.specs.declared.core_def.CoreDef.{CoreDef}
 use Rattle.pc_dfg.specs.declared.core_def.CoreDef.TheVariants as def
 use Rattle.pc_dfg.specs.declared.dfg.ComponentDfg.{ComponentDfg}
 use Rattle.pc_dfg.specs.Numbers.{options_entry, slots_of}
-use Rattle.pc_finish.specs.declared.id.Id.{Id}
-use Rattle.pc_finish.specs.declared.id.Id.TheVariants as id
-use Rattle.pc_finish.specs.declared.state.Finish.{Finish}
-use Rattle.pc_finish.specs.Finishes.{TakesOptions}
-use Rattle.pc_finish.specs.Numbers.{number_at}
-use Rattle.pc_finish.specs.Once.{Alike, IsUsedBy, unsigned}
-use Rattle.pc_finish.specs.Parts.{HasNumber, in_def, in_entry, in_model, in_slot, maybe_slot, number_of, options_id}
-use Rattle.pc_finish.specs.Parts.{parts, slot_id}
-use Rattle.pc_finish.specs.Ready.{Leads, here, through}
-use Rattle.pc_finish.specs.Represented.{Represents}
-use Rattle.pc_finish.proofs.PartLemmas.{all_each, all_one}
-use Rattle.pc_finish.proofs.RepresentedLemmas.{copied_parts}
-use Rattle.pc_finish.proofs.TakeLemmas.{parts_take}
-use Rattle.pc_finish.proofs.TrampolineLemmas.{first_view}
+use Rattle.pc_linearize.specs.declared.id.Id.{Id}
+use Rattle.pc_linearize.specs.declared.id.Id.TheVariants as id
+use Rattle.pc_linearize.specs.declared.state.Finish.{Finish}
+use Rattle.pc_linearize.specs.Numbers.{number_at}
+use Rattle.pc_linearize.specs.Once.{Alike, IsUsedBy, unsigned}
+use Rattle.pc_linearize.specs.Parts.{HasNumber, in_def, in_entry, in_model, in_slot, maybe_slot, number_of, options_id}
+use Rattle.pc_linearize.specs.Parts.{parts, slot_id}
+use Rattle.pc_linearize.specs.Ready.{Leads, here, through}
+use Rattle.pc_linearize.specs.Represented.{Represents}
+use Rattle.pc_linearize.specs.Slots.{TakesOptions}
+use Rattle.pc_linearize.proofs.PartLemmas.{all_each, all_one}
+use Rattle.pc_linearize.proofs.RepresentedLemmas.{copied_parts}
+use Rattle.pc_linearize.proofs.TakeLemmas.{parts_take}
+use Rattle.pc_linearize.proofs.TrampolineLemmas.{first_view}
 
 -- an id that isn't one of options
 unfoldable pub NoOptions : Id → Type 0

@@ -1,12 +1,11 @@
 -- A plan whose side effects were done and whose exports were made is the plan of the graph.
-use Rattle.std.proofs.Common.{◌≡◌, ◌<◌, ◌⊎◌, inl, inr, ◌≤◌, ◌+◌, ◌++◌, ℕ, List, [], length, map, take, Contains, Option}
-use Rattle.std.proofs.Common.{Some, refl, sym, ap, subst, ◌∙◌, arith}
+use Rattle.std.proofs.Common.{◌≡◌, ◌<◌, inl, inr, ◌≤◌, ◌+◌, ℕ, List, length, map, take, Contains, Option}
+use Rattle.std.proofs.Common.{None, false, Some, refl, sym, ap, subst, ◌∙◌, arith}
 use Rattle.std.specs.Prelude.{slice_get}
 use Rattle.std.specs.List.{AllZip, filter_map}
 use Rattle.std.proofs.lemmas.List.{length-map, take_all}
 use Rattle.std.proofs.lemmas.List.Elements.{All-contains}
 use Rattle.std.proofs.lemmas.Option.{same_Some, slice_get_within}
-use Rattle.pc_entity.specs.Lists.{AreDistinct}
 use Rattle.pc_numbers.specs.declared.runtime.RuntimeImportIndex.{RuntimeImportIndex}
 use Rattle.pc_numbers.specs.declared.runtime.TrampolineIndex.{TrampolineIndex}
 use Rattle.pc_types.specs.declared.type_index.TypeModuleIndex.{TypeModuleIndex}
@@ -14,7 +13,7 @@ use Rattle.pc_names.specs.Contents.{Contents}
 use Rattle.pc_semantics.specs.Counts.{own_counts}
 use Rattle.pc_semantics.specs.ExportNode.{NamedNode}
 use Rattle.pc_semantics.specs.Log.{Entry}
-use Rattle.pc_semantics.specs.Machine.{start}
+use Rattle.pc_semantics.specs.Machine.{RuntimeInstance, start}
 use Rattle.pc_semantics.specs.PlanView as plan
 use Rattle.pc_trampoline.specs.declared.part.Mark.{Mark}
 use Rattle.pc_trampoline.specs.Parts.{parts_of}
@@ -35,37 +34,46 @@ use Rattle.pc_dfg.specs.Held.{IsHeld}
 use Rattle.pc_dfg.specs.Names.{in_effect}
 use Rattle.pc_dfg.specs.Nodes.{ExportsMean}
 use Rattle.pc_dfg.specs.Ordered.{IsOrdered, declared_by, made_in}
-use Rattle.pc_finish.specs.declared.id.Id.{Id}
-use Rattle.pc_finish.specs.declared.id.Id.TheVariants as id
-use Rattle.pc_finish.specs.declared.state.Finish.{Finish}
-use Rattle.pc_finish.specs.Arguments.{OnlyFromThese}
-use Rattle.pc_finish.specs.Closed.{CountsSteps}
+use Rattle.pc_dfg.specs.Told.{AreInterned, IsTold, Unsaid}
+use Rattle.pc_linearize.specs.declared.id.Id.{Id}
+use Rattle.pc_linearize.specs.declared.id.Id.TheVariants as id
+use Rattle.pc_linearize.specs.declared.state.Finish.{Finish}
+use Rattle.pc_finish.specs.Apart.{AreApart, IsOfAdapters}
+use Rattle.pc_linearize.specs.Arguments.{OnlyFromThese}
+use Rattle.pc_linearize.specs.Closed.{CountsSteps}
 use Rattle.pc_finish.specs.Exports.{Exports, GoesFurther, Target, in_exports}
-use Rattle.pc_finish.specs.Entries.{options_in}
-use Rattle.pc_finish.specs.Finishes.{Does, Finishes, HasOptions, IsOptionsOf, IsTrampolineOf, IsUsed, StandsForOne}
-use Rattle.pc_finish.specs.Made.{DoneBefore, Stands, declared_before, ids_in, ids_in_all}
+use Rattle.pc_linearize.specs.Entries.{options_in}
+use Rattle.pc_finish.specs.Finishes.{Does, Finishes, IsOptionsOf, IsTrampolineOf, IsUsed, StandsForOne}
+use Rattle.pc_linearize.specs.Made.{DoneBefore, declared_before, ids_in, ids_in_all}
 use Rattle.pc_finish.specs.ModuleTypes.{module_mark}
-use Rattle.pc_finish.specs.Parts.{HasNumber, number_of, options_id, slot_id}
-use Rattle.pc_finish.specs.Plan.{Extends, counted_slots, slot_count, steps_view}
-use Rattle.pc_finish.specs.Reached.{Reached, all_linked}
-use Rattle.pc_finish.specs.Slots.{UsesLowering, UsesSlot, UsesTrampoline, slots_in}
+use Rattle.pc_linearize.specs.Parts.{HasNumber, number_of, options_id, slot_id}
+use Rattle.pc_linearize.specs.Plan.{Extends, counted_slots, slot_count, steps_view}
+use Rattle.pc_linearize.specs.Slots.{HasOptions, UsesLowering, UsesSlot, UsesTrampoline, slots_in}
+use Rattle.pc_linearize.specs.Stages.{IsSound}
+use Rattle.pc_linearize.specs.Standing.{IsMadeLate, Makes, Piece, is_side_effect}
 use Rattle.pc_finish.specs.Unnumbered.{unnumbered, unnumbered_options}
 use Rattle.pc_finish.specs.Whole.{component_of, translation_of}
-use Rattle.pc_finish.specs.Wired.{IsWired}
+use Rattle.pc_linearize.specs.Wired.{IsWired}
+use Rattle.pc_finish.proofs.AdapterOnceLemmas.{adapters_once}
+use Rattle.pc_finish.proofs.ApartLemmas.{are_apart, is_of_adapters}
 use Rattle.pc_finish.proofs.CopyLemmas.{same_options, same_trampoline}
-use Rattle.pc_finish.proofs.FullLemmas.{count_within}
+use Rattle.pc_finish.proofs.ExportPieceLemmas.{all_exported, exported_piece}
+use Rattle.pc_linearize.proofs.FullLemmas.{count_within}
 use Rattle.pc_finish.proofs.LiftedLemmas.{exported_numbered, exported_options, lifted_within, made_of}
 use Rattle.pc_finish.proofs.LoweringUseLemmas.{used_lowering}
 use Rattle.pc_finish.proofs.OwnedLemmas.{run_owned}
 use Rattle.pc_finish.proofs.RangeLemmas.{one_lowering, options_within_slots, trampoline_within_lowerings}
 use Rattle.pc_finish.proofs.RangeLemmas.{trampoline_within_options, trampoline_within_slots}
 use Rattle.pc_finish.proofs.SharedLemmas.{shared_options}
+use Rattle.pc_finish.proofs.SlotApartLemmas.{slots_apart}
 use Rattle.pc_finish.proofs.SlotUseLemmas.{IsDirect, slot_number, direct_defs, direct_exports, used_slot}
-use Rattle.pc_finish.proofs.StepNameLemmas.{adds_keep, named_later}
+use Rattle.pc_finish.proofs.StageLemmas.{continues_later, stages_still}
+use Rattle.pc_finish.proofs.StandingLemmas.{made_late}
+use Rattle.pc_linearize.proofs.StepNameLemmas.{adds_keep, named_later}
 use Rattle.pc_finish.proofs.TrampolineUseLemmas.{exported_trampoline, used_trampoline}
 use Rattle.pc_finish.proofs.TwiceLemmas.{trampolines_apart}
 use Rattle.pc_finish.proofs.UsedLemmas.{NoOptions, no_defs, used_options}
-use Rattle.pc_finish.proofs.ValueLemmas.{held_means}
+use Rattle.pc_linearize.proofs.ValueLemmas.{held_means}
 
 module _ (g : ComponentDfg) (ordered : IsOrdered g) (f : Finish) (done : DoneBefore g (length g.side_effects) f) where
   -- all side effects
@@ -97,8 +105,7 @@ module _ (g : ComponentDfg) (ordered : IsOrdered g) (f : Finish) (done : DoneBef
 
   module _ (h : Finish) (further : GoesFurther g f h) (types : List (Option TypeModuleIndex))
       (names : Contents (List ℕ) Target) (items : List PlanItem) (exports : Exports g types h names items)
-      (distinct : AreDistinct g.options) (apart : AreDistinct g.trampolines)
-      (only : OnlyFromThese g f h (in_exports g g.export_items)) where
+      (interned : AreInterned g) (only : OnlyFromThese g f h (in_exports g g.export_items)) where
     -- the plan
     abbrev whole : ComponentTranslation
     whole = record { component = component_of g h names items; trampolines = h.trampolines }
@@ -177,6 +184,31 @@ module _ (g : ComponentDfg) (ordered : IsOrdered g) (f : Finish) (done : DoneBef
           means = value.1;
           resolves = grown.reached.resolves.trampoline t n value.0 (view whole ms) given.1 value.1 (extends ms);
         }
+
+    -- no value stands there twice
+    values_apart : (ms : List ModuleTranslation) (trace : List (Entry Mark)) (nodes : List (NamedNode Mark))
+        (wired : IsWired g ms) (effects : EffectsMean g trace) (means : ExportsMean g (module_mark types) nodes)
+        (u : Unsaid) → IsTold u g → AreApart (view whole ms) (does ms trace nodes wired effects means).never_stuck.last
+    unfolding EffectsMean does
+    values_apart ms trace nodes wired effects means u told =
+        let stands = done.stands ms trace wired (subst (λ l. AllZip (MeansEffect g) l trace) (sym all_effects)
+        effects) in
+        let grown = further.goes ms wired stands.state trace stands.reached in
+        are_apart g ordered h (further.continues.represents done.represents) (further.continues.fills done.fills)
+        further.continues.fits interned u told ms grown.state trace (view whole ms) grown.reached (extends ms) refl refl
+
+    -- an instance without a component instance is that of a module of adapters
+    adapters : (ms : List ModuleTranslation) (trace : List (Entry Mark)) (nodes : List (NamedNode Mark))
+        (wired : IsWired g ms) (effects : EffectsMean g trace) (means : ExportsMean g (module_mark types) nodes) (r : ℕ)
+        (m : RuntimeInstance Mark)
+        → slice_get (does ms trace nodes wired effects means).never_stuck.last.instances r ≡ Some m
+        → m.component_instance ≡ None → IsOfAdapters g m.instantiation
+    unfolding EffectsMean does
+    adapters ms trace nodes wired effects means r m at unowned =
+        let stands = done.stands ms trace wired (subst (λ l. AllZip (MeansEffect g) l trace) (sym all_effects)
+        effects) in
+        let grown = further.goes ms wired stands.state trace stands.reached in
+        is_of_adapters g h grown.state grown.reached.placed (further.continues.fills done.fills) r m at unowned
 
     own : (ms : List ModuleTranslation)
         → counts_view whole.component ≡ own_counts (view whole ms) g.num_runtime_component_instances g.num_future_tables
@@ -369,12 +401,32 @@ module _ (g : ComponentDfg) (ordered : IsOrdered g) (f : Finish) (done : DoneBef
               (further.continues.fills done.fills) n t.0 t.1 t.2 t.3
         ]
 
+    -- each step is of the graph
+    sound : IsSound g h
+    sound = record {
+      counts = counted;
+      fills = further.continues.fills done.fills;
+      represents = further.continues.represents done.represents;
+      are_steps = further.continues.are_steps done.counts done.fills done.are_steps;
+    }
+
+    -- and stands as late as it can
+    late : (i : ℕ) (s : plan.Initializer) (x : Piece) → slice_get (steps_view h) i ≡ Some s → is_side_effect s ≡ false
+        → Makes (take i (steps_view h)) s x → IsMadeLate whole i x
+    late =
+        made_late g h sound names items f (continues_later g f h further.continues) done.counts done.fills done.ends
+        (λ i s effect. stages_still g f h further.continues done.stages i s effect.0 effect.1)
+        (in_exports g g.export_items) only (all_exported g types h names items exports)
+        (exported_piece g types h names items exports)
+
     -- so it is the plan of the graph
     pub whole_finishes : Finishes g (module_mark types) (translation_of g h names items)
     unfolding translation_of
     whole_finishes = record {
       does = does;
       meanings = meanings;
+      values_apart = values_apart;
+      adapters = adapters;
       import_types = refl;
       imports = refl;
       imported_resources = refl;
@@ -384,8 +436,7 @@ module _ (g : ComponentDfg) (ordered : IsOrdered g) (f : Finish) (done : DoneBef
       trampolines = trampolines_known;
       apart = λ i j s x at at'.
           trampolines_apart g h (further.continues.represents done.represents) (further.continues.fills done.fills)
-          apart
-          i j s x at.0 at.1 at'.0 at'.1;
+          interned.trampolines i j s x at.0 at.1 at'.0 at'.1;
       few_trampolines =
           let within = count_within h.numbers.trampolines (length h.trampolines)
           (further.continues.fills done.fills).trampolines in
@@ -395,7 +446,7 @@ module _ (g : ComponentDfg) (ordered : IsOrdered g) (f : Finish) (done : DoneBef
       items = exports.forms;
       held = exports.held;
       shared = shared_options g h (further.continues.represents done.represents) (further.continues.fills done.fills)
-          distinct;
+          interned.options;
       options = options_known;
       used = options_used;
       slots_used = slots_used;
@@ -403,6 +454,10 @@ module _ (g : ComponentDfg) (ordered : IsOrdered g) (f : Finish) (done : DoneBef
       trampolines_used = trampolines_used;
       lowered_once = one_lowering g h (further.continues.represents done.represents)
           (further.continues.fills done.fills);
+      adapters_once = adapters_once g h sound;
+      carry = sound.are_steps.carry;
+      slots_apart = slots_apart g h sound interned;
+      late = late;
       slots_filled = slots_filled;
       imports_lowered = imports_lowered;
       options_there = options_there;

@@ -28,20 +28,20 @@ use Rattle.pc_dfg.specs.Held.{IsHeld}
 use Rattle.pc_dfg.specs.Lists.{NamedExport}
 use Rattle.pc_dfg.specs.Names.{each_of}
 use Rattle.pc_dfg.specs.Nodes.{ExportsMean}
-use Rattle.pc_finish.specs.declared.id.Id.{Id}
-use Rattle.pc_finish.specs.declared.id.Id.TheVariants as id
-use Rattle.pc_finish.specs.declared.state.Finish.{Finish}
-use Rattle.pc_finish.specs.Arguments.{CanNumber, IsNumbered}
-use Rattle.pc_finish.specs.Closed.{Continues}
-use Rattle.pc_finish.specs.Converted.{def_in}
+use Rattle.pc_linearize.specs.declared.id.Id.{Id}
+use Rattle.pc_linearize.specs.declared.id.Id.TheVariants as id
+use Rattle.pc_linearize.specs.declared.state.Finish.{Finish}
+use Rattle.pc_linearize.specs.Arguments.{CanNumber, IsNumbered}
+use Rattle.pc_linearize.specs.Closed.{Continues}
+use Rattle.pc_linearize.specs.Converted.{def_in}
 use Rattle.pc_finish.specs.Finishes.{IsItem}
 use Rattle.pc_finish.specs.ModuleTypes.{module_mark, module_type}
-use Rattle.pc_finish.specs.Numbers.{numbered}
-use Rattle.pc_finish.specs.Parts.{HasNumber, in_def}
-use Rattle.pc_finish.specs.Plan.{Extends}
-use Rattle.pc_finish.specs.Reached.{GoesOn, Reached}
-use Rattle.pc_finish.specs.Ready.{IsReady}
-use Rattle.pc_finish.specs.Wired.{IsWired}
+use Rattle.pc_linearize.specs.Numbers.{numbered}
+use Rattle.pc_linearize.specs.Parts.{HasNumber, in_def}
+use Rattle.pc_linearize.specs.Plan.{Extends}
+use Rattle.pc_linearize.specs.Reached.{GoesOn, Reached}
+use Rattle.pc_linearize.specs.Ready.{IsReady}
+use Rattle.pc_linearize.specs.Wired.{IsWired}
 
 -- the number of an item with its extern data
 abbrev pub Target : Type 0

@@ -1,15 +1,15 @@
 -- The plan of a graph: what it does, and what it has.
 use Rattle.std.specs.List.{AllZip}
-use Rattle.std.specs.Prelude.{◌≡◌, ◌<◌, ◌≤◌, ◌⊎◌, ℕ, List, length, map, Contains, Some, slice_get, true}
-use Rattle.pc_numbers.specs.declared.runtime.RuntimeComponentInstanceIndex.{RuntimeComponentInstanceIndex}
+use Rattle.std.specs.Prelude.{◌≡◌, ◌<◌, ◌≤◌, ◌⊎◌, ℕ, List, length, map, take, None, Some}
+use Rattle.std.specs.Prelude.{slice_get, true, false}
 use Rattle.pc_numbers.specs.declared.runtime.TrampolineIndex.{TrampolineIndex}
 use Rattle.pc_semantics.specs.CoreValue.{CoreValue}
 use Rattle.pc_semantics.specs.Counts.{own_counts}
 use Rattle.pc_semantics.specs.ExportNode.{NamedNode}
 use Rattle.pc_semantics.specs.Log.{Entry, instances_of}
-use Rattle.pc_semantics.specs.Machine.{NeverStuck, State, owned_instances, resolve}
+use Rattle.pc_semantics.specs.Machine.{NeverStuck, RuntimeInstance, State, owned_instances, resolve}
 use Rattle.pc_semantics.specs.PlanView as plan
-use Rattle.pc_semantics.specs.PlanView.{PlanView, SlotKind}
+use Rattle.pc_semantics.specs.PlanView.{Definition, Initializer, PlanView, SlotKind}
 use Rattle.pc_semantics.specs.Trace.{run_trace}
 use Rattle.pc_trampoline.specs.declared.part.Mark.{Mark}
 use Rattle.pc_trampoline.specs.View.{PlanTrampoline, entry_view}
@@ -40,9 +40,13 @@ use Rattle.pc_dfg.specs.Effects.{EffectsMean}
 use Rattle.pc_dfg.specs.Means.{Means}
 use Rattle.pc_dfg.specs.Nodes.{ExportsMean}
 use Rattle.pc_dfg.specs.Numbers.{SignedTrampoline, options_entry, trampoline_entry}
-use Rattle.pc_finish.specs.Slots.{AtMostOne, TakesLowering, UsesLowering, UsesSlot, UsesTrampoline, slots_in}
+use Rattle.pc_dfg.specs.Told.{IsTold, Unsaid}
+use Rattle.pc_finish.specs.Apart.{AreApart, FillsWith, IsOfAdapters, MakesAdapters, TellsSlots, module_of}
+use Rattle.pc_linearize.specs.Slots.{AtMostOne, HasOptions, TakesLowering, TakesOptions, UsesLowering, UsesSlot}
+use Rattle.pc_linearize.specs.Slots.{UsesTrampoline, slots_in}
+use Rattle.pc_linearize.specs.Standing.{CarriesNext, IsMadeLate, Makes, Piece, is_side_effect, steps_in}
 use Rattle.pc_finish.specs.Unnumbered.{unnumbered, unnumbered_options}
-use Rattle.pc_finish.specs.Wired.{IsWired, Occurs}
+use Rattle.pc_linearize.specs.Wired.{IsWired, Occurs}
 
 -- in this state of its run with all modules, a trampoline of a plan resolves to what one of the graph means, and stands
 -- under the signature of that one
@@ -63,8 +67,8 @@ pub record Does (p : PlanView Mark) (trace : List (Entry Mark)) (nodes : List (N
   pub instances : owned_instances never_stuck.last ≡ instances_of trace
   pub exports : never_stuck.nodes ≡ nodes
 
--- an item of the plan is of the form that an item of the graph has, with its type but for that of a handed-in module; an
--- instance has the same names, and finds what is under each
+-- an item of the plan is of the form that an item of the graph has, with its type but for that of a handed-in module;
+-- an instance has the same names, and finds what is under each
 unfoldable pub IsItem : Export → PlanItem → Type 0
 IsItem (export.LiftedFunction ty f o) (item.LiftedFunction ty' f' o') = ty ≡ ty'
 IsItem (export.ModuleStatic ty m) (item.ModuleStatic ty' m') = m ≡ m'
@@ -80,7 +84,8 @@ IsOptionsOf g o =
     (k : ℕ) × (x : CanonicalOptions) × (slice_get g.options k ≡ Some x) × (o.core_type ≡ x.core_type)
     × (unnumbered_options (options_view o) ≡ unnumbered_options (options_entry x))
 
--- a trampoline of the plan, at this place, is one of the graph under its signature, but for the numbers of what it names
+-- a trampoline of the plan, at this place, is one of the graph under its signature, but for the numbers of what it
+-- names
 unfoldable pub IsTrampolineOf : ComponentDfg → ComponentTranslation → (place : ℕ) → PlanTrampoline → Type 0
 IsTrampolineOf g p n x =
     (t : ℕ) × (e : SignedTrampoline) × (slice_get g.trampolines t ≡ Some e)
@@ -91,17 +96,6 @@ IsTrampolineOf g p n x =
 abbrev pub StandsAt : ComponentTranslation → ModuleInternedTypeIndex → PlanTrampoline → (place : ℕ) → Type 0
 StandsAt p s x n =
     (slice_get p.component.trampolines n ≡ Some s) × (slice_get p.trampolines n ≡ Some x)
-
--- an exported function of a plan has the options of this number
-abbrev pub HasOptions : ℕ → PlanItem → Type 0
-HasOptions n (item.LiftedFunction ty f o) = o.0 ≡ n
-HasOptions n _ = ⊥
-
--- a trampoline of a plan names the options of this number
-abbrev pub TakesOptions : ℕ → plan.TrampolineEntry Mark → Type 0
-TakesOptions n (plan.lowers r s ty o) = o ≡ n
-TakesOptions n (plan.builtin k symbol c ps) = Contains ps (plan.options n)
-TakesOptions n (plan.helper k symbol ps) = Contains ps (plan.options n)
 
 -- an exported function or a trampoline of a plan has the options of this number
 unfoldable pub IsUsed : ComponentTranslation → ℕ → Type 0
@@ -120,6 +114,17 @@ pub record Finishes (g : ComponentDfg) (converted : ℕ → Mark) (plan : Compon
       (wired : IsWired g ms) (effects : EffectsMean g trace) (exports : ExportsMean g converted nodes) (n : ℕ)
       → n < length plan.trampolines
       → StandsForOne g plan ms (does ms trace nodes wired effects exports).never_stuck.last n
+  -- no slots of a kind, options entries or trampolines have one value there, where the graph tells what values leave
+  -- out
+  pub values_apart : (ms : List ModuleTranslation) (trace : List (Entry Mark)) (nodes : List (NamedNode Mark))
+      (wired : IsWired g ms) (effects : EffectsMean g trace) (exports : ExportsMean g converted nodes) (u : Unsaid)
+      → IsTold u g → AreApart (view plan ms) (does ms trace nodes wired effects exports).never_stuck.last
+  -- and an instance without a component instance is that of a module of adapters, with its arguments
+  pub adapters : (ms : List ModuleTranslation) (trace : List (Entry Mark)) (nodes : List (NamedNode Mark))
+      (wired : IsWired g ms) (effects : EffectsMean g trace) (exports : ExportsMean g converted nodes) (r : ℕ)
+      (m : RuntimeInstance Mark)
+      → slice_get (does ms trace nodes wired effects exports).never_stuck.last.instances r ≡ Some m
+      → m.component_instance ≡ None → IsOfAdapters g m.instantiation
   -- what it has of the host is what the graph has of it
   pub import_types : plan.component.import_types ≡ g.import_types
   pub imports : plan.component.imports ≡ g.imports
@@ -154,6 +159,16 @@ pub record Finishes (g : ComponentDfg) (converted : ℕ → Mark) (plan : Compon
   -- a lowering is that of one trampoline
   pub lowered_once : (n : ℕ)
       → AtMostOne (TakesLowering n) (trampolines_view 0 plan.component.trampolines plan.trampolines)
+  -- no module of adapters is instantiated twice, where no two of the graph are one core module
+  pub adapters_once : AreDistinct (map module_of g.adapter_modules) → (m : ℕ)
+      → AtMostOne (MakesAdapters m) (steps_in plan)
+  -- lowerings and slots carry their numbers in order; no two steps fill slots of a kind with one definition, where the
+  -- graph tells slots apart; and what is no side effect stands before the first one that uses it, with no other between,
+  -- or behind them all
+  pub carry : (i : ℕ) (s : Initializer) → slice_get (steps_in plan) i ≡ Some s → CarriesNext (take i (steps_in plan)) s
+  pub slots_apart : TellsSlots g → (k : SlotKind) (d : Definition) → AtMostOne (FillsWith k d) (steps_in plan)
+  pub late : (i : ℕ) (s : Initializer) (x : Piece) → slice_get (steps_in plan) i ≡ Some s → is_side_effect s ≡ false
+      → Makes (take i (steps_in plan)) s x → IsMadeLate plan i x
   -- and what options, trampolines and exports name is there
   pub slots_filled : (k : SlotKind) (n : ℕ) → UsesSlot plan k n → n < slots_in (counts_view plan.component) k
   pub imports_lowered : (n : ℕ) → UsesLowering plan n → n < plan.component.num_lowerings

@@ -1,28 +1,9 @@
 -- What the public contract rests on, in reading order.
-pub mod Grouped
-pub mod Wired
 pub mod Unnumbered
-pub mod Slots
+pub mod Apart
 pub mod Finishes
 pub mod Finished
 pub mod ModuleTypes
-pub mod Full
 -- How the contracts within the crate say what is made.
-pub mod Numbers
-pub mod Parts
-pub mod Ready
-pub mod Plan
-pub mod Converted
-pub mod Entries
-pub mod Added
-pub mod Reached
-pub mod Once
-pub mod Represented
-pub mod Outgrown
-pub mod Closed
-pub mod Work
-pub mod Arguments
 pub mod Exports
-pub mod Made
-pub mod Stack
 pub mod Whole

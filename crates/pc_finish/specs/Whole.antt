@@ -1,6 +1,5 @@
 -- The whole of a plan: with what it begins, how it is made, and how it is put together.
 use Rattle.std.specs.Prelude.{ℕ, ◌+◌, List, [], length, All, Option, None, replicate}
-use Rattle.pc_entity.specs.Lists.{AreDistinct}
 use Rattle.pc_entity.specs.declared.packed_option.PackedOption.TheVariants as packed
 use Rattle.pc_names.specs.Contents.{Contents}
 use Rattle.pc_info.specs.declared.component.Component.{Component}
@@ -10,11 +9,12 @@ use Rattle.pc_types.specs.declared.parsed.TypeTable.{TypeTable}
 use Rattle.pc_types.specs.declared.type_index.TypeModuleIndex.{TypeModuleIndex}
 use Rattle.pc_builder.specs.Types.{Types}
 use Rattle.pc_dfg.specs.declared.dfg.ComponentDfg.{ComponentDfg}
-use Rattle.pc_finish.specs.declared.state.Finish.{Finish}
-use Rattle.pc_finish.specs.declared.state.Numbers.{Numbers}
-use Rattle.pc_finish.specs.Arguments.{OnlyFromThese}
+use Rattle.pc_dfg.specs.Told.{AreInterned}
+use Rattle.pc_linearize.specs.declared.state.Finish.{Finish}
+use Rattle.pc_linearize.specs.declared.state.Numbers.{Numbers}
+use Rattle.pc_linearize.specs.Arguments.{OnlyFromThese}
 use Rattle.pc_finish.specs.Exports.{Exports, GoesFurther, Target, in_exports}
-use Rattle.pc_finish.specs.Made.{DoneBefore}
+use Rattle.pc_linearize.specs.Made.{DoneBefore}
 use Rattle.pc_finish.specs.ModuleTypes.{AreModuleTypes, IsTyped}
 
 -- no entry has its number
@@ -67,9 +67,8 @@ pub record IsMade (b : Types) (t : TypeTable) (g : ComponentDfg) (f : Finish) (n
   pub are : AreModuleTypes b t types
   pub typed : All (IsTyped types) g.export_items
   pub exports : Exports g types f names items
-  -- no options and no trampolines of the graph stand twice
-  pub distinct : AreDistinct g.options
-  pub apart : AreDistinct g.trampolines
+  -- no entry of an interned list of the graph stands twice
+  pub interned : AreInterned g
 
 -- a plan that was made, with its exports
 abbrev pub component_of : ComponentDfg → Finish → Contents (List ℕ) Target → List PlanItem → Component

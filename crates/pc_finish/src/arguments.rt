@@ -4,21 +4,17 @@
 ghost use Rattle.std.specs.Prelude.{◌≡◌, ◌∷◌, [], All, Err, IfOk, OnOk, length};
 ghost use Rattle.pc_dfg.specs.Names.{if_any};
 ghost use Rattle.pc_dfg.specs.Ordered.{IsOrdered};
-ghost use Rattle.pc_finish.specs.declared.error.FinishError.TheVariants as refusal;
-ghost use Rattle.pc_finish.specs.Arguments.{CanNumber, IsNumbered, NumbersAll, named_defs, host_defs};
-ghost use Rattle.pc_finish.specs.Arguments.{named_in, host_in};
-ghost use Rattle.pc_finish.specs.Closed.{Fits};
-ghost use Rattle.pc_finish.specs.Grouped.{IsGrouped};
-ghost use Rattle.pc_finish.specs.Outgrown.{Outgrows};
-ghost use Rattle.pc_finish.specs.Parts.{in_def};
+ghost use Rattle.pc_linearize.specs.declared.error.FinishError.TheVariants as refusal;
+ghost use Rattle.pc_linearize.specs.Arguments.{CanNumber, IsNumbered, NumbersAll, named_defs, host_defs};
+ghost use Rattle.pc_linearize.specs.Arguments.{named_in, host_in};
+ghost use Rattle.pc_linearize.specs.Closed.{Fits};
+ghost use Rattle.pc_linearize.specs.Grouped.{IsGrouped};
+ghost use Rattle.pc_linearize.specs.Outgrown.{Outgrows};
+ghost use Rattle.pc_linearize.specs.Parts.{in_def};
 
-use crate::FinishError;
-use crate::convert::def_of;
-use crate::id::Id;
-use crate::run::number;
-use crate::state::Finish;
 use pc_dfg::{ComponentDfg, CoreDef};
 use pc_entity::{NoMemory, Text, TextMap};
+use pc_linearize::{Finish, FinishError, Id, def_of, number};
 use std::alloc::Global;
 
 /// What a definition depends on, if on anything.

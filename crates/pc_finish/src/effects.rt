@@ -5,24 +5,20 @@ ghost use Rattle.pc_info.specs.declared.initializer.GlobalInitializer.TheVariant
 ghost use Rattle.pc_dfg.specs.declared.instance.SideEffect.TheVariants as effect;
 ghost use Rattle.pc_dfg.specs.Names.{if_any, in_instance};
 ghost use Rattle.pc_dfg.specs.Ordered.{IsOrdered};
-ghost use Rattle.pc_finish.specs.declared.error.FinishError.TheVariants as refusal;
-ghost use Rattle.pc_finish.specs.Arguments.{CanNumber};
-ghost use Rattle.pc_finish.specs.Closed.{Fits};
-ghost use Rattle.pc_finish.specs.Full.{HasTooMany};
-ghost use Rattle.pc_finish.specs.Grouped.{IsGrouped};
-ghost use Rattle.pc_finish.specs.Made.{DoneBefore, IsDone, IsNext, Prepares, PreparesAny};
-ghost use Rattle.pc_finish.specs.Made.{with_instance, with_resource};
-ghost use Rattle.pc_finish.specs.Outgrown.{Outgrows};
+ghost use Rattle.pc_linearize.specs.declared.error.FinishError.TheVariants as refusal;
+ghost use Rattle.pc_linearize.specs.Arguments.{CanNumber};
+ghost use Rattle.pc_linearize.specs.Closed.{Fits};
+ghost use Rattle.pc_linearize.specs.Full.{HasTooMany};
+ghost use Rattle.pc_linearize.specs.Grouped.{IsGrouped};
+ghost use Rattle.pc_linearize.specs.Made.{DoneBefore, IsDone, IsNext, Prepares, PreparesAny};
+ghost use Rattle.pc_linearize.specs.Made.{with_instance, with_resource};
+ghost use Rattle.pc_linearize.specs.Outgrown.{Outgrows};
 
-use crate::FinishError;
 use crate::arguments::{host_of, number_all, number_def, number_host};
-use crate::convert::{def_of, defs_of};
-use crate::grow::next;
-use crate::listed::append;
-use crate::state::Finish;
 use pc_dfg::{ComponentDfg, CoreDef, Instance, InstanceId, SideEffect};
 use pc_entity::{DefinedResourceIndex, RuntimeComponentInstanceIndex, RuntimeInstanceIndex};
 use pc_info::{GlobalInitializer, InstantiateModule};
+use pc_linearize::{Finish, FinishError, append, def_of, defs_of, next};
 use std::alloc::Global;
 
 /// A module with its arguments as the plan has them, once all that they depend on has a number.

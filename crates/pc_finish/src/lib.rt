@@ -6,21 +6,11 @@
 #![tactic(auto)]
 
 mod arguments;
-mod close;
-mod convert;
 mod effects;
-mod entries;
-mod error;
 mod exports;
-mod grow;
-mod id;
-mod listed;
 mod module_types;
-mod number_map;
-mod open;
 mod plan;
-mod run;
-mod state;
+mod translation;
 
-pub use error::FinishError;
+pub use pc_linearize::FinishError;
 pub use plan::finish;

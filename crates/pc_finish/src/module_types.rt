@@ -8,14 +8,14 @@ ghost use Rattle.pc_types.specs.Table.{table_fault};
 ghost use Rattle.pc_builder.specs.Types.{Grows, IsTooFullFor, Types};
 ghost use Rattle.pc_builder.specs.Trees.{IsEntry};
 ghost use Rattle.pc_dfg.specs.declared.export.Export.{Export};
-ghost use Rattle.pc_finish.specs.declared.error.FinishError.TheVariants as refusal;
+ghost use Rattle.pc_linearize.specs.declared.error.FinishError.TheVariants as refusal;
 ghost use Rattle.pc_finish.specs.ModuleTypes.{AreModuleTypes, HasModuleType, HasNoModule, HasNoPlace, IsModuleType};
 ghost use Rattle.pc_finish.specs.ModuleTypes.{IsTyped, KeepsTypes, module_type, static_type, type_at};
 
-use crate::FinishError;
 use pc_builder::ComponentTypesBuilder;
 use pc_dfg::Export;
 use pc_entity::NoMemory;
+use pc_linearize::FinishError;
 use pc_types::{TypeError, TypeModuleIndex, TypeTable};
 use std::alloc::Global;
 use std::marker::Model;

@@ -8,23 +8,22 @@ ghost use Rattle.pc_types.specs.Table.{table_fault};
 ghost use Rattle.pc_builder.specs.Types.{Grows};
 ghost use Rattle.pc_dfg.specs.declared.export.Export.{Export};
 ghost use Rattle.pc_dfg.specs.Ordered.{IsOrdered};
-ghost use Rattle.pc_finish.specs.declared.error.FinishError.TheVariants as refusal;
+ghost use Rattle.pc_linearize.specs.declared.error.FinishError.TheVariants as refusal;
 ghost use Rattle.pc_finish.specs.Finished.{IsFinished};
-ghost use Rattle.pc_finish.specs.Full.{HasTooMany};
-ghost use Rattle.pc_finish.specs.Grouped.{IsGrouped};
+ghost use Rattle.pc_linearize.specs.Full.{HasTooMany};
+ghost use Rattle.pc_linearize.specs.Grouped.{IsGrouped};
 ghost use Rattle.pc_finish.specs.ModuleTypes.{HasModuleType, HasNoModule, HasNoPlace};
 ghost use Rattle.pc_finish.specs.Whole.{IsMade, empty_plan, no_numbers};
 
-use crate::FinishError;
 use crate::effects::do_effects;
 use crate::exports::{Exported, exports};
 use crate::module_types::module_types;
-use crate::number_map::NumberMap;
-use crate::state::{Counts, Finish, INTRINSICS, Numbers};
+use crate::translation::into_translation;
 use pc_builder::ComponentTypesBuilder;
 use pc_dfg::ComponentDfg;
 use pc_entity::{NoMemory, PackedOption, PrimaryMap, Seq};
 use pc_info::ComponentTranslation;
+use pc_linearize::{Counts, Finish, FinishError, INTRINSICS, NumberMap, Numbers};
 use pc_types::TypeTable;
 use std::alloc::Global;
 
@@ -114,5 +113,5 @@ pub fn finish(
     ensures plan { IfOk result (λ p. IsFinished types.new table.now graph p) }
 {
     let (finish, exported) = make(alloc, &graph, table, types)?;
-    finish.into_translation(alloc, graph, exported)
+    into_translation(finish, alloc, graph, exported)
 }

@@ -1,6 +1,6 @@
-use Rattle.std.proofs.Common.{◌≡◌, ◌≤◌, length, ap, arith, ◌∙◌}
+use Rattle.std.proofs.Common.{◌≤◌, length, ap, arith, ◌∙◌}
 use Rattle.std.proofs.lemmas.List.{take_all}
-use Rattle.pc_finish.specs.Arguments.{CanNumber, IsNumbered, host_in, named_in}
+use Rattle.pc_linearize.specs.Arguments.{CanNumber, IsNumbered, host_in, named_in}
 use Rattle.pc_finish.proofs.ArgumentLemmas.{host_all}
 use Rattle.pc_finish.proofs.NamedLemmas.{copy_absent, copy_next}
 use Rattle.pc_finish.proofs.arguments.host_of.Goals as goal

@@ -1,8 +1,8 @@
-use Rattle.std.proofs.Common.{◌≡◌, ◌≤◌, length, ap, arith, ◌∙◌}
+use Rattle.std.proofs.Common.{◌≤◌, length, ap, arith, ◌∙◌}
 use Rattle.std.proofs.lemmas.List.{take_all}
-use Rattle.pc_finish.specs.Arguments.{CanNumber, IsNumbered, named_defs, named_in}
-use Rattle.pc_finish.specs.Converted.{def_in}
-use Rattle.pc_finish.proofs.AllLemmas.{all_at}
+use Rattle.pc_linearize.specs.Arguments.{CanNumber, IsNumbered, named_defs, named_in}
+use Rattle.pc_linearize.specs.Converted.{def_in}
+use Rattle.pc_linearize.proofs.AllLemmas.{all_at}
 use Rattle.pc_finish.proofs.ArgumentLemmas.{named_item}
 use Rattle.pc_finish.proofs.NamedLemmas.{copy_absent, copy_next}
 use Rattle.pc_finish.proofs.arguments.named_of.Goals as goal

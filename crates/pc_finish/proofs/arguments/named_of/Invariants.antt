@@ -1,5 +1,5 @@
 use Rattle.std.proofs.Common.{◌≡◌, take}
-use Rattle.pc_finish.specs.Arguments.{named_in}
+use Rattle.pc_linearize.specs.Arguments.{named_in}
 use Rattle.pc_finish.proofs.arguments.named_of.Given as goal
 
 abbrev pub invariant-loop-place : goal.invariant-loop-place

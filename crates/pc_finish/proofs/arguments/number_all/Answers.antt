@@ -1,8 +1,8 @@
 use Rattle.std.proofs.Common.{length, take, sym, subst}
 use Rattle.std.proofs.lemmas.List.{take_all}
 use Rattle.pc_entity.proofs.Growing.{take-next}
-use Rattle.pc_finish.specs.Arguments.{CanNumber, NumbersAll}
-use Rattle.pc_finish.proofs.AllLemmas.{all_at}
+use Rattle.pc_linearize.specs.Arguments.{CanNumber, NumbersAll}
+use Rattle.pc_linearize.proofs.AllLemmas.{all_at}
 use Rattle.pc_finish.proofs.ArgumentLemmas.{can_still, item_at, numbers_more, numbers_none}
 use Rattle.pc_finish.proofs.OutgrownLemmas.{outgrows_before}
 use Rattle.pc_finish.proofs.arguments.number_all.Goals as goal

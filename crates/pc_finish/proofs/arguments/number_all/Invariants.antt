@@ -1,5 +1,5 @@
 use Rattle.std.proofs.Common.{take}
-use Rattle.pc_finish.specs.Arguments.{NumbersAll}
+use Rattle.pc_linearize.specs.Arguments.{NumbersAll}
 use Rattle.pc_finish.proofs.arguments.number_all.Given as goal
 
 abbrev pub invariant-loop-def : goal.invariant-loop-def

@@ -1,7 +1,6 @@
 use Rattle.std.proofs.Common.{All, [], length, sym, subst}
-use Rattle.std.specs.Result.{OnOk}
-use Rattle.pc_finish.specs.Ready.{IsReady}
-use Rattle.pc_finish.proofs.AllLemmas.{all_first}
+use Rattle.pc_linearize.specs.Ready.{IsReady}
+use Rattle.pc_linearize.proofs.AllLemmas.{all_first}
 use Rattle.pc_finish.proofs.ArgumentLemmas.{numbers_id, numbers_nothing}
 use Rattle.pc_finish.proofs.RefusedLemmas.{ok_then}
 use Rattle.pc_finish.proofs.arguments.number_def.Goals as goal

@@ -1,6 +1,6 @@
-use Rattle.std.proofs.Common.{◌≤◌, All, length, take, sym, subst, arith}
+use Rattle.std.proofs.Common.{◌≤◌, length, take, subst, arith}
 use Rattle.std.proofs.lemmas.List.{take_all}
-use Rattle.pc_finish.specs.Arguments.{CanNumber, NumbersAll, host_defs}
+use Rattle.pc_linearize.specs.Arguments.{CanNumber, NumbersAll, host_defs}
 use Rattle.pc_finish.proofs.ArgumentLemmas.{all_can_still, host_all, host_next, numbers_more, numbers_none}
 use Rattle.pc_finish.proofs.OutgrownLemmas.{outgrows_before}
 use Rattle.pc_finish.proofs.arguments.number_host.Goals as goal

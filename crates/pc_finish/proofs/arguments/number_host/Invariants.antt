@@ -1,5 +1,5 @@
 use Rattle.std.proofs.Common.{take}
-use Rattle.pc_finish.specs.Arguments.{NumbersAll, host_defs}
+use Rattle.pc_linearize.specs.Arguments.{NumbersAll, host_defs}
 use Rattle.pc_finish.proofs.arguments.number_host.Given as goal
 
 abbrev pub invariant-loop-place : goal.invariant-loop-place

@@ -1,9 +1,7 @@
-use Rattle.std.proofs.Common.{◌≤◌, length, take, ap, subst, arith, ◌∙◌, Some}
+use Rattle.std.proofs.Common.{◌≤◌, length, take, subst, arith}
 use Rattle.std.proofs.lemmas.List.{take_all}
-use Rattle.std.proofs.lemmas.Option.{slice_get-map}
-use Rattle.std.specs.Prelude.{option_map}
-use Rattle.pc_finish.specs.Arguments.{CanNumber, NumbersAll, named_defs}
-use Rattle.pc_finish.proofs.AllLemmas.{all_at}
+use Rattle.pc_linearize.specs.Arguments.{CanNumber, NumbersAll, named_defs}
+use Rattle.pc_linearize.proofs.AllLemmas.{all_at}
 use Rattle.pc_finish.proofs.ArgumentLemmas.{can_still, named_item, named_next, numbers_more, numbers_none}
 use Rattle.pc_finish.proofs.OutgrownLemmas.{outgrows_before}
 use Rattle.pc_finish.proofs.arguments.number_named.Goals as goal

@@ -2,8 +2,8 @@ use Rattle.std.proofs.Common.{All, length, sym, subst}
 use Rattle.pc_dfg.specs.declared.instance.SideEffect.TheVariants as effect
 use Rattle.pc_dfg.specs.Held.{HeldEffect}
 use Rattle.pc_dfg.specs.Names.{each_of, in_effect, in_resource}
-use Rattle.pc_finish.specs.Arguments.{CanNumber}
-use Rattle.pc_finish.specs.Made.{IsDone}
+use Rattle.pc_linearize.specs.Arguments.{CanNumber}
+use Rattle.pc_linearize.specs.Made.{IsDone}
 use Rattle.pc_finish.proofs.EffectLemmas.{resource_done}
 use Rattle.pc_finish.proofs.NextLemmas.{next_held, next_ready}
 use Rattle.pc_finish.proofs.OutgrownLemmas.{resources_outgrow}

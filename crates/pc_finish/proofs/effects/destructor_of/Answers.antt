@@ -1,10 +1,10 @@
 use Rattle.std.proofs.Common.{All, [], Some, length, sym, subst, ap, ◌∙◌}
 use Rattle.std.specs.Option.{option_map}
 use Rattle.pc_dfg.specs.Names.{if_any}
-use Rattle.pc_finish.specs.Arguments.{CanNumber, IsNumbered, NumbersAll}
-use Rattle.pc_finish.specs.Converted.{def_in}
-use Rattle.pc_finish.specs.Ready.{IsReadyDef}
-use Rattle.pc_finish.proofs.AllLemmas.{all_first}
+use Rattle.pc_linearize.specs.Arguments.{CanNumber, IsNumbered, NumbersAll}
+use Rattle.pc_linearize.specs.Converted.{def_in}
+use Rattle.pc_linearize.specs.Ready.{IsReadyDef}
+use Rattle.pc_linearize.proofs.AllLemmas.{all_first}
 use Rattle.pc_finish.proofs.ArgumentLemmas.{all_ready, numbers_none}
 use Rattle.pc_finish.proofs.effects.destructor_of.Goals as goal
 

@@ -1,5 +1,5 @@
 use Rattle.std.proofs.Common.{◌≡◌, length, ap, subst, arith}
-use Rattle.pc_finish.specs.Made.{DoneBefore}
+use Rattle.pc_linearize.specs.Made.{DoneBefore}
 use Rattle.pc_finish.proofs.ArgumentLemmas.{item_read}
 use Rattle.pc_finish.proofs.DoneLemmas.{done_next, is_next}
 use Rattle.pc_finish.proofs.OutgrownLemmas.{done_too_many}

@@ -1,4 +1,4 @@
-use Rattle.pc_finish.specs.Made.{DoneBefore}
+use Rattle.pc_linearize.specs.Made.{DoneBefore}
 use Rattle.pc_finish.proofs.effects.do_effects.Given as goal
 
 abbrev pub invariant-loop-effect : goal.invariant-loop-effect

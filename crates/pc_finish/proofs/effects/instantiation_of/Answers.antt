@@ -1,10 +1,10 @@
 use Rattle.std.proofs.Common.{All, length, map, sym, subst, ap, ◌∙◌}
 use Rattle.pc_info.specs.declared.initializer.InstantiateModule.TheVariants as plan_source
 use Rattle.pc_dfg.specs.Names.{in_instance}
-use Rattle.pc_finish.specs.Arguments.{CanNumber, IsNumbered, NumbersAll, host_defs}
-use Rattle.pc_finish.specs.Converted.{def_in}
-use Rattle.pc_finish.specs.Made.{instance_in}
-use Rattle.pc_finish.specs.Ready.{IsReadyDef}
+use Rattle.pc_linearize.specs.Arguments.{CanNumber, IsNumbered, NumbersAll, host_defs}
+use Rattle.pc_linearize.specs.Converted.{def_in}
+use Rattle.pc_linearize.specs.Made.{instance_in}
+use Rattle.pc_linearize.specs.Ready.{IsReadyDef}
 use Rattle.pc_finish.proofs.ArgumentLemmas.{all_can_still, all_ready}
 use Rattle.pc_finish.proofs.effects.instantiation_of.Goals as goal
 

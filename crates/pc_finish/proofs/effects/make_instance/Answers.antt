@@ -1,9 +1,9 @@
-use Rattle.std.proofs.Common.{All, length, sym, subst, ap}
+use Rattle.std.proofs.Common.{All, length, sym, subst}
 use Rattle.pc_dfg.specs.declared.instance.SideEffect.TheVariants as effect
 use Rattle.pc_dfg.specs.Held.{HeldEffect}
 use Rattle.pc_dfg.specs.Names.{each_of, in_effect, in_instance}
-use Rattle.pc_finish.specs.Arguments.{CanNumber}
-use Rattle.pc_finish.specs.Made.{IsDone}
+use Rattle.pc_linearize.specs.Arguments.{CanNumber}
+use Rattle.pc_linearize.specs.Made.{IsDone}
 use Rattle.pc_finish.proofs.EffectLemmas.{instance_done}
 use Rattle.pc_finish.proofs.NextLemmas.{next_held, next_ready}
 use Rattle.pc_finish.proofs.OutgrownLemmas.{instances_outgrow}

@@ -1,6 +1,6 @@
-use Rattle.pc_finish.specs.Numbers.{number_at}
-use Rattle.pc_finish.specs.Parts.{number_of}
-use Rattle.pc_finish.proofs.NumberLemmas.{is_there}
+use Rattle.pc_linearize.specs.Numbers.{number_at}
+use Rattle.pc_linearize.specs.Parts.{number_of}
+use Rattle.pc_linearize.proofs.NumberLemmas.{is_there}
 use Rattle.pc_finish.proofs.exports.lifted.Goals as goal
 
 pub at-options-requires : goal.at-options-requires

@@ -2,13 +2,13 @@ use Rattle.std.proofs.Common.{[], ◌∷◌, length, subst, ◌∙◌}
 use Rattle.std.proofs.lemmas.List.{append-nil}
 use Rattle.std.proofs.lemmas.List.Concat.{flat_map-cons}
 use Rattle.std.proofs.lemmas.List.Elements.{Contains-push}
-use Rattle.pc_finish.specs.Arguments.{IsNumbered, OnlyFromThese}
-use Rattle.pc_finish.specs.Parts.{in_def}
-use Rattle.pc_finish.specs.declared.id.Id.TheVariants as id
+use Rattle.pc_linearize.specs.Arguments.{IsNumbered, OnlyFromThese}
+use Rattle.pc_linearize.specs.Parts.{in_def}
+use Rattle.pc_linearize.specs.declared.id.Id.TheVariants as id
 use Rattle.pc_finish.proofs.FurtherLemmas.{further_def, further_id, further_then}
 use Rattle.pc_finish.proofs.OnlyLemmas.{only_more, only_one}
 use Rattle.pc_finish.proofs.OutgrownLemmas.{outgrows_before}
-use Rattle.pc_finish.proofs.PartLemmas.{all_only}
+use Rattle.pc_linearize.proofs.PartLemmas.{all_only}
 use Rattle.pc_finish.proofs.RefusedLemmas.{ok_then}
 use Rattle.pc_finish.proofs.exports.number_function.Goals as goal
 

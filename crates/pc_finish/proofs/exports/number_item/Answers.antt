@@ -1,7 +1,7 @@
 use Rattle.std.proofs.Common.{subst}
 use Rattle.std.specs.Result.{OnOk}
 use Rattle.pc_dfg.specs.Names.{each_of}
-use Rattle.pc_finish.specs.Arguments.{OnlyFromThese}
+use Rattle.pc_linearize.specs.Arguments.{OnlyFromThese}
 use Rattle.pc_finish.specs.Exports.{in_lifted}
 use Rattle.pc_finish.proofs.exports.number_item.Goals as goal
 

@@ -1,5 +1,5 @@
 use Rattle.std.proofs.Common.{All, subst}
-use Rattle.pc_finish.specs.Arguments.{OnlyFromThese}
+use Rattle.pc_linearize.specs.Arguments.{OnlyFromThese}
 use Rattle.pc_finish.specs.Exports.{IsExportable, in_exports}
 use Rattle.pc_finish.proofs.FurtherLemmas.{can_export, exportable_next, further_then, lent_all, lent_at}
 use Rattle.pc_finish.proofs.OnlyLemmas.{only_next}

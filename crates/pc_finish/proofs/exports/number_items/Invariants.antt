@@ -1,5 +1,5 @@
 use Rattle.std.proofs.Common.{All, take}
-use Rattle.pc_finish.specs.Arguments.{OnlyFromThese}
+use Rattle.pc_linearize.specs.Arguments.{OnlyFromThese}
 use Rattle.pc_finish.specs.Exports.{GoesFurther, IsExportable, in_exports}
 use Rattle.pc_finish.proofs.exports.number_items.Given as goal
 

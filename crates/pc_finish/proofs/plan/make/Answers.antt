@@ -1,6 +1,6 @@
 use Rattle.std.proofs.Common.{All, Contains, inl, inr, length, sym, subst}
 use Rattle.pc_dfg.specs.declared.export.Export.{Export}
-use Rattle.pc_finish.specs.Made.{DoneBefore}
+use Rattle.pc_linearize.specs.Made.{DoneBefore}
 use Rattle.pc_finish.specs.ModuleTypes.{HasNoModule, HasNoPlace, IsTyped}
 use Rattle.pc_finish.proofs.OutgrownLemmas.{done_too_many}
 use Rattle.pc_finish.proofs.StartLemmas.{none_done}
@@ -65,6 +65,5 @@ returns-clause-made c = record {
   typed = subst (All (IsTyped c.in_ok-module_types.module_types)) c.as_slice.ensures
       c.in_ok-module_types.ensures.typed;
   exports = c.in_ok-exported.ensures.exports;
-  distinct = c.entries_are_distinct.ensures.options;
-  apart = c.entries_are_distinct.ensures.trampolines;
+  interned = c.entries_are_distinct.ensures.all;
 }

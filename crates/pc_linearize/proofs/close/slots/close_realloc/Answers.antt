@@ -1,0 +1,46 @@
+use Rattle.std.proofs.Common.{◌≡◌, ap}
+use Rattle.pc_semantics.specs.PlanView as plan
+use Rattle.pc_info.specs.declared.core_def.CoreDef.{CoreDef as PlanDef}
+use Rattle.pc_info.specs.Definitions.{def_view}
+use Rattle.pc_dfg.specs.Numbers.{slots_of}
+use Rattle.pc_linearize.specs.Added.{IsFull}
+use Rattle.pc_linearize.specs.Converted.{def_in}
+use Rattle.pc_linearize.proofs.ClosedSlotLemmas.{slot_closed, slot_held, slot_numbered, slot_ready, slot_within, ok_then}
+use Rattle.pc_linearize.proofs.ClosedSlotLemmas.{ok_value}
+use Rattle.pc_linearize.proofs.close.slots.close_realloc.Goals as goal
+
+pub index-requires : goal.index-requires
+unfolding slots_of
+index-requires c = slot_within c.args.graph.now plan.realloc c.args.realloc.0 _ c.requires.can
+
+pub def_of-requires-clause-ready : goal.def_of-requires-clause-ready
+unfolding slots_of
+def_of-requires-clause-ready c =
+    slot_ready c.args.graph.now plan.realloc c.args.realloc.0 _ c.index.result.now c.requires.can c.index.ensures
+
+pub def_of-requires-clause-numbered : goal.def_of-requires-clause-numbered
+unfolding slots_of
+def_of-requires-clause-numbered c =
+    slot_numbered c.args.graph.now plan.realloc c.args.realloc.0 c.args.finish.now c.index.result.now
+    c.requires.numbered c.index.ensures
+
+pub fill_realloc-requires : goal.fill_realloc-requires
+fill_realloc-requires c = record {
+  held = slot_held c.args.graph.now plan.realloc c.args.realloc.0 c.args.finish.now c.requires.fits c.requires.can;
+}
+
+pub returns-clause-closed : goal.returns-clause-closed
+unfolding slots_of
+returns-clause-closed c =
+    let def = ok_value (λ d. d ≡ def_in c.args.graph.now c.args.finish.now c.index.result.now) c.def_of.result
+    c.in_ok-def.def c.in_ok-def.was c.def_of.ensures in
+    ok_then c.fill_realloc.result (λ is. slot_closed c.args.graph.now plan.realloc c.args.realloc.0 c.args.finish.now
+    _ _
+    c.index.result.now c.requires.held c.requires.can c.requires.numbered c.requires.fits c.requires.fresh
+    c.index.ensures is
+    (ap (λ (d : PlanDef). plan.extract plan.realloc c.args.finish.now.counts.reallocs (def_view d)) def))
+    c.fill_realloc.ensures.ok
+
+pub returns-clause-full : goal.returns-clause-full
+unfolding IsFull
+returns-clause-full c = c.fill_realloc.ensures.full

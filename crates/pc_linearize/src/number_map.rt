@@ -1,0 +1,80 @@
+//! The numbers that entries of a list have in a plan, so far.
+
+ghost use Rattle.std.specs.Prelude.{◌≡◌, ℕ, ◌<◌, length, replicate, None, Some, IfOk};
+ghost use Rattle.std.specs.Option.{option_map, IsSome, IfSome};
+ghost use Rattle.pc_linearize.specs.Numbers.{number_at, numbered, with_number};
+
+use pc_entity::{EntityRef, NoMemory};
+use std::alloc::Global;
+use std::marker::{Model, PhantomData};
+
+/// The number in a plan of each entry of a list, if it has one yet. A contract sees the list of these numbers.
+#[derive(Drop)]
+pub struct NumberMap<K, V> {
+    numbers: Vec<Option<u32>>,
+    types: PhantomData<(K, V)>,
+}
+
+impl<K, V> Model for NumberMap<K, V> {
+    ghost use Rattle.std.specs.Prelude.{ℕ, List, Option};
+
+    ghost Value = { List (Option ℕ) };
+
+    ghost view = { λ m. m.numbers.items };
+}
+
+impl<K: EntityRef, V: EntityRef> NumberMap<K, V> {
+    /// A map for so many entries, none of which has a number.
+    pub fn new(alloc: Global, entries: usize) -> Result<NumberMap<K, V>, NoMemory>
+        ensures { IfOk result (λ m. m ≡ replicate entries None) }
+    {
+        let mut numbers = Vec::with_capacity(alloc, entries)?;
+        for _ in 0..entries {
+            numbers.push(None)?;
+        }
+        Ok(NumberMap {
+            numbers,
+            types: PhantomData,
+        })
+    }
+
+    /// The number of an entry, if it has one.
+    pub fn get(&self, entry: K) -> Option<V>
+        ensures { result ≡ option_map (λ n. V.of_number n) (number_at self.now (K.number entry)) }
+    {
+        match self.numbers.get(entry.as_u32() as usize) {
+            Some(Some(number)) => Some(V::from_u32(*number)),
+            _ => None,
+        }
+    }
+
+    /// The number of an entry that has one.
+    pub fn at(&self, entry: K) -> V
+        requires numbered { IsSome (number_at self.now (K.number entry)) }
+        ensures { result ≡ V.of_number (numbered self.now (K.number entry)) }
+    {
+        match self.get(entry) {
+            Some(number) => number,
+            None => unreachable!(),
+        }
+    }
+
+    /// The number of an entry that has one, where there is an entry.
+    pub fn at_any(&self, entry: Option<K>) -> Option<V>
+        requires numbered { IfSome entry (λ k. IsSome (number_at self.now (K.number k))) }
+        ensures { result ≡ option_map (λ k. V.of_number (numbered self.now (K.number k))) entry }
+    {
+        match entry {
+            Some(entry) => Some(self.at(entry)),
+            None => None,
+        }
+    }
+
+    /// Gives an entry its number.
+    pub fn note(&mut self, entry: K, number: V)
+        requires held { K.number entry < length self.old }
+        ensures { self.new ≡ with_number self.old (K.number entry) (V.number number) }
+    {
+        self.numbers[entry.as_u32() as usize] = Some(number.as_u32());
+    }
+}
