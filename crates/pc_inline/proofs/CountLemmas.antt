@@ -20,12 +20,12 @@ use Rattle.pc_dfg.proofs.AllLemmas.{all_more}
 use Rattle.pc_dfg.proofs.NodeLemmas.{item_kept}
 use Rattle.pc_dfg.proofs.PushLemmas.{quiet}
 use Rattle.pc_inline.specs.Exports.{ExportsStand, NameStands}
-use Rattle.pc_inline.specs.Tables.{IsItem}
-use Rattle.pc_inline.specs.Worlds.{HasItems, HoldsTypes, IsPlain, WorldStands}
-use Rattle.pc_inline.proofs.KeptLemmas.{is_item_kept}
-use Rattle.pc_inline.proofs.StateLemmas.{types_refl}
-use Rattle.pc_inline.proofs.WorldLemmas.{world_still}
-use Rattle.pc_inline.proofs.ZipLemmas.{zip_more}
+use Rattle.pc_frames.specs.Tables.{IsItem}
+use Rattle.pc_frames.specs.Worlds.{HasItems, HoldsTypes, IsPlain, WorldStands}
+use Rattle.pc_canon.proofs.KeptLemmas.{is_item_kept}
+use Rattle.pc_frames.proofs.StateLemmas.{types_refl}
+use Rattle.pc_canon.proofs.WorldLemmas.{world_still}
+use Rattle.pc_frames.proofs.ZipLemmas.{zip_more}
 
 module _ (g : ComponentDfg) (futures streams errors : ℕ) where
   -- the graph with these counts
@@ -57,7 +57,7 @@ module _ (g : ComponentDfg) (futures streams errors : ℕ) where
   nothing_added P list.export_items = nothing
   nothing_added P list.exports = nothing
 
-  pub counted_grows : graph.Grows g counted
+  counted_grows : graph.Grows g counted
   counted_grows = record {
     lists = λ l. (nothing_added (λ l n x. Unit {0}) l).extends;
     component_instances = omega arith;

@@ -13,21 +13,21 @@ use Rattle.pc_local.specs.declared.item.LocalInitializer.{LocalInitializer}
 use Rattle.pc_local.specs.declared.item.LocalInitializer.TheVariants as local
 use Rattle.pc_local.specs.Plain.{plain_item}
 use Rattle.pc_local.specs.Standing.{ItemStands, no_names}
-use Rattle.pc_inline.specs.declared.error.ItemError.{ItemError}
-use Rattle.pc_inline.specs.declared.frame.Frame.{Frame}
-use Rattle.pc_inline.specs.declared.state.State.{State}
-use Rattle.pc_inline.specs.Adds.{imports_in}
-use Rattle.pc_inline.specs.Faults.{error_of}
-use Rattle.pc_inline.specs.Points.{Follows, IsPoint, Steps}
-use Rattle.pc_inline.specs.Reads.{AreItems, Prepared, SoFar}
-use Rattle.pc_inline.specs.StepsLocal.{PreparesLocal, prepare_row}
-use Rattle.pc_inline.specs.Tables.{Keeps, tables_of}
-use Rattle.pc_inline.specs.Today.{built_prepare, built_prepare_all}
-use Rattle.pc_inline.proofs.LocalLemmas.{plain_is}
-use Rattle.pc_inline.proofs.LoopAddsLemmas.{AddedSoFar}
+use Rattle.pc_frames.specs.declared.error.ItemError.{ItemError}
+use Rattle.pc_frames.specs.declared.frame.Frame.{Frame}
+use Rattle.pc_frames.specs.declared.state.State.{State}
+use Rattle.pc_frames.specs.Adds.{imports_in}
+use Rattle.pc_frames.specs.Faults.{error_of}
+use Rattle.pc_frames.specs.Points.{Follows, IsPoint, Steps}
+use Rattle.pc_driver.specs.Reads.{AreItems, Prepared, SoFar}
+use Rattle.pc_steps.specs.StepsLocal.{PreparesLocal, prepare_row}
+use Rattle.pc_frames.specs.Tables.{Keeps, tables_of}
+use Rattle.pc_frames.specs.Today.{built_prepare, built_prepare_all}
+use Rattle.pc_steps.proofs.LocalLemmas.{plain_is}
+use Rattle.pc_driver.proofs.LoopAddsLemmas.{AddedSoFar}
 use Rattle.pc_inline.proofs.PrepareAllLemmas.{prepare_first, prepares_end}
-use Rattle.pc_inline.proofs.AddsLemmas.{adds_refl}
-use Rattle.pc_inline.proofs.ReadLemmas.{read_all, read_fails, read_more, read_none}
+use Rattle.pc_frames.proofs.AddsLemmas.{adds_refl}
+use Rattle.pc_driver.proofs.ReadLemmas.{read_all, read_fails, read_more, read_none}
 use Rattle.pc_inline.proofs.SkipLemmas.{skips_other}
 
 -- the error of an item at its place

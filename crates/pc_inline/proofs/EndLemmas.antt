@@ -9,13 +9,13 @@ use Rattle.pc_types.specs.declared.parsed.TypeTable.{TypeTable}
 use Rattle.pc_reading.specs.Item.{Items}
 use Rattle.pc_reading.specs.Outcome.{Outcome, bad_type, done, fault, invalid, over, unsupported}
 use Rattle.pc_reading.specs.Reading.{Reading, reading_of}
-use Rattle.pc_inline.specs.declared.state.State.{State}
-use Rattle.pc_inline.specs.Begins.{IsBuiltEnd}
+use Rattle.pc_frames.specs.declared.state.State.{State}
+use Rattle.pc_inline.specs.Roots.{IsBuiltEnd}
 use Rattle.pc_inline.specs.Inlines.{EndsAs, HasNoRoom, IsFault}
-use Rattle.pc_inline.specs.Points.{IsFullSomewhere}
-use Rattle.pc_inline.specs.Tables.{tables_of}
-use Rattle.pc_inline.specs.Today.{built_reading}
-use Rattle.pc_inline.proofs.TodayLemmas.{reading_today}
+use Rattle.pc_frames.specs.Points.{IsFullSomewhere}
+use Rattle.pc_frames.specs.Tables.{tables_of}
+use Rattle.pc_frames.specs.Today.{built_reading}
+use Rattle.pc_driver.proofs.TodayLemmas.{reading_today}
 
 -- the fault of an outcome that isn't what isn't built
 abbrev not_unbuilt : {A : Type 0} → Outcome A → Type 0
@@ -23,7 +23,7 @@ not_unbuilt {A} o = (p : Place) → o ≡ fault (unsupported unsupported_.NotBui
 
 module _ (t : TypeTable) (ms : List ModuleRecord) (limit : ℕ) (body : Items) where
   -- an end that isn't where something isn't built is that of the nested reading
-  pub same_end : (o : Outcome Reading) → not_unbuilt o → built_reading t ms limit body ≡ o
+  same_end : (o : Outcome Reading) → not_unbuilt o → built_reading t ms limit body ≡ o
       → reading_of t ms limit None body ≡ o
   same_end o other is = elim (reading_today t ms limit body) as (λ _. reading_of t ms limit None body ≡ o) [
     | inl same ↦ sym same ∙ is

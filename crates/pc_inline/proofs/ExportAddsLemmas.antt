@@ -9,11 +9,11 @@ use Rattle.pc_dfg.specs.declared.export.Export.{Export}
 use Rattle.pc_dfg.specs.Lists as list
 use Rattle.pc_dfg.specs.Lists.{ListName, NamedExport}
 use Rattle.pc_dfg.specs.Numbers.{slots_of}
-use Rattle.pc_inline.specs.Adds.{Adds}
-use Rattle.pc_inline.specs.AddsEach.{AddsEach, in_export_items, in_exports, in_options, in_reached}
-use Rattle.pc_inline.specs.Tables.{Tables}
-use Rattle.pc_inline.proofs.AddsLemmas.{adds_each, adds_trans, adds_weaken, each_trans, each_weaken}
-use Rattle.pc_inline.proofs.AddsPushLemmas.{Lists, from_rest}
+use Rattle.pc_frames.specs.Adds.{Adds}
+use Rattle.pc_frames.specs.AddsEach.{AddsEach, in_export_items, in_exports, in_options, in_reached}
+use Rattle.pc_frames.specs.Tables.{Tables}
+use Rattle.pc_frames.proofs.AddsLemmas.{adds_each, adds_trans, adds_weaken, each_trans, each_weaken}
+use Rattle.pc_frames.proofs.AddsPushLemmas.{Lists, from_rest}
 
 -- a list with one entry more
 one_longer : {V : Type 0} (xs ys : List V) (x : V) → ys ≡ xs ++ x ∷ [] → length ys ≤ length xs + 1
@@ -63,8 +63,8 @@ reached_few t a b h = adds_each t in_reached 0 0 4 a b le (omega arith) (omega a
     le (list.slots k) = omega arith
     le l = omega arith
 
--- so it is with the name of the export
-pub exported_few : (t : TypeTable) (a b x : Tables) → AddsEach in_reached 0 0 a b → AddsEach in_exports 0 0 b x
+-- also with the name of the export
+exported_few : (t : TypeTable) (a b x : Tables) → AddsEach in_reached 0 0 a b → AddsEach in_exports 0 0 b x
     → Adds t 0 4 a x
 exported_few t a b x h k =
     adds_each t (λ l. in_reached l + in_exports l) 0 0 4 a x le (omega arith) (omega arith)
@@ -102,10 +102,17 @@ module _ (b : Tables) (g : ComponentDfg) where
   item_adds (Err e) x rest ok err = from_rest b g in_export_items b.graph err (λ l. omega arith) refl
 
   -- an export under its name
-  pub name_adds : {A E : Type 0} (r : Result A E) (x : NamedExport) → g ≡ record b.graph { exports = g.exports }
+  name_adds : {A E : Type 0} (r : Result A E) (x : NamedExport) → g ≡ record b.graph { exports = g.exports }
       → OnOk r (g.exports ≡ b.graph.exports ++ x ∷ []) → OnErr r (g ≡ b.graph)
       → AddsEach in_exports 0 0 b (record b { graph = g })
   name_adds (Ok y) x rest ok err =
       from_rest b g in_exports (record b.graph { exports = g.exports }) rest
       (name_lists g.exports (one_longer b.graph.exports g.exports x ok)) refl
   name_adds (Err e) x rest ok err = from_rest b g in_exports b.graph err (λ l. omega arith) refl
+
+-- so it is with what the name of an export adds
+pub named_few : {A E : Type 0} (t : TypeTable) (a b : Tables) (g : ComponentDfg) (r : Result A E) (x : NamedExport)
+    → AddsEach in_reached 0 0 a b → g ≡ record b.graph { exports = g.exports }
+    → OnOk r (g.exports ≡ b.graph.exports ++ x ∷ []) → OnErr r (g ≡ b.graph) → Adds t 0 4 a (record b { graph = g })
+named_few t a b g r x h rest ok err =
+    exported_few t a b (record b { graph = g }) h (name_adds b g r x rest ok err)

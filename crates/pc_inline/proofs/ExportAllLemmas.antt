@@ -1,8 +1,8 @@
 -- The exports of the root, one after the other.
 use Rattle.std.proofs.Common.{◌≡◌, ◌⊎◌, inl, inr, ◌<◌, ◌≤◌, ◌+◌, ◌*◌, ℕ, zero, suc, Bool, true, false, ◌||◌, List, []}
-use Rattle.std.proofs.Common.{◌∷◌, ◌++◌, length, map, take, drop, get_or, None, Some, Result, Ok, Err, refl, sym, ap}
+use Rattle.std.proofs.Common.{◌∷◌, ◌++◌, length, map, take, drop, get_or, Option, None, Some, Result, Ok, Err, refl, sym, ap}
 use Rattle.std.proofs.Common.{subst, ◌∙◌, arith, append-nil, append_assoc, true≢false, if◌then◌else◌}
-use Rattle.std.specs.Prelude.{⊤, slice_get}
+use Rattle.std.specs.Prelude.{⊤, OnOk, slice_get}
 use Rattle.std.specs.Result.{IsErrAnd}
 use Rattle.std.specs.Str.{bytes_eq}
 use Rattle.std.proofs.lemmas.List.{drop_all, length-append}
@@ -33,21 +33,22 @@ use Rattle.pc_reading.specs.Value.{Function}
 use Rattle.pc_reading.specs.World.{World}
 use Rattle.pc_dfg.specs.Lists.{NamedExport}
 use Rattle.pc_dfg.specs.declared.dfg.ComponentDfg.{ComponentDfg}
-use Rattle.pc_inline.specs.declared.definition.DefinitionId.{DefinitionId}
-use Rattle.pc_inline.specs.declared.frame.Frame.{Frame}
-use Rattle.pc_inline.specs.declared.state.State.{State}
-use Rattle.pc_inline.specs.Adds.{Adds}
-use Rattle.pc_inline.specs.Exporting.{ExportedSoFar, Exports, ExportsEnd, ExportsFunc, RootStands, behind, node_named}
+use Rattle.pc_frames.specs.declared.definition.DefinitionId.{DefinitionId}
+use Rattle.pc_frames.specs.declared.frame.Frame.{Frame}
+use Rattle.pc_frames.specs.declared.state.State.{State}
+use Rattle.pc_frames.specs.Adds.{Adds}
+use Rattle.pc_inline.specs.Exporting.{ExportedSoFar, Exports, ExportsEnd, ExportsFunc, MakesExports, RootStands, behind}
+use Rattle.pc_inline.specs.Exporting.{node_named}
 use Rattle.pc_inline.specs.Exports.{NumbersExports}
-use Rattle.pc_inline.specs.Frames.{FuncStands}
+use Rattle.pc_frames.specs.Frames.{FuncStands}
 use Rattle.pc_inline.specs.Inlines.{export_name}
-use Rattle.pc_inline.specs.Tables.{Keeps, tables_of}
-use Rattle.pc_inline.specs.Today.{built_exports, is_root_kind}
-use Rattle.pc_inline.specs.Worlds.{HasNoExports}
-use Rattle.pc_inline.proofs.AddsLemmas.{adds_refl, adds_weaken}
-use Rattle.pc_inline.proofs.ExportAddsLemmas.{adds_export}
-use Rattle.pc_inline.proofs.StateLemmas.{keeps_refl, keeps_trans}
-use Rattle.pc_inline.proofs.ZipLemmas.{both_missing, both_there, zip_at}
+use Rattle.pc_frames.specs.Tables.{Keeps, tables_of}
+use Rattle.pc_frames.specs.Today.{built_exports, is_root_kind}
+use Rattle.pc_frames.specs.Worlds.{HasNoExports}
+use Rattle.pc_frames.proofs.AddsLemmas.{adds_refl, adds_weaken}
+use Rattle.pc_inline.proofs.ExportAddsLemmas.{adds_all, adds_export}
+use Rattle.pc_frames.proofs.StateLemmas.{keeps_refl, keeps_trans}
+use Rattle.pc_frames.proofs.ZipLemmas.{both_missing, both_there, zip_at}
 
 -- a name that none of the entries has isn't found
 name_absent : {V : Type 0} (name : List ℕ) (es : List (List ℕ × V)) → has_name (names_of es) name ≡ false
@@ -73,17 +74,22 @@ at_place {A} (z ∷ xs) y (suc n) x h =
       | inr last ↦ inr (last.0, ap suc last.1)
     ]
 
--- an export at the end has the number that is counted for it
-pub numbers_push : (g h : ComponentDfg) (e : NamedExport) → NumbersExports g → h.exports ≡ g.exports ++ e ∷ []
-    → e.1.0.0 ≡ length g.export_items → length h.export_items ≡ length g.export_items + 1 → NumbersExports h
-numbers_push g h e old put number more = record {
-  as_many = ap length put ∙ length-append g.exports (e ∷ []) ∙ ap (λ n. n + 1) old.as_many ∙ sym more;
-  in_order = λ n x at.
-      elim (at_place g.exports e n x (subst (λ xs. slice_get xs n ≡ Some x) put at)) as (λ _. x.1.0.0 ≡ n) [
-        | inl before ↦ old.in_order n x before
-        | inr last ↦ ap (λ (y : NamedExport). y.1.0.0) (sym last.0) ∙ number ∙ sym old.as_many ∙ sym last.1
-      ];
-}
+-- an export at the end, of an item that was put at the end before, has the number that is counted for it
+pub numbers_push : (g mid h : ComponentDfg) (e : NamedExport) → mid.exports ≡ g.exports
+    → (e.1.0.0 ≡ length g.export_items) × (length mid.export_items ≡ length g.export_items + 1)
+    → h ≡ record mid { exports = h.exports } → h.exports ≡ mid.exports ++ e ∷ []
+    → NumbersExports g → NumbersExports h
+numbers_push g mid h e same item rest put old =
+    let all : h.exports ≡ g.exports ++ e ∷ [] = put ∙ ap (λ es. es ++ e ∷ []) same in
+    record {
+      as_many = ap length all ∙ length-append g.exports (e ∷ []) ∙ ap (λ n. n + 1) old.as_many ∙ sym item.1
+          ∙ sym (ap (λ (x : ComponentDfg). length x.export_items) rest);
+      in_order = λ n x at.
+          elim (at_place g.exports e n x (subst (λ xs. slice_get xs n ≡ Some x) all at)) as (λ _. x.1.0.0 ≡ n) [
+            | inl before ↦ old.in_order n x before
+            | inr last ↦ ap (λ (y : NamedExport). y.1.0.0) (sym last.0) ∙ item.0 ∙ sym old.as_many ∙ sym last.1
+          ];
+    }
 
 -- a disjunction stays true where its first part does
 or_more : (a b c : Bool) → (a ≡ true → b ≡ true) → (a || c) ≡ true → (b || c) ≡ true
@@ -103,6 +109,11 @@ kind_refused kind.Value other = refl
 kind_refused kind.Type_ other = refl
 kind_refused kind.Instance other = refl
 kind_refused kind.Component other = refl
+
+-- an error has no value of which something holds
+err_on_ok : {A E : Type 0} (r : Result A E) (P : E → Type 0) (X : Type 0) → IsErrAnd r P → OnOk r X
+err_on_ok (Ok x) P X is = absurd is
+err_on_ok (Err e) P X is = tt
 
 module _ (t : TypeTable) (ms : List ModuleRecord) where
   -- nothing is in front
@@ -160,11 +171,10 @@ module _ (t : TypeTable) (ms : List ModuleRecord) where
       goes = λ s w stands. ([], stands, behind_none (built_exports t s (map named_item es) 0 w));
     }
 
-    -- all is exported
-    pub exports_end : (i n : ℕ) (st : State) → ExportedSoFar t ms es i n old f st → length es ≤ i
+    all_exported : (i n : ℕ) (st : State) → ExportedSoFar t ms es i n old f st → length es ≤ i
         → Exports t ms es old st f (Ok tt)
     unfolding Exports ExportsEnd built_exports
-    exports_end i n st far end s w root =
+    all_exported i n st far end s w root =
         let here = far.goes s w root in
         let all : map named_item (drop i es) ≡ [] = ap (map named_item) (drop_all i es end) in
         let last : here.0 ++ [] ≡ here.0 = append-nil here.0 in (
@@ -174,6 +184,16 @@ module _ (t : TypeTable) (ms : List ModuleRecord) where
           here.1,
         )
 
+    -- all is exported
+    pub exports_end : (i n : ℕ) (st : State) → ExportedSoFar t ms es i n old f st → i ≤ length es → length es ≤ i
+        → MakesExports t ms es old st f (Ok tt)
+    exports_end i n st far within end = record {
+      keeps = far.keeps;
+      adds = adds_all t i (length es) (tables_of old) (tables_of st) within far.adds;
+      numbers = far.numbers;
+      exports = all_exported i n st far end;
+    }
+
     -- the same, of a number and a state that are equal
     pub exported_as : (i n m : ℕ) (st new : State) → n ≡ m → st ≡ new → ExportedSoFar t ms es i m old f new
         → ExportedSoFar t ms es i n old f st
@@ -182,7 +202,7 @@ module _ (t : TypeTable) (ms : List ModuleRecord) where
         (subst (λ (k : ℕ). ExportedSoFar t ms es i k old f new) (sym number) h)
 
     -- an error that is passed up
-    pub exports_passed : (st : State) (r : Result ⊤ Error) (e : Error) → IsErrAnd r (λ x. x ≡ e)
+    exports_passed : (st : State) (r : Result ⊤ Error) (e : Error) → IsErrAnd r (λ x. x ≡ e)
         → Exports t ms es old st f (Err e) → Exports t ms es old st f r
     exports_passed st (Ok x) e is h = absurd is
     exports_passed st (Err x) e is h = subst (λ y. Exports t ms es old st f (Err y)) (sym is) h
@@ -222,17 +242,30 @@ module _ (t : TypeTable) (ms : List ModuleRecord) where
           ap (λ ns. has_name ns name) (map-take_next export_name es i e within is)
           ∙ list_any-append (bytes_eq name) (map export_name (take i es)) (e.0.name ∷ [])
 
-      -- one of another kind
-      pub exports_unbuilt : (e.1 ≡ kind.Func → ⊥)
+      kind_unbuilt : (e.1 ≡ kind.Func → ⊥)
           → Exports t ms es old st f (Err (error.Unsupported NotBuilt (place.Export n)))
       unfolding Exports ExportsEnd built_exports
-      exports_unbuilt other s w root =
+      kind_unbuilt other s w root =
           let here = here_on s w root in
           here.2 ∙ ap (λ o. and_then o (behind t ms here.0)) (unbuilt_here s e rest n w other)
 
-      module _ (func : e.1 ≡ kind.Func) where
+      -- one of another kind
+      pub exports_unbuilt : (e.1 ≡ kind.Func → ⊥)
+          → MakesExports t ms es old st f (Err (error.Unsupported NotBuilt (place.Export n)))
+      exports_unbuilt other = record {
+        keeps = far.keeps;
+        adds = adds_all t i (length es) (tables_of old) (tables_of st) (omega (arith, within)) far.adds;
+        numbers = tt;
+        exports = kind_unbuilt other;
+      }
+
+      module _ (func : e.1 ≡ kind.Func) (ids : List DefinitionId) (are : ids ≡ f.funcs) (found : Option DefinitionId)
+          (at : found ≡ slice_get ids e.2) where
+        found_is : slice_get f.funcs e.2 ≡ found
+        found_is = ap (λ l. slice_get l e.2) (sym are) ∙ sym at
+
         -- one that names nothing
-        pub exports_none : slice_get f.funcs e.2 ≡ None → ExportedSoFar t ms es (i + 1) n old f st
+        pub exports_none : found ≡ None → ExportedSoFar t ms es (i + 1) n old f st
         exports_none none = record {
           root = far.root;
           few = omega (arith, far.few);
@@ -246,17 +279,17 @@ module _ (t : TypeTable) (ms : List ModuleRecord) where
           goes = λ s w root.
               let here = here_on s w root in
               let missing = both_missing (FuncStands ms (tables_of st)) (slice_get f.funcs e.2) (slice_get s.funcs e.2)
-              (zip_at (FuncStands ms (tables_of st)) f.funcs s.funcs e.2 here.1.frame.funcs) none in
+              (zip_at (FuncStands ms (tables_of st)) f.funcs s.funcs e.2 here.1.frame.funcs) (found_is ∙ none) in
               let skipped = missing_here s e rest n w func missing in
               (here.0, here.1, here.2 ∙ ap (λ o. and_then o (behind t ms here.0)) skipped);
         }
 
-        module _ (id : DefinitionId) (some : slice_get f.funcs e.2 ≡ Some id) where
+        module _ (id : DefinitionId) (some : found ≡ Some id) where
           function_at : (s : Scope) (w : World) (nodes : List (NamedNode Mark)) → RootStands t ms st f s w nodes
               → (x : Function) × (slice_get s.funcs e.2 ≡ Some x) × FuncStands ms (tables_of st) id x
           function_at s w nodes root =
               both_there (FuncStands ms (tables_of st)) (slice_get f.funcs e.2) (slice_get s.funcs e.2) id
-              (zip_at (FuncStands ms (tables_of st)) f.funcs s.funcs e.2 root.frame.funcs) some
+              (zip_at (FuncStands ms (tables_of st)) f.funcs s.funcs e.2 root.frame.funcs) (found_is ∙ some)
 
           -- its function is there
           pub function_there : (x : Function) × FuncStands ms (tables_of st) id x
@@ -327,12 +360,23 @@ module _ (t : TypeTable) (ms : List ModuleRecord) where
             fails_at s w nodes x o at (error.DefinedTwice p) h = absurd h
             fails_at s w nodes x o at (error.BadOptions p) h = absurd h
 
-            -- it isn't
-            pub exports_fail : (r : Error) → Made (Err r) → Exports t ms es old new f (Err r)
+            fails_here : (r : Error) → Made (Err r) → Exports t ms es old new f (Err r)
             unfolding Exports
-            exports_fail r made s w root =
+            fails_here r made s w root =
                 let here = here_on s w root in
                 let x = function_at s w here.0 here.1 in
                 fails_at s w here.0 x.0 (built_exports t s (map named_item es) 0 w)
                 (here.2 ∙ ap (λ o. and_then o (behind t ms here.0)) (function_here s e rest n w func x.0 x.1)) r
                 (made f s w here.0 x.0 here.1 x.2)
+
+            -- it isn't
+            pub exports_fail : (r : Error) → Made (Err r) → Keeps (tables_of st) (tables_of new)
+                → Adds t 0 4 (tables_of st) (tables_of new) → (q : Result ⊤ Error) → IsErrAnd q (λ x. x ≡ r)
+                → MakesExports t ms es old new f q
+            exports_fail r made keeps adds q passed = record {
+              keeps = keeps_trans (tables_of old) (tables_of st) (tables_of new) far.keeps keeps;
+              adds = adds_export t i (length es) (tables_of old) (tables_of st) (tables_of new) (omega (arith, within))
+                  far.adds adds;
+              numbers = err_on_ok q (λ x. x ≡ r) (NumbersExports new.graph) passed;
+              exports = exports_passed new q r passed (fails_here r made);
+            }

@@ -13,13 +13,15 @@ use Rattle.pc_parsed.specs.Mark.{Mark}
 use Rattle.pc_reading.specs.Scope.{Scope}
 use Rattle.pc_reading.specs.Value.{Function}
 use Rattle.pc_reading.specs.World.{World}
-use Rattle.pc_inline.specs.declared.error.ItemError.{ItemError}
-use Rattle.pc_inline.specs.declared.error.ItemError.TheVariants as item_error
-use Rattle.pc_inline.specs.declared.error.ItemFault.TheVariants as item_fault
-use Rattle.pc_inline.specs.declared.frame.Frame.{Frame}
-use Rattle.pc_inline.specs.declared.state.State.{State}
+use Rattle.pc_frames.specs.declared.error.ItemError.{ItemError}
+use Rattle.pc_frames.specs.declared.error.ItemError.TheVariants as item_error
+use Rattle.pc_frames.specs.declared.error.ItemFault.TheVariants as item_fault
+use Rattle.pc_frames.specs.declared.frame.Frame.{Frame}
+use Rattle.pc_frames.specs.declared.state.State.{State}
 use Rattle.pc_inline.specs.Exporting.{ExportsFunc, ReachesNode, RootStands, node_named}
-use Rattle.pc_inline.specs.Faults.{error_of}
+use Rattle.pc_frames.specs.Faults.{error_of}
+use Rattle.pc_frames.specs.Frames.{FuncStands}
+use Rattle.pc_frames.specs.declared.definition.DefinitionId.{DefinitionId}
 use Rattle.pc_types.specs.declared.parsed.CoreKind.{CoreKind}
 use Rattle.pc_types.specs.declared.parsed.CoreKind.TheVariants as core
 use Rattle.pc_semantics.specs.PlanView as plan
@@ -28,10 +30,10 @@ use Rattle.pc_dfg.specs.Grows as graph
 use Rattle.pc_dfg.specs.Numbers.{slots_of}
 use Rattle.pc_dfg.specs.Ordered.{IsOrdered}
 use Rattle.pc_dfg.proofs.AllLemmas.{all_more}
-use Rattle.pc_inline.specs.Worlds.{HasItems}
-use Rattle.pc_inline.proofs.GrowthLemmas.{graph_grown}
-use Rattle.pc_inline.proofs.StateLemmas.{types_refl}
-use Rattle.pc_inline.proofs.WorldLemmas.{world_still}
+use Rattle.pc_frames.specs.Worlds.{HasItems}
+use Rattle.pc_frames.proofs.GrowthLemmas.{graph_grown}
+use Rattle.pc_frames.proofs.StateLemmas.{types_refl}
+use Rattle.pc_canon.proofs.WorldLemmas.{world_still}
 use Rattle.pc_types.specs.declared.types.ComponentExternData.{ComponentExternData}
 use Rattle.pc_dfg.specs.Lists.{NamedExport}
 use Rattle.pc_dfg.specs.Nodes.{MeansItem, means_item}
@@ -40,16 +42,16 @@ use Rattle.pc_trampoline.specs.declared.part.Mark.{Mark as Number}
 use Rattle.pc_reading.specs.Nodes.{extern_data}
 use Rattle.std.proofs.lemmas.Option.{slice_get_within}
 use Rattle.pc_numbers.specs.declared.runtime.ExportIndex.{ExportIndex}
-use Rattle.pc_inline.proofs.KeptLemmas.{frame_kept, is_item_kept}
+use Rattle.pc_canon.proofs.KeptLemmas.{frame_kept, is_item_kept}
 use Rattle.pc_inline.proofs.RootKeptLemmas.{name_still}
-use Rattle.pc_inline.proofs.ZipLemmas.{zip_more, zip_push}
+use Rattle.pc_frames.proofs.ZipLemmas.{zip_more, zip_push}
 use Rattle.pc_inline.specs.Exports.{NameStands}
-use Rattle.pc_inline.specs.Tables.{IsItem, tables_of}
+use Rattle.pc_frames.specs.Tables.{IsItem, tables_of}
 
 module _ (t : TypeTable) (ms : List ModuleRecord) (st : State) (f : Frame) (s : Scope) (w : World)
     (nodes : List (NamedNode Mark)) (name : ExternName) (n : ℕ) (x : Function) where
   -- a function that is refused is refused as this export
-  pub exports_refused : (e : ItemError) → ReachesNode t ms st f s w nodes x (Err e)
+  exports_refused : (e : ItemError) → ReachesNode t ms st f s w nodes x (Err e)
       → ExportsFunc t ms st f s w nodes name n x (Err (error_of e (place.Export n)))
   unfolding ReachesNode ExportsFunc
   exports_refused (item_error.Fault (item_fault.Unsupported u)) h = (h, refl)
@@ -63,7 +65,7 @@ module _ (t : TypeTable) (ms : List ModuleRecord) (st : State) (f : Frame) (s : 
   no_memory e is = subst (λ y. ExportsFunc t ms st f s w nodes name n x (Err y)) (sym is) tt
 
   -- there was no memory
-  pub exports_unfed : (r : Result ⊤ Error) → IsErrAnd r (λ e. e ≡ error.NoMemory)
+  exports_unfed : (r : Result ⊤ Error) → IsErrAnd r (λ e. e ≡ error.NoMemory)
       → ExportsFunc t ms st f s w nodes name n x r
   exports_unfed (Ok end) is = absurd is
   exports_unfed (Err e) is = no_memory e is
@@ -101,7 +103,7 @@ module _ (t : TypeTable) (ms : List ModuleRecord) (st : State) (e : NamedExport)
     }
 
     -- the root has one node more
-    pub root_named : (f : Frame) (s : Scope) (w : World) (nodes : List (NamedNode Mark))
+    root_named : (f : Frame) (s : Scope) (w : World) (nodes : List (NamedNode Mark))
         → RootStands t ms st f s w nodes
         → IsOrdered exported → (x : NamedNode Mark) → NameStands st.types st.graph e x
         → RootStands t ms after f s w (nodes ++ x ∷ [])
@@ -145,7 +147,7 @@ item_below : (g : ComponentDfg) (converted : ℕ → Number) (n : ℕ) (x : Expo
 item_below g converted n x (means_item at means) = slice_get_within g.export_items n _ at
 
 -- a function whose node is there gets its name
-pub exports_made : (t : TypeTable) (ms : List ModuleRecord) (st : State) (name : ExternName) (item : ExportIndex)
+exports_made : (t : TypeTable) (ms : List ModuleRecord) (st : State) (name : ExternName) (item : ExportIndex)
     (label : List ℕ) (d : ComponentExternData) → label ≡ name.name → d ≡ extern_data name → (g : ComponentDfg)
     → g ≡ record st.graph { exports = g.exports } → g.exports ≡ st.graph.exports ++ (label, (item, d)) ∷ []
     → graph.Grows st.graph g → (item.0 < length st.graph.export_items → IsOrdered st.graph → IsOrdered g) → (n : ℕ)
@@ -166,3 +168,39 @@ exports_made t ms st name item label d label_is d_is g rest put grows ordered n 
           (subst IsOrdered (sym made) (ordered below root.sound.ordered)) (node_named t ms name h.0)
           (record { name = sym label_is; extern_data = sym d_is; node = stands })),
     )
+
+-- What one export of the root comes to, whatever function it is, from what its node came to.
+module _ (t : TypeTable) (ms : List ModuleRecord) (old : State) (func : DefinitionId) (st : State) (name : ExternName)
+    (n : ℕ) where
+  -- what was made of the node of the function
+  abbrev Reached : Result ExportIndex ItemError → Type 0
+  Reached q = (f : Frame) (s : Scope) (w : World) (nodes : List (NamedNode Mark)) (x : Function)
+      → RootStands t ms old f s w nodes → FuncStands ms (tables_of old) func x → ReachesNode t ms st f s w nodes x q
+
+  -- and of its export, in this state
+  abbrev Made : State → Result ⊤ Error → Type 0
+  Made end r = (f : Frame) (s : Scope) (w : World) (nodes : List (NamedNode Mark)) (x : Function)
+      → RootStands t ms old f s w nodes → FuncStands ms (tables_of old) func x
+      → ExportsFunc t ms end f s w nodes name n x r
+
+  -- there was no memory
+  pub unfed_exports : (r : Result ⊤ Error) → IsErrAnd r (λ e. e ≡ error.NoMemory) → Made st r
+  unfed_exports r is f s w nodes x root func_is = exports_unfed t ms st f s w nodes name n x r is
+
+  -- there is no node
+  pub refused_exports : (q : Result ExportIndex ItemError) (e : ItemError) → q ≡ Err e → Reached q → (r : Error)
+      → r ≡ error_of e (place.Export n) → Made st (Err r)
+  refused_exports q e was reaches r is f s w nodes x root func_is =
+      subst (λ y. ExportsFunc t ms st f s w nodes name n x (Err y)) (sym is)
+      (exports_refused t ms st f s w nodes name n x e
+      (subst (ReachesNode t ms st f s w nodes x) was (reaches f s w nodes x root func_is)))
+
+  -- there is one, and it has its name
+  pub made_exports : (q : Result ExportIndex ItemError) (item : ExportIndex) → q ≡ Ok item → Reached q
+      → (label : List ℕ) (d : ComponentExternData) → label ≡ name.name → d ≡ extern_data name → (g : ComponentDfg)
+      → g ≡ record st.graph { exports = g.exports } → g.exports ≡ st.graph.exports ++ (label, (item, d)) ∷ []
+      → graph.Grows st.graph g → (item.0 < length st.graph.export_items → IsOrdered st.graph → IsOrdered g)
+      → Made (record st { graph = g }) (Ok tt)
+  made_exports q item was reaches label d label_is d_is g rest put grows ordered f s w nodes x root func_is =
+      exports_made t ms st name item label d label_is d_is g rest put grows ordered n f s w nodes x
+      (subst (ReachesNode t ms st f s w nodes x) was (reaches f s w nodes x root func_is))

@@ -14,16 +14,16 @@ use Rattle.pc_dfg.specs.Held.{HasBegun}
 use Rattle.pc_dfg.specs.Numbers.{slots_of}
 use Rattle.pc_dfg.specs.Ordered.{IsOrdered}
 use Rattle.pc_dfg.specs.Pushed.{with_component_instance}
-use Rattle.pc_inline.specs.declared.frame.Frame.{Frame}
-use Rattle.pc_inline.specs.declared.state.State.{State}
-use Rattle.pc_inline.specs.Frames.{neither}
-use Rattle.pc_inline.specs.Points.{PointStands}
-use Rattle.pc_inline.specs.Typed.{AreNumbers}
-use Rattle.pc_inline.specs.Worlds.{AreUsed, HasItems, HoldsTypes, IsPlain, WorldStands, paths_needed}
+use Rattle.pc_frames.specs.declared.frame.Frame.{Frame}
+use Rattle.pc_frames.specs.declared.state.State.{State}
+use Rattle.pc_frames.specs.Frames.{neither}
+use Rattle.pc_frames.specs.Points.{PointStands}
+use Rattle.pc_frames.specs.Typed.{AreNumbers}
+use Rattle.pc_frames.specs.Worlds.{AreUsed, HasItems, HoldsTypes, IsPlain, WorldStands, paths_needed}
 use Rattle.pc_inline.proofs.RootLemmas.{first_moment, first_world}
 
 -- the graph of a root that has begun
-abbrev pub first_graph : ComponentDfg
+abbrev first_graph : ComponentDfg
 first_graph = with_component_instance empty_graph
 
 no_slot : (k : plan.SlotKind) (n : ℕ) (d : CoreDef) → slice_get (slots_of first_graph k) n ≡ Some d → ⊥

@@ -30,20 +30,20 @@ use Rattle.pc_dfg.specs.declared.dfg.ComponentDfg.{ComponentDfg}
 use Rattle.pc_dfg.specs.Held.{HoldsEntry}
 use Rattle.pc_dfg.specs.Lists as list
 use Rattle.pc_dfg.specs.Ordered.{IsOrdered}
-use Rattle.pc_inline.specs.declared.definition.DefinitionId.{DefinitionId}
-use Rattle.pc_inline.specs.declared.error.ItemError.TheVariants as item_error
-use Rattle.pc_inline.specs.declared.error.ItemFault.TheVariants as item_fault
-use Rattle.pc_inline.specs.declared.frame.Frame.{Frame}
-use Rattle.pc_inline.specs.declared.state.State.{State}
-use Rattle.pc_inline.specs.Frames.{SameNames}
-use Rattle.pc_inline.specs.Points.{Steps}
-use Rattle.pc_inline.specs.Stands.{Stands}
-use Rattle.pc_inline.specs.Tables.{Tables}
-use Rattle.pc_inline.specs.Today.{built_prepare, is_built_entity}
-use Rattle.pc_inline.specs.Worlds.{AreUsed, import_path, path_of}
-use Rattle.pc_inline.proofs.BagLemmas.{names_again, names_push}
-use Rattle.pc_inline.proofs.CoreInstanceLemmas.{found_in_push}
-use Rattle.pc_inline.proofs.StepLemmas.{steps_stuck}
+use Rattle.pc_frames.specs.declared.definition.DefinitionId.{DefinitionId}
+use Rattle.pc_frames.specs.declared.error.ItemError.TheVariants as item_error
+use Rattle.pc_frames.specs.declared.error.ItemFault.TheVariants as item_fault
+use Rattle.pc_frames.specs.declared.frame.Frame.{Frame}
+use Rattle.pc_frames.specs.declared.state.State.{State}
+use Rattle.pc_frames.specs.Frames.{SameNames}
+use Rattle.pc_frames.specs.Points.{Steps}
+use Rattle.pc_frames.specs.Stands.{Stands}
+use Rattle.pc_frames.specs.Tables.{Tables}
+use Rattle.pc_frames.specs.Today.{built_prepare, is_built_entity}
+use Rattle.pc_frames.specs.Worlds.{AreUsed, import_path, path_of}
+use Rattle.pc_steps.proofs.BagLemmas.{names_again, names_push}
+use Rattle.pc_canon.proofs.CoreInstanceLemmas.{found_in_push}
+use Rattle.pc_canon.proofs.StepLemmas.{steps_stuck}
 
 -- arguments with one more, of which the first of a name counts on both sides
 pub argument_given : (ms : List ModuleRecord) (b : Tables) (xs : List (List ℕ × DefinitionId))

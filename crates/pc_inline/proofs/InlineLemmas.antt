@@ -23,20 +23,22 @@ use Rattle.pc_dfg.specs.Grows as graph
 use Rattle.pc_dfg.specs.Pushed.{with_component_instance}
 use Rattle.pc_dfg.proofs.EmptyLemmas.{empty_ordered}
 use Rattle.pc_dfg.specs.Ordered.{IsOrdered}
-use Rattle.pc_inline.specs.declared.definition.DefinitionId.{DefinitionId}
-use Rattle.pc_inline.specs.declared.frame.Frame.{Frame}
-use Rattle.pc_inline.specs.declared.state.State.{State}
-use Rattle.pc_inline.specs.Begins.{Begins, BeginsBody, InlinesBody, InlinesRoot, IsBuiltEnd, IsFresh}
-use Rattle.pc_inline.specs.Begins.{IsLong, RootBegun, RootStarts, first_total}
-use Rattle.pc_inline.specs.Driving.{EndsRun, Runs, reading_from}
+use Rattle.pc_frames.specs.declared.definition.DefinitionId.{DefinitionId}
+use Rattle.pc_frames.specs.declared.frame.Frame.{Frame}
+use Rattle.pc_frames.specs.declared.state.State.{State}
+use Rattle.pc_driver.specs.Begins.{Begins}
+use Rattle.pc_inline.specs.Roots.{BeginsBody, InlinesBody, InlinesRoot, IsBuiltEnd}
+use Rattle.pc_frames.specs.Fresh.{IsFresh}
+use Rattle.pc_inline.specs.Roots.{IsLong, RootBegun, RootStarts, first_total}
+use Rattle.pc_driver.specs.Driving.{EndsRun, Runs, reading_from}
 use Rattle.pc_inline.specs.Exporting.{Exports, ExportsEnd, RootStands}
 use Rattle.pc_inline.specs.Exports.{NumbersExports}
-use Rattle.pc_inline.specs.Points.{IsPoint, PointStands, full_instances}
-use Rattle.pc_inline.specs.Reads.{AreItems, Ends, Passes, Prepared}
-use Rattle.pc_inline.specs.Tables.{Keeps, tables_of}
-use Rattle.pc_inline.specs.Today.{built_enter, built_exports, built_prepare_all, built_root}
-use Rattle.pc_inline.specs.Worlds.{HasNoExports}
-use Rattle.pc_inline.proofs.StateLemmas.{keeps_refl}
+use Rattle.pc_frames.specs.Points.{IsPoint, PointStands, full_instances}
+use Rattle.pc_driver.specs.Reads.{AreItems, Ends, Passes, Prepared}
+use Rattle.pc_frames.specs.Tables.{Keeps, tables_of}
+use Rattle.pc_frames.specs.Today.{built_enter, built_exports, built_prepare_all, built_root}
+use Rattle.pc_frames.specs.Worlds.{HasNoExports}
+use Rattle.pc_frames.proofs.StateLemmas.{keeps_refl}
 use Rattle.pc_inline.proofs.FreshLemmas.{first_frame, first_point}
 use Rattle.pc_inline.proofs.RootLemmas.{counted_begins, ends_then, exports_fail, first_moment, from_start, moment_with}
 use Rattle.pc_inline.proofs.RootLemmas.{point_counted, reading_is, reading_over, root_begins, root_fails, root_read}

@@ -1,7 +1,7 @@
 -- What a root gives, from what its steps give.
-use Rattle.std.proofs.Common.{◌≡◌, ◌<◌, ◌≤◌, ◌*◌, ℕ, List, [], length, map, sum_by, true, Result, Ok, Err, refl, sym}
+use Rattle.std.proofs.Common.{◌≡◌, ◌<◌, ◌≤◌, ◌*◌, ℕ, List, [], map, sum_by, true, Result, Ok, Err, refl, sym}
 use Rattle.std.proofs.Common.{subst}
-use Rattle.std.specs.Prelude.{⊤, OnOk}
+use Rattle.std.specs.Prelude.{⊤}
 use Rattle.std.specs.Result.{IsErrAnd}
 use Rattle.pc_numbers.specs.declared.runtime.RuntimeComponentInstanceIndex.{RuntimeComponentInstanceIndex}
 use Rattle.pc_types.specs.declared.error.Error.{Error}
@@ -18,19 +18,20 @@ use Rattle.pc_local.specs.declared.item.Translation.{Translation}
 use Rattle.pc_local.specs.Standing.{BodyStands, no_names}
 use Rattle.pc_dfg.specs.declared.dfg.ComponentDfg.{ComponentDfg}
 use Rattle.pc_dfg.specs.Grows as graph
-use Rattle.pc_inline.specs.declared.definition.DefinitionId.{DefinitionId}
-use Rattle.pc_inline.specs.declared.frame.Frame.{Frame}
-use Rattle.pc_inline.specs.declared.state.State.{State}
-use Rattle.pc_inline.specs.Adds.{Adds, imports_in}
-use Rattle.pc_inline.specs.Begins.{Begins, BeginsBody, BeginsRoot, EndsRoot, IsFresh, RootBegun}
-use Rattle.pc_inline.specs.Driving.{Counts, Runs}
-use Rattle.pc_inline.specs.Exporting.{Exports, RootStands}
-use Rattle.pc_inline.specs.Exports.{NumbersExports}
+use Rattle.pc_frames.specs.declared.definition.DefinitionId.{DefinitionId}
+use Rattle.pc_frames.specs.declared.frame.Frame.{Frame}
+use Rattle.pc_frames.specs.declared.state.State.{State}
+use Rattle.pc_frames.specs.Adds.{Adds, imports_in}
+use Rattle.pc_driver.specs.Begins.{Begins}
+use Rattle.pc_inline.specs.Roots.{BeginsBody, BeginsRoot, EndsRoot, RootBegun}
+use Rattle.pc_frames.specs.Fresh.{IsFresh}
+use Rattle.pc_driver.specs.Driving.{Counts, Runs}
+use Rattle.pc_inline.specs.Exporting.{MakesExports, RootStands}
 use Rattle.pc_inline.specs.Inlines.{export_name}
-use Rattle.pc_inline.specs.Points.{IsPoint, PointStands}
-use Rattle.pc_inline.specs.Reads.{AreItems, Prepared}
-use Rattle.pc_inline.specs.Tables.{Keeps, tables_of}
-use Rattle.pc_inline.specs.Worlds.{HasNoExports}
+use Rattle.pc_frames.specs.Points.{IsPoint, PointStands}
+use Rattle.pc_driver.specs.Reads.{AreItems, Prepared}
+use Rattle.pc_frames.specs.Tables.{Keeps, tables_of}
+use Rattle.pc_frames.specs.Worlds.{HasNoExports}
 use Rattle.pc_inline.proofs.FreshLemmas.{first_frame}
 use Rattle.pc_inline.proofs.InlineLemmas.{Each, IsRead, begins_end, begins_fail, begun_below, begun_point, each_ends}
 use Rattle.pc_inline.proofs.InlineLemmas.{export_point, graph_keeps, has_begun, root_begun, root_exports, root_is_read}
@@ -38,7 +39,7 @@ use Rattle.pc_inline.proofs.InlineLemmas.{root_items, root_unprepared, root_unre
 use Rattle.pc_inline.proofs.RootFewLemmas.{begun_graph, begun_none, begun_prepared, few_begun, few_exported, few_failed}
 use Rattle.pc_inline.proofs.RootFewLemmas.{few_unbegun, few_unread, most_more}
 use Rattle.pc_inline.proofs.RootLemmas.{first_moment}
-use Rattle.pc_inline.proofs.StateLemmas.{keeps_trans}
+use Rattle.pc_frames.proofs.StateLemmas.{keeps_trans}
 
 -- what a root exports has distinct names
 pub names_distinct : (root : Translation) (es : List (ExternName × ItemKind × ℕ)) → es ≡ root.exports
@@ -159,19 +160,17 @@ module _ (t : TypeTable) (ms : List ModuleRecord) (limit : ℕ) (root : Translat
 
         -- it exports
         pub root_done : Counts t ms limit root.initializers st f st' (Ok g)
-            → (es : List (ExternName × ItemKind × ℕ)) → es ≡ root.exports → (end : State)
-            → Keeps (tables_of st') (tables_of end) → Adds t 0 (4 * length es) (tables_of st') (tables_of end)
-            → (r : Result ⊤ Error) → OnOk r (NumbersExports end.graph) → Exports t ms es st' end g r
-            → EndsRoot t ms limit root old end r
-        root_done counts es are end more added r numbers exports = record {
-          keeps = keeps_trans (tables_of old) (tables_of st') (tables_of end) kept more;
+            → (es : List (ExternName × ItemKind × ℕ)) → es ≡ root.exports → (end : State) (r : Result ⊤ Error)
+            → MakesExports t ms es st' end g r → EndsRoot t ms limit root old end r
+        root_done counts es are end r made = record {
+          keeps = keeps_trans (tables_of old) (tables_of st') (tables_of end) kept made.keeps;
           adds = (
             _,
             _,
             most_more t _ _ _ _ old.types (tables_of st') (tables_of end) (most_more t _ _ _ _ old.types
-                (tables_of st) (tables_of st') begun.most adds.1) added,
+                (tables_of st) (tables_of st') begun.most adds.1) made.adds,
           );
           few = few_exported t ms limit old.bodies.now root old.types st f begun.keeps.bodies has begun.most st' g
-              counts es are (tables_of end) added r;
-          inlines = root_exports t ms limit old.bodies.now root st' g is_read end es are r numbers exports;
+              counts es are (tables_of end) made.adds r;
+          inlines = root_exports t ms limit old.bodies.now root st' g is_read end es are r made.numbers made.exports;
         }

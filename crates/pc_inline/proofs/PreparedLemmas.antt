@@ -9,6 +9,7 @@ use Rattle.pc_numbers.specs.declared.runtime.ImportIndex.{ImportIndex}
 use Rattle.pc_numbers.specs.declared.runtime.ResourceIndex.{ResourceIndex}
 use Rattle.pc_numbers.specs.declared.runtime.RuntimeImportIndex.{RuntimeImportIndex}
 use Rattle.pc_types.specs.declared.module_record.ModuleRecord.{ModuleRecord}
+use Rattle.pc_types.specs.declared.parsed.Entity.{Entity}
 use Rattle.pc_types.specs.declared.parsed.Entity.TheVariants as entity
 use Rattle.pc_types.specs.declared.parsed.TypeTable.{TypeTable}
 use Rattle.pc_types.specs.declared.type_index.TypeFuncIndex.{TypeFuncIndex}
@@ -24,15 +25,15 @@ use Rattle.pc_reading.specs.Value.{func_value, host_function}
 use Rattle.pc_reading.specs.World.{World}
 use Rattle.pc_dfg.specs.declared.dfg.ComponentDfg.{ComponentDfg}
 use Rattle.pc_dfg.specs.Ordered.{IsOrdered}
-use Rattle.pc_inline.specs.declared.definition.DefinitionId.{DefinitionId}
-use Rattle.pc_inline.specs.declared.frame.Frame.{Frame}
-use Rattle.pc_inline.specs.declared.state.State.{State}
-use Rattle.pc_inline.specs.Points.{PointStands, Steps}
-use Rattle.pc_inline.specs.Prepares.{Converts}
-use Rattle.pc_inline.specs.Stands.{Stands}
-use Rattle.pc_inline.specs.Today.{built_prepare}
-use Rattle.pc_inline.specs.Worlds.{AreUsed, import_path}
-use Rattle.pc_inline.proofs.StepLemmas.{steps_on}
+use Rattle.pc_frames.specs.declared.definition.DefinitionId.{DefinitionId}
+use Rattle.pc_frames.specs.declared.frame.Frame.{Frame}
+use Rattle.pc_frames.specs.declared.state.State.{State}
+use Rattle.pc_frames.specs.Points.{PointStands, Steps}
+use Rattle.pc_frames.specs.Prepares.{Converts}
+use Rattle.pc_frames.specs.Stands.{Stands}
+use Rattle.pc_frames.specs.Today.{built_prepare}
+use Rattle.pc_frames.specs.Worlds.{AreUsed, import_path}
+use Rattle.pc_canon.proofs.StepLemmas.{steps_on}
 use Rattle.std.specs.Prelude.{⊤}
 use Rattle.pc_entity.proofs.Growing.{append_kept, kept_refl, slice_get-append_seam}
 use Rattle.pc_types.specs.declared.parsed.CoreKind.{CoreKind}
@@ -43,17 +44,18 @@ use Rattle.pc_builder.specs.Trees.{IsEntry}
 use Rattle.pc_dfg.specs.Grows as graph
 use Rattle.pc_dfg.specs.Numbers.{slots_of}
 use Rattle.pc_dfg.proofs.AllLemmas.{all_more}
-use Rattle.pc_inline.specs.declared.definition.Definition.TheVariants as definition
-use Rattle.pc_inline.specs.Stands.{stands, stands_host}
-use Rattle.pc_inline.specs.Tables.{IsItem, Keeps, tables_of}
-use Rattle.pc_inline.specs.Typed.{Holds}
-use Rattle.pc_inline.specs.Worlds.{EffectStands, ImportStands, WorldStands, slot_kind}
+use Rattle.pc_frames.specs.declared.definition.Definition.TheVariants as definition
+use Rattle.pc_frames.specs.Stands.{stands, stands_host}
+use Rattle.pc_frames.specs.Tables.{IsItem, Keeps, tables_of}
+use Rattle.pc_frames.specs.Typed.{Holds}
+use Rattle.pc_frames.specs.Worlds.{EffectStands, ImportStands, WorldStands, slot_kind}
+use Rattle.pc_inline.specs.Given.{GivesImport, function_import}
 use Rattle.pc_inline.proofs.GivenLemmas.{argument_given, prepare_given, used_given}
-use Rattle.pc_inline.proofs.KeptLemmas.{frame_kept, is_item_kept}
-use Rattle.pc_inline.proofs.StateLemmas.{converts_prepares, types_refl}
-use Rattle.pc_inline.proofs.TypeLemmas.{entry_tree, scope_tree}
-use Rattle.pc_inline.proofs.WorldLemmas.{declared_still, effect_still, import_still, point_kept, trampoline_still}
-use Rattle.pc_inline.proofs.ZipLemmas.{zip_length, zip_more, zip_push}
+use Rattle.pc_canon.proofs.KeptLemmas.{frame_kept, is_item_kept}
+use Rattle.pc_frames.proofs.StateLemmas.{converts_prepares, types_refl}
+use Rattle.pc_canon.proofs.TypeLemmas.{entry_tree, scope_tree}
+use Rattle.pc_canon.proofs.WorldLemmas.{declared_still, effect_still, import_still, point_kept, trampoline_still}
+use Rattle.pc_frames.proofs.ZipLemmas.{zip_length, zip_more, zip_push}
 
 -- the slots of a graph with other imports
 given_slots : (g : ComponentDfg) (is : List (List ℕ × ComponentExtern)) (k : plan.SlotKind)
@@ -201,34 +203,35 @@ module _ (t : TypeTable) (ms : List ModuleRecord) (st : State) (f : Frame) (name
           }
 
 -- the import is prepared as the reading prepares it
-pub prepare_steps : (t : TypeTable) (ms : List ModuleRecord) (before : State) (f : Frame) (st : State)
-    → Converts t before st → (name : ExternName) (ty : ℕ) (n : TypeFuncIndex) → has_entry t is_func ty ≡ true
-    → IsEntry st.types t ty (type.ComponentFunc n) → (x : ComponentExtern) → x.ty ≡ type.ComponentFunc n
-    → x.data_ ≡ extern_data name → (i : ImportIndex) (h : ComponentDfg) → graph.Grows st.graph h
-    → h ≡ record st.graph { import_types = h.import_types }
-    → h.import_types ≡ st.graph.import_types ++ (name.name, x) ∷ []
-    → (IsOrdered st.graph → IsOrdered h) → i.0 ≡ length st.graph.import_types
-    → (u : Vec (Option RuntimeImportIndex) Global) → u.items ≡ st.used.items ++ None ∷ [] → (end : State)
-    → end ≡ record st { graph = h; used = u; definitions = st.definitions ++ definition.HostFunc i ∷ [] }
-    → (id : DefinitionId) → id.0 ≡ length st.definitions → (f' : Frame)
-    → f' ≡ record f { arguments = with_first f.arguments (name.name, id) } → (r : ⊤)
-    → Steps t ms (built_prepare t ms name (entity.Func ty)) before f end f' (Ok r)
-prepare_steps t ms before f st converts name ty n typed entry x is_func_type meta i h grows rest more ordered number u
-    unused
-    end ended id last f' framed r = steps_on t ms _ before f end f' r (λ now at.
+pub prepare_steps : (t : TypeTable) (ms : List ModuleRecord) (before : State) (f : Frame) (st end : State)
+    (f' : Frame) (name : ExternName) (e : Entity) (ty : ℕ) → e ≡ entity.Func ty → Converts t before st
+    → (n : TypeFuncIndex) → has_entry t is_func ty ≡ true → IsEntry st.types t ty (type.ComponentFunc n)
+    → (x : List ℕ × ComponentExtern) → x ≡ function_import name n → (id : DefinitionId) → GivesImport st x end id
+    → Keeps (tables_of st) (tables_of end) → f' ≡ record f { arguments = with_first f.arguments (name.name, id) }
+    → (r : ⊤) → Steps t ms (built_prepare t ms name e) before f end f' (Ok r)
+prepare_steps t ms before f st end f' name e ty func converts n typed entry x is id given keeps framed r =
+    steps_on t ms _ before f end f' r (λ now at.
     let known : st.types.resources.known ≡ [] = ap (λ k. k.known) (converts.grows.resources ∙ at.here) in
-    let e = entry_tree st.types t ty (type.ComponentFunc n) known entry in
+    let tree = entry_tree st.types t ty (type.ComponentFunc n) known entry in
     let still = point_kept t ms before st (converts_prepares t ms before st converts) f now at in
-    let made : h ≡ given_in t ms st f name x u i = rest ∙ (λ j. record st.graph { import_types = more j }) in
-    let after = given_point t ms st f name x u i (subst (graph.Grows st.graph) made grows) e.0 n is_func_type meta e.2
-    (λ o. subst IsOrdered made (ordered o)) number unused id last now still in
-    let next = with_given now name e.0 (func_value (host_function (import_path (length now.world.imports)))) in
-    let same : end ≡ given_to t ms st f name x u i =
-    ended ∙ (λ j. record st { graph = made j; used = u; definitions = st.definitions ++ definition.HostFunc i ∷ [] }) in
+    let import : ComponentExtern = record { ty = type.ComponentFunc n; data_ = extern_data name } in
+    let same : end ≡ given_to t ms st f name import end.used given.number = given.put
+    ∙ ap (λ (y : List ℕ × ComponentExtern). record st {
+      graph = record st.graph { import_types = st.graph.import_types ++ y ∷ [] };
+      used = end.used;
+      definitions = st.definitions ++ definition.HostFunc given.number ∷ [];
+    }) is in
+    let graph_is = ap (λ (s : State). s.graph) same in
+    let next = with_given now name tree.0 (func_value (host_function (import_path (length now.world.imports)))) in
+    let after = given_point t ms st f name import end.used given.number (subst (graph.Grows st.graph) graph_is
+    keeps.graph) tree.0 n refl refl tree.2 (λ o. subst IsOrdered graph_is (given.ordered o)) given.is_last
+    given.unused id given.defined now still in
     record {
       now = next;
       stands = subst (λ s. PointStands t ms s f' next) (sym same)
-          (subst (λ g. PointStands t ms (given_to t ms st f name x u i) g next) (sym framed) after);
-      done = prepare_given t ms st f name ty now e.0 typed
-          (scope_tree t ms before f now at st.types converts.grows.resources ty typed ∙ e.1);
+          (subst (λ g. PointStands t ms (given_to t ms st f name import end.used given.number) g next) (sym framed)
+          after);
+      done = ap (λ y. built_prepare t ms name y now) func
+          ∙ prepare_given t ms st f name ty now tree.0 typed
+          (scope_tree t ms before f now at st.types converts.grows.resources ty typed ∙ tree.1);
     })

@@ -42,37 +42,37 @@ use Rattle.pc_dfg.specs.Ordered.{IsOrdered}
 use Rattle.pc_dfg.proofs.AllLemmas.{all_more}
 use Rattle.pc_dfg.proofs.KeptLemmas.{options_kept}
 use Rattle.pc_builder.proofs.TreeLemmas.{tree_grows}
-use Rattle.pc_inline.specs.declared.definition.CoreId.{CoreId}
-use Rattle.pc_inline.specs.declared.definition.Definition.TheVariants as definition
-use Rattle.pc_inline.specs.declared.definition.DefinitionId.{DefinitionId}
-use Rattle.pc_inline.specs.declared.definition.Options.{Options}
-use Rattle.pc_inline.specs.declared.error.ItemError.{ItemError}
-use Rattle.pc_inline.specs.declared.error.ItemError.TheVariants as item_error
-use Rattle.pc_inline.specs.declared.error.ItemFault.TheVariants as item_fault
-use Rattle.pc_inline.specs.declared.frame.Frame.{Frame}
-use Rattle.pc_inline.specs.declared.state.State.{State}
+use Rattle.pc_frames.specs.declared.definition.CoreId.{CoreId}
+use Rattle.pc_frames.specs.declared.definition.Definition.TheVariants as definition
+use Rattle.pc_frames.specs.declared.definition.DefinitionId.{DefinitionId}
+use Rattle.pc_frames.specs.declared.definition.Options.{Options}
+use Rattle.pc_frames.specs.declared.error.ItemError.{ItemError}
+use Rattle.pc_frames.specs.declared.error.ItemError.TheVariants as item_error
+use Rattle.pc_frames.specs.declared.error.ItemFault.TheVariants as item_fault
+use Rattle.pc_frames.specs.declared.frame.Frame.{Frame}
+use Rattle.pc_frames.specs.declared.state.State.{State}
 use Rattle.pc_inline.specs.Exporting.{ReachesNode, RootStands}
 use Rattle.pc_inline.specs.Exports.{NameStands, NodeStands}
-use Rattle.pc_inline.specs.Frames.{FuncStands}
-use Rattle.pc_inline.specs.Prepares.{Prepares}
-use Rattle.pc_inline.specs.Refused.{LacksRoom}
-use Rattle.pc_inline.specs.Slots.{EntryStands}
-use Rattle.pc_inline.specs.Stands.{CoreStands, IsFunc, ItemStands, OptionsStand}
-use Rattle.pc_inline.specs.Tables.{IsItem, Keeps, tables_of}
-use Rattle.pc_inline.specs.Typed.{Holds, Numbered}
-use Rattle.pc_inline.specs.Worlds.{HasItems}
-use Rattle.pc_inline.proofs.CoreInstanceLemmas.{found_in_push, item_held}
-use Rattle.pc_inline.proofs.GrowthLemmas.{graph_grown}
-use Rattle.pc_inline.proofs.HoldsLemmas.{func_below, functions_push, lifted_push}
-use Rattle.pc_inline.proofs.KeptLemmas.{core_kept, frame_kept, is_item_kept, item_kept}
+use Rattle.pc_frames.specs.Frames.{FuncStands}
+use Rattle.pc_frames.specs.Prepares.{Prepares}
+use Rattle.pc_frames.specs.Refused.{LacksRoom}
+use Rattle.pc_frames.specs.Slots.{EntryStands}
+use Rattle.pc_frames.specs.Stands.{CoreStands, IsFunc, ItemStands, OptionsStand}
+use Rattle.pc_frames.specs.Tables.{IsItem, Keeps, tables_of}
+use Rattle.pc_frames.specs.Typed.{Holds, Numbered}
+use Rattle.pc_frames.specs.Worlds.{HasItems}
+use Rattle.pc_canon.proofs.CoreInstanceLemmas.{found_in_push, item_held}
+use Rattle.pc_frames.proofs.GrowthLemmas.{graph_grown}
+use Rattle.pc_canon.proofs.HoldsLemmas.{func_below, functions_push, lifted_push}
+use Rattle.pc_canon.proofs.KeptLemmas.{core_kept, frame_kept, is_item_kept, item_kept}
 use Rattle.pc_inline.proofs.RootKeptLemmas.{name_still, root_kept}
-use Rattle.pc_inline.proofs.StateLemmas.{types_refl}
-use Rattle.pc_inline.proofs.ThereLemmas.{LiftedAs, lifted_there}
-use Rattle.pc_inline.proofs.WorldLemmas.{world_still}
-use Rattle.pc_inline.proofs.ZipLemmas.{zip_more}
+use Rattle.pc_frames.proofs.StateLemmas.{types_refl}
+use Rattle.pc_canon.proofs.ThereLemmas.{LiftedAs, lifted_there}
+use Rattle.pc_canon.proofs.WorldLemmas.{world_still}
+use Rattle.pc_frames.proofs.ZipLemmas.{zip_more}
 
 -- a leaf is reached, where no total is counted
-pub leaf_reached : (n : ExportNode Mark) (w : World) → w.total ≡ None → leaf n w ≡ reached n w
+leaf_reached : (n : ExportNode Mark) (w : World) → w.total ≡ None → leaf n w ≡ reached n w
 leaf_reached n w none =
     let same : ◌≡◌ {A = World} (record w { total = None }) w = λ i. record w { total = sym none i } in
     subst (λ v. leaf n v ≡ reached n v) same refl

@@ -1,7 +1,8 @@
 -- The calls for a function that the root exports: options, its core function, and an export item.
-use Rattle.std.proofs.Common.{◌≡◌, ◌≤◌, ◌++◌, [], ◌∷◌, List, length, Some, Result, Err}
+use Rattle.std.proofs.Common.{◌≡◌, ◌≤◌, ◌++◌, [], ◌∷◌, List, length, Some, Result, Err, refl, sym, subst, ◌∙◌}
 use Rattle.std.specs.Prelude.{OnErr, OnOk, slice_get}
 use Rattle.std.specs.Result.{IsErr, IsErrAnd}
+use Rattle.std.proofs.lemmas.Option.{same_Some}
 use Rattle.pc_numbers.specs.declared.runtime.ExportIndex.{ExportIndex}
 use Rattle.pc_numbers.specs.declared.runtime.ImportIndex.{ImportIndex}
 use Rattle.pc_types.specs.declared.error.Unsupported.TheVariants.{ReexportedFunction}
@@ -11,7 +12,7 @@ use Rattle.pc_types.specs.declared.type_index.TypeFuncIndex.{TypeFuncIndex}
 use Rattle.pc_semantics.specs.ExportNode.{NamedNode}
 use Rattle.pc_parsed.specs.Mark.{Mark}
 use Rattle.pc_reading.specs.Scope.{Scope}
-use Rattle.pc_reading.specs.Value.{Function}
+use Rattle.pc_reading.specs.Value.{Function, Value, func_value, host_function}
 use Rattle.pc_reading.specs.World.{World}
 use Rattle.pc_dfg.specs.declared.dfg.ComponentDfg.{ComponentDfg}
 use Rattle.pc_dfg.specs.declared.export.Export.{Export}
@@ -19,27 +20,30 @@ use Rattle.pc_dfg.specs.declared.push_error.PushError.{PushError}
 use Rattle.pc_dfg.specs.declared.push_error.PushError.TheVariants as push_error
 use Rattle.pc_dfg.specs.Grows as graph
 use Rattle.pc_dfg.specs.Lists as list
-use Rattle.pc_inline.specs.declared.definition.CoreId.{CoreId}
-use Rattle.pc_inline.specs.declared.definition.Definition.TheVariants as definition
-use Rattle.pc_inline.specs.declared.definition.DefinitionId.{DefinitionId}
-use Rattle.pc_inline.specs.declared.definition.Options.{Options}
-use Rattle.pc_inline.specs.declared.error.ItemError.{ItemError}
-use Rattle.pc_inline.specs.declared.error.ItemError.TheVariants as item_error
-use Rattle.pc_inline.specs.declared.error.ItemFault.TheVariants as item_fault
-use Rattle.pc_inline.specs.declared.frame.Frame.{Frame}
-use Rattle.pc_inline.specs.declared.state.State.{State}
-use Rattle.pc_inline.specs.AddsEach.{AddsEach, in_options, in_reached}
+use Rattle.pc_frames.specs.declared.definition.CoreId.{CoreId}
+use Rattle.pc_frames.specs.declared.definition.Definition.{Definition}
+use Rattle.pc_frames.specs.declared.definition.Definition.TheVariants as definition
+use Rattle.pc_frames.specs.declared.definition.DefinitionId.{DefinitionId}
+use Rattle.pc_frames.specs.declared.definition.Options.{Options}
+use Rattle.pc_frames.specs.declared.error.ItemError.{ItemError}
+use Rattle.pc_frames.specs.declared.error.ItemError.TheVariants as item_error
+use Rattle.pc_frames.specs.declared.error.ItemFault.TheVariants as item_fault
+use Rattle.pc_frames.specs.declared.frame.Frame.{Frame}
+use Rattle.pc_frames.specs.declared.state.State.{State}
+use Rattle.pc_frames.specs.AddsEach.{AddsEach, in_options, in_reached}
 use Rattle.pc_inline.specs.Exporting.{ReachesNode, RootStands}
-use Rattle.pc_inline.specs.Faults.{of_push_error}
-use Rattle.pc_inline.specs.Frames.{FuncStands}
-use Rattle.pc_inline.specs.Refused.{LacksRoom}
-use Rattle.pc_inline.specs.Slots.{OptionsThere}
-use Rattle.pc_inline.specs.Tables.{Tables, tables_of}
+use Rattle.pc_frames.specs.Faults.{of_push_error}
+use Rattle.pc_frames.specs.Frames.{FuncStands}
+use Rattle.pc_frames.specs.Refused.{LacksRoom}
+use Rattle.pc_frames.specs.Slots.{OptionsThere}
+use Rattle.pc_frames.specs.Stands.{DefinitionStands, stands, stands_component, stands_host, stands_instance}
+use Rattle.pc_frames.specs.Stands.{stands_lifted, stands_static}
+use Rattle.pc_frames.specs.Tables.{Tables, tables_of}
 use Rattle.pc_inline.proofs.ExportAddsLemmas.{item_adds, item_reached}
 use Rattle.pc_inline.proofs.ReachLemmas.{reaches_host, reaches_lacking}
-use Rattle.pc_inline.proofs.RefusedLemmas.{memory_lacks, same_lacks}
-use Rattle.pc_inline.proofs.RoomLemmas.{list_lacks}
-use Rattle.pc_inline.proofs.ThereLemmas.{host_there, lifted_there, options_there}
+use Rattle.pc_frames.proofs.RefusedLemmas.{memory_lacks, same_lacks}
+use Rattle.pc_canon.proofs.RoomLemmas.{list_lacks}
+use Rattle.pc_canon.proofs.ThereLemmas.{lifted_there, options_there}
 
 -- the options of a function that was lifted
 pub lifted_options : {ms : List ModuleRecord} {b : Tables} {n : DefinitionId} {x : Function} {ty : TypeFuncIndex}
@@ -48,6 +52,27 @@ pub lifted_options : {ms : List ModuleRecord} {b : Tables} {n : DefinitionId} {x
 lifted_options {ms = ms} {b = b} {n = n} {x = x} {ty = ty} {fn = fn} {o = o} is at =
     let l = lifted_there ms b n ty fn o x at is in
     options_there ms b o l.options l.stand
+
+-- a function that wasn't lifted is one of the host
+module _ (ms : List ModuleRecord) (b : Tables) where
+  unlifted_as : (d : Definition) (v : Value) (x : Function) → DefinitionStands ms b d v
+      → ((ty : TypeFuncIndex) (fn : CoreId) (o : Options) → d ≡ definition.LiftedFunc ty fn o → ⊥) → v ≡ func_value x
+      → (i : ImportIndex) × (x ≡ host_function (record { import = i.0; names = [] }))
+  unlifted_as d v x (stands_host {i = i} below) isnt value =
+      let same : host_function (record { import = i.0; names = [] }) ≡ x = cc in
+      (i, sym same)
+  unlifted_as d v x (stands_lifted {ty = ty} {func = fn} {o = o} f j s) isnt value = absurd (isnt ty fn o refl)
+  unlifted_as d v x stands_static isnt value = absurd (let y : ⊥ = cc in y)
+  unlifted_as d v x (stands_component tr body leaving closure modules components) isnt value =
+      absurd (let y : ⊥ = cc in y)
+  unlifted_as d v x (stands_instance held _) isnt value = absurd (let y : ⊥ = cc in y)
+
+  unlifted_there : (n : DefinitionId) (d : Definition) (x : Function) → slice_get b.definitions n.0 ≡ Some d
+      → ((ty : TypeFuncIndex) (fn : CoreId) (o : Options) → d ≡ definition.LiftedFunc ty fn o → ⊥)
+      → FuncStands ms b n x → (i : ImportIndex) × (x ≡ host_function (record { import = i.0; names = [] }))
+  unlifted_there n d x at isnt (stands {d = e} held y) =
+      unlifted_as d (func_value x) x
+      (subst (λ k. DefinitionStands ms b k (func_value x)) (same_Some e d (sym held ∙ at)) y) isnt refl
 
 -- options and an export item
 pub item_few : {A E : Type 0} {a b : Tables} {g : ComponentDfg} (r : Result A E) (x : Export)
@@ -85,11 +110,13 @@ module _ {t : TypeTable} {ms : List ModuleRecord} {old : State} {n : DefinitionI
       reaches_lacking (record st { graph = h }) f s w nodes x t ms r is
       (list_lacks list.export_items st h grows q y was full r same)
 
-  -- a function of the host is refused
-  pub host_reaches : {i : ImportIndex} → slice_get old.definitions n.0 ≡ Some (definition.HostFunc i) → (f : Frame)
+  -- a function that wasn't lifted is one of the host, which is refused
+  pub host_reaches : {d : Definition} → slice_get old.definitions n.0 ≡ Some d
+      → ((ty : TypeFuncIndex) (fn : CoreId) (o : Options) → d ≡ definition.LiftedFunc ty fn o → ⊥) → (f : Frame)
       (s : Scope) (w : World) (nodes : List (NamedNode Mark)) (x : Function) → RootStands t ms old f s w nodes
       → FuncStands ms (tables_of old) n x
       → ReachesNode t ms old f s w nodes x
       (Err (item_error.Fault (item_fault.Unsupported ReexportedFunction)))
-  host_reaches {i = i} at f s w nodes x root is =
-      reaches_host old f s w nodes x t ms i (host_there ms (tables_of old) n i x at is).0
+  host_reaches {d = d} at isnt f s w nodes x root is =
+      let host = unlifted_there ms (tables_of old) n d x at isnt is in
+      reaches_host old f s w nodes x t ms host.0 host.1

@@ -28,24 +28,27 @@ use Rattle.pc_dfg.specs.Lists as list
 use Rattle.pc_dfg.specs.Lists.{ListName, entries_of}
 use Rattle.pc_dfg.specs.Numbers.{slots_of}
 use Rattle.pc_dfg.specs.Pushed.{with_component_instance}
-use Rattle.pc_inline.specs.declared.frame.Frame.{Frame}
-use Rattle.pc_inline.specs.declared.state.State.{State}
-use Rattle.pc_inline.specs.Adds.{Adds, AddsTypes, imports_in, item_count}
-use Rattle.pc_inline.specs.Begins.{Begins, BegunHasFew, EndsWith, HasAtMost, HasFew, IsFresh, IsLong, IsLongOrHasFew}
-use Rattle.pc_inline.specs.Begins.{RootBegun, RootHasFew, counted_tables, first_total}
-use Rattle.pc_inline.specs.Driving.{Counts, EndsIn, reading_from}
+use Rattle.pc_frames.specs.declared.frame.Frame.{Frame}
+use Rattle.pc_frames.specs.declared.state.State.{State}
+use Rattle.pc_frames.specs.Adds.{Adds, AddsTypes, imports_in, item_count}
+use Rattle.pc_driver.specs.Begins.{Begins}
+use Rattle.pc_inline.specs.Roots.{BegunHasFew, EndsWith, HasAtMost, HasFew, IsLong, IsLongOrHasFew}
+use Rattle.pc_frames.specs.Fresh.{IsFresh}
+use Rattle.pc_inline.specs.Roots.{RootBegun, RootHasFew, first_total}
+use Rattle.pc_frames.specs.Fresh.{counted_tables}
+use Rattle.pc_driver.specs.Driving.{Counts, EndsIn, reading_from}
 use Rattle.pc_inline.specs.Inlines.{HasNoRoom}
-use Rattle.pc_inline.specs.Points.{IsFullSomewhere, full_closures, full_cores, full_definitions, full_exports}
-use Rattle.pc_inline.specs.Points.{full_graph, full_instances, full_types}
-use Rattle.pc_inline.specs.Tables.{Tables, tables_of}
-use Rattle.pc_inline.specs.Today.{built_enter, built_root}
-use Rattle.pc_inline.specs.Typed.{no_resources}
-use Rattle.pc_inline.proofs.AddsLemmas.{adds_refl, types_trans}
-use Rattle.pc_inline.proofs.LoopAddsLemmas.{few_exports}
+use Rattle.pc_frames.specs.Points.{IsFullSomewhere, full_closures, full_cores, full_definitions, full_exports}
+use Rattle.pc_frames.specs.Points.{full_graph, full_instances, full_types}
+use Rattle.pc_frames.specs.Tables.{Tables, tables_of}
+use Rattle.pc_frames.specs.Today.{built_enter, built_root}
+use Rattle.pc_frames.specs.Typed.{no_resources}
+use Rattle.pc_frames.proofs.AddsLemmas.{adds_refl, types_trans}
+use Rattle.pc_driver.proofs.LoopAddsLemmas.{few_exports}
 use Rattle.pc_inline.proofs.RootLemmas.{counted_begins}
-use Rattle.pc_inline.proofs.TodayLemmas.{past_read}
+use Rattle.pc_driver.proofs.TodayLemmas.{past_read}
 use Rattle.pc_inline.proofs.TotalLemmas.{HasGrown, child_grows, items_grow}
-use Rattle.pc_inline.proofs.WeightLemmas.{weight_of_imports, weight_of_items}
+use Rattle.pc_driver.proofs.WeightLemmas.{weight_of_imports, weight_of_items}
 
 -- a graph with nothing in any list
 abbrev pub HasNone : ComponentDfg → Type 0

@@ -14,21 +14,21 @@ use Rattle.pc_dfg.specs.Grows as graph
 use Rattle.pc_dfg.specs.Lists.{NamedExport}
 use Rattle.pc_dfg.specs.Nodes.{MeansItem}
 use Rattle.pc_dfg.proofs.NodeLemmas.{item_kept}
-use Rattle.pc_inline.specs.declared.frame.Frame.{Frame}
-use Rattle.pc_inline.specs.declared.state.State.{State}
+use Rattle.pc_frames.specs.declared.frame.Frame.{Frame}
+use Rattle.pc_frames.specs.declared.state.State.{State}
 use Rattle.pc_inline.specs.Exporting.{RootStands}
 use Rattle.pc_inline.specs.Exports.{NameStands, NodeStands}
-use Rattle.pc_inline.specs.Prepares.{Prepares}
-use Rattle.pc_inline.specs.Tables.{tables_of}
-use Rattle.pc_inline.specs.Typed.{number_of, whole_of}
-use Rattle.pc_inline.proofs.KeptLemmas.{frame_kept}
-use Rattle.pc_inline.proofs.MarkLemmas.{node_twice, still}
-use Rattle.pc_inline.proofs.WorldLemmas.{world_still}
-use Rattle.pc_inline.proofs.ZipLemmas.{zip_more}
+use Rattle.pc_frames.specs.Prepares.{Prepares}
+use Rattle.pc_frames.specs.Tables.{tables_of}
+use Rattle.pc_frames.specs.Typed.{number_of, whole_of}
+use Rattle.pc_canon.proofs.KeptLemmas.{frame_kept}
+use Rattle.pc_canon.proofs.MarkLemmas.{node_twice, still}
+use Rattle.pc_canon.proofs.WorldLemmas.{world_still}
+use Rattle.pc_frames.proofs.ZipLemmas.{zip_more}
 
 module _ (old new : Types) (g h : ComponentDfg) (types : builder.Grows old new) (grows : graph.Grows g h) where
   -- an export by number
-  pub node_still : (n : ℕ) (x : ExportNode Mark) → NodeStands old g n x → NodeStands new h n x
+  node_still : (n : ℕ) (x : ExportNode Mark) → NodeStands old g n x → NodeStands new h n x
   node_still n x s = record {
     numbered = map_node (still old new types) s.numbered;
     means = λ converted. subst (MeansItem h converted n)

@@ -17,19 +17,19 @@ use Rattle.pc_reading.specs.Scope.{Moment}
 use Rattle.pc_reading.specs.Value.{outermost}
 use Rattle.pc_reading.specs.World.{World, full, new_world}
 use Rattle.pc_dfg.specs.declared.dfg.ComponentDfg.{ComponentDfg}
-use Rattle.pc_inline.specs.declared.frame.Frame.{Frame}
-use Rattle.pc_inline.specs.declared.state.State.{State}
-use Rattle.pc_inline.specs.Begins.{IsBuiltEnd, IsLong, RootRead, first_total}
-use Rattle.pc_inline.specs.Driving.{reading_from}
+use Rattle.pc_frames.specs.declared.frame.Frame.{Frame}
+use Rattle.pc_frames.specs.declared.state.State.{State}
+use Rattle.pc_inline.specs.Roots.{IsBuiltEnd, IsLong, RootRead, first_total}
+use Rattle.pc_driver.specs.Driving.{reading_from}
 use Rattle.pc_inline.specs.Exporting.{ExportsEnd, RootStands}
 use Rattle.pc_inline.specs.Exports.{ExportsStand, NameStands, NumbersExports}
-use Rattle.pc_inline.specs.Points.{PointStands}
-use Rattle.pc_inline.specs.Reads.{Ends}
-use Rattle.pc_inline.specs.Today.{built_exports, built_prepare_all, built_reading, built_result, built_root}
-use Rattle.pc_inline.specs.Worlds.{WorldStands}
+use Rattle.pc_frames.specs.Points.{PointStands}
+use Rattle.pc_driver.specs.Reads.{Ends}
+use Rattle.pc_frames.specs.Today.{built_exports, built_prepare_all, built_reading, built_result, built_root}
+use Rattle.pc_frames.specs.Worlds.{WorldStands}
 
 -- the world in which the root begins, with this total
-abbrev pub world_with : Option ℕ → World
+abbrev world_with : Option ℕ → World
 world_with total = record (new_world total) { begun = 1 }
 
 -- the moment before its imports are prepared
@@ -44,7 +44,7 @@ abbrev pub first_moment : Moment
 first_moment = moment_with None
 
 -- a graph stands for a world whatever total is counted
-pub world_counted : (types : Types) (g : ComponentDfg) (w : World) (total : Option ℕ) → WorldStands types g w
+world_counted : (types : Types) (g : ComponentDfg) (w : World) (total : Option ℕ) → WorldStands types g w
     → WorldStands types g (record w { total = total })
 world_counted types g w total s = record {
   effects = s.effects;

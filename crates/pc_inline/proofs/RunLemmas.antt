@@ -1,8 +1,8 @@
 -- From the state of an instantiation to its answer.
 use Rattle.std.proofs.Common.{◌≡◌, ◌<◌, ◌⊎◌, ℕ, true, List, length, Result, Ok, Err, inl, inr, refl, sym, subst}
 use Rattle.std.proofs.Common.{◌∙◌, arith}
-use Rattle.std.specs.Prelude.{⊤, OnOk}
-use Rattle.std.specs.Result.{IsErrAnd}
+use Rattle.std.specs.Prelude.{⊤, IfOk, OnOk}
+use Rattle.std.specs.Result.{IsErrAnd, result_and}
 use Rattle.pc_interned.specs.Types.{Grows, KeepsTypes, Resources, Types}
 use Rattle.pc_types.specs.declared.error.Error.{Error}
 use Rattle.pc_types.specs.declared.error.Error.TheVariants as error
@@ -13,24 +13,25 @@ use Rattle.pc_local.specs.declared.item.Translation.{Translation}
 use Rattle.pc_local.specs.Standing.{BodyStands, no_names}
 use Rattle.pc_dfg.specs.declared.dfg.ComponentDfg.{ComponentDfg}
 use Rattle.pc_dfg.specs.Lists.{ListName, entries_of}
-use Rattle.pc_inline.specs.declared.state.State.{State}
-use Rattle.pc_inline.specs.Adds.{AddsTypes}
-use Rattle.pc_inline.specs.Begins.{EndsWith, HasAtMost, HasFew, InlinesBody, InlinesRoot, IsBuiltEnd, IsLong}
-use Rattle.pc_inline.specs.Begins.{IsLongOrHasFew, RootHasFew, RootRead, counted_tables}
-use Rattle.pc_inline.specs.Plain.{is_plain_table}
-use Rattle.pc_inline.specs.Tables.{Keeps, tables_of}
-use Rattle.pc_inline.specs.Totals.{CountsGraph, GainsFew}
-use Rattle.pc_inline.specs.Typed.{no_resources}
+use Rattle.pc_frames.specs.declared.state.State.{State}
+use Rattle.pc_frames.specs.Adds.{AddsTypes}
+use Rattle.pc_inline.specs.Roots.{EndsWith, HasAtMost, HasFew, InlinesBody, InlinesRoot, IsBuiltEnd, IsLong}
+use Rattle.pc_inline.specs.Roots.{IsLongOrHasFew, RootHasFew, RootRead}
+use Rattle.pc_frames.specs.Fresh.{counted_tables}
+use Rattle.pc_frames.specs.Plain.{is_plain_table}
+use Rattle.pc_frames.specs.Tables.{Keeps, tables_of}
+use Rattle.pc_driver.specs.Totals.{CountsGraph, GainsFew}
+use Rattle.pc_frames.specs.Typed.{no_resources}
 use Rattle.pc_inline.specs.Inlines.{Inlines, IsFault, StandsForReading}
-use Rattle.pc_inline.proofs.AddsLemmas.{types_same}
+use Rattle.pc_frames.proofs.AddsLemmas.{types_same}
 use Rattle.pc_inline.proofs.CountLemmas.{counted_exports, counted_holds, counted_items, counted_ordered, counted_plain}
 use Rattle.pc_inline.proofs.CountLemmas.{counted_world}
 use Rattle.pc_inline.proofs.EndLemmas.{done_today, end_today}
 use Rattle.pc_inline.proofs.RootFewLemmas.{counted_few, no_room, run_adds}
-use Rattle.pc_inline.proofs.TodayLemmas.{past_read, total_read}
+use Rattle.pc_driver.proofs.TodayLemmas.{past_read, total_read}
 
 -- types keep their numbers, whichever resources were known before
-pub resources_aside : (old new : Types) (r : Resources) → Grows (record old { resources = r }) new → KeepsTypes old new
+resources_aside : (old new : Types) (r : Resources) → Grows (record old { resources = r }) new → KeepsTypes old new
 resources_aside old new r grows = record {
   funcs = grows.funcs;
   tuples = grows.tuples;
@@ -67,7 +68,7 @@ stands_among bodies' bodies among root body stands =
 
 module _ (t : TypeTable) (ms : List ModuleRecord) (limit : ℕ) where
   -- the graph stands for the reading, with the counts of tables
-  pub counted_reading : (body : Items) (st : State) → RootRead t ms limit body st
+  counted_reading : (body : Items) (st : State) → RootRead t ms limit body st
       → StandsForReading t ms limit body st.types (counted_tables st.graph st.types)
   counted_reading body st read =
       let g = st.graph in
@@ -93,15 +94,15 @@ module _ (t : TypeTable) (ms : List ModuleRecord) (limit : ℕ) where
       }
 
   module _ (given : List ModuleRecord) (same : given ≡ ms) (root : Translation) (st : State) (types : Types)
-      (now : types ≡ st.types) (bodies : List Translation) (body : Items)
-      (stands : BodyStands bodies no_names root body) where
+      (now : types ≡ st.types) (bodies listed : List Translation) (among : bodies ≡ listed) (body : Items)
+      (stands : BodyStands listed no_names root body) where
     here : (old : Types) (r : Result ⊤ Error) → RootHasFew t given limit bodies root old (tables_of st) r
         → IsLong t ms limit body
         ⊎ ((total : ℕ) × OnOk r (EndsWith t ms limit body total) × HasFew t total old (tables_of st))
     here old r few =
         subst (λ xs. IsLong t xs limit body
         ⊎ ((total : ℕ) × OnOk r (EndsWith t xs limit body total) × HasFew t total old (tables_of st))) same
-        (few body stands)
+        (few body (stands_among bodies listed among root body stands))
 
     few_here : (old : Types) (r : Result ⊤ Error) → RootHasFew t given limit bodies root old (tables_of st) r
         → IsLongOrHasFew t ms limit body old (tables_of st)
@@ -111,34 +112,42 @@ module _ (t : TypeTable) (ms : List ModuleRecord) (limit : ℕ) where
           | inr h ↦ inr (h.0, h.2)
         ]
 
-    -- the graph is answered
-    pub run_done : (g : ComponentDfg) → g ≡ counted_tables st.graph st.types → (end : ⊤)
+    done_here : (g : ComponentDfg) → g ≡ counted_tables st.graph st.types → (end : ⊤)
         → InlinesRoot t given limit bodies root st (Ok end) → Inlines t ms limit body types (Ok g)
     unfolding Inlines InlinesBody
-    run_done g is end inlines =
+    done_here g is end inlines =
         subst (λ x. StandsForReading t ms limit body x g) (sym now)
         (subst (StandsForReading t ms limit body st.types) (sym is)
-        (counted_reading body st (subst (λ xs. RootRead t xs limit body st) same (inlines body stands))))
+        (counted_reading body st (subst (λ xs. RootRead t xs limit body st) same
+        (inlines body (stands_among bodies listed among root body stands)))))
 
-    -- or the error
-    pub run_fails : (old : Types) (e : Error) → RootHasFew t given limit bodies root old (tables_of st) (Err e)
+    fails_here : (old : Types) (e : Error) → RootHasFew t given limit bodies root old (tables_of st) (Err e)
         → InlinesRoot t given limit bodies root st (Err e) → Inlines t ms limit body types (Err e)
     unfolding Inlines InlinesBody
-    run_fails old e few inlines =
+    fails_here old e few inlines =
         subst (λ x. IsFault t ms limit body x e) (sym now)
         (end_today t ms limit body st (no_room t ms limit body old st (few_here old (Err e) few)) e
-        (subst (λ xs. IsBuiltEnd t xs limit body st e) same (inlines body stands)))
+        (subst (λ xs. IsBuiltEnd t xs limit body st e) same
+        (inlines body (stands_among bodies listed among root body stands))))
+
+    -- the graph is answered, or the error
+    pub run_ends : (old : Types) (g : ComponentDfg) → g ≡ counted_tables st.graph st.types → (q : Result ⊤ Error)
+        → RootHasFew t given limit bodies root old (tables_of st) q → InlinesRoot t given limit bodies root st q
+        → (r : Result ComponentDfg Error) → r ≡ result_and q (Ok g) → Inlines t ms limit body types r
+    run_ends old g is (Ok end) few inlines r answers =
+        subst (Inlines t ms limit body types) (sym answers) (done_here g is end inlines)
+    run_ends old g is (Err e) few inlines r answers =
+        subst (Inlines t ms limit body types) (sym answers) (fails_here old e few inlines)
 
     module _ (old taken : Types) (first : State) (forgot : taken ≡ record old { resources = no_resources })
         (is_first : first.types ≡ taken) where
       added : (n : ℕ) → AddsTypes n first.types st.types → AddsTypes n old types
       added n adds = run_adds n old taken types first st forgot is_first now adds
 
-      -- what the graph has is counted
-      pub run_counts : (g : ComponentDfg) → g ≡ counted_tables st.graph st.types → (end : ⊤)
+      counts_here : (g : ComponentDfg) → g ≡ counted_tables st.graph st.types → (end : ⊤)
           → RootHasFew t given limit bodies root first.types (tables_of st) (Ok end)
           → CountsGraph t ms limit body old types g
-      run_counts g is end few =
+      counts_here g is end few =
           elim (here first.types (Ok end) few) as (λ _. CountsGraph t ms limit body old types g) [
             | inl long ↦ inl (past_read t ms limit body long)
             | inr h ↦
@@ -157,6 +166,15 @@ module _ (t : TypeTable) (ms : List ModuleRecord) (limit : ℕ) where
                       (counted_few st.graph st.types total lists l);
                 })
           ]
+
+      -- what the graph has is counted
+      pub run_counts : (g : ComponentDfg) → g ≡ counted_tables st.graph st.types → (q : Result ⊤ Error)
+          → RootHasFew t given limit bodies root first.types (tables_of st) q → (r : Result ComponentDfg Error)
+          → r ≡ result_and q (Ok g) → IfOk r (CountsGraph t ms limit body old types)
+      run_counts g is (Ok end) few r answers =
+          subst (λ x. IfOk x (CountsGraph t ms limit body old types)) (sym answers) (counts_here g is end few)
+      run_counts g is (Err e) few r answers =
+          subst (λ x. IfOk x (CountsGraph t ms limit body old types)) (sym answers) tt
 
       -- few types were added, whatever is answered
       pub run_gains : is_plain_table t ≡ true → (r : Result ⊤ Error)

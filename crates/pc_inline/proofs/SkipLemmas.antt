@@ -16,7 +16,7 @@ use Rattle.pc_local.specs.declared.item.LocalInitializer.TheVariants as local
 use Rattle.pc_local.specs.declared.item.Translation.{Translation}
 use Rattle.pc_local.specs.Plain.{context_of, if_builtin, if_error_context, if_waitable, plain_item}
 use Rattle.pc_local.specs.Standing.{ItemStands, Names, stands_component, stands_module, stands_nested, stands_plain}
-use Rattle.pc_inline.specs.StepsLocal.{prepare_row}
+use Rattle.pc_steps.specs.StepsLocal.{prepare_row}
 
 module _ (t : TypeTable) (ms : List ModuleRecord) where
   -- an item that is passed over

@@ -24,12 +24,12 @@ use Rattle.pc_reading.specs.Total.{body_weight}
 use Rattle.pc_reading.specs.Types.{declared_tree, names_entry}
 use Rattle.pc_reading.specs.Value.{Component, Value, closed}
 use Rattle.pc_reading.specs.World.{World, grown, has_room}
-use Rattle.pc_inline.specs.Today.{built_body, built_child, built_enter, built_item, built_items, built_prepare}
-use Rattle.pc_inline.specs.Today.{built_prepare_all, built_row, is_built_call}
-use Rattle.pc_inline.proofs.RowLemmas.{return_keeps, row_keeps}
+use Rattle.pc_frames.specs.Today.{built_body, built_child, built_enter, built_item, built_items, built_prepare}
+use Rattle.pc_frames.specs.Today.{built_prepare_all, built_row, is_built_call}
+use Rattle.pc_driver.proofs.RowLemmas.{return_keeps, row_keeps}
 
 -- what goes on and is done was done before
-pub then_done : {A B : Type 0} (o : Outcome A) (go : A → Outcome B) (y : B) → and_then o go ≡ done y
+then_done : {A B : Type 0} (o : Outcome A) (go : A → Outcome B) (y : B) → and_then o go ≡ done y
     → (x : A) × (o ≡ done x) × (go x ≡ done y)
 then_done (done x) go y is = (x, refl, is)
 then_done (fault k p) go y is = let x : ⊥ = cc in absurd x

@@ -1,5 +1,6 @@
 -- The exports of the root while they are made, against the nodes of the reading.
-use Rattle.std.specs.Prelude.{◌≡◌, ◌≤◌, ◌*◌, ⊤, ℕ, true, List, [], ◌∷◌, ◌++◌, map, take, drop, Result, Ok, Err, None}
+use Rattle.std.specs.Prelude.{◌≡◌, ◌≤◌, ◌*◌, ⊤, ℕ, true, List, [], ◌∷◌, ◌++◌, length, map, take, drop, Result, Ok, Err}
+use Rattle.std.specs.Prelude.{None, OnOk}
 use Rattle.std.specs.List.{AllZip}
 use Rattle.pc_numbers.specs.declared.runtime.ExportIndex.{ExportIndex}
 use Rattle.pc_types.specs.declared.error.Error.{Error}
@@ -19,19 +20,19 @@ use Rattle.pc_reading.specs.Scope.{Scope}
 use Rattle.pc_reading.specs.Section.{named_item}
 use Rattle.pc_reading.specs.Value.{Function}
 use Rattle.pc_reading.specs.World.{World}
-use Rattle.pc_inline.specs.declared.error.ItemError.{ItemError}
-use Rattle.pc_inline.specs.declared.error.ItemError.TheVariants as item_error
-use Rattle.pc_inline.specs.declared.error.ItemFault.TheVariants as item_fault
-use Rattle.pc_inline.specs.declared.frame.Frame.{Frame}
-use Rattle.pc_inline.specs.declared.state.State.{State}
-use Rattle.pc_inline.specs.Adds.{Adds}
+use Rattle.pc_frames.specs.declared.error.ItemError.{ItemError}
+use Rattle.pc_frames.specs.declared.error.ItemError.TheVariants as item_error
+use Rattle.pc_frames.specs.declared.error.ItemFault.TheVariants as item_fault
+use Rattle.pc_frames.specs.declared.frame.Frame.{Frame}
+use Rattle.pc_frames.specs.declared.state.State.{State}
+use Rattle.pc_frames.specs.Adds.{Adds}
 use Rattle.pc_inline.specs.Exports.{NameStands, NodeStands, NumbersExports}
-use Rattle.pc_inline.specs.Frames.{FrameStands}
+use Rattle.pc_frames.specs.Frames.{FrameStands}
 use Rattle.pc_inline.specs.Inlines.{export_name}
-use Rattle.pc_inline.specs.Points.{IsFullSomewhere, IsSoundState}
-use Rattle.pc_inline.specs.Tables.{Keeps, tables_of}
-use Rattle.pc_inline.specs.Today.{built_exports}
-use Rattle.pc_inline.specs.Worlds.{WorldStands}
+use Rattle.pc_frames.specs.Points.{IsFullSomewhere, IsSoundState}
+use Rattle.pc_frames.specs.Tables.{Keeps, tables_of}
+use Rattle.pc_frames.specs.Today.{built_exports}
+use Rattle.pc_frames.specs.Worlds.{WorldStands}
 
 module _ (t : TypeTable) (ms : List ModuleRecord) where
   -- the root after its items, in a world in which no total is counted, with the nodes of its exports so far
@@ -103,3 +104,11 @@ module _ (t : TypeTable) (ms : List ModuleRecord) where
   Exports es old new f r =
       (s : Scope) (w : World) → RootStands old f s w []
       → ExportsEnd new f s w [] (built_exports t s (map named_item es) 0 w) r
+
+  -- what the exports of the root give: so much was added, each has its number, and they are those of the reading
+  pub record MakesExports (es : List (ExternName × ItemKind × ℕ)) (old new : State) (f : Frame) (r : Result ⊤ Error)
+      : Type 0 where
+    pub keeps : Keeps (tables_of old) (tables_of new)
+    pub adds : Adds t 0 (4 * length es) (tables_of old) (tables_of new)
+    pub numbers : OnOk r (NumbersExports new.graph)
+    pub exports : Exports es old new f r

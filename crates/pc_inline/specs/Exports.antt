@@ -8,7 +8,7 @@ use Rattle.pc_parsed.specs.Mark.{Mark}
 use Rattle.pc_dfg.specs.declared.dfg.ComponentDfg.{ComponentDfg}
 use Rattle.pc_dfg.specs.Lists.{NamedExport}
 use Rattle.pc_dfg.specs.Nodes.{MeansItem}
-use Rattle.pc_inline.specs.Typed.{Numbered, number_of, whole_of}
+use Rattle.pc_frames.specs.Typed.{Numbered, number_of, whole_of}
 
 module _ (types : Types) (g : ComponentDfg) where
   -- an export by number, whatever mark the types of modules have

@@ -15,9 +15,9 @@ use Rattle.pc_reading.specs.World.{World}
 use Rattle.pc_dfg.specs.declared.dfg.ComponentDfg.{ComponentDfg}
 use Rattle.pc_dfg.specs.Ordered.{IsOrdered}
 use Rattle.pc_inline.specs.Exports.{ExportsStand, NumbersExports}
-use Rattle.pc_inline.specs.Today.{built_reading}
-use Rattle.pc_inline.specs.Totals.{IsPast}
-use Rattle.pc_inline.specs.Worlds.{HasItems, HoldsTypes, IsPlain, WorldStands}
+use Rattle.pc_frames.specs.Today.{built_reading}
+use Rattle.pc_driver.specs.Totals.{IsPast}
+use Rattle.pc_frames.specs.Worlds.{HasItems, HoldsTypes, IsPlain, WorldStands}
 
 -- the name of an export
 abbrev pub export_name : ExternName × ItemKind × ℕ → List ℕ

@@ -1,36 +1,6 @@
--- What the public contract rests on, in reading order.
-pub mod Typed
-pub mod Faults
-pub mod Plain
-pub mod Today
-pub mod Tables
-pub mod Adds
-pub mod Totals
-pub mod Stands
-pub mod Worlds
+-- What the contracts of this crate say.
 pub mod Exports
 pub mod Inlines
--- What the functions inside promise each other.
-pub mod Kinds
-pub mod Index
-pub mod Frames
-pub mod Points
-pub mod Lists
-pub mod Written
-pub mod Prepares
-pub mod Refused
-pub mod Slots
-pub mod AddsEach
-pub mod Definitions
-pub mod Hosts
-pub mod Bags
-pub mod Members
-pub mod Captures
-pub mod Found
-pub mod StepsLocal
 pub mod Exporting
-pub mod Reads
-pub mod Driving
-pub mod Stacks
-pub mod Calls
-pub mod Begins
+pub mod Given
+pub mod Roots

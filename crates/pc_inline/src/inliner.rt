@@ -8,136 +8,113 @@ ghost use Rattle.pc_types.specs.Table.{table_fault};
 ghost use Rattle.pc_builder.specs.Types.{KeepsTypes};
 ghost use Rattle.pc_reading.specs.Item.{Items};
 ghost use Rattle.pc_local.specs.Standing.{BodyStands, no_names};
-ghost use Rattle.pc_dfg.specs.Grows.{Grows};
-ghost use Rattle.pc_inline.specs.Adds.{Adds, imports_in};
-ghost use Rattle.pc_inline.specs.Begins.{Begins, BeginsRoot, EndsRoot, IsFresh};
+ghost use Rattle.pc_frames.specs.Adds.{Adds, imports_in};
+ghost use Rattle.pc_inline.specs.Roots.{BeginsRoot, EndsRoot};
+ghost use Rattle.pc_frames.specs.Fresh.{IsFresh};
 ghost use Rattle.pc_inline.specs.Inlines.{Inlines, export_name};
-ghost use Rattle.pc_inline.specs.Kinds.{kinds_of};
-ghost use Rattle.pc_inline.specs.Plain.{is_plain_table};
-ghost use Rattle.pc_inline.specs.Points.{IsInput, IsPoint};
-ghost use Rattle.pc_inline.specs.Reads.{AreItems, Prepared};
-ghost use Rattle.pc_inline.specs.StepsLocal.{PreparesLocal};
-ghost use Rattle.pc_inline.specs.Tables.{Keeps, tables_of};
-ghost use Rattle.pc_inline.specs.Totals.{CountsGraph, GainsFew};
-ghost use Rattle.pc_inline.specs.Typed.{no_resources};
+ghost use Rattle.pc_frames.specs.Kinds.{kinds_of};
+ghost use Rattle.pc_frames.specs.Plain.{is_plain_table};
+ghost use Rattle.pc_frames.specs.Points.{IsInput, IsPoint};
+ghost use Rattle.pc_driver.specs.Reads.{AreItems, Prepared};
+ghost use Rattle.pc_steps.specs.StepsLocal.{PreparesLocal};
+ghost use Rattle.pc_frames.specs.Tables.{Keeps, tables_of};
+ghost use Rattle.pc_driver.specs.Totals.{CountsGraph, GainsFew};
+ghost use Rattle.pc_frames.specs.Typed.{no_resources};
 
-use crate::context::Context;
-use crate::core_modules::CoreModules;
-use crate::error::{ItemError, error_at};
-use crate::frame::Frame;
-use crate::numbers::Numbers;
-use crate::plain::kinds_of;
-use crate::state::State;
+use crate::exports::export_all;
+use crate::prepare::prepare;
 use pc_builder::{ComponentTypesBuilder, ResourcesBuilder};
-use pc_dfg::{ComponentDfg, PushError};
-use pc_entity::{RuntimeComponentInstanceIndex, TextMap};
+use pc_dfg::ComponentDfg;
+use pc_driver::{begin_instance, run};
+use pc_entity::TextMap;
+use pc_frames::{Context, CoreModules, Frame, ItemError, Numbers, State, error_at, kinds_of};
 use pc_local::{LocalInitializer, LocalProgram, Translation};
 use pc_types::{Error, TypeTable};
 use std::alloc::Global;
 use std::mem;
 
-/// A component instance begins, unless as many as the limit have begun. Nothing else counts component instances.
-pub(crate) fn begin_instance(
-    graph: &mut ComponentDfg,
-    limit: u32,
-) -> Result<RuntimeComponentInstanceIndex, Error>
-    ensures begins { Begins limit graph.old graph.new result }
-    ensures grows { Grows graph.old graph.new }
+/// An item of the root before all items are read: an import is prepared, and another item is passed over.
+fn prepare_item(
+    context: &Context<'_>,
+    state: &mut State<'_>,
+    frame: &mut Frame,
+    item: &LocalInitializer,
+) -> Result<(), ItemError>
+    requires input { IsInput context.now.table.now context.now.modules }
+    requires here { IsPoint context.now.table.now context.now.modules state.old frame.old }
+    ensures keeps { Keeps (tables_of state.old) (tables_of state.new) }
+    ensures same { frame.new.component_instance ≡ frame.old.component_instance }
+    ensures adds { Adds context.now.table.now (imports_in item.now) (4 * imports_in item.now)
+        (tables_of state.old) (tables_of state.new) }
+    ensures steps { PreparesLocal context.now.table.now context.now.modules item.now
+        state.old frame.old state.new frame.new result }
 {
-    if graph.num_runtime_component_instances >= limit {
-        return Err(Error::TooManyInstances);
-    }
-    match graph.push_component_instance() {
-        Ok(instance) => Ok(instance),
-        Err(PushError::TooMany) => Err(Error::TooMany),
-        Err(PushError::NoMemory) => Err(Error::NoMemory),
+    match item {
+        LocalInitializer::Import { name, ty } => prepare(context, state, frame, name, *ty),
+        _ => Ok(()),
     }
 }
 
-impl<'a> Context<'a> {
-    /// An item of the root before all items are read: an import is prepared, and another item is passed over.
-    fn prepare_item(
-        &self,
-        state: &mut State<'_>,
-        frame: &mut Frame,
-        item: &LocalInitializer,
-    ) -> Result<(), ItemError>
-        requires input { IsInput self.now.table.now self.now.modules }
-        requires here { IsPoint self.now.table.now self.now.modules state.old frame.old }
-        ensures keeps { Keeps (tables_of state.old) (tables_of state.new) }
-        ensures same { frame.new.component_instance ≡ frame.old.component_instance }
-        ensures adds { Adds self.now.table.now (imports_in item.now) (4 * imports_in item.now)
-            (tables_of state.old) (tables_of state.new) }
-        ensures steps { PreparesLocal self.now.table.now self.now.modules item.now
-            state.old frame.old state.new frame.new result }
-    {
-        match item {
-            LocalInitializer::Import { name, ty } => self.prepare(state, frame, name, *ty),
-            _ => Ok(()),
+/// The imports among the items of the root are prepared, in order.
+pub(crate) fn prepare_all(
+    context: &Context<'_>,
+    state: &mut State<'_>,
+    frame: &mut Frame,
+    items: &[LocalInitializer],
+) -> Result<(), Error>
+    requires input { IsInput context.now.table.now context.now.modules }
+    requires here { IsPoint context.now.table.now context.now.modules state.old frame.old }
+    requires items { AreItems state.old.bodies.now items.now }
+    ensures keeps { Keeps (tables_of state.old) (tables_of state.new) }
+    ensures same { frame.new.component_instance ≡ frame.old.component_instance }
+    ensures adds { Adds context.now.table.now (sum_by imports_in items.now) (4 * sum_by imports_in items.now)
+        (tables_of state.old) (tables_of state.new) }
+    ensures prepared { Prepared context.now.table.now context.now.modules items.now
+        state.old frame.old state.new frame.new result }
+{
+    for (n, item) in items.iter().enumerate() {
+        if let Err(error) = prepare_item(context, state, frame, item) {
+            return Err(error_at(error, frame.place_of(n)));
         }
     }
+    Ok(())
+}
 
-    /// The imports among the items of the root are prepared, in order.
-    pub(crate) fn prepare_all(
-        &self,
-        state: &mut State<'_>,
-        frame: &mut Frame,
-        items: &[LocalInitializer],
-    ) -> Result<(), Error>
-        requires input { IsInput self.now.table.now self.now.modules }
-        requires here { IsPoint self.now.table.now self.now.modules state.old frame.old }
-        requires items { AreItems state.old.bodies.now items.now }
-        ensures keeps { Keeps (tables_of state.old) (tables_of state.new) }
-        ensures same { frame.new.component_instance ≡ frame.old.component_instance }
-        ensures adds { Adds self.now.table.now (sum_by imports_in items.now) (4 * sum_by imports_in items.now)
-            (tables_of state.old) (tables_of state.new) }
-        ensures prepared { Prepared self.now.table.now self.now.modules items.now
-            state.old frame.old state.new frame.new result }
-    {
-        for (n, item) in items.iter().enumerate() {
-            if let Err(error) = self.prepare_item(state, frame, item) {
-                return Err(error_at(error, frame.place_of(n)));
-            }
-        }
-        Ok(())
-    }
+/// The root begins, and its imports are prepared.
+fn begin_root(
+    context: &Context<'_>,
+    state: &mut State<'_>,
+    root: &Translation,
+    limit: u32,
+) -> Result<Frame, Error>
+    requires input { IsInput context.now.table.now context.now.modules }
+    requires fresh { IsFresh context.now.table.now state.old }
+    requires stands { (body : Items) × BodyStands state.old.bodies.now no_names root.now body }
+    ensures { BeginsRoot context.now.table.now context.now.modules limit root.now state.old state.new result }
+{
+    let instance = begin_instance(&mut state.graph, limit)?;
+    let mut frame = Frame::new(context.alloc, instance, TextMap::new(context.alloc));
+    prepare_all(context, state, &mut frame, root.initializers.as_slice())?;
+    Ok(frame)
+}
 
-    /// The root begins, and its imports are prepared.
-    fn begin_root(
-        &self,
-        state: &mut State<'_>,
-        root: &Translation,
-        limit: u32,
-    ) -> Result<Frame, Error>
-        requires input { IsInput self.now.table.now self.now.modules }
-        requires fresh { IsFresh self.now.table.now state.old }
-        requires stands { (body : Items) × BodyStands state.old.bodies.now no_names root.now body }
-        ensures { BeginsRoot self.now.table.now self.now.modules limit root.now state.old state.new result }
-    {
-        let instance = begin_instance(&mut state.graph, limit)?;
-        let mut frame = Frame::new(self.alloc, instance, TextMap::new(self.alloc));
-        self.prepare_all(state, &mut frame, root.initializers.as_slice())?;
-        Ok(frame)
-    }
-
-    /// The root: it begins, its imports are prepared, its items are read, and it exports.
-    pub(crate) fn inline_root(
-        &self,
-        state: &mut State<'_>,
-        root: &Translation,
-        limit: u32,
-    ) -> Result<(), Error>
-        requires input { IsInput self.now.table.now self.now.modules }
-        requires kinds { self.now.kinds ≡ kinds_of self.now.table.now }
-        requires fresh { IsFresh self.now.table.now state.old }
-        requires stands { (body : Items) × BodyStands state.old.bodies.now no_names root.now body }
-        requires distinct { distinct_names (map export_name root.now.exports) ≡ true }
-        ensures { EndsRoot self.now.table.now self.now.modules limit root.now state.old state.new result }
-    {
-        let begun = self.begin_root(state, root, limit)?;
-        let frame = self.run(state, root, begun, limit)?;
-        self.export_all(state, &frame, root.exports.as_slice())
-    }
+/// The root: it begins, its imports are prepared, its items are read, and it exports.
+pub(crate) fn inline_root(
+    context: &Context<'_>,
+    state: &mut State<'_>,
+    root: &Translation,
+    limit: u32,
+) -> Result<(), Error>
+    requires input { IsInput context.now.table.now context.now.modules }
+    requires kinds { context.now.kinds ≡ kinds_of context.now.table.now }
+    requires fresh { IsFresh context.now.table.now state.old }
+    requires stands { (body : Items) × BodyStands state.old.bodies.now no_names root.now body }
+    requires distinct { distinct_names (map export_name root.now.exports) ≡ true }
+    ensures { EndsRoot context.now.table.now context.now.modules limit root.now state.old state.new result }
+{
+    let begun = begin_root(context, state, root, limit)?;
+    let frame = run(context, state, root, begun, limit)?;
+    export_all(context, state, &frame, root.exports.as_slice())
 }
 
 /// No resource is known, and types are converted in the root.
@@ -181,11 +158,8 @@ pub fn inline_run(
     forget_resources(alloc, types);
     let builder = mem::replace(types, ComponentTypesBuilder::new(alloc));
     let mut state = State::new(alloc, builder, numbers, &program.components);
-    let inlined = context.inline_root(&mut state, &program.root, limit);
+    let inlined = inline_root(&context, &mut state, &program.root, limit);
     let graph = state.take_graph(alloc);
     mem::swap(types, &mut state.types);
-    match inlined {
-        Ok(()) => Ok(graph),
-        Err(error) => Err(error),
-    }
+    inlined.and(Ok(graph))
 }

@@ -1,5 +1,5 @@
-use Rattle.std.proofs.Common.{Ok, Err, ap, ◌∙◌}
-use Rattle.pc_inline.proofs.RunLemmas.{gains_nothing, run_counts, run_done, run_fails, run_gains, run_keeps, run_unfed}
+use Rattle.std.proofs.Common.{ap, ◌∙◌}
+use Rattle.pc_inline.proofs.RunLemmas.{gains_nothing, run_counts, run_ends, run_gains, run_keeps, run_unfed}
 use Rattle.pc_inline.proofs.RunLemmas.{stands_among}
 use Rattle.pc_inline.proofs.inliner.inline_run.Goals as goal
 
@@ -9,60 +9,37 @@ inline_root-inlined-requires-clause-fresh c =
     (ap (λ b. b.resources) (c.replace-builder.ensures.value ∙ c.forget_resources.ensures)) (c.in_ok-numbers.ensures _)
 
 pub inline_root-inlined-requires-clause-stands : goal.inline_root-inlined-requires-clause-stands
-inline_root-inlined-requires-clause-stands c = (
-  c.requires.stands.0,
-  stands_among _ _ c.new-state.ensures.bodies c.args.program.now.root _ c.requires.stands.1,
-)
-
-pub returns-in-Ok-clause-inlines : goal.returns-in-Ok-clause-inlines
-returns-in-Ok-clause-inlines c body stands =
-    run_done _ _ _ _ (c.in_ok-modules.ensures ∙ c.as_slice.ensures) c.args.program.now.root _ _
-    (c.swap.ensures.x_after ∙ c.take_graph-graph.ensures.types) _ body
-    (stands_among _ _ c.new-state.ensures.bodies c.args.program.now.root body stands) _
-    c.take_graph-graph.ensures.graph _ c.in-Ok.ensures.inlines
-
-pub returns-in-Ok-clause-few : goal.returns-in-Ok-clause-few
-returns-in-Ok-clause-few c body stands =
-    run_counts _ _ _ _ (c.in_ok-modules.ensures ∙ c.as_slice.ensures) c.args.program.now.root
-    c.inline_root-inlined.new.state _ (c.swap.ensures.x_after ∙ c.take_graph-graph.ensures.types) _ body
-    (stands_among _ _ c.new-state.ensures.bodies c.args.program.now.root body stands) c.args.types.now
-    c.replace-builder.result c.new-state.result (c.replace-builder.ensures.value ∙ c.forget_resources.ensures)
-    c.new-state.ensures.types _ c.take_graph-graph.ensures.graph _ c.in-Ok.ensures.few
-
-pub returns-in-Ok-clause-keeps : goal.returns-in-Ok-clause-keeps
-returns-in-Ok-clause-keeps c =
-    run_keeps c.args.types.now c.replace-builder.result _ c.new-state.result c.inline_root-inlined.new.state
-    (c.replace-builder.ensures.value ∙ c.forget_resources.ensures) c.new-state.ensures.types c.in-Ok.ensures.keeps
-    (c.swap.ensures.x_after ∙ c.take_graph-graph.ensures.types)
-
-pub returns-in-Ok-clause-adds : goal.returns-in-Ok-clause-adds
-returns-in-Ok-clause-adds c body stands plain =
-    run_gains _ _ _ _ (c.in_ok-modules.ensures ∙ c.as_slice.ensures) c.args.program.now.root
-    c.inline_root-inlined.new.state _ (c.swap.ensures.x_after ∙ c.take_graph-graph.ensures.types) _ body
-    (stands_among _ _ c.new-state.ensures.bodies c.args.program.now.root body stands) c.args.types.now
-    c.replace-builder.result c.new-state.result (c.replace-builder.ensures.value ∙ c.forget_resources.ensures)
-    c.new-state.ensures.types plain (Ok tt) c.in-Ok.ensures.adds c.in-Ok.ensures.few
+inline_root-inlined-requires-clause-stands c =
+    let s = c.requires.stands in
+    (s.0, stands_among _ _ c.new-state.ensures.bodies c.args.program.now.root _ s.1)
 
 pub returns-clause-inlines : goal.returns-clause-inlines
 returns-clause-inlines c body stands =
-    run_fails _ _ _ _ (c.in_ok-modules.ensures ∙ c.as_slice.ensures) c.args.program.now.root _ _
-    (c.swap.ensures.x_after ∙ c.take_graph-graph.ensures.types) _ body
-    (stands_among _ _ c.new-state.ensures.bodies c.args.program.now.root body stands) _ _ c.in-Err.ensures.few
-    c.in-Err.ensures.inlines
+    run_ends _ _ _ _ (c.in_ok-modules.ensures ∙ c.as_slice.ensures) _ _ _
+    (c.swap.ensures.x_after ∙ c.take_graph-graph.ensures.types) _ _ c.new-state.ensures.bodies body stands _ _
+    c.take_graph-graph.ensures.graph _ c.inline_root-inlined.ensures.few c.inline_root-inlined.ensures.inlines _
+    c.and.ensures
+
+pub returns-clause-few : goal.returns-clause-few
+returns-clause-few c body stands =
+    run_counts _ _ _ _ (c.in_ok-modules.ensures ∙ c.as_slice.ensures) _ c.inline_root-inlined.new.state _
+    (c.swap.ensures.x_after ∙ c.take_graph-graph.ensures.types) _ _ c.new-state.ensures.bodies body stands
+    c.args.types.now _ c.new-state.result (c.replace-builder.ensures.value ∙ c.forget_resources.ensures)
+    c.new-state.ensures.types _ c.take_graph-graph.ensures.graph _ c.inline_root-inlined.ensures.few _
+    c.and.ensures
 
 pub returns-clause-keeps : goal.returns-clause-keeps
 returns-clause-keeps c =
-    run_keeps c.args.types.now c.replace-builder.result _ c.new-state.result c.inline_root-inlined.new.state
-    (c.replace-builder.ensures.value ∙ c.forget_resources.ensures) c.new-state.ensures.types c.in-Err.ensures.keeps
-    (c.swap.ensures.x_after ∙ c.take_graph-graph.ensures.types)
+    run_keeps c.args.types.now _ _ c.new-state.result c.inline_root-inlined.new.state
+    (c.replace-builder.ensures.value ∙ c.forget_resources.ensures) c.new-state.ensures.types
+    c.inline_root-inlined.ensures.keeps (c.swap.ensures.x_after ∙ c.take_graph-graph.ensures.types)
 
 pub returns-clause-adds : goal.returns-clause-adds
 returns-clause-adds c body stands plain =
-    run_gains _ _ _ _ (c.in_ok-modules.ensures ∙ c.as_slice.ensures) c.args.program.now.root
-    c.inline_root-inlined.new.state _ (c.swap.ensures.x_after ∙ c.take_graph-graph.ensures.types) _ body
-    (stands_among _ _ c.new-state.ensures.bodies c.args.program.now.root body stands) c.args.types.now
-    c.replace-builder.result c.new-state.result (c.replace-builder.ensures.value ∙ c.forget_resources.ensures)
-    c.new-state.ensures.types plain (Err c.in-Err.error) c.in-Err.ensures.adds c.in-Err.ensures.few
+    run_gains _ _ _ _ (c.in_ok-modules.ensures ∙ c.as_slice.ensures) _ c.inline_root-inlined.new.state _
+    (c.swap.ensures.x_after ∙ c.take_graph-graph.ensures.types) _ _ c.new-state.ensures.bodies body stands
+    c.args.types.now _ c.new-state.result (c.replace-builder.ensures.value ∙ c.forget_resources.ensures)
+    c.new-state.ensures.types plain _ c.inline_root-inlined.ensures.adds c.inline_root-inlined.ensures.few
 
 pub returns-in_err-modules-clause-inlines : goal.returns-in_err-modules-clause-inlines
 returns-in_err-modules-clause-inlines c body stands = run_unfed _ _ _ body _ _ c.from_residual.ensures.1
@@ -71,8 +48,7 @@ pub returns-in_err-modules-clause-adds : goal.returns-in_err-modules-clause-adds
 returns-in_err-modules-clause-adds c body stands plain = gains_nothing _ _ _ body _
 
 pub returns-in_err-numbers-clause-inlines : goal.returns-in_err-numbers-clause-inlines
-returns-in_err-numbers-clause-inlines c body stands =
-    run_unfed _ _ _ body _ _ c.from_residual-in_err-numbers.ensures.1
+returns-in_err-numbers-clause-inlines c body stands = run_unfed _ _ _ body _ _ c.from_residual-in_err-numbers.ensures.1
 
 pub returns-in_err-numbers-clause-adds : goal.returns-in_err-numbers-clause-adds
 returns-in_err-numbers-clause-adds c body stands plain = gains_nothing _ _ _ body _

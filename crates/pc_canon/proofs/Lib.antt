@@ -1,0 +1,30 @@
+-- What the functions of this crate rest on, and those of the crates above: the public ones are theirs too.
+pub mod MarkLemmas
+pub mod KeptLemmas
+pub mod WorldLemmas
+pub mod RoomLemmas
+mod WrittenLemmas
+pub mod StepLemmas
+pub mod PassedLemmas
+pub mod FrameLemmas
+pub mod TypeLemmas
+mod OptionLemmas
+pub mod DefinitionLemmas
+mod LiftLemmas
+mod LowerLemmas
+pub mod TreeLemmas
+mod PlainTreeLemmas
+mod LogLemmas
+mod SlotLemmas
+mod MemoryLemmas
+mod OptionsEntryLemmas
+mod EntryLemmas
+mod UsedLemmas
+mod UsesLemmas
+mod LoweredLemmas
+mod LowerHostLemmas
+pub mod CoreInstanceLemmas
+pub mod HoldsLemmas
+pub mod ThereLemmas
+pub mod GotLemmas
+mod ConvertedLemmas

@@ -1,0 +1,3 @@
+-- What the contracts of this crate say.
+pub mod Written
+pub mod Hosts

@@ -1,0 +1,13 @@
+//! Canonical functions: lifts and lowers, with their options.
+//!
+//! An option names a core item of the component instance, and an entry of options in the graph holds the slots of those
+//! that are written. A lift is kept until something exports it; a lowering is a trampoline at once.
+#![tactic(auto)]
+
+mod functions;
+mod lower;
+mod options;
+mod slots;
+
+pub use functions::{step_lift, step_lower};
+pub use slots::options_entry;

@@ -1,0 +1,22 @@
+-- What the functions of this crate rest on, and those of the crates above: the public ones are theirs too.
+mod EnclosedLemmas
+pub mod ReadLemmas
+pub mod RowLemmas
+mod RowItemLemmas
+pub mod TodayLemmas
+mod ResumeLemmas
+pub mod LoopAddsLemmas
+pub mod WeightLemmas
+mod WorkLemmas
+mod StackLemmas
+mod BeginsLemmas
+mod MoveLemmas
+mod BegunLemmas
+mod EnterLemmas
+mod LeaveLemmas
+mod ChildLemmas
+mod DriveLemmas
+mod CallLemmas
+mod MovesLemmas
+mod TurnLemmas
+mod GivesLemmas

@@ -1,0 +1,22 @@
+-- What the contracts of this crate say.
+pub mod Typed
+pub mod Faults
+pub mod Plain
+pub mod Today
+pub mod Tables
+pub mod Adds
+pub mod Stands
+pub mod Worlds
+pub mod Kinds
+pub mod Index
+pub mod Frames
+pub mod Points
+pub mod Lists
+pub mod Prepares
+pub mod Refused
+pub mod Slots
+pub mod AddsEach
+pub mod Definitions
+pub mod Bags
+pub mod Found
+pub mod Fresh

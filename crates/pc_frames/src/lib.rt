@@ -1,0 +1,35 @@
+//! What a component instance is while it is read: the frame of its items, and the tables that all component instances
+//! share.
+//!
+//! No value is copied: core items, definitions, closures and what instances export stand in tables that only grow, and
+//! whatever names one of them holds its number. Here are the tables, the frame, and what several kinds of items ask of
+//! them: types, core modules and core items.
+#![tactic(auto)]
+
+mod closure;
+mod context;
+mod core_item;
+mod core_modules;
+mod definition;
+mod error;
+mod frame;
+mod kinds;
+mod lookup;
+mod numbers;
+mod plain;
+mod state;
+mod types;
+
+pub use closure::Closure;
+pub use context::Context;
+pub use core_item::CoreItem;
+pub use core_modules::CoreModules;
+pub use definition::{ClosureId, CoreId, DataModel, Definition, DefinitionId, ExportsId, Options};
+pub use error::{ItemError, ItemFault, error_at};
+pub use frame::{CoreInstance, Frame};
+pub use kinds::{TableKinds, is_built_kind, kinds_of};
+pub use lookup::at;
+pub use numbers::Numbers;
+pub use plain::is_plain_table;
+pub use state::State;
+pub use types::is_func_type;

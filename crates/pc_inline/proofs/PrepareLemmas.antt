@@ -1,0 +1,102 @@
+-- The calls for an import of the root: its type, an import of the graph with its definition, and an argument.
+use Rattle.std.proofs.Common.{◌≡◌, ◌+◌, ℕ, true, false, List, [], ◌∷◌, ◌++◌, length, None, Result, Ok, Err, ap}
+use Rattle.std.proofs.Common.{subst, sym, ◌∙◌, arith}
+use Rattle.std.specs.Prelude.{⊤, IfOk, OnErr, OnOk}
+use Rattle.std.specs.Result.{IsErrAnd}
+use Rattle.pc_numbers.specs.declared.runtime.ImportIndex.{ImportIndex}
+use Rattle.pc_types.specs.declared.module_record.ModuleRecord.{ModuleRecord}
+use Rattle.pc_types.specs.declared.parsed.Entity.{Entity}
+use Rattle.pc_types.specs.declared.parsed.Entity.TheVariants as entity
+use Rattle.pc_types.specs.declared.parsed.TypeTable.{TypeTable}
+use Rattle.pc_types.specs.declared.types.ComponentExtern.{ComponentExtern}
+use Rattle.pc_types.specs.Table.{is_func}
+use Rattle.pc_parsed.specs.declared.payload.ExternName.{ExternName}
+use Rattle.pc_reading.specs.Types.{has_entry}
+use Rattle.pc_dfg.specs.declared.dfg.ComponentDfg.{ComponentDfg}
+use Rattle.pc_dfg.specs.Ordered.{IsOrdered}
+use Rattle.pc_frames.specs.declared.definition.Definition.TheVariants as definition
+use Rattle.pc_frames.specs.declared.definition.DefinitionId.{DefinitionId}
+use Rattle.pc_frames.specs.declared.error.ItemError.{ItemError}
+use Rattle.pc_frames.specs.declared.error.ItemFault.TheVariants as item_fault
+use Rattle.pc_frames.specs.declared.frame.Frame.{Frame}
+use Rattle.pc_frames.specs.declared.state.State.{State}
+use Rattle.pc_builder.specs.Few.{AddsFuncs}
+use Rattle.pc_frames.specs.Adds.{Adds}
+use Rattle.pc_frames.specs.AddsEach.{AddsEach, everywhere, nowhere}
+use Rattle.pc_frames.specs.Plain.{is_plain_table}
+use Rattle.pc_frames.specs.Points.{Steps}
+use Rattle.pc_frames.specs.Prepares.{Converts}
+use Rattle.pc_frames.specs.Refused.{LacksRoomOr}
+use Rattle.pc_frames.specs.Tables.{Tables, tables_of}
+use Rattle.pc_frames.specs.Today.{built_prepare}
+use Rattle.pc_frames.proofs.AddsLemmas.{adds_each, adds_func, adds_refl, adds_then, each_same, each_trans, each_weaken}
+use Rattle.pc_frames.proofs.AddsPushLemmas.{import_type_adds}
+use Rattle.pc_canon.proofs.PassedLemmas.{steps_lacking, steps_passed}
+use Rattle.pc_inline.proofs.GivenLemmas.{prepare_untyped}
+use Rattle.pc_inline.specs.Given.{GivesImport}
+
+-- an import, if there was room for it, and what was added behind it
+pub import_adds : {A E : Type 0} (a b : Tables) (r : Result A E) (x : List ℕ × ComponentExtern) (g : ComponentDfg)
+    → g ≡ record a.graph { import_types = g.import_types }
+    → OnOk r (g.import_types ≡ a.graph.import_types ++ x ∷ []) → OnErr r (g ≡ a.graph) → (mid : Tables)
+    → mid ≡ record a { graph = g } → AddsEach nowhere 0 1 mid b → AddsEach everywhere 0 1 a b
+import_adds a b r x g rest ok err mid same more =
+    each_weaken (λ l. everywhere l + nowhere l) everywhere 0 1 0 1 a b (λ l. omega arith) (omega arith) (omega arith)
+    (each_trans everywhere nowhere 0 0 0 1 a mid b (each_same everywhere 0 0 a (record a { graph = g }) mid same
+    (import_type_adds a g r x rest ok err)) more)
+
+-- the import, and its definition if there was room for that
+pub gives_import : (old mid new : State) (x : List ℕ × ComponentExtern) (i : ImportIndex) (g : ComponentDfg)
+    → i.0 ≡ length old.graph.import_types → g ≡ record old.graph { import_types = g.import_types }
+    → g.import_types ≡ old.graph.import_types ++ x ∷ [] → (IsOrdered old.graph → IsOrdered g)
+    → mid ≡ record old { graph = g; used = mid.used } → mid.used.items ≡ old.used.items ++ None ∷ []
+    → (r : Result DefinitionId ItemError) → IfOk r (λ id. id.0 ≡ length mid.definitions)
+    → OnOk r (new ≡ record mid { definitions = mid.definitions ++ definition.HostFunc i ∷ [] })
+    → IfOk r (GivesImport old x new)
+gives_import old mid new x i g last rest put ordered same unused (Ok id) key ok =
+    let made : g ≡ record old.graph { import_types = old.graph.import_types ++ x ∷ [] } =
+    rest ∙ ap (λ (xs : List (List ℕ × ComponentExtern)). record old.graph { import_types = xs }) put in
+    let defined = ap (λ (s : State). record s { definitions = s.definitions ++ definition.HostFunc i ∷ [] }) same in
+    let whole : new ≡ record old {
+      graph = record old.graph { import_types = old.graph.import_types ++ x ∷ [] };
+      used = new.used;
+      definitions = old.definitions ++ definition.HostFunc i ∷ [];
+    } = ok ∙ defined ∙ (λ j. record old {
+      graph = made j;
+      used = (sym ok j).used;
+      definitions = old.definitions ++ definition.HostFunc i ∷ [];
+    }) in
+    record {
+      number = i;
+      is_last = last;
+      unused = ap (λ (s : State). s.used.items) ok ∙ unused;
+      put = whole;
+      ordered = λ o. subst IsOrdered (sym (ap (λ (s : State). s.graph) whole)) (subst IsOrdered made (ordered o));
+      defined = key ∙ ap (λ (s : State). length s.definitions) same;
+    }
+gives_import old mid new x i g last rest put ordered same unused (Err e) key ok = tt
+
+module _ {t : TypeTable} {a b : State} (types : Converts t a b)
+    (few : is_plain_table t ≡ true → AddsFuncs 1 2 a.types b.types) where
+  -- a type alone
+  pub type_adds : Adds t 1 4 (tables_of a) (tables_of b)
+  type_adds =
+      adds_then t 0 (tables_of a) (tables_of b) (tables_of b) (omega arith) (adds_func t a b types few)
+      (adds_refl t 0 0 (tables_of b))
+
+  -- and an import
+  pub given_adds : (x : Tables) → AddsEach everywhere 0 1 (tables_of b) x → Adds t 1 4 (tables_of a) x
+  given_adds x more =
+      adds_then t 4 (tables_of a) (tables_of b) x (omega arith) (adds_func t a b types few)
+      (adds_each t everywhere 0 1 4 (tables_of b) x (λ l. omega arith) (omega arith) (omega arith) more)
+
+-- the type of an import has no number
+pub prepare_unconverted : (t : TypeTable) (ms : List ModuleRecord) (st st' : State) (f f' : Frame) (name : ExternName)
+    (e : Entity) (ty : ℕ) → e ≡ entity.Func ty → (r : Result ⊤ ItemError) (x : ItemError) → IsErrAnd r (λ y. y ≡ x)
+    → LacksRoomOr item_fault.BadType (has_entry t is_func ty ≡ false) st' x
+    → Steps t ms (built_prepare t ms name e) st f st' f' r
+prepare_unconverted t ms st st' f f' name e ty func r x same lacks =
+    subst (λ y. Steps t ms (built_prepare t ms name y) st f st' f' r) (sym func)
+    (steps_passed t ms _ st f st' f' r x same
+    (steps_lacking t ms _ st f st' f' item_fault.BadType _ x lacks
+    (λ now at none. prepare_untyped t ms st f name ty now none)))

@@ -1,0 +1,148 @@
+-- How the instantiation of a root begins and ends.
+use Rattle.std.specs.Prelude.{◌≡◌, ◌<◌, ◌≤◌, ◌+◌, ◌*◌, ◌⊎◌, ⊤, ℕ, true, List, length, Option, None, Some, Result}
+use Rattle.std.specs.Prelude.{Ok, Err, OnOk, sum_by}
+use Rattle.pc_interned.specs.Types.{Types}
+use Rattle.pc_types.specs.declared.error.Error.{Error}
+use Rattle.pc_types.specs.declared.error.Error.TheVariants as error
+use Rattle.pc_types.specs.declared.module_record.ModuleRecord.{ModuleRecord}
+use Rattle.pc_types.specs.declared.parsed.TypeTable.{TypeTable}
+use Rattle.pc_reading.specs.Item.{Items}
+use Rattle.pc_reading.specs.Outcome.{bad_type, done, fault, invalid, over, past, unsupported}
+use Rattle.pc_reading.specs.Reading.{Reading}
+use Rattle.pc_reading.specs.Scope.{Moment}
+use Rattle.pc_reading.specs.Total.{body_weight, prepared_weight}
+use Rattle.pc_reading.specs.World.{full}
+use Rattle.pc_local.specs.declared.item.Translation.{Translation}
+use Rattle.pc_local.specs.Standing.{BodyStands, no_names}
+use Rattle.pc_dfg.specs.Lists.{ListName, entries_of}
+use Rattle.pc_frames.specs.declared.frame.Frame.{Frame}
+use Rattle.pc_frames.specs.declared.state.State.{State}
+use Rattle.pc_frames.specs.Adds.{AddsTypes, imports_in}
+use Rattle.pc_driver.specs.Driving.{reading_from}
+use Rattle.pc_inline.specs.Exports.{ExportsStand, NumbersExports}
+use Rattle.pc_inline.specs.Inlines.{last_world}
+use Rattle.pc_frames.specs.Plain.{is_plain_table}
+use Rattle.pc_frames.specs.Points.{IsFullSomewhere, IsSoundState, PointStands}
+use Rattle.pc_frames.specs.Tables.{Keeps, Tables, tables_of}
+use Rattle.pc_frames.specs.Today.{built_reading, built_root}
+use Rattle.pc_frames.specs.Worlds.{WorldStands}
+
+-- a state stands for the reading of a root
+pub record RootRead (t : TypeTable) (ms : List ModuleRecord) (limit : ℕ) (body : Items) (st : State) : Type 0 where
+  pub result : Reading
+  pub outcome : built_reading t ms limit body ≡ done result
+  pub sound : IsSoundState t ms st
+  pub world : WorldStands st.types st.graph (last_world result)
+  pub exports : ExportsStand st.types st.graph result.nodes
+  pub numbers : NumbersExports st.graph
+
+-- the reading as far as it is built ends so, or a list is full
+abbrev pub IsBuiltEnd : TypeTable → List ModuleRecord → (limit : ℕ) → Items → State → Error → Type 0
+IsBuiltEnd t ms limit body st (error.Invalid p) = built_reading t ms limit body ≡ fault invalid p
+IsBuiltEnd t ms limit body st (error.BadType p) = built_reading t ms limit body ≡ fault bad_type p
+IsBuiltEnd t ms limit body st (error.Unsupported u p) = built_reading t ms limit body ≡ fault (unsupported u) p
+IsBuiltEnd t ms limit body st error.TooManyInstances = built_reading t ms limit body ≡ over
+IsBuiltEnd t ms limit body st error.TooMany = IsFullSomewhere (tables_of st)
+IsBuiltEnd t ms limit body st error.NoMemory = Unit {0}
+IsBuiltEnd t ms limit body st e = ⊥
+
+-- the root was instantiated as it is read, or its reading ends so
+unfoldable pub InlinesBody : TypeTable → List ModuleRecord → (limit : ℕ) → Items → State → Result ⊤ Error → Type 0
+InlinesBody t ms limit body st (Ok end) = RootRead t ms limit body st
+InlinesBody t ms limit body st (Err e) = IsBuiltEnd t ms limit body st e
+
+-- whatever body the root stands for
+abbrev pub InlinesRoot : TypeTable → List ModuleRecord → (limit : ℕ) → (bodies : List Translation) → Translation → State
+    → Result ⊤ Error → Type 0
+InlinesRoot t ms limit bodies root st r =
+    (body : Items) → BodyStands bodies no_names root body → InlinesBody t ms limit body st r
+
+-- a root has begun and its imports have been prepared, in a reading whose total began with this one: from here on its
+-- items are read
+pub record RootStarts (t : TypeTable) (ms : List ModuleRecord) (limit : ℕ) (body : Items) (counted total : Option ℕ)
+    (st : State) (f : Frame) : Type 0 where
+  pub now : Moment
+  pub stands : PointStands t ms st f now
+  pub reads : built_root t ms limit counted body ≡ reading_from t ms limit body now
+  pub is_total : now.world.total ≡ total
+  pub begun : now.world.begun ≡ 1
+
+-- the total of a reading that is counted from nothing, when the root has begun
+abbrev pub first_total : TypeTable → List ModuleRecord → Items → ℕ
+first_total t ms body = 1 + (body_weight t ms body + prepared_weight t ms body)
+
+-- the total of the reading as far as it is built, counted from nothing, is too much before its exports
+abbrev pub IsLong : TypeTable → List ModuleRecord → (limit : ℕ) → Items → Type 0
+IsLong t ms limit body = built_root t ms limit (Some 0) body ≡ past
+
+-- a root has begun and its imports have been prepared, whether or not the total is counted
+pub record RootBegun (t : TypeTable) (ms : List ModuleRecord) (limit : ℕ) (body : Items) (st : State) (f : Frame)
+    : Type 0 where
+  pub within : 0 < limit
+  pub uncounted : RootStarts t ms limit body None None st f
+  pub counted : IsLong t ms limit body
+      ⊎ ((first_total t ms body < full) × RootStarts t ms limit body (Some 0) (Some (first_total t ms body)) st f)
+
+-- the root has begun as it is read, or its reading ends so
+unfoldable pub BeginsBody : TypeTable → List ModuleRecord → (limit : ℕ) → Items → State → Result Frame Error → Type 0
+BeginsBody t ms limit body st (Ok f) = RootBegun t ms limit body st f
+BeginsBody t ms limit body st (Err e) = IsBuiltEnd t ms limit body st e
+
+-- the types of so many functions over primitives were added, and no list has more entries than this
+pub record HasAtMost (t : TypeTable) (functions entries : ℕ) (old : Types) (new : Tables) : Type 0 where
+  pub types : is_plain_table t ≡ true → AddsTypes functions old new.types
+  pub lists : (l : ListName) → length (entries_of new.graph l) ≤ entries
+  pub cores : length new.cores ≤ entries
+  pub definitions : length new.definitions ≤ entries
+  pub closures : length new.closures ≤ entries
+  pub instances : length new.instances ≤ entries
+  pub begun : new.graph.num_runtime_component_instances ≤ entries + 1
+
+-- a total bounds what was added
+pub record HasFew (t : TypeTable) (total : ℕ) (old : Types) (new : Tables) : Type 0 where
+  pub below : total < full
+  pub functions : ℕ
+  pub few_functions : 8 * functions ≤ total
+  pub entries : ℕ
+  pub few_entries : entries < total
+  pub most : HasAtMost t functions entries old new
+
+-- the total of the reading is too much, or some total bounds what was added
+abbrev pub IsLongOrHasFew : TypeTable → List ModuleRecord → (limit : ℕ) → Items → (old : Types) → (new : Tables)
+    → Type 0
+IsLongOrHasFew t ms limit body old new = IsLong t ms limit body ⊎ ((total : ℕ) × HasFew t total old new)
+
+-- whatever body the root stands for
+abbrev pub BegunHasFew : TypeTable → List ModuleRecord → (limit : ℕ) → (bodies : List Translation) → Translation
+    → (old : Types) → (new : Tables) → Type 0
+BegunHasFew t ms limit bodies root old new =
+    (body : Items) → BodyStands bodies no_names root body → IsLongOrHasFew t ms limit body old new
+
+-- in this total the reading as far as it is built ends, counted from nothing, when the items of the root have been read
+abbrev pub EndsWith : TypeTable → List ModuleRecord → (limit : ℕ) → Items → (total : ℕ) → Type 0
+EndsWith t ms limit body total =
+    (last : Moment) × (built_root t ms limit (Some 0) body ≡ done last) × (last.world.total ≡ Some total)
+
+-- where the root is done, that total is the one of its reading
+abbrev pub RootHasFew : TypeTable → List ModuleRecord → (limit : ℕ) → (bodies : List Translation) → Translation
+    → (old : Types) → (new : Tables) → Result ⊤ Error → Type 0
+RootHasFew t ms limit bodies root old new r =
+    (body : Items) → BodyStands bodies no_names root body → IsLong t ms limit body
+    ⊎ ((total : ℕ) × OnOk r (EndsWith t ms limit body total) × HasFew t total old new)
+
+-- what the beginning of a root gives, its imports among it: so much was added, and its reading has begun or ends so
+pub record BeginsRoot (t : TypeTable) (ms : List ModuleRecord) (limit : ℕ) (root : Translation) (old new : State)
+    (r : Result Frame Error) : Type 0 where
+  pub keeps : Keeps (tables_of old) (tables_of new)
+  pub most : HasAtMost t (sum_by imports_in root.initializers) (4 * sum_by imports_in root.initializers) old.types
+      (tables_of new)
+  pub few : BegunHasFew t ms limit old.bodies.now root old.types (tables_of new)
+  pub begins : (body : Items) → BodyStands old.bodies.now no_names root body → BeginsBody t ms limit body new r
+
+-- what a root gives: so much was added, and it was instantiated as it is read, or its reading ends so
+pub record EndsRoot (t : TypeTable) (ms : List ModuleRecord) (limit : ℕ) (root : Translation) (old new : State)
+    (r : Result ⊤ Error) : Type 0 where
+  pub keeps : Keeps (tables_of old) (tables_of new)
+  pub adds : (functions : ℕ) × (entries : ℕ) × HasAtMost t functions entries old.types (tables_of new)
+  pub few : RootHasFew t ms limit old.bodies.now root old.types (tables_of new) r
+  pub inlines : InlinesRoot t ms limit old.bodies.now root new r
