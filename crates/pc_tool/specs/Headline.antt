@@ -19,7 +19,7 @@ use Rattle.pc_reading.specs.Reading.{Reading}
 use Rattle.pc_form.specs.declared.input.Input.{Input}
 use Rattle.pc_form.specs.Input.{input_in, input_of, tree_of}
 use Rattle.pc_form.specs.Rules.{plain}
-use Rattle.pc_inline.specs.Plain.{is_plain_table}
+use Rattle.pc_frames.specs.Plain.{is_plain_table}
 use Rattle.pc_translate.specs.Causes.{HasRoot, are_built, built_meaning, meaning}
 use Rattle.pc_translate.specs.Translation.{IsPlanOf, IsRefusalOf}
 use Rattle.pc_tool.specs.declared.words.Command.{Command}
@@ -46,10 +46,11 @@ IsPlanFor input plan modules =
 abbrev pub IsErrorOf : Input → Error → Type 0
 IsErrorOf input e = IsRefusalOf input.table input.intrinsics input.tunables.max_component_instances input.payloads e
 
--- what an input's payloads mean, and the same as far as it is built
+-- what an input's payloads mean
 abbrev pub meaning_of : Input → Option (Outcome Reading)
 meaning_of input = meaning input.table input.intrinsics input.tunables.max_component_instances input.payloads
 
+-- the same as far as it is built
 abbrev pub built_meaning_of : Input → Option (Outcome Reading)
 built_meaning_of input =
     built_meaning input.table input.intrinsics input.tunables.max_component_instances input.payloads

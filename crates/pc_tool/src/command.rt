@@ -41,7 +41,7 @@ fn execute<S: Source, W: Sink>(alloc: Global, asked: Command, src: &mut S, out: 
 
 /// Does what words say: reads the whole source, makes the whole text, and only then writes it.
 ///
-/// From the first write on no memory is taken, and each write offers all of the text that is left.
+/// No memory is taken once the first byte is offered, and whatever the sink leaves is offered again.
 pub fn run<S: Source, W: Sink>(alloc: Global, words: &[String], src: &mut S, out: &mut W) -> Status
     // The headline: what was written is the text of a plan that does what the nested reading of the bytes says.
     ensures translated { command_of (map string_bytes words.now) ≡ Some command.Translate → result ≡ Status.Done

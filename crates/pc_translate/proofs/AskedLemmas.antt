@@ -24,8 +24,8 @@ use Rattle.pc_reading.specs.SameTypes.{same_names, same_path}
 use Rattle.pc_dfg.specs.declared.dfg.ComponentDfg.{ComponentDfg}
 use Rattle.pc_finish.specs.Finishes.{Finishes}
 use Rattle.pc_inline.specs.Inlines.{GraphStands}
-use Rattle.pc_inline.specs.Worlds as world
-use Rattle.pc_inline.specs.Worlds.{ImportStands, needed_path, paths_needed, with_path}
+use Rattle.pc_frames.specs.Worlds as world
+use Rattle.pc_frames.specs.Worlds.{ImportStands, needed_path, paths_needed, with_path}
 use Rattle.pc_translate.proofs.ListLemmas.{push_place, zip_mapped}
 use Rattle.pc_translate.specs.Asked.{AsksHost, IsImport, path_of}
 use Rattle.pc_translate.specs.Planning.{as_handed_in}

@@ -1,9 +1,8 @@
 -- Local items are of kinds that are built where the items are for which they stand.
-use Rattle.std.proofs.Common.{◌≡◌, ◌&&◌, ◌⊎◌, inl, ℕ, Bool, true, false, List, [], ◌∷◌, map, Option, None, Some}
-use Rattle.std.proofs.Common.{refl, sym, ap, subst, ◌∙◌}
+use Rattle.std.proofs.Common.{◌≡◌, ◌&&◌, ◌⊎◌, inl, inr, ℕ, Bool, true, false, List, [], ◌∷◌, map, Option, None, Some}
+use Rattle.std.proofs.Common.{refl, sym, ap, subst, ◌∙◌, true≢false}
 use Rattle.std.specs.List.{list_all}
 use Rattle.std.proofs.lemmas.Option.{none-some, same_Some}
-use Rattle.pc_interned.specs.Types.{Types}
 use Rattle.pc_types.specs.declared.error.Error.{Error}
 use Rattle.pc_types.specs.declared.parsed.Entity.{Entity}
 use Rattle.pc_types.specs.declared.parsed.Entity.TheVariants as entity
@@ -26,10 +25,10 @@ use Rattle.pc_local.specs.Program.{ProgramStands}
 use Rattle.pc_local.specs.Standing.{ItemStands, ItemsStand, Names, stand_more, stand_none, stands_component}
 use Rattle.pc_local.specs.Standing.{stands_module, stands_nested, stands_plain}
 use Rattle.pc_reading.specs.Section.{argument_of, named_item}
-use Rattle.pc_inline.specs.Plain.{is_plain_table}
-use Rattle.pc_inline.specs.Today.{can_instantiate, is_built_import, is_built_item, is_built_kind}
-use Rattle.pc_translate.specs.Causes.{HasCause, HasRoot, are_built}
-use Rattle.pc_inline.specs.Kinds.{kinds_of}
+use Rattle.pc_frames.specs.Plain.{is_plain_table}
+use Rattle.pc_frames.specs.Today.{can_instantiate, is_built_import, is_built_item, is_built_kind}
+use Rattle.pc_translate.specs.Causes.{CanBeRead, HasCause, HasOwnCause, HasRoot, are_built}
+use Rattle.pc_frames.specs.Kinds.{kinds_of}
 use Rattle.pc_translate.specs.Planning.{is_built_entity, is_built_local}
 
 -- a test of each of mapped values is one of each value
@@ -115,17 +114,55 @@ module _ (t : TypeTable) where
         λ j. one j && more j
 
 -- the items of a program's root are built where those are for which it stands
-pub root_built : (t : TypeTable) (exposed : Option (List ℕ)) (ps : List Payload) (program : LocalProgram) (b : Bool)
+root_built : (t : TypeTable) (exposed : Option (List ℕ)) (ps : List Payload) (program : LocalProgram) (b : Bool)
     → ProgramStands exposed ps program → list_all (is_built_local (kinds_of t)) program.root.initializers ≡ b
     → HasRoot exposed ps (λ body. are_built t body ≡ b)
 root_built t exposed ps program b stands is =
     (stands.body, stands.nests, items_built t program.components _ _ _ stands.root.items ∙ is)
 
--- where the type of a function or the kind of an item isn't built, that is the cause
-pub later_cause : (t : TypeTable) (exposed : Option (List ℕ)) (limit : ℕ) (ps : List Payload) (types : Types)
-    (e : Error) → is_numbered t ps ≡ true → static_fault t exposed ps ≡ None → e ≡ not_built
-    → (is_plain_table t ≡ false) ⊎ HasRoot exposed ps (λ body. are_built t body ≡ false)
-    → HasCause t exposed limit ps types e
-later_cause t exposed limit ps types e numbered sound is unbuilt =
-    subst (λ (x : Error). HasCause t exposed limit ps types x) (sym is)
-    (inl (record { numbered = numbered; sound = sound; unbuilt = unbuilt }, refl))
+-- what a conjunction that fails has as its cause
+and_fails : (a b : Bool) → (a && b) ≡ false → (a ≡ false) ⊎ (b ≡ false)
+and_fails true b h = inr h
+and_fails false b h = inl refl
+
+-- and what one that holds tells
+and_holds : (a b : Bool) → (a && b) ≡ true → (a ≡ true) × (b ≡ true)
+and_holds true b h = (refl, h)
+and_holds false b h = absurd (true≢false (sym h))
+
+module _ (t : TypeTable) (exposed : Option (List ℕ)) (ps : List Payload) (program : LocalProgram)
+    (stands : ProgramStands exposed ps program) (numbered : is_numbered t ps ≡ true)
+    (sound : static_fault t exposed ps ≡ None) where
+  -- the items of the root are those that are tested
+  root_is : (b : Bool) → list_all (is_built_local (kinds_of t)) program.root.initializers ≡ b
+      → HasRoot exposed ps (λ body. are_built t body ≡ b)
+  root_is b is = root_built t exposed ps program b stands is
+
+  -- where the test holds, the payloads can be read
+  pub can_be_read : (is_plain_table t && list_all (is_built_local (kinds_of t)) program.root.initializers) ≡ true
+      → CanBeRead t exposed ps
+  can_be_read holds =
+      let test = list_all (is_built_local (kinds_of t)) program.root.initializers in
+      let both = and_holds (is_plain_table t) test holds in
+      record { numbered = numbered; sound = sound; plain = both.0; built = root_is true both.1 }
+
+  -- where it fails, that is the cause
+  pub is_unbuilt : (is_plain_table t && list_all (is_built_local (kinds_of t)) program.root.initializers) ≡ false
+      → (e : Error) → e ≡ not_built → HasOwnCause t exposed ps e
+  unfolding HasOwnCause
+  is_unbuilt fails e is limit types =
+      subst (λ (x : Error). HasCause t exposed limit ps types x) (sym is)
+      (inl (
+        record {
+          numbered = numbered;
+          sound = sound;
+          unbuilt = the_one (and_fails (is_plain_table t)
+              (list_all (is_built_local (kinds_of t)) program.root.initializers) fails);
+        },
+        refl,
+      ))
+    where
+      the_one : (is_plain_table t ≡ false) ⊎ (list_all (is_built_local (kinds_of t)) program.root.initializers ≡ false)
+          → (is_plain_table t ≡ false) ⊎ HasRoot exposed ps (λ body. are_built t body ≡ false)
+      the_one (inl table) = inl table
+      the_one (inr items) = inr (root_is false items)

@@ -27,10 +27,10 @@ use Rattle.pc_dfg.specs.Effects.{MeansEffect, means_declared, means_made}
 use Rattle.pc_dfg.proofs.UniqueLemmas.{means_unique}
 use Rattle.pc_finish.specs.Finishes.{Finishes, StandsForOne}
 use Rattle.pc_inline.specs.Inlines.{GraphStands}
-use Rattle.pc_inline.specs.Tables.{IsItem}
-use Rattle.pc_inline.specs.Today.{is_made}
-use Rattle.pc_inline.specs.Typed.{number_of, whole_of}
-use Rattle.pc_inline.specs.Worlds.{EffectStands}
+use Rattle.pc_frames.specs.Tables.{IsItem}
+use Rattle.pc_frames.specs.Today.{is_made}
+use Rattle.pc_frames.specs.Typed.{number_of, whole_of}
+use Rattle.pc_frames.specs.Worlds.{EffectStands}
 use Rattle.pc_translate.proofs.ListLemmas.{none_counted}
 use Rattle.pc_translate.proofs.WiredLemmas.{no_adapters, none_at, occurring_item}
 use Rattle.pc_translate.specs.Asked.{AreSigned, Declares, HasDeclared, resource_owner}
@@ -75,7 +75,7 @@ owners_traced (made v ∷ log) = owners_traced log
 owners_traced (needed path ∷ log) = owners_traced log
 
 -- an item of a module's instance is no intrinsic
-no_intrinsic : (ms : List ModuleRecord) (g : ComponentDfg) (k : CoreKind) (s : ModuleInternedTypeIndex)
+pub no_intrinsic : (ms : List ModuleRecord) (g : ComponentDfg) (k : CoreKind) (s : ModuleInternedTypeIndex)
     (i : UnsafeIntrinsic) → IsItem ms g k (def.UnsafeIntrinsic s i) → ⊥
 no_intrinsic ms g k s i h = elim h [ ]
 

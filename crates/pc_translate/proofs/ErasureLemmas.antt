@@ -14,7 +14,7 @@ use Rattle.pc_semantics.specs.Log.{Entry, Instantiation, NamedArgument, Owned, d
 use Rattle.pc_semantics.specs.Log.{erase_owned, instantiated, made, map_argument, map_entry, map_instantiation}
 use Rattle.pc_semantics.specs.Log.{map_owned, needed, of_host, of_static}
 use Rattle.pc_semantics.specs.PlanView.{PlanView}
-use Rattle.pc_inline.specs.Typed.{number_of, whole_of}
+use Rattle.pc_frames.specs.Typed.{number_of, whole_of}
 use Rattle.pc_translate.specs.Translation.{DoesAs}
 use Rattle.pc_translate.specs.Typed.{TypedAs}
 

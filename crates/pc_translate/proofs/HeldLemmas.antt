@@ -17,10 +17,14 @@ use Rattle.pc_dfg.specs.declared.dfg.ComponentDfg.{ComponentDfg}
 use Rattle.pc_dfg.specs.declared.export.Export.{Export}
 use Rattle.pc_dfg.specs.declared.export.Export.TheVariants as export
 use Rattle.pc_dfg.specs.Lists.{NamedExport}
+use Rattle.pc_entity.specs.Lists.{AreDistinct}
+use Rattle.pc_finish.specs.Apart.{TellsSlots, module_of}
 use Rattle.pc_finish.specs.Finishes.{Finishes, IsItem, IsOptionsOf}
 use Rattle.pc_inline.specs.Inlines.{GraphStands}
-use Rattle.pc_inline.specs.Worlds.{IsLifted}
+use Rattle.pc_frames.specs.Worlds.{IsLifted}
+use Rattle.pc_translate.proofs.DeclaredLemmas.{no_intrinsic}
 use Rattle.pc_translate.proofs.ListLemmas.{zip_behind, zip_length}
+use Rattle.pc_translate.proofs.WiredLemmas.{none_at}
 use Rattle.pc_translate.specs.Lists.{FindsExports, IsHeldExport, IsTidy, NamesHeld, NumbersItems}
 use Rattle.pc_translate.specs.Planning.{as_handed_in}
 use Rattle.pc_translate.specs.Translation.{counts_of}
@@ -52,10 +56,25 @@ module _ (types : Types) (ms : List ModuleRecord) (g : ComponentDfg) (r : Readin
     signatures = λ n o at. signature_held o (finished.options n o at);
   }
 
+  -- a plain graph has no intrinsic in a slot, and no adapters
+  tells_slots : TellsSlots g
+  tells_slots = record {
+    intrinsics = λ k m n s t i at at'. absurd (no_intrinsic ms g _ s i (stands.items.slots k m _ at));
+    adapters = λ i j x at at'. absurd (none_at g.adapter_partitionings i x stands.plain.adapter_partitionings at);
+  }
+
+  no_modules : AreDistinct (map module_of g.adapter_modules)
+  no_modules i j x at at' =
+      absurd (none_at (map module_of g.adapter_modules) i x (ap (map module_of) stands.plain.adapter_modules) at)
+
   pub is_tidy : IsTidy plan
   is_tidy = record {
     shared = finished.shared;
     apart = finished.apart;
+    slots_apart = finished.slots_apart tells_slots;
+    adapters_once = finished.adapters_once no_modules;
+    carry = finished.carry;
+    late = finished.late;
     lowered_once = finished.lowered_once;
     options_used = finished.used;
     slots_used = finished.slots_used;

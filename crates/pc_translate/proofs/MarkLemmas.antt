@@ -14,8 +14,8 @@ use Rattle.pc_dfg.specs.Effects.{MeansEffect}
 use Rattle.pc_dfg.specs.Lists.{NamedExport}
 use Rattle.pc_dfg.specs.Nodes.{MeansName}
 use Rattle.pc_inline.specs.Exports.{NameStands}
-use Rattle.pc_inline.specs.Typed.{Numbered, number_of, whole_of}
-use Rattle.pc_inline.specs.Worlds.{EffectStands}
+use Rattle.pc_frames.specs.Typed.{Numbered, number_of, whole_of}
+use Rattle.pc_frames.specs.Worlds.{EffectStands}
 
 -- the core instances of entries whose marks are mapped
 pub instances_mapped : {τ υ : Type 0} (f : τ → υ) (es : List (Entry τ))

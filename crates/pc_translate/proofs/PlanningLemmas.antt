@@ -1,10 +1,10 @@
 -- A plan of a body, or why there is none, from the graph that stands for its reading.
 use Rattle.std.proofs.Common.{◌≡◌, ℕ, ◌≤◌, ◌<◌, ◌⊎◌, inl, inr, true, List, length, Some, None, Result, Ok, Err, IfOk}
-use Rattle.std.proofs.Common.{Contains, arith, refl, sym, ap, subst, ◌∙◌}
+use Rattle.std.proofs.Common.{All, Contains, arith, refl, sym, ap, subst, ◌∙◌}
 use Rattle.std.specs.Prelude.{IsSomeAnd, MatchResult}
 use Rattle.std.specs.Result.{IsErrAnd}
 use Rattle.std.proofs.lemmas.Option.{slice_get-get_or}
-use Rattle.pc_interned.specs.Types.{IsTooFullFor, Types}
+use Rattle.pc_interned.specs.Types.{IsTooFullFor, KeepsTypes, Types}
 use Rattle.pc_builder.specs.Trees.{IsEntry}
 use Rattle.pc_types.specs.declared.error.Error.{Error}
 use Rattle.pc_types.specs.declared.module_record.ModuleRecord.{ModuleRecord}
@@ -17,20 +17,23 @@ use Rattle.pc_dfg.specs.declared.dfg.ComponentDfg.{ComponentDfg}
 use Rattle.pc_dfg.specs.declared.export.Export.{Export}
 use Rattle.pc_dfg.specs.declared.export.Export.TheVariants as export
 use Rattle.pc_dfg.specs.Lists.{slots, options, trampolines, instances, resources}
-use Rattle.pc_finish.specs.declared.error.FinishError.{FinishError}
-use Rattle.pc_finish.specs.declared.error.FinishError.TheVariants as finish_error
+use Rattle.pc_dfg.specs.Ordered.{IsOrdered}
+use Rattle.pc_linearize.specs.declared.error.FinishError.{FinishError}
+use Rattle.pc_linearize.specs.declared.error.FinishError.TheVariants as finish_error
+use Rattle.pc_linearize.specs.Grouped.{IsGrouped}
+use Rattle.pc_linearize.specs.Full.{HasTooMany, of_slots, of_options, of_trampolines, of_instances, of_resources}
 use Rattle.pc_finish.specs.Finished.{IsFinished}
-use Rattle.pc_finish.specs.Full.{HasTooMany, of_slots, of_options, of_trampolines, of_instances, of_resources}
-use Rattle.pc_finish.specs.ModuleTypes.{HasNoPlace, static_type}
+use Rattle.pc_finish.specs.ModuleTypes.{HasModuleType, HasNoModule, HasNoPlace, static_type}
 use Rattle.pc_inline.specs.Inlines.{HasNoRoom, Inlines, IsFault, StandsForReading}
-use Rattle.pc_inline.specs.Plain.{is_plain_table}
-use Rattle.pc_inline.specs.Totals.{CountsGraph, GainsFew, IsCounted, IsPast}
-use Rattle.pc_inline.specs.Worlds.{IsLifted, IsPlain}
+use Rattle.pc_frames.specs.Plain.{is_plain_table}
+use Rattle.pc_driver.specs.Totals.{CountsGraph, GainsFew, IsCounted, IsPast}
+use Rattle.pc_frames.specs.Worlds.{IsLifted, IsPlain}
+use Rattle.pc_translate.proofs.WiredLemmas.{are_modules, grouped, no_static}
 use Rattle.pc_translate.specs.Planning.{Plans, error_of_finish}
 use Rattle.pc_translate.specs.Translation.{GainsCounted}
 
 -- the graph that was answered stands for the reading
-pub graph_stands : (t : TypeTable) (ms : List ModuleRecord) (limit : ℕ) (body : Items) (types : Types)
+graph_stands : (t : TypeTable) (ms : List ModuleRecord) (limit : ℕ) (body : Items) (types : Types)
     (g : ComponentDfg) → Inlines t ms limit body types (Ok g) → StandsForReading t ms limit body types g
 unfolding Inlines
 graph_stands t ms limit body types g h = h
@@ -42,7 +45,7 @@ unfolding Inlines Plans
 fault_plans t ms limit body types e h = h
 
 -- where the lists of a graph are counted, how much was gained is
-pub gains_counted : (t : TypeTable) (ms : List ModuleRecord) (limit : ℕ) (body : Items) (old new : Types)
+gains_counted : (t : TypeTable) (ms : List ModuleRecord) (limit : ℕ) (body : Items) (old new : Types)
     (g : ComponentDfg) → is_plain_table t ≡ true → CountsGraph t ms limit body old new g
     → GainsFew t ms limit body old new → GainsCounted t ms limit body old new
 gains_counted t ms limit body old new g plain (inl past) few =
@@ -113,7 +116,7 @@ module _ (t : TypeTable) (ms : List ModuleRecord) (limit : ℕ) (body : Items) (
   no_room counts (inr lacks) = absurd (lacks_none lacks)
 
   -- the plan, or the cause for want of one
-  pub planned : CountsGraph t ms limit body old types g → (r : Result ComponentTranslation FinishError)
+  planned : CountsGraph t ms limit body old types g → (r : Result ComponentTranslation FinishError)
       → IfOk r (λ p. IsFinished types t g p)
       → (r ≡ Err finish_error.TooMany → HasTooMany g ⊎ LacksPlace)
       → (out : Result ComponentTranslation Error)
@@ -135,3 +138,49 @@ module _ (t : TypeTable) (ms : List ModuleRecord) (limit : ℕ) (body : Items) (
   planned counts (Err finish_error.NoMemory) finished full (Err e) same =
       subst (λ (x : Error). IsFault t ms limit body types x) (sym same) tt
   planned counts (Err e) finished full (Ok p) same = absurd same
+
+-- a graph that was answered, which is finished without another type
+module _ (t : TypeTable) (ms : List ModuleRecord) (limit : ℕ) (body : Items) (mid : Types) (g : ComponentDfg)
+    (is : Inlines t ms limit body mid (Ok g)) where
+  answered : StandsForReading t ms limit body mid g
+  answered = graph_stands t ms limit body mid g is
+
+  -- it can be finished
+  pub is_ordered : IsOrdered g
+  is_ordered = answered.stands.ordered
+
+  pub is_grouped : IsGrouped g
+  is_grouped = grouped g answered.stands.plain
+
+  pub has_types : All (HasModuleType t) g.export_items
+  has_types = are_modules g answered.stands.plain t
+
+  module _ (new : Types) (unchanged : HasNoModule g.export_items → new ≡ mid) (old : Types) where
+    same : new ≡ mid
+    same = unchanged (no_static g answered.stands.plain)
+
+    -- types keep their numbers
+    pub still_keeps : KeepsTypes old mid → KeepsTypes old new
+    still_keeps keeps = subst (KeepsTypes old) (sym same) keeps
+
+    -- as few were gained
+    pub still_gains : GainsFew t ms limit body old mid → GainsFew t ms limit body old new
+    still_gains few = subst (GainsFew t ms limit body old) (sym same) few
+
+    -- and they are counted
+    pub still_counts : CountsGraph t ms limit body old mid g → is_plain_table t ≡ true
+        → GainsFew t ms limit body old mid → GainsCounted t ms limit body old new
+    still_counts counts plain few =
+        subst (GainsCounted t ms limit body old) (sym same) (gains_counted t ms limit body old mid g plain counts few)
+
+    -- so the graph has a plan, or there is a cause for want of one
+    pub still_plans : CountsGraph t ms limit body old mid g → (r : Result ComponentTranslation FinishError)
+        → IfOk r (λ p. IsFinished new t g p)
+        → (r ≡ Err finish_error.TooMany → HasTooMany g
+        ⊎ ((e : Export) × Contains g.export_items e × HasNoPlace new t e))
+        → (out : Result ComponentTranslation Error)
+        → MatchResult r (λ x. out ≡ Ok x) (λ e. IsErrAnd out (λ y. y ≡ error_of_finish e))
+        → Plans t ms limit body new out
+    still_plans counts =
+        planned t ms limit body new g (subst (λ x. StandsForReading t ms limit body x g) (sym same) answered) old
+        (subst (λ x. CountsGraph t ms limit body old x g) (sym same) counts)

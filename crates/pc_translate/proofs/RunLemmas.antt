@@ -14,7 +14,7 @@ use Rattle.pc_dfg.specs.Nodes.{ExportsMean}
 use Rattle.pc_finish.specs.Finishes.{Finishes, StandsForOne}
 use Rattle.pc_inline.specs.Exports.{ExportsStand}
 use Rattle.pc_inline.specs.Inlines.{GraphStands}
-use Rattle.pc_inline.specs.Typed.{number_of, whole_of}
+use Rattle.pc_frames.specs.Typed.{number_of, whole_of}
 use Rattle.pc_translate.specs.Planning.{as_handed_in}
 use Rattle.pc_translate.specs.Typed.{TypedAs}
 use Rattle.pc_translate.proofs.MarkLemmas.{Nodes, all_entries, all_nodes, instances_mapped, instances_traced}

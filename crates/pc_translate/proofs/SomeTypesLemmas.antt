@@ -21,8 +21,8 @@ use Rattle.pc_reading.specs.Outcome.{Outcome}
 use Rattle.pc_reading.specs.Reading.{Reading, reading, reading_of}
 use Rattle.pc_reading.specs.Section.{modules_of}
 use Rattle.pc_reading.specs.World.{full}
-use Rattle.pc_inline.specs.Adds.{AddsTypes}
-use Rattle.pc_inline.specs.Totals.{GainsFew, IsPast}
+use Rattle.pc_frames.specs.Adds.{AddsTypes}
+use Rattle.pc_driver.specs.Totals.{GainsFew, IsPast}
 use Rattle.pc_translate.specs.Causes.{HasCause, meaning}
 use Rattle.pc_translate.specs.Translation.{CountsGained, Gains, GainsCounted, HasTooMuch, IsPlanOf}
 use Rattle.pc_translate.specs.Translation.{IsRefusalOf, Translates}

@@ -12,7 +12,7 @@ use Rattle.pc_reading.specs.Outcome.{Outcome}
 use Rattle.pc_reading.specs.Reading.{Reading, reading, reading_of}
 use Rattle.pc_reading.specs.Section.{modules_of}
 use Rattle.pc_inline.specs.Inlines.{EndsAs as IsEnd}
-use Rattle.pc_inline.specs.Today.{built_reading}
+use Rattle.pc_frames.specs.Today.{built_reading}
 use Rattle.pc_translate.proofs.AskedLemmas.{asks_host}
 use Rattle.pc_translate.proofs.DeclaredLemmas.{declared_one, declares, signs}
 use Rattle.pc_translate.proofs.ErasureLemmas.{does_as}
@@ -26,7 +26,7 @@ use Rattle.pc_translate.specs.Translation.{Translates}
 module _ (t : TypeTable) (exposed : Option (List ℕ)) (limit : ℕ) (ps : List Payload) (body : Items)
     (root : root_of exposed ps ≡ Some body) where
   -- what payloads mean is what their root means
-  pub root_meaning : (o : Outcome Reading) → reading_of t (modules_of ps) limit None body ≡ o
+  root_meaning : (o : Outcome Reading) → reading_of t (modules_of ps) limit None body ≡ o
       → meaning t exposed limit ps ≡ Some o
   unfolding meaning reading
   root_meaning o is = ap (option_map (reading_of t (modules_of ps) limit None)) root ∙ ap Some is

@@ -18,9 +18,9 @@ use Rattle.pc_semantics.specs.Log.{Entry, declared, declared_resource}
 use Rattle.pc_semantics.specs.Machine.{State, resolve}
 use Rattle.pc_semantics.specs.PlanView.{ImportType, PlanView, RuntimeImport, trampoline}
 use Rattle.pc_trampoline.specs.declared.part.Mark.{Mark}
-use Rattle.pc_inline.specs.Today.{is_made}
-use Rattle.pc_inline.specs.Typed.{Holds, Numbered, number_of, whole_of}
-use Rattle.pc_inline.specs.Worlds.{is_declared, paths_needed, signature_of}
+use Rattle.pc_frames.specs.Today.{is_made}
+use Rattle.pc_frames.specs.Typed.{Holds, Numbered, number_of, whole_of}
+use Rattle.pc_frames.specs.Worlds.{is_declared, paths_needed, signature_of}
 use Rattle.pc_types.specs.declared.parsed.CoreFuncSig.{CoreFuncSig}
 use Rattle.pc_types.specs.TypeTree.{Path}
 

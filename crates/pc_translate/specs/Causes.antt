@@ -15,9 +15,9 @@ use Rattle.pc_reading.specs.Nest.{root_of}
 use Rattle.pc_reading.specs.Outcome.{Outcome, bad_type, fault, invalid, over, unsupported}
 use Rattle.pc_reading.specs.Reading.{Reading, reading}
 use Rattle.pc_reading.specs.Section.{modules_of}
-use Rattle.pc_inline.specs.Plain.{is_plain_table}
-use Rattle.pc_inline.specs.Today.{built_reading, is_built_item}
-use Rattle.pc_inline.specs.Totals.{IsPast}
+use Rattle.pc_frames.specs.Plain.{is_plain_table}
+use Rattle.pc_frames.specs.Today.{built_reading, is_built_item}
+use Rattle.pc_driver.specs.Totals.{IsPast}
 
 -- what payloads mean; no total is counted yet
 unfoldable pub meaning : TypeTable → (exposed : Option (List ℕ)) → (limit : ℕ) → List Payload → Option (Outcome Reading)
@@ -92,3 +92,7 @@ HasCause t exposed limit ps types error.TooMany =
     (is_numbered t ps ≡ false) ⊎ (CanBeRead t exposed ps × HasNoRoom t exposed limit ps types)
 HasCause t exposed limit ps types error.NoMemory = Unit {0}
 HasCause t exposed limit ps types (error.BadOptions p) = ⊥
+
+-- so it is whatever the limit is and whatever types a builder holds: the payloads themselves are the cause
+unfoldable pub HasOwnCause : TypeTable → (exposed : Option (List ℕ)) → List Payload → Error → Type 0
+HasOwnCause t exposed ps e = (limit : ℕ) (types : Types) → HasCause t exposed limit ps types e

@@ -1,5 +1,5 @@
 -- Whether the lists of a plan fit each other and the types builder.
-use Rattle.std.specs.Prelude.{◌≡◌, ◌<◌, ℕ, List, length, slice_get, Some}
+use Rattle.std.specs.Prelude.{◌≡◌, ◌<◌, ℕ, List, length, take, slice_get, Some, false}
 use Rattle.pc_interned.specs.Types.{Types}
 use Rattle.pc_builder.specs.Held.{IsHeld}
 use Rattle.pc_info.specs.declared.component.Component.{Component}
@@ -10,11 +10,13 @@ use Rattle.pc_info.specs.declared.options.CanonicalOptions.{CanonicalOptions}
 use Rattle.pc_info.specs.Exports.{Entry, number_of}
 use Rattle.pc_names.specs.Stands.{StandsFor}
 use Rattle.pc_entity.specs.Lists.{AreDistinct}
-use Rattle.pc_semantics.specs.PlanView.{SlotKind}
+use Rattle.pc_semantics.specs.PlanView.{Definition, Initializer, SlotKind}
 use Rattle.pc_trampoline.specs.View.{PlanTrampoline}
 use Rattle.pc_info.specs.View.{counts_view, trampolines_view}
+use Rattle.pc_finish.specs.Apart.{FillsWith, MakesAdapters}
 use Rattle.pc_finish.specs.Finishes.{IsUsed, StandsAt}
-use Rattle.pc_finish.specs.Slots.{AtMostOne, TakesLowering, UsesLowering, UsesSlot, UsesTrampoline, slots_in}
+use Rattle.pc_linearize.specs.Slots.{AtMostOne, TakesLowering, UsesLowering, UsesSlot, UsesTrampoline, slots_in}
+use Rattle.pc_linearize.specs.Standing.{CarriesNext, IsMadeLate, Makes, Piece, is_side_effect, steps_in}
 use Rattle.pc_numbers.specs.declared.module_entity.ModuleInternedTypeIndex.{ModuleInternedTypeIndex}
 use Rattle.pc_types.specs.declared.types.TypeDef.{TypeDef}
 use Rattle.pc_types.specs.declared.types.TypeDef.TheVariants as type
@@ -54,13 +56,21 @@ pub record NamesHeld (plan : ComponentTranslation) (types : Types) : Type 0 wher
   pub signatures : (n : ℕ) (o : CanonicalOptions) → slice_get plan.component.options n ≡ Some o
       → o.core_type.0 < length types.signatures
 
--- each options entry, slot, lowering and trampoline of a plan is named by what it has, what is named is there, and
--- nothing stands twice
+-- each options entry, slot, lowering and trampoline of a plan is named by what it has, what is named is there, nothing
+-- stands twice, and each step stands where it has to
 pub record IsTidy (plan : ComponentTranslation) : Type 0 where
   -- functions with equal options share an options entry, and no trampoline stands twice under a signature
   pub shared : AreDistinct plan.component.options
   pub apart : (i j : ℕ) (s : ModuleInternedTypeIndex) (x : PlanTrampoline) → StandsAt plan s x i → StandsAt plan s x j
       → i ≡ j
+  -- no two slots of a kind are filled with one definition, and no module of adapters is instantiated twice
+  pub slots_apart : (k : SlotKind) (d : Definition) → AtMostOne (FillsWith k d) (steps_in plan)
+  pub adapters_once : (m : ℕ) → AtMostOne (MakesAdapters m) (steps_in plan)
+  -- lowerings and slots carry their numbers in order, and a step that is no side effect stands before the first one
+  -- that leads to what it makes, with no other between, or behind them all where an export leads to it
+  pub carry : (i : ℕ) (s : Initializer) → slice_get (steps_in plan) i ≡ Some s → CarriesNext (take i (steps_in plan)) s
+  pub late : (i : ℕ) (s : Initializer) (x : Piece) → slice_get (steps_in plan) i ≡ Some s → is_side_effect s ≡ false
+      → Makes (take i (steps_in plan)) s x → IsMadeLate plan i x
   -- a lowering is that of one trampoline
   pub lowered_once : (n : ℕ)
       → AtMostOne (TakesLowering n) (trampolines_view 0 plan.component.trampolines plan.trampolines)

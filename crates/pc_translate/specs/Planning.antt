@@ -10,31 +10,26 @@ use Rattle.pc_types.specs.declared.parsed.Entity.TheVariants as entity
 use Rattle.pc_types.specs.declared.parsed.TypeTable.{TypeTable}
 use Rattle.pc_info.specs.declared.component.ComponentTranslation.{ComponentTranslation}
 use Rattle.pc_info.specs.declared.module.ModuleTranslation.{ModuleTranslation}
-use Rattle.pc_parsed.specs.declared.payload.ExternName.{ExternName}
 use Rattle.pc_parsed.specs.declared.payload.ItemKind.{ItemKind}
 use Rattle.pc_reading.specs.Item.{Items}
 use Rattle.pc_local.specs.declared.item.LocalInitializer.{LocalInitializer}
 use Rattle.pc_local.specs.declared.item.LocalInitializer.TheVariants as local
 use Rattle.pc_dfg.specs.declared.dfg.ComponentDfg.{ComponentDfg}
-use Rattle.pc_finish.specs.declared.error.FinishError.{FinishError}
-use Rattle.pc_finish.specs.declared.error.FinishError.TheVariants as finish_error
+use Rattle.pc_linearize.specs.declared.error.FinishError.{FinishError}
+use Rattle.pc_linearize.specs.declared.error.FinishError.TheVariants as finish_error
 use Rattle.pc_finish.specs.Finished.{IsFinished}
 use Rattle.pc_inline.specs.Inlines.{IsFault, StandsForReading}
-use Rattle.pc_inline.specs.Today.{is_built_kind}
-use Rattle.pc_inline.specs.declared.plain.TableKinds.{TableKinds}
+use Rattle.pc_frames.specs.Today.{is_built_kind}
+use Rattle.pc_frames.specs.declared.kinds.TableKinds.{TableKinds}
 
 -- why a graph has no plan, as an error of the translation
 abbrev pub error_of_finish : FinishError → Error
 error_of_finish finish_error.TooMany = error.TooMany
 error_of_finish finish_error.NoMemory = error.NoMemory
 
--- an argument of a component, of a kind that is built
-abbrev pub is_built_argument : List ℕ × ItemKind × ℕ → Bool
-is_built_argument a = is_built_kind a.1
-
--- an item that a component instance exports, of a kind that is built
-abbrev pub is_built_export : ExternName × ItemKind × ℕ → Bool
-is_built_export e = is_built_kind e.1
+-- what is named, an argument or an export of a component instance, is of a kind that is built
+abbrev pub has_built_kind : {N : Type 0} → N × ItemKind × ℕ → Bool
+has_built_kind x = is_built_kind x.1
 
 module _ (kinds : TableKinds) where
   -- an import of a kind that is built
@@ -54,8 +49,8 @@ module _ (kinds : TableKinds) where
   is_built_local (local.ModuleInstantiate m args) = true
   is_built_local (local.ModuleSynthetic items) = true
   is_built_local (local.ComponentStatic index vars) = true
-  is_built_local (local.ComponentInstantiate c args ty) = kinds.can_instantiate && list_all is_built_argument args
-  is_built_local (local.ComponentSynthetic exports ty) = list_all is_built_export exports
+  is_built_local (local.ComponentInstantiate c args ty) = kinds.can_instantiate && list_all has_built_kind args
+  is_built_local (local.ComponentSynthetic exports ty) = list_all has_built_kind exports
   is_built_local (local.AliasCoreExport k n name) = true
   is_built_local (local.AliasComponentExport k n name) = is_built_kind k
   is_built_local (local.AliasModule v) = true

@@ -25,8 +25,8 @@ use Rattle.pc_reading.specs.Outcome.{done}
 use Rattle.pc_reading.specs.Reading.{Reading}
 use Rattle.pc_reading.specs.Section.{modules_of}
 use Rattle.pc_reading.specs.World.{full}
-use Rattle.pc_inline.specs.Adds.{AddsTypes}
-use Rattle.pc_inline.specs.Totals.{GainsFew, HasTotal, IsPast}
+use Rattle.pc_frames.specs.Adds.{AddsTypes}
+use Rattle.pc_driver.specs.Totals.{GainsFew, HasTotal, IsPast}
 use Rattle.pc_translate.specs.Asked.{AreSigned, AsksHost, Declares}
 use Rattle.pc_translate.specs.Causes.{CanBeRead, HasCause, HasRoot, built_meaning, meaning}
 use Rattle.pc_translate.specs.Lists.{FindsExports, IsTidy, NamesHeld, NumbersItems}

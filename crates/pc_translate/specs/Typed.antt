@@ -9,7 +9,7 @@ use Rattle.pc_semantics.specs.Machine.{NeverStuck, owned_instances}
 use Rattle.pc_semantics.specs.PlanView.{PlanView}
 use Rattle.pc_semantics.specs.Trace.{run_trace}
 use Rattle.pc_reading.specs.Reading.{Reading}
-use Rattle.pc_inline.specs.Typed.{Numbered, number_of, whole_of}
+use Rattle.pc_frames.specs.Typed.{Numbered, number_of, whole_of}
 
 -- a plan does what a reading says, types and core signatures included: there are core instances, a trace and exports
 -- that have each type twice; with the numbers they are what the plan's run makes and ends with, with whole types the

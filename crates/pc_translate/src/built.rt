@@ -1,28 +1,24 @@
 //! Programs whose items are of kinds that are built.
 
-ghost use Rattle.std.specs.Prelude.{◌≡◌};
+ghost use Rattle.std.specs.Prelude.{◌≡◌, ◌&&◌};
 ghost use Rattle.std.specs.List.{list_all};
-ghost use Rattle.pc_inline.specs.Kinds.{kinds_of};
-ghost use Rattle.pc_translate.specs.Planning.{is_built_argument, is_built_entity, is_built_export, is_built_local};
+ghost use Rattle.pc_frames.specs.Kinds.{kinds_of};
+ghost use Rattle.pc_frames.specs.Plain.{is_plain_table};
+ghost use Rattle.pc_translate.specs.Planning.{has_built_kind, is_built_entity, is_built_local};
 
-use pc_entity::Text;
-use pc_inline::{TableKinds, is_built_kind, kinds_of};
+use pc_frames::{TableKinds, is_built_kind, is_plain_table, kinds_of};
 use pc_local::{LocalInitializer, LocalProgram};
-use pc_parsed::{ExternName, ItemKind};
+use pc_parsed::ItemKind;
 use pc_types::{Entity, TypeTable};
 
-fn are_built_arguments(args: &[(Text, ItemKind, u32)]) -> bool
-    ensures { result ≡ list_all is_built_argument args.now }
+/// Whether each named item is of a kind that is built.
+fn have_built_kinds<N>(named: &[(N, ItemKind, u32)]) -> bool
+    ensures { result ≡ list_all has_built_kind named.now }
 {
-    args.iter().all(|arg| is_built_kind(arg.1))
+    named.iter().all(|item| is_built_kind(item.1))
 }
 
-fn are_built_exports(exports: &[(ExternName, ItemKind, u32)]) -> bool
-    ensures { result ≡ list_all is_built_export exports.now }
-{
-    exports.iter().all(|export| is_built_kind(export.1))
-}
-
+/// Whether an import is of a kind that is built.
 fn is_built_entity(kinds: TableKinds, entity: Entity) -> bool
     ensures { result ≡ is_built_entity kinds entity }
 {
@@ -33,6 +29,7 @@ fn is_built_entity(kinds: TableKinds, entity: Entity) -> bool
     }
 }
 
+/// Whether a local item is of a kind that is built.
 fn is_built_item(kinds: TableKinds, item: &LocalInitializer) -> bool
     ensures { result ≡ is_built_local kinds item.now }
 {
@@ -48,10 +45,10 @@ fn is_built_item(kinds: TableKinds, item: &LocalInitializer) -> bool
         | LocalInitializer::AliasModule(_)
         | LocalInitializer::AliasComponent(_) => true,
         LocalInitializer::ComponentInstantiate { args, .. } => {
-            kinds.can_instantiate && are_built_arguments(args.as_slice())
+            kinds.can_instantiate && have_built_kinds(args.as_slice())
         }
         LocalInitializer::ComponentSynthetic { exports, .. } => {
-            are_built_exports(exports.as_slice())
+            have_built_kinds(exports.as_slice())
         }
         LocalInitializer::AliasComponentExport { kind, .. }
         | LocalInitializer::Export { kind, .. } => is_built_kind(*kind),
@@ -60,10 +57,18 @@ fn is_built_item(kinds: TableKinds, item: &LocalInitializer) -> bool
 }
 
 /// Whether each item of the root of a program is of a kind that is built.
-pub(crate) fn is_built_program(table: &TypeTable, program: &LocalProgram) -> bool
-    ensures { result ≡ list_all (is_built_local (kinds_of table.now)) program.now.root.initializers }
+fn are_built_items(kinds: TableKinds, program: &LocalProgram) -> bool
+    ensures { result ≡ list_all (is_built_local kinds) program.now.root.initializers }
 {
-    let kinds = kinds_of(table);
     let items = program.root.initializers.as_slice();
     items.iter().all(|item| is_built_item(kinds, item))
+}
+
+/// Whether each function of a type table is over primitives, and each item of the root of a program is of a kind that
+/// is built.
+pub(crate) fn is_built(table: &TypeTable, program: &LocalProgram) -> bool
+    ensures { result ≡ (is_plain_table table.now
+        && list_all (is_built_local (kinds_of table.now)) program.now.root.initializers) }
+{
+    is_plain_table(table) && are_built_items(kinds_of(table), program)
 }

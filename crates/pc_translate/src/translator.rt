@@ -1,6 +1,6 @@
 //! The top call over payloads.
 
-ghost use Rattle.std.specs.Prelude.{◌≡◌, [], false, true, map, None, Some, Err, is_some, IfErr, IfOk};
+ghost use Rattle.std.specs.Prelude.{◌≡◌, [], false, true, map, None, Some, Err, is_some, IfErr, IfOk, OnOk};
 ghost use Rattle.std.specs.List.{list_all};
 ghost use Rattle.std.specs.Option.{option_map};
 ghost use Rattle.pc_types.specs.Names.{distinct_names};
@@ -8,21 +8,22 @@ ghost use Rattle.pc_types.specs.Record.{is_sound};
 ghost use Rattle.pc_types.specs.Table.{table_fault};
 ghost use Rattle.pc_builder.specs.Types.{KeepsTypes, no_types};
 ghost use Rattle.pc_reading.specs.Item.{Items};
+ghost use Rattle.pc_local.specs.Program.{ProgramStands};
 ghost use Rattle.pc_local.specs.Standing.{BodyStands, no_names};
 ghost use Rattle.pc_inline.specs.Inlines.{export_name};
-ghost use Rattle.pc_inline.specs.Plain.{is_plain_table};
-ghost use Rattle.pc_inline.specs.Totals.{GainsFew};
-ghost use Rattle.pc_translate.specs.Causes.{HasCause};
+ghost use Rattle.pc_frames.specs.Plain.{is_plain_table};
+ghost use Rattle.pc_driver.specs.Totals.{GainsFew};
+ghost use Rattle.pc_translate.specs.Causes.{CanBeRead, HasCause, HasOwnCause};
 ghost use Rattle.pc_translate.specs.Planning.{Plans, as_handed_in, error_of_finish};
 ghost use Rattle.pc_translate.specs.Translation.{CountsGained, Gains, GainsCounted, IsPlanOf, IsRefusalOf};
 ghost use Rattle.pc_translate.specs.Translation.{Translates};
 
-use crate::built::is_built_program;
+use crate::built::is_built;
 use pc_builder::ComponentTypesBuilder;
 use pc_entity::{NoMemory, PrimaryMap, Seq, StaticModuleIndex};
 use pc_finish::{FinishError, finish};
 use pc_info::{ComponentTranslation, ModuleTranslation};
-use pc_inline::{inline_run, is_plain_table};
+use pc_inline::inline_run;
 use pc_local::{LocalProgram, translate_payloads};
 use pc_parsed::{Payload, Tunables, is_numbered, not_built};
 use pc_types::{Error, ModuleRecord, TypeTable};
@@ -47,6 +48,30 @@ fn translations(
         translations.push(ModuleTranslation { module, adapters })?;
     }
     Ok(PrimaryMap::from_vec(translations))
+}
+
+/// The local program of payloads, where each function of the type table and each item of the root is of a kind that is
+/// built.
+fn built_program(
+    alloc: Global,
+    table: &TypeTable,
+    exposed: Option<&str>,
+    payloads: &[Payload],
+) -> Result<LocalProgram, Error>
+    ensures program { IfOk result (ProgramStands (option_map (λ name. name.now) exposed.entry) payloads.now) }
+    ensures can { OnOk result
+        (CanBeRead table.now (option_map (λ name. name.now) exposed.entry) payloads.now) }
+    ensures refused { IfErr result
+        (HasOwnCause table.now (option_map (λ name. name.now) exposed.entry) payloads.now) }
+{
+    if !is_numbered(table, payloads) {
+        return Err(Error::TooMany);
+    }
+    let program = translate_payloads(alloc, table, exposed, payloads)?;
+    if !is_built(table, &program) {
+        return Err(not_built());
+    }
+    Ok(program)
 }
 
 /// Why a graph has no plan, as an error of the translation.
@@ -121,13 +146,7 @@ pub fn translate(
     ensures counts { IfOk result (λ _. CountsGained table.now (option_map (λ name. name.now) exposed.entry)
         tunables.now.max_component_instances payloads.now types.old types.new) }
 {
-    if !is_numbered(table, payloads) {
-        return Err(Error::TooMany);
-    }
-    let program = translate_payloads(alloc, table, exposed, payloads)?;
-    if !is_plain_table(table) || !is_built_program(table, &program) {
-        return Err(not_built());
-    }
+    let program = built_program(alloc, table, exposed, payloads)?;
     let plan = plan_of(alloc, tunables, table, types, &program)?;
     let modules = translations(alloc, program.modules)?;
     Ok((plan, modules))
