@@ -4,14 +4,14 @@ use pc_facts::{FactList, FactTable, TypeFacts};
 use pc_types::{InterfaceType, TypeStreamTableIndex};
 use std::test::*;
 
-// The fact of a string alone.
+/// The fact of a string alone.
 fn text() -> TypeFacts {
     let mut facts = TypeFacts::none();
     facts.string = true;
     facts
 }
 
-// The fact of a stream alone.
+/// The fact of a stream alone.
 fn stream() -> TypeFacts {
     let mut facts = TypeFacts::none();
     facts.stream = true;

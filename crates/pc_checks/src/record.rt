@@ -7,7 +7,7 @@ use pc_types::CoreKind;
 use std::alloc::Global;
 use std::test::*;
 
-// The second imported function stands behind the memory.
+/// The second imported function stands behind the memory.
 fn imports_are_found(index: &RecordIndex<'_>) -> bool {
     let second = EntityIndex::Function(FuncIndex(1));
     index.imported(CoreKind::Func) == 2
@@ -19,7 +19,7 @@ fn imports_are_found(index: &RecordIndex<'_>) -> bool {
         )
 }
 
-// The function that the module defines is the third, and has a name.
+/// The function that the module defines is the third, and has a name.
 fn the_rest_is_found(index: &RecordIndex<'_>) -> bool {
     index.func_sig(FuncIndex(2)) == Some(5)
         && index.memory64(MemoryIndex(0)).unwrap_or(false)
@@ -30,7 +30,7 @@ fn the_rest_is_found(index: &RecordIndex<'_>) -> bool {
         && index.record().tables == 1
 }
 
-// Whether all is found in the index of a record.
+/// Whether all is found in the index of a record.
 fn all_is_found(alloc: Global) -> Result<bool, NoMemory> {
     let record = record(alloc)?;
     if record.imports.len() > 9 {

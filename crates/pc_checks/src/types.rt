@@ -8,7 +8,7 @@ use pc_types::{
 use std::alloc::Global;
 use std::test::*;
 
-// What a table of these entries is answered.
+/// What a table of these entries is answered.
 fn checked(alloc: Global, types: Seq<DeclType>) -> Result<(), Error> {
     let core_funcs = Seq::new(alloc);
     let table = TypeTable { core_funcs, types };
@@ -24,7 +24,7 @@ fn with<T: Drop>(mut list: Seq<T>, item: T) -> Result<Seq<T>, NoMemory> {
     Ok(list)
 }
 
-// A resource and a handle on it.
+/// A resource and a handle on it.
 fn resource_with_handle(alloc: Global) -> Result<Seq<DeclType>, NoMemory> {
     let types = with(Seq::new(alloc), DeclType::Resource)?;
     with(types, DeclType::Own(0))
@@ -40,14 +40,14 @@ fn import(alloc: Global, entity: CoreEntity) -> (Text, Text, CoreEntity) {
     (Text::new(alloc), Text::new(alloc), entity)
 }
 
-// Functions of signatures 2 and 3 around a memory.
+/// Functions of signatures 2 and 3 around a memory.
 fn imports(alloc: Global) -> Result<Seq<(Text, Text, CoreEntity)>, NoMemory> {
     let list = with(Seq::new(alloc), import(alloc, CoreEntity::Func(2)))?;
     let list = with(list, import(alloc, CoreEntity::Memory { memory64: true }))?;
     with(list, import(alloc, CoreEntity::Func(3)))
 }
 
-// The third function, under the name `run`.
+/// The third function, under the name `run`.
 fn exports(alloc: Global) -> Result<Seq<(Text, EntityIndex)>, NoMemory> {
     let run = Text::copy_of(alloc, "run")?;
     with(Seq::new(alloc), (run, EntityIndex::Function(FuncIndex(2))))
@@ -66,7 +66,7 @@ pub(crate) fn record(alloc: Global) -> Result<ModuleRecord, NoMemory> {
     })
 }
 
-// The second imported function stands behind the memory.
+/// The second imported function stands behind the memory.
 fn imports_are_found(record: &ModuleRecord) -> bool {
     let second = EntityIndex::Function(FuncIndex(1));
     record.imported(CoreKind::Func) == 2
@@ -80,7 +80,7 @@ fn imports_are_found(record: &ModuleRecord) -> bool {
         )
 }
 
-// The function that the module defines is the third, and has a name.
+/// The function that the module defines is the third, and has a name.
 fn the_rest_is_found(record: &ModuleRecord) -> bool {
     record.defined(CoreKind::Table) == 1
         && record.func_sig(FuncIndex(2)) == Some(5)

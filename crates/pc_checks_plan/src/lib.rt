@@ -8,6 +8,8 @@ mod graph;
 #[cfg(test)]
 mod interned;
 #[cfg(test)]
+mod items;
+#[cfg(test)]
 mod laid_out;
 #[cfg(test)]
 mod layouts;

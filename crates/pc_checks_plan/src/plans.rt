@@ -2,6 +2,7 @@
 
 ghost use Rattle.std.specs.Prelude.{◌≡◌, length, IfOk};
 
+use crate::items::items_are_definitions;
 use pc_entity::{
     DefinedResourceIndex, EntityIndex, ExportIndex, FuncIndex, GlobalIndex, MemoryIndex, NoMemory,
     PrimaryMap, ResourceIndex, RuntimeImportIndex, RuntimeInstanceIndex, TableIndex, TagIndex,
@@ -51,18 +52,7 @@ fn is_entity(def: &CoreDef, entity: EntityIndex) -> bool {
 
 #[test]
 fn an_item_is_a_definition(rt: HostRuntime) {
-    let func = CoreDef::from(item_of(FuncIndex(2)));
-    assert!(rt; is_entity(&func, EntityIndex::Function(FuncIndex(2))));
-    let table = CoreDef::from(item_of(TableIndex(2)));
-    assert!(rt; is_entity(&table, EntityIndex::Table(TableIndex(2))));
-    let memory = CoreDef::from(item_of(MemoryIndex(2)));
-    assert!(rt; is_entity(&memory, EntityIndex::Memory(MemoryIndex(2))));
-    let global = CoreDef::from(item_of(GlobalIndex(2)));
-    assert!(rt; is_entity(&global, EntityIndex::Global(GlobalIndex(2))));
-    let tag = CoreDef::from(item_of(TagIndex(2)));
-    assert!(rt; is_entity(&tag, EntityIndex::Tag(TagIndex(2))));
-    let any = CoreDef::from(item_of(EntityIndex::Tag(TagIndex(3))));
-    assert!(rt; is_entity(&any, EntityIndex::Tag(TagIndex(3))));
+    items_are_definitions!(rt);
 }
 
 #[test]

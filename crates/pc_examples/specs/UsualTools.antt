@@ -141,8 +141,10 @@ after_resource n fields = and_field (codes "r") (resource_of (concrete (imported
 -- the four host instances
 abbrev pub usual_imports : List HostImport
 usual_imports =
-    import_named (codes "a") (instance_of (after_resource 0 (functions_named (codes "f0" ∷ codes "f1" ∷ codes "f2" ∷ []))))
-    ∷ import_named (codes "b") (instance_of (after_resource 1 (functions_named (codes "f3" ∷ codes "f4" ∷ codes "f5" ∷ []))))
+    import_named (codes "a")
+    (instance_of (after_resource 0 (functions_named (codes "f0" ∷ codes "f1" ∷ codes "f2" ∷ []))))
+    ∷ import_named (codes "b")
+    (instance_of (after_resource 1 (functions_named (codes "f3" ∷ codes "f4" ∷ codes "f5" ∷ []))))
     ∷ import_named (codes "c") (instance_of (functions_named (codes "f6" ∷ codes "f7" ∷ codes "f8" ∷ [])))
     ∷ import_named (codes "d") (instance_of (functions_named (codes "f9" ∷ codes "f10" ∷ []))) ∷ []
 

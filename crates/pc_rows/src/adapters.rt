@@ -5,8 +5,8 @@ use pc_tool::Status;
 use std::alloc::{AllocError, Global};
 use std::test::Fail;
 
-/// Lowered functions of components, in each place where a function can stand, and where the lowering is told. One is over
-/// a table with a resource, and is refused as a whole.
+/// Lowered functions of components, in each place where a function can stand, and where the lowering is told. One is
+/// over a table with a resource, and is refused as a whole.
 const ADAPTERS: [(&str, &str); 6] = [
     // async lower
     (

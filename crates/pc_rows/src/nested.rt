@@ -8,8 +8,8 @@ use pc_tool::Status;
 use std::alloc::{AllocError, Global};
 use std::test::Fail;
 
-/// Components that are never instantiated: one without content, one that stands in another, and one that imports the name
-/// of the intrinsics, which is that of the root alone.
+/// Components that are never instantiated: one without content, one that stands in another, and one that imports the
+/// name of the intrinsics, which is that of the root alone.
 const DEFINED: [(&str, &str); 3] = [
     (
         r#"{"limit":100,"intrinsics":null,"types":{"core":[],"types":[]},
@@ -29,7 +29,8 @@ const DEFINED: [(&str, &str); 3] = [
     ),
 ];
 
-/// A component that captures what isn't there, which is found where it is defined, and one that captures what comes later.
+/// A component that captures what isn't there, which is found where it is defined, and one that captures what comes
+/// later.
 const BAD_CAPTURES: [(&str, &str); 2] = [
     (
         r#"{"limit":100,"intrinsics":null,"types":{"core":[],"types":[{"module":[[],[]]}]},

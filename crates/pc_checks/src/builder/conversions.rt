@@ -34,7 +34,7 @@ fn converts(rt: &impl Abort, alloc: Global, types: &mut ComponentTypesBuilder, t
     holds(rt, "function", converts_again(alloc, types, table));
 }
 
-// The component is of the other entries, so that each of them is converted with it.
+/// The component is of the other entries, so that each of them is converted with it.
 fn converts_last(rt: &impl Abort, types: &mut ComponentTypesBuilder, table: &TypeTable)
     requires sound { table_fault table.now ≡ None }
 {
@@ -61,7 +61,7 @@ fn converts_externs(rt: &impl Abort, types: &mut ComponentTypesBuilder, table: &
     holds(rt, "module", module == Ok(TypeModuleIndex(0)));
 }
 
-// Entry 11 is another name of entry 10.
+/// Entry 11 is another name of entry 10.
 fn converts_parts(rt: &impl Abort, types: &mut ComponentTypesBuilder, table: &TypeTable)
     requires sound { table_fault table.now ≡ None }
 {
@@ -81,7 +81,7 @@ fn converts_parts(rt: &impl Abort, types: &mut ComponentTypesBuilder, table: &Ty
     holds(rt, "signature", signature == Ok(ModuleInternedTypeIndex(0)));
 }
 
-// Whether the function has its number for a caller that keeps what was converted.
+/// Whether the function has its number for a caller that keeps what was converted.
 fn converts_again(alloc: Global, types: &mut ComponentTypesBuilder, table: &TypeTable) -> bool
     requires sound { table_fault table.now ≡ None }
 {
@@ -113,7 +113,7 @@ const KINDS: [TypeKind; 17] = [
     TypeKind::Signature,
 ];
 
-// That so many tuples are held, and so many types of each other kind.
+/// That so many tuples are held, and so many types of each other kind.
 fn holds_of_each(rt: &impl Abort, types: &ComponentTypesBuilder, tuples: usize, others: usize) {
     for kind in KINDS.iter() {
         let want = wanted(*kind, tuples, others);

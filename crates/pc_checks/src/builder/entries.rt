@@ -80,7 +80,7 @@ fn string() -> ValType {
     ValType::Prim(PrimType::String)
 }
 
-// The type of the entry before this one, or a string.
+/// The type of the entry before this one, or a string.
 fn before(n: u32) -> ValType {
     if n == 0 {
         string()
@@ -117,7 +117,7 @@ fn entry(alloc: Global, n: u32) -> Result<DeclType, NoMemory> {
     }
 }
 
-// The entries that take no memory.
+/// The entries that take no memory.
 fn small_entry(n: u32) -> DeclType {
     match n {
         0 => DeclType::Resource,
@@ -139,7 +139,7 @@ fn record_of(alloc: Global, a: ValType, b: ValType) -> Result<DeclType, NoMemory
     Ok(DeclType::Record(two(alloc, a, b)?))
 }
 
-// A variant of a case with no value, and one with a value.
+/// A variant of a case with no value, and one with a value.
 fn variant_of(alloc: Global, value: ValType) -> Result<DeclType, NoMemory> {
     Ok(DeclType::Variant(two(alloc, None, Some(value))?))
 }
@@ -157,7 +157,7 @@ fn enum_of_one(alloc: Global) -> Result<DeclType, NoMemory> {
     Ok(DeclType::Enum(one_name(alloc)?))
 }
 
-// An async function of the pair and the stream, which gives the future.
+/// An async function of the pair and the stream, which gives the future.
 fn func_entry(alloc: Global) -> Result<DeclType, NoMemory> {
     Ok(DeclType::Func {
         params: two(alloc, ValType::Type_(6), ValType::Type_(12))?,
@@ -202,7 +202,7 @@ fn one_import(alloc: Global, e: CoreEntity) -> Result<Seq<(Text, Text, CoreEntit
     Ok(list)
 }
 
-// The names `a` and `b`.
+/// The names `a` and `b`.
 fn two<V: Copy>(alloc: Global, a: V, b: V) -> Result<Seq<(Text, V)>, NoMemory> {
     let mut list = Seq::new(alloc);
     push_named(alloc, &mut list, "a", a)?;

@@ -13,7 +13,7 @@ use std::alloc::Global;
 use std::process::Abort;
 use std::test::*;
 
-// A look through the table for each of its entries would take minutes.
+/// A look through the table for each of its entries would take minutes.
 #[test]
 fn each_of_a_long_chain_is_met_once(rt: HostRuntime) {
     let table = table_of(&rt, rt.alloc(), Shape::Chain);
@@ -23,7 +23,7 @@ fn each_of_a_long_chain_is_met_once(rt: HostRuntime) {
     is_number(&rt, "lists", types.held(TypeKind::List), 200_000);
 }
 
-// Whether each entry of a chain, from the last to the first, is the list of its number.
+/// Whether each entry of a chain, from the last to the first, is the list of its number.
 fn are_lists(
     alloc: Global,
     types: &mut ComponentTypesBuilder,
@@ -42,7 +42,7 @@ fn are_lists(
     Ok(true)
 }
 
-// The tree of the last entry has 2 ^ 60 leaves.
+/// The tree of the last entry has 2 ^ 60 leaves.
 #[test]
 fn a_diamond_is_converted(rt: HostRuntime) {
     let table = table_of(&rt, rt.alloc(), Shape::Diamond);

@@ -99,7 +99,7 @@ fn reads_enum(types: &ComponentTypesBuilder) -> bool {
     types.enum_type(TypeEnumIndex(0)).names.len() == 1
 }
 
-// A resource that isn't known is abstract.
+/// A resource that isn't known is abstract.
 fn reads_resource_table(types: &ComponentTypesBuilder) -> bool {
     if types.held(TypeKind::ResourceTable) == 0 {
         return false;
@@ -171,8 +171,8 @@ fn reads_func(rt: &impl Abort, types: &ComponentTypesBuilder) {
     );
 }
 
-// The function takes a pair that holds a list and an error context, and a stream, and gives a future. What the stream
-// carries isn't entered.
+/// The function takes a pair that holds a list and an error context, and a stream, and gives a future. What the stream
+/// carries isn't entered.
 fn reads_facts(rt: &impl Abort, types: &ComponentTypesBuilder, i: TypeFuncIndex)
     requires { i.0 < length types.now.funcs }
 {

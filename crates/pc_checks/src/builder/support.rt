@@ -8,18 +8,18 @@ use std::alloc::Global;
 use std::process::Abort;
 use std::test::*;
 
-// That a number is as it has to be. All numbers are compared here, since each `assert_eq` is proved anew where it
-// stands.
+/// That a number is as it has to be. All numbers are compared here, since each `assert_eq` is proved anew where it
+/// stands.
 pub fn is_number(rt: &impl Abort, what: &str, found: usize, want: usize) {
     assert_eq!(rt; found, want, "{what}");
 }
 
-// That something holds.
+/// That something holds.
 pub fn holds(rt: &impl Abort, what: &str, holds: bool) {
     assert!(rt; holds, "{what}");
 }
 
-// Whether a table is sound, and short enough to ask.
+/// Whether a table is sound, and short enough to ask.
 pub fn is_sound(alloc: Global, table: &TypeTable) -> bool
     ensures { result ≡ true → table_fault table.now ≡ None }
 {

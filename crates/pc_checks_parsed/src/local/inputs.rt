@@ -20,8 +20,8 @@ pub(crate) fn program(alloc: Global, input: &Input) -> Result<LocalProgram, Erro
 }
 
 /// What stands before the payloads: the exposed name `i`, and a small type table.
-const BEGIN: &str =
-    r#"{"limit":100,"intrinsics":"i","types":{"core":[[[],[]]],"types":[{"module":[[],[]]},{"instance":[]},"resource"]},"payloads":["#;
+const BEGIN: &str = r#"{"limit":100,"intrinsics":"i",
+    "types":{"core":[[[],[]]],"types":[{"module":[[],[]]},{"instance":[]},"resource"]},"payloads":["#;
 
 /// The text of an input with the exposed name `i`, a small type table and these payloads.
 fn text_of(alloc: Global, payloads: &str) -> Result<String, AllocError> {

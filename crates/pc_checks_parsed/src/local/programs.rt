@@ -24,20 +24,28 @@ fn is_program(alloc: Global, payloads: &str, wanted: &str) -> Result<bool, Fail>
 const ITEMS: [(&str, &str); 5] = [
     (r#""version","end""#, "0 exports"),
     (
-        r#""version","custom",{"types":["other",{"resource":[2,"i32",null]}]},{"imports":[["i",["instance",1]],["j",["instance",1]]]},"end""#,
+        r#""version","custom",{"types":["other",{"resource":[2,"i32",null]}]},
+           {"imports":[["i",["instance",1]],["j",["instance",1]]]},"end""#,
         "resource; intrinsics; import; 0 exports",
     ),
     (
-        r#""version",{"canon":[["lift",0,0,0,[]],["lower",0,0,0,[]],["task.cancel",0],["waitable-set.wait",0,0],["task.return",0,null,[]],["error-context.drop",0],["context.get",0,"i32",1],["thread.new-indirect",0,0,0]]},"end""#,
+        r#""version",{"canon":[["lift",0,0,0,[]],["lower",0,0,0,[]],["task.cancel",0],["waitable-set.wait",0,0],
+           ["task.return",0,null,[]],["error-context.drop",0],["context.get",0,"i32",1],
+           ["thread.new-indirect",0,0,0]]},"end""#,
         "lift; lower; builtin; waitable; task-return; error-context; context; thread; 0 exports",
     ),
     (
-        r#""version",{"instances":[{"instantiate":[0,[]]},{"exports":[]}]},{"component-instances":[{"instantiate":[0,[],1]},{"exports":[[],1]}]},{"aliases":[{"export":["func",0,"f"]},{"core-export":["func",0,"f"]},{"outer":["type",0,0]}]},{"exports":[["f","func",0],["g","type",0]]},"end""#,
+        r#""version",{"instances":[{"instantiate":[0,[]]},{"exports":[]}]},
+           {"component-instances":[{"instantiate":[0,[],1]},{"exports":[[],1]}]},
+           {"aliases":[{"export":["func",0,"f"]},{"core-export":["func",0,"f"]},{"outer":["type",0,0]}]},
+           {"exports":[["f","func",0],["g","type",0]]},"end""#,
         "instance; bag; component-instance; items; alias; core-alias; export; export; 2 exports",
     ),
     (
-        r#""version","component","version",{"imports":[["i",["instance",1]]]},{"exports":[["x","func",0]]},"end",{"exports":[["y","func",0],["z","func",0]]},"component","version","end","end""#,
-        "component 0 modules components; export; export; component 1 modules components; 2 exports | import; export; 1 exports | 0 exports",
+        r#""version","component","version",{"imports":[["i",["instance",1]]]},{"exports":[["x","func",0]]},"end",
+           {"exports":[["y","func",0],["z","func",0]]},"component","version","end","end""#,
+        "component 0 modules components; export; export; component 1 modules components; 2 exports | \
+         import; export; 1 exports | 0 exports",
     ),
 ];
 
@@ -58,13 +66,22 @@ const CAPTURES: [(&str, &str); 3] = [
     ),
     // Two levels out, twice the same, and another.
     (
-        r#""version","component","version","component","version",{"aliases":[{"outer":["core-module",2,3]},{"outer":["core-module",2,3]},{"outer":["core-module",1,3]},{"outer":["component",2,1]}]},"end",{"aliases":[{"outer":["core-module",1,3]},{"outer":["component",1,4]}]},"end","end""#,
-        "component 1 modules local 3 components local 1 local 4; 0 exports | outer-module upvar 0; outer-module upvar 0; outer-module upvar 1; outer-component upvar 0; 0 exports | component 0 modules upvar 0 local 3 components upvar 0; outer-module upvar 0; outer-component upvar 1; 0 exports",
+        r#""version","component","version","component","version",
+           {"aliases":[{"outer":["core-module",2,3]},{"outer":["core-module",2,3]},{"outer":["core-module",1,3]},
+           {"outer":["component",2,1]}]},"end",
+           {"aliases":[{"outer":["core-module",1,3]},{"outer":["component",1,4]}]},"end","end""#,
+        "component 1 modules local 3 components local 1 local 4; 0 exports | outer-module upvar 0; \
+         outer-module upvar 0; outer-module upvar 1; outer-component upvar 0; 0 exports | component 0 modules upvar 0 \
+         local 3 components upvar 0; outer-module upvar 0; outer-component upvar 1; 0 exports",
     ),
     // Two bodies beside each other share the variable of the one around them.
     (
-        r#""version","component","version","component","version",{"aliases":[{"outer":["component",2,0]}]},"end","component","version",{"aliases":[{"outer":["component",2,1]},{"outer":["component",2,0]}]},"end","end","end""#,
-        "component 2 modules components local 0 local 1; 0 exports | outer-component upvar 0; 0 exports | outer-component upvar 0; outer-component upvar 1; 0 exports | component 0 modules components upvar 0; component 1 modules components upvar 1 upvar 0; 0 exports",
+        r#""version","component","version","component","version",{"aliases":[{"outer":["component",2,0]}]},"end",
+           "component","version",{"aliases":[{"outer":["component",2,1]},{"outer":["component",2,0]}]},"end",
+           "end","end""#,
+        "component 2 modules components local 0 local 1; 0 exports | outer-component upvar 0; 0 exports | \
+         outer-component upvar 0; outer-component upvar 1; 0 exports | component 0 modules components upvar 0; \
+         component 1 modules components upvar 1 upvar 0; 0 exports",
     ),
 ];
 

@@ -22,7 +22,8 @@ const FAULTS: [(&str, Error); 5] = [
         }),
     ),
     (
-        r#""version","component","version",{"aliases":[{"outer":["core-module",1,0]},{"outer":["component",2,0]}]},"end","end""#,
+        r#""version","component","version",
+           {"aliases":[{"outer":["core-module",1,0]},{"outer":["component",2,0]}]},"end","end""#,
         Error::Malformed(Place::Payload {
             payload: 3,
             item: 1,

@@ -1,5 +1,6 @@
 //! Items as definitions, and how they are mapped.
 
+use crate::items::items_are_definitions;
 use pc_dfg::{CoreDef, CoreExport, ExportItem, InstanceId};
 use pc_entity::{EntityIndex, FuncIndex, GlobalIndex, MemoryIndex, TableIndex, TagIndex, Text};
 use std::test::Fail;
@@ -19,18 +20,7 @@ fn is_entity(def: &CoreDef, entity: EntityIndex) -> bool {
 
 #[test]
 fn an_item_is_a_definition(rt: HostRuntime) {
-    let func = CoreDef::from(item_of(FuncIndex(2)));
-    assert!(rt; is_entity(&func, EntityIndex::Function(FuncIndex(2))));
-    let table = CoreDef::from(item_of(TableIndex(2)));
-    assert!(rt; is_entity(&table, EntityIndex::Table(TableIndex(2))));
-    let memory = CoreDef::from(item_of(MemoryIndex(2)));
-    assert!(rt; is_entity(&memory, EntityIndex::Memory(MemoryIndex(2))));
-    let global = CoreDef::from(item_of(GlobalIndex(2)));
-    assert!(rt; is_entity(&global, EntityIndex::Global(GlobalIndex(2))));
-    let tag = CoreDef::from(item_of(TagIndex(2)));
-    assert!(rt; is_entity(&tag, EntityIndex::Tag(TagIndex(2))));
-    let any = CoreDef::from(item_of(EntityIndex::Tag(TagIndex(3))));
-    assert!(rt; is_entity(&any, EntityIndex::Tag(TagIndex(3))));
+    items_are_definitions!(rt);
 }
 
 #[test]

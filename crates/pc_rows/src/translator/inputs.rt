@@ -10,8 +10,8 @@ const PAYLOADS: &str = r#"]},
            "tags":0,"exports":[["f","func",0]]}},{"instances":[{"instantiate":[0,[]]}]},
            {"aliases":[{"core-export":["func",0,"f"]}]},{"canon":["#;
 
-/// A text in which a module type stands before these entries of the type table. The function of a core instance is lifted
-/// as these items say, and these functions are exported.
+/// A text in which a module type stands before these entries of the type table. The function of a core instance is
+/// lifted as these items say, and these functions are exported.
 pub(crate) fn text_of(
     alloc: Global,
     signatures: &str,

@@ -9,13 +9,13 @@ use pc_types::Error;
 use std::alloc::{AllocError, Global};
 use std::test::*;
 
-// A plan, without its modules.
+/// A plan, without its modules.
 fn plan_of(alloc: Global, input: &Input) -> Result<ComponentTranslation, Error> {
     let payloads = input.payloads.as_slice();
     Ok(plan_payloads(alloc, &input.tunables, &input.table, None, payloads)?.0)
 }
 
-// Whether there is one core instance, and an export is found under this name.
+/// Whether there is one core instance, and an export is found under this name.
 fn has_one_export(alloc: Global, input: &Input, name: &str) -> Result<bool, Error> {
     let component = plan_of(alloc, input)?.component;
     let is_found = component
@@ -48,7 +48,7 @@ const LIFTS: [(&str, usize); 3] = [
     ),
 ];
 
-// How many options entries three lifts have.
+/// How many options entries three lifts have.
 fn options_of(alloc: Global, lifts: &str) -> Result<usize, Fail> {
     let input = lifted(
         alloc,
@@ -66,7 +66,7 @@ fn two_lifts_under_two_signatures_have_two_options_entries(rt: HostRuntime) -> R
     Ok(())
 }
 
-// A lift of each of so many types.
+/// A lift of each of so many types.
 fn lifts_of(alloc: Global, count: usize) -> Result<String, AllocError> {
     let mut lifts = String::from_str(alloc, r#"["lift",0,1,0,[]]"#)?;
     for ty in 2..count {
@@ -75,7 +75,7 @@ fn lifts_of(alloc: Global, count: usize) -> Result<String, AllocError> {
     Ok(lifts)
 }
 
-// A signature of a million parameters, and lifts of many types under it.
+/// A signature of a million parameters, and lifts of many types under it.
 fn many_types(alloc: Global) -> Result<String, AllocError> {
     let parameters = r#""i32","#.repeat(alloc, 999_999)?;
     let signature = format!(in alloc; r#"[[{parameters}"i32"],[]]"#)?;
@@ -85,7 +85,7 @@ fn many_types(alloc: Global) -> Result<String, AllocError> {
     text_of(alloc, &signature, &types, &lifts, r#"["run","func",0]"#)
 }
 
-// A look through the table for each lift, or a look at its signature, would take minutes.
+/// A look through the table for each lift, or a look at its signature, would take minutes.
 #[test]
 fn many_types_are_each_met_once(rt: HostRuntime) -> Result<(), Fail> {
     let text = many_types(rt.alloc())?;

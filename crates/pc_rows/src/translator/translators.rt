@@ -8,7 +8,7 @@ use pc_types::{Error, Place, TypeKind};
 use std::alloc::Global;
 use std::test::*;
 
-// How many options entries the plan has that goes into a builder.
+/// How many options entries the plan has that goes into a builder.
 fn options_into(
     alloc: Global,
     types: &mut ComponentTypesBuilder,
@@ -19,7 +19,7 @@ fn options_into(
     Ok(plan.0.component.options.len())
 }
 
-// The same by a translator.
+/// The same by a translator.
 fn options_by_translator(
     alloc: Global,
     types: &mut ComponentTypesBuilder,
@@ -30,7 +30,8 @@ fn options_by_translator(
     Ok(plan.0.component.options.len())
 }
 
-// Whether a plan and the same plan by a translator have one options entry each, and the builder one type of a function.
+/// Whether a plan and the same plan by a translator have one options entry each, and the builder one type of a
+/// function.
 fn gains_a_type_once(
     alloc: Global,
     types: &mut ComponentTypesBuilder,
@@ -49,7 +50,7 @@ fn a_builder_gains_the_types_of_a_plan_once(rt: HostRuntime) -> Result<(), Fail>
     Ok(())
 }
 
-// What a translator answers that exposes the unsafe intrinsics as `unsafe`: how many options entries the plan has.
+/// What a translator answers that exposes the unsafe intrinsics as `unsafe`: how many options entries the plan has.
 fn options_beside_intrinsics(
     alloc: Global,
     types: &mut ComponentTypesBuilder,
