@@ -26,9 +26,9 @@ use Rattle.pc_parsed.specs.declared.payload.AliasItem.TheVariants as alias
 use Rattle.pc_parsed.specs.declared.payload.Payload.{Payload}
 use Rattle.pc_parsed.specs.declared.payload.Payload.TheVariants as payload
 use Rattle.pc_form.specs.declared.input.Input.{Input}
-use Rattle.pc_form.specs.Tree.{◌>>=◌}
-use Rattle.pc_form.specs.Names.{bare_name}
-use Rattle.pc_form.specs.Types.{signature}
+use Rattle.pc_json.specs.Tree.{◌>>=◌}
+use Rattle.pc_json.specs.Names.{bare_name}
+use Rattle.pc_json.specs.Types.{signature}
 
 -- each text is read by f as the value beside it
 abbrev pub AreRead : {A : Type 0} → (Data → Option A) → List (List ℕ × A) → Type 0

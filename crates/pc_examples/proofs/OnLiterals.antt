@@ -1,10 +1,10 @@
 -- Computing the reading of a text, and its first static fault.
 use Rattle.std.specs.Prelude.{⊤}
 use Rattle.serde_json.proofs.OnLiterals.{serde_json_on_literals}
-use Rattle.pc_form.specs.Words.{core_types, prim_types, core_kinds, item_kinds, outer_kinds}
-use Rattle.pc_form.specs.Names.{extern_name, core_item}
-use Rattle.pc_form.specs.Types.{core_sig, val_type, entity_kinds, entity, bare_core_entities, core_entity}
-use Rattle.pc_form.specs.Types.{func_members, func_type, value_keys, entry_keys, decl_type, type_table}
+use Rattle.pc_json.specs.Words.{core_types, prim_types, core_kinds, item_kinds, outer_kinds}
+use Rattle.pc_json.specs.Names.{extern_name, core_item}
+use Rattle.pc_json.specs.Types.{core_sig, val_type, entity_kinds, entity, bare_core_entities, core_entity}
+use Rattle.pc_json.specs.Types.{func_members, func_type, value_keys, entry_keys, decl_type, type_table}
 use Rattle.pc_form.specs.Canon.{option_words, option_kinds, canon_option, of_nothing, of_signature, of_index}
 use Rattle.pc_form.specs.Canon.{of_flag, of_options, of_one, of_cancel, of_copy, of_slot, of_start}
 use Rattle.pc_form.specs.Canon.{of_two_numbered, of_two_with_options, of_two, of_function, of_four, canon_from}

@@ -9,8 +9,8 @@ use Rattle.pc_semantics.specs.ExportNode.{NamedNode}
 use Rattle.pc_semantics.specs.Log.{Entry}
 use Rattle.pc_parsed.specs.Mark.{Mark}
 use Rattle.pc_form.specs.declared.input.Input.{Input}
-use Rattle.pc_form.specs.Tree.{◌>>=◌}
-use Rattle.pc_form.specs.Rules.{plain}
+use Rattle.pc_json.specs.Tree.{◌>>=◌}
+use Rattle.pc_json.specs.Rules.{plain}
 use Rattle.pc_form.specs.Input.{input_of}
 use Rattle.pc_reading.specs.Outcome.{Outcome, Fault, done, fault, unsupported, and_then}
 use Rattle.pc_reading.specs.Reading.{Reading, reading}

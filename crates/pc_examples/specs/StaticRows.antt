@@ -6,8 +6,8 @@ use Rattle.pc_types.specs.declared.error.Error.TheVariants as error
 use Rattle.pc_types.specs.declared.error.Place.TheVariants as place
 use Rattle.pc_types.specs.declared.error.Unsupported.{Unsupported}
 use Rattle.pc_form.specs.declared.input.Input.{Input}
-use Rattle.pc_form.specs.Tree.{◌>>=◌}
-use Rattle.pc_form.specs.Rules.{plain}
+use Rattle.pc_json.specs.Tree.{◌>>=◌}
+use Rattle.pc_json.specs.Rules.{plain}
 use Rattle.pc_form.specs.Input.{input_of}
 use Rattle.pc_parsed.specs.StaticFault.{static_fault}
 

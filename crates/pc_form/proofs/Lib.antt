@@ -1,3 +1,2 @@
 -- Lemmas that the answers cite.
-pub mod Trees
 pub mod Inputs

@@ -10,9 +10,9 @@ use Rattle.pc_parsed.specs.declared.canon.CanonItem.{CanonItem}
 use Rattle.pc_parsed.specs.declared.canon.CanonItem.TheVariants as canon
 use Rattle.pc_parsed.specs.declared.canon.CanonOption.{CanonOption}
 use Rattle.pc_parsed.specs.declared.canon.CanonOption.TheVariants as option
-use Rattle.pc_form.specs.Tree.{◌>>=◌, whole, word, or_null, each, headed, numbered}
-use Rattle.pc_form.specs.Words.{core_types}
-use Rattle.pc_form.specs.Types.{val_type}
+use Rattle.pc_json.specs.Tree.{◌>>=◌, whole, word, or_null, each, headed, numbered}
+use Rattle.pc_json.specs.Words.{core_types}
+use Rattle.pc_json.specs.Types.{val_type}
 
 -- options that are words
 unfoldable pub option_words : List (List ℕ × CanonOption)

@@ -3,12 +3,12 @@ use Rattle.std.specs.Prelude.{◌≡◌, ℕ, List, Option, Some, None, codes, i
 use Rattle.std.specs.Str.{is_utf8}
 use Rattle.serde_json.specs.Data.{Data}
 use Rattle.serde_json.specs.Read.{read}
-use Rattle.pc_form.specs.declared.error.DecodeError.{DecodeError}
-use Rattle.pc_form.specs.declared.error.DecodeError.TheVariants as error
+use Rattle.pc_json.specs.declared.error.DecodeError.{DecodeError}
+use Rattle.pc_json.specs.declared.error.DecodeError.TheVariants as error
 use Rattle.pc_form.specs.declared.input.Input.{Input}
-use Rattle.pc_form.specs.Tree.{◌>>=◌, whole, or_null, each, exactly, field}
-use Rattle.pc_form.specs.Rules.{Rules, plain}
-use Rattle.pc_form.specs.Types.{type_table}
+use Rattle.pc_json.specs.Tree.{◌>>=◌, whole, or_null, each, exactly, field}
+use Rattle.pc_json.specs.Rules.{Rules, plain}
+use Rattle.pc_json.specs.Types.{type_table}
 use Rattle.pc_form.specs.Payload.{payload_of}
 
 -- what the members that every form has say

@@ -1,12 +1,7 @@
 -- What the public contract rests on, in reading order.
-pub mod Tree
-pub mod Rules
-pub mod Words
-pub mod Names
-pub mod Types
 pub mod Canon
 pub mod Module
 pub mod Payload
 pub mod Input
 -- What the functions inside promise each other.
-pub mod Reads
+pub mod Bytes

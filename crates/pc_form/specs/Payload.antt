@@ -16,12 +16,12 @@ use Rattle.pc_parsed.specs.declared.payload.AliasItem.{AliasItem}
 use Rattle.pc_parsed.specs.declared.payload.AliasItem.TheVariants as alias
 use Rattle.pc_parsed.specs.declared.payload.Payload.{Payload}
 use Rattle.pc_parsed.specs.declared.payload.Payload.TheVariants as payload
-use Rattle.pc_form.specs.Tree.{whole, word, or_null, making, each, pair, triple, of_pair, of_triple, by_key}
-use Rattle.pc_form.specs.Tree.{word_or_key}
-use Rattle.pc_form.specs.Rules.{Rules, section}
-use Rattle.pc_form.specs.Words.{core_types, core_kinds, item_kinds, outer_kinds}
-use Rattle.pc_form.specs.Names.{extern_name, core_item}
-use Rattle.pc_form.specs.Types.{entity}
+use Rattle.pc_json.specs.Tree.{whole, word, or_null, making, each, pair, triple, of_pair, of_triple, by_key}
+use Rattle.pc_json.specs.Tree.{word_or_key}
+use Rattle.pc_json.specs.Rules.{Rules, section}
+use Rattle.pc_json.specs.Words.{core_types, core_kinds, item_kinds, outer_kinds}
+use Rattle.pc_json.specs.Names.{extern_name, core_item}
+use Rattle.pc_json.specs.Types.{entity}
 use Rattle.pc_form.specs.Canon.{canon_item}
 use Rattle.pc_form.specs.Module.{core_module}
 

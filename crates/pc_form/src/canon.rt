@@ -11,12 +11,11 @@ ghost use Rattle.pc_form.specs.Canon.{of_index, of_flag, of_options, of_one, of_
 ghost use Rattle.pc_form.specs.Canon.{of_two_numbered, of_two_with_options, of_two, of_function, of_four, of_rest};
 ghost use Rattle.pc_form.specs.Canon.{canon_from, with_signature};
 ghost use Rattle.pc_form.specs.Canon.{canon_item, task_return};
-ghost use Rattle.pc_form.specs.Reads.{Reads};
+ghost use Rattle.pc_json.specs.Reads.{Reads};
 
-use crate::DecodeError;
-use crate::form::{Form, ReadForm, read};
-use crate::tree::headed;
+use crate::entry::{ReadEntry, entries};
 use pc_entity::Seq;
+use pc_json::{DecodeError, Form, ReadForm, headed, read};
 use pc_parsed::{CanonItem, CanonOption};
 use pc_types::WasmValType;
 use serde_json::Value;
@@ -135,7 +134,7 @@ fn of_one<F: Form>(
         let n = u32::read(form, alloc, part)?;
         return of_index(name, core, n).ok_or(DecodeError::BadForm);
     }
-    let opts = read(form, alloc, part)?;
+    let opts = entries(form, alloc, part)?;
     of_options(name, core, opts).ok_or(DecodeError::BadForm)
 }
 
@@ -223,7 +222,7 @@ fn task_return<F: Form>(
     ensures { Reads result (task_return core (view a.now) (view b.now)) }
 {
     let result = read(form, alloc, a)?;
-    let opts = read(form, alloc, b)?;
+    let opts = entries(form, alloc, b)?;
     Ok(CanonItem::TaskReturn(core, result, opts))
 }
 
@@ -243,7 +242,7 @@ fn of_two_with_options<F: Form>(
         return task_return(form, alloc, core, a, b);
     }
     let ty = u32::read(form, alloc, a)?;
-    let opts = read(form, alloc, b)?;
+    let opts = entries(form, alloc, b)?;
     of_copy(name, core, ty, opts).ok_or(DecodeError::BadForm)
 }
 
@@ -304,7 +303,7 @@ fn of_four<F: Form>(
     let func = u32::read(form, alloc, func)?;
     let ty = u32::read(form, alloc, ty)?;
     let core = u32::read(form, alloc, core)?;
-    let opts = read(form, alloc, opts)?;
+    let opts = entries(form, alloc, opts)?;
     of_function(name, func, ty, core, opts).ok_or(DecodeError::BadForm)
 }
 
@@ -357,7 +356,7 @@ fn from_parts<F: Form>(
     }
 }
 
-impl ReadForm for CanonItem {
+impl ReadEntry for CanonItem {
     ghost shape = { λ _. canon_item };
 
     #[tactic(auto, unfolding(crate::specs::Canon::canon_item))]

@@ -4,11 +4,10 @@ ghost use Rattle.std.specs.Prelude.{◌≡◌, option_map, map};
 ghost use Rattle.serde_json.specs.View.{view};
 ghost use Rattle.pc_entity.specs.Lists.{value_of};
 ghost use Rattle.pc_form.specs.Canon.{option_words, option_kinds, option_from, canon_option};
-ghost use Rattle.pc_form.specs.Reads.{Reads};
+ghost use Rattle.pc_json.specs.Reads.{Reads};
 
-use crate::DecodeError;
-use crate::form::{Form, ReadForm};
-use crate::tree::headed;
+use crate::entry::ReadEntry;
+use pc_json::{DecodeError, Form, ReadForm, headed};
 use pc_parsed::CanonOption;
 use serde_json::Value;
 use std::alloc::Global;
@@ -61,7 +60,7 @@ fn option_from<F: Form>(
     }
 }
 
-impl ReadForm for CanonOption {
+impl ReadEntry for CanonOption {
     ghost shape = { λ _. canon_option };
 
     #[tactic(auto, unfolding(crate::specs::Canon::canon_option))]

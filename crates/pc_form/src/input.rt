@@ -1,15 +1,17 @@
 //! The whole input.
 
-ghost use Rattle.std.specs.Prelude.{◌≡◌, Some, IfOk, IfErr};
+ghost use Rattle.std.specs.Prelude.{◌≡◌, Some, IfOk, IfErr, codes};
 ghost use Rattle.serde_json.specs.View.{view};
 ghost use Rattle.pc_form.specs.Input.{input_from, input_of, input_in, HasCause};
-ghost use Rattle.pc_form.specs.Rules.{plain};
-ghost use Rattle.pc_form.specs.Reads.{Reads, HasTree};
+ghost use Rattle.pc_form.specs.Payload.{payload_of};
+ghost use Rattle.pc_form.specs.Bytes.{HasTree};
+ghost use Rattle.pc_json.specs.Rules.{plain};
+ghost use Rattle.pc_json.specs.Reads.{Reads};
+ghost use Rattle.pc_json.specs.Tree.{each, field};
 
-use crate::DecodeError;
-use crate::form::{Form, Plain, field};
-use crate::tree::has_members;
+use crate::entry::entries;
 use pc_entity::{Seq, Text};
+use pc_json::{DecodeError, Form, Plain, field, has_members};
 use pc_parsed::{Payload, Tunables};
 use pc_types::TypeTable;
 use serde_json::Value;
@@ -28,6 +30,16 @@ pub struct Input {
     pub payloads: Seq<Payload>,
 }
 
+/// The payloads, in written order.
+fn payloads<F: Form>(form: &F, alloc: Global, value: &Value) -> Result<Seq<Payload>, DecodeError>
+    ensures { Reads result (field (codes "payloads") (each (payload_of (F.rules form.now))) (view value.now)) }
+{
+    match value.get("payloads") {
+        Some(list) => entries(form, alloc, list),
+        None => Err(DecodeError::BadForm),
+    }
+}
+
 /// The members that an input has in every form.
 fn members<F: Form>(form: &F, alloc: Global, value: &Value) -> Result<Input, DecodeError>
     ensures { Reads result (input_from (F.rules form.now) (view value.now)) }
@@ -35,7 +47,7 @@ fn members<F: Form>(form: &F, alloc: Global, value: &Value) -> Result<Input, Dec
     let max_component_instances = field(form, alloc, value, "limit")?;
     let intrinsics = field(form, alloc, value, "intrinsics")?;
     let table = field(form, alloc, value, "types")?;
-    let payloads = field(form, alloc, value, "payloads")?;
+    let payloads = payloads(form, alloc, value)?;
     Ok(Input {
         tunables: Tunables {
             max_component_instances,

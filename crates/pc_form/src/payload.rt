@@ -4,13 +4,12 @@ ghost use Rattle.std.specs.Prelude.{◌≡◌};
 ghost use Rattle.serde_json.specs.View.{view};
 ghost use Rattle.pc_entity.specs.Lists.{value_of};
 ghost use Rattle.pc_form.specs.Payload.{instance_sections, payload_words, payload_keys, payload_of};
-ghost use Rattle.pc_form.specs.Tree.{by_row};
-ghost use Rattle.pc_form.specs.Reads.{Reads};
+ghost use Rattle.pc_json.specs.Tree.{by_row};
+ghost use Rattle.pc_json.specs.Reads.{Reads};
 
-use crate::DecodeError;
-use crate::form::{Form, ReadForm, section};
+use crate::entry::{ReadEntry, section};
 use crate::module::core_module;
-use crate::tree::tagged;
+use pc_json::{DecodeError, Form, tagged};
 use pc_parsed::{Encoding, Payload};
 use serde_json::Value;
 use std::alloc::Global;
@@ -75,7 +74,7 @@ fn with_content<F: Form>(
     }
 }
 
-impl ReadForm for Payload {
+impl ReadEntry for Payload {
     ghost shape = { payload_of };
 
     #[tactic(auto, unfolding(crate::specs::Payload::payload_of))]

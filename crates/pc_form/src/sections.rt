@@ -4,12 +4,11 @@ ghost use Rattle.pc_form.specs.Payload.{type_item, import_item, export_entry, in
 ghost use Rattle.serde_json.specs.View.{view};
 ghost use Rattle.pc_form.specs.Payload.{component_instance_item, alias_item};
 ghost use Rattle.pc_form.specs.Payload.{instance_keys, component_instance_keys, alias_keys};
-ghost use Rattle.pc_form.specs.Tree.{by_row};
-ghost use Rattle.pc_form.specs.Reads.{Reads};
+ghost use Rattle.pc_json.specs.Tree.{by_row};
+ghost use Rattle.pc_json.specs.Reads.{Reads};
 
-use crate::DecodeError;
-use crate::form::{Form, ReadForm, read};
-use crate::tree::tagged;
+use crate::entry::ReadEntry;
+use pc_json::{DecodeError, Form, read, tagged};
 use pc_parsed::{
     AliasItem, ComponentInstanceItem, ExportEntry, ImportItem, InstanceItem, TypeItem,
 };
@@ -17,7 +16,7 @@ use serde_json::Value;
 use std::alloc::Global;
 
 /// `"other"`, or `{"resource":[id,rep,dtor]}` with a destructor or null.
-impl ReadForm for TypeItem {
+impl ReadEntry for TypeItem {
     ghost shape = { λ _. type_item };
 
     #[tactic(auto, unfolding(crate::specs::Payload::type_item))]
@@ -40,7 +39,7 @@ impl ReadForm for TypeItem {
 }
 
 /// `[NAME,E]`.
-impl ReadForm for ImportItem {
+impl ReadEntry for ImportItem {
     ghost shape = { import_item };
 
     #[tactic(auto, unfolding(crate::specs::Payload::import_item))]
@@ -51,7 +50,7 @@ impl ReadForm for ImportItem {
 }
 
 /// `[NAME,item kind,i]`.
-impl ReadForm for ExportEntry {
+impl ReadEntry for ExportEntry {
     ghost shape = { export_entry };
 
     #[tactic(auto, unfolding(crate::specs::Payload::export_entry))]
@@ -81,7 +80,7 @@ fn instance<F: Form>(
 }
 
 /// `{"instantiate":[module,[["name",i],...]]}` or `{"exports":[["name",core kind,i],...]}`.
-impl ReadForm for InstanceItem {
+impl ReadEntry for InstanceItem {
     ghost shape = { instance_item };
 
     #[tactic(auto, unfolding(crate::specs::Payload::instance_item))]
@@ -120,7 +119,7 @@ fn component_instance<F: Form>(
 }
 
 /// `{"instantiate":[component,[["name",item kind,i],...],ty]}` or `{"exports":[[[NAME,item kind,i],...],ty]}`.
-impl ReadForm for ComponentInstanceItem {
+impl ReadEntry for ComponentInstanceItem {
     ghost shape = { component_instance_item };
 
     #[tactic(auto, unfolding(crate::specs::Payload::component_instance_item))]
@@ -171,7 +170,7 @@ fn alias<F: Form>(
 }
 
 /// `{"export":[item kind,i,"name"]}`, `{"core-export":[core kind,i,"name"]}` or `{"outer":[kind,count,i]}`.
-impl ReadForm for AliasItem {
+impl ReadEntry for AliasItem {
     ghost shape = { alias_item };
 
     #[tactic(auto, unfolding(crate::specs::Payload::alias_item))]

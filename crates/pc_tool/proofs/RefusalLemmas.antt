@@ -9,8 +9,8 @@ use Rattle.pc_types.specs.declared.error.Error.{Error}
 use Rattle.pc_types.specs.declared.error.Place.{Place}
 use Rattle.pc_form.specs.declared.input.Input.{Input}
 use Rattle.pc_form.specs.Input.{input_of, tree_of}
-use Rattle.pc_form.specs.Rules.{plain}
-use Rattle.pc_form.specs.Tree.{◌>>=◌}
+use Rattle.pc_json.specs.Rules.{plain}
+use Rattle.pc_json.specs.Tree.{◌>>=◌}
 use Rattle.pc_tool.specs.Headline.{Decodes, IsNotJson, IsBadForm, IsPlanFor, IsTextOf, HasFault, too_long, static}
 use Rattle.pc_tool.specs.Headline.{compound, faulty, endless, later, unbuilt, IsRefused}
 use Rattle.pc_info.specs.declared.component.ComponentTranslation.{ComponentTranslation}

@@ -18,7 +18,7 @@ use Rattle.pc_reading.specs.Outcome.{Fault, Outcome, fault, over}
 use Rattle.pc_reading.specs.Reading.{Reading}
 use Rattle.pc_form.specs.declared.input.Input.{Input}
 use Rattle.pc_form.specs.Input.{input_in, input_of, tree_of}
-use Rattle.pc_form.specs.Rules.{plain}
+use Rattle.pc_json.specs.Rules.{plain}
 use Rattle.pc_frames.specs.Plain.{is_plain_table}
 use Rattle.pc_translate.specs.Causes.{HasRoot, are_built, built_meaning, meaning}
 use Rattle.pc_translate.specs.Translation.{IsPlanOf, IsRefusalOf}

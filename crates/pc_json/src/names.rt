@@ -1,6 +1,6 @@
 //! Names, and the items of a core module that stand under a name.
 
-ghost use Rattle.pc_form.specs.Names.{extern_name, core_item};
+ghost use Rattle.pc_json.specs.Names.{extern_name, core_item};
 
 use crate::DecodeError;
 use crate::form::{Form, ReadForm};

@@ -4,7 +4,7 @@ use Rattle.std.specs.Prelude.{slice_get}
 use Rattle.serde_json.specs.Data.{Data}
 use Rattle.serde_json.specs.View.{view, items_of, members_view}
 use Rattle.serde_json.specs.declared.value.Value.{Value}
-use Rattle.pc_form.specs.Tree.{elements, only}
+use Rattle.pc_json.specs.Tree.{elements, only}
 
 -- the elements of an array are those that it was made of
 pub elements-items_of : (ds : List Data) → elements (items_of ds) ≡ ds

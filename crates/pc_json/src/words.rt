@@ -1,6 +1,6 @@
 //! The words of the input form.
 
-ghost use Rattle.pc_form.specs.Words.{core_types, prim_types, core_kinds, item_kinds, outer_kinds};
+ghost use Rattle.pc_json.specs.Words.{core_types, prim_types, core_kinds, item_kinds, outer_kinds};
 
 use crate::form::Word;
 use pc_parsed::{ItemKind, OuterKind};

@@ -7,9 +7,9 @@ ghost use Rattle.serde_json.specs.Data.{Data};
 ghost use Rattle.serde_json.specs.View.{view};
 ghost use Rattle.serde_json.specs.Find.{as_bool, get};
 ghost use Rattle.pc_entity.specs.Lists.{map_all, value_of};
-ghost use Rattle.pc_form.specs.Rules.{Rules, plain, section};
-ghost use Rattle.pc_form.specs.Reads.{Reads};
-ghost use Rattle.pc_form.specs.Tree.{whole, word, or_null, list_of, each, two, pair, three, triple, field};
+ghost use Rattle.pc_json.specs.Rules.{Rules, plain};
+ghost use Rattle.pc_json.specs.Reads.{Reads};
+ghost use Rattle.pc_json.specs.Tree.{whole, word, or_null, list_of, each, two, pair, three, triple, field};
 
 use crate::DecodeError;
 use crate::tree::list;
@@ -185,7 +185,7 @@ impl<T: ReadForm + Drop> ReadForm for Seq<T> {
 }
 
 /// Each value, read.
-pub(crate) fn all<T: ReadForm + Drop, F: Form>(
+fn all<T: ReadForm + Drop, F: Form>(
     form: &F,
     alloc: Global,
     values: &[Value],
@@ -200,7 +200,7 @@ pub(crate) fn all<T: ReadForm + Drop, F: Form>(
 }
 
 /// The member under a key, read.
-pub(crate) fn field<T: ReadForm, F: Form>(
+pub fn field<T: ReadForm, F: Form>(
     form: &F,
     alloc: Global,
     value: &Value,
@@ -214,26 +214,8 @@ pub(crate) fn field<T: ReadForm, F: Form>(
     }
 }
 
-/// The entries of a section, each read.
-pub(crate) fn section<T: ReadForm + Drop, F: Form>(
-    form: &F,
-    alloc: Global,
-    value: &Value,
-) -> Result<Seq<T>, DecodeError>
-    ensures { Reads result (section (F.rules form.now) (T.shape (F.rules form.now)) (view value.now)) }
-{
-    match form.entries(value) {
-        Some(entries) => all(form, alloc, entries),
-        None => Err(DecodeError::BadForm),
-    }
-}
-
 /// A value, read as the type that the caller wants.
-pub(crate) fn read<T: ReadForm, F: Form>(
-    form: &F,
-    alloc: Global,
-    value: &Value,
-) -> Result<T, DecodeError>
+pub fn read<T: ReadForm, F: Form>(form: &F, alloc: Global, value: &Value) -> Result<T, DecodeError>
     ensures { Reads result (T.shape (F.rules form.now) (view value.now)) }
 {
     T::read(form, alloc, value)

@@ -3,13 +3,13 @@
 ghost use Rattle.std.specs.Prelude.{◌≡◌, option_map, map};
 ghost use Rattle.serde_json.specs.View.{view};
 ghost use Rattle.pc_entity.specs.Lists.{value_of};
-ghost use Rattle.pc_form.specs.Types.{core_sig, val_type, entity, entity_from, entity_kinds, core_entity};
-ghost use Rattle.pc_form.specs.Types.{core_entity_from, core_entity_of};
-ghost use Rattle.pc_form.specs.Types.{bare_core_entities, func_members, func_type, value_keys, entry_keys};
-ghost use Rattle.pc_form.specs.Types.{handle_keys, named_keys};
-ghost use Rattle.pc_form.specs.Types.{decl_type, type_table};
-ghost use Rattle.pc_form.specs.Tree.{by_row};
-ghost use Rattle.pc_form.specs.Reads.{Reads};
+ghost use Rattle.pc_json.specs.Types.{core_sig, val_type, entity, entity_from, entity_kinds, core_entity};
+ghost use Rattle.pc_json.specs.Types.{core_entity_from, core_entity_of};
+ghost use Rattle.pc_json.specs.Types.{bare_core_entities, func_members, func_type, value_keys, entry_keys};
+ghost use Rattle.pc_json.specs.Types.{handle_keys, named_keys};
+ghost use Rattle.pc_json.specs.Types.{decl_type, type_table};
+ghost use Rattle.pc_json.specs.Tree.{by_row};
+ghost use Rattle.pc_json.specs.Reads.{Reads};
 
 use crate::DecodeError;
 use crate::form::{Form, ReadForm, field, read};

@@ -3,7 +3,7 @@ use Rattle.std.specs.Prelude.{ℕ, List, Option}
 use Rattle.serde_json.specs.Data.{Data}
 use Rattle.serde_json.specs.Find.{as_str}
 use Rattle.pc_entity.specs.Lists.{map_all}
-use Rattle.pc_form.specs.Tree.{◌>>=◌, list_of}
+use Rattle.pc_json.specs.Tree.{◌>>=◌, list_of}
 
 -- what a form says of its own: the text of a tree that stands where a name is due, and the entries of
 -- the value of a section's key

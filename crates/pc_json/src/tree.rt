@@ -2,12 +2,12 @@
 
 ghost use Rattle.std.specs.Prelude.{◌≡◌, option_map, map};
 ghost use Rattle.serde_json.specs.View.{view};
-ghost use Rattle.pc_form.specs.Tree.{list_of, headed, has_members, tagged};
+ghost use Rattle.pc_json.specs.Tree.{list_of, headed, has_members, tagged};
 
 use serde_json::Value;
 
 /// The elements of an array.
-pub(crate) fn list(value: &Value) -> Option<&[Value]>
+pub fn list(value: &Value) -> Option<&[Value]>
     ensures { option_map (λ vs. map view vs.now) result ≡ list_of (view value.now) }
 {
     let items = value.as_array()?;
@@ -15,7 +15,7 @@ pub(crate) fn list(value: &Value) -> Option<&[Value]>
 }
 
 /// The text at the head of an array, and the elements after it.
-pub(crate) fn headed(value: &Value) -> Option<(&str, &[Value])>
+pub fn headed(value: &Value) -> Option<(&str, &[Value])>
     ensures { option_map (λ t. (t.0.now, map view t.1.now)) result ≡ headed (view value.now) }
 {
     match list(value) {
@@ -28,7 +28,7 @@ pub(crate) fn headed(value: &Value) -> Option<(&str, &[Value])>
 }
 
 /// Whether the value is an object of exactly `n` members.
-pub(crate) fn has_members(n: usize, value: &Value) -> bool
+pub fn has_members(n: usize, value: &Value) -> bool
     ensures { result ≡ has_members n (view value.now) }
 {
     match value.as_object() {
@@ -38,7 +38,7 @@ pub(crate) fn has_members(n: usize, value: &Value) -> bool
 }
 
 /// Key and value of an object of one member.
-pub(crate) fn tagged(value: &Value) -> Option<(&str, &Value)>
+pub fn tagged(value: &Value) -> Option<(&str, &Value)>
     ensures { option_map (λ t. (t.0.now, view t.1.now)) result ≡ tagged (view value.now) }
 {
     let members = value.as_object()?;

@@ -5,9 +5,9 @@ use Rattle.serde_json.specs.Find.{as_array}
 use Rattle.pc_numbers.specs.declared.entity_index.EntityIndex.{EntityIndex}
 use Rattle.pc_types.specs.Record.{entity_at}
 use Rattle.pc_parsed.specs.declared.payload.ExternName.{ExternName}
-use Rattle.pc_form.specs.Tree.{whole, word, or_null, making, of_triple}
-use Rattle.pc_form.specs.Rules.{Rules}
-use Rattle.pc_form.specs.Words.{core_kinds}
+use Rattle.pc_json.specs.Tree.{whole, word, or_null, making, of_triple}
+use Rattle.pc_json.specs.Rules.{Rules}
+use Rattle.pc_json.specs.Words.{core_kinds}
 
 -- the name that stands alone
 abbrev pub bare_name : List ℕ → ExternName

@@ -15,10 +15,10 @@ use Rattle.pc_types.specs.declared.parsed.CoreEntity.TheVariants as core
 use Rattle.pc_types.specs.declared.parsed.DeclType.{DeclType}
 use Rattle.pc_types.specs.declared.parsed.DeclType.TheVariants as entry
 use Rattle.pc_types.specs.declared.parsed.TypeTable.{TypeTable}
-use Rattle.pc_form.specs.Tree.{◌>>=◌, whole, word, or_null, making, each, pair, triple, of_pair, headed, numbered}
-use Rattle.pc_form.specs.Tree.{exactly, field, word_or_key}
-use Rattle.pc_form.specs.Rules.{Rules}
-use Rattle.pc_form.specs.Words.{core_types, prim_types}
+use Rattle.pc_json.specs.Tree.{◌>>=◌, whole, word, or_null, making, each, pair, triple, of_pair, headed, numbered}
+use Rattle.pc_json.specs.Tree.{exactly, field, word_or_key}
+use Rattle.pc_json.specs.Rules.{Rules}
+use Rattle.pc_json.specs.Words.{core_types, prim_types}
 
 -- a signature of parameters and results
 abbrev pub signature : List WasmValType → List WasmValType → CoreFuncSig

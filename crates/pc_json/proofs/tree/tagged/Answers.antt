@@ -1,6 +1,6 @@
 use Rattle.std.proofs.Common.{sym, ◌∙◌}
-use Rattle.pc_form.proofs.Trees.{only-one, only-none}
-use Rattle.pc_form.proofs.tree.tagged.Goals as goal
+use Rattle.pc_json.proofs.Trees.{only-one, only-none}
+use Rattle.pc_json.proofs.tree.tagged.Goals as goal
 
 pub returns-then-len-ne1 : goal.returns-then-len-ne1
 returns-then-len-ne1 c =

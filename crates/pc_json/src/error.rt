@@ -20,7 +20,7 @@ pub enum DecodeError {
 }
 
 impl From<NoMemory> for DecodeError {
-    ghost use Rattle.pc_form.specs.declared.error.DecodeError.TheVariants as error;
+    ghost use Rattle.pc_json.specs.declared.error.DecodeError.TheVariants as error;
 
     ghost from_gives = { λ _ e. e ≡ error.NoMemory };
 

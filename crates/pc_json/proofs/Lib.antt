@@ -1,0 +1,2 @@
+-- Lemmas that the answers cite.
+pub mod Trees
