@@ -35,11 +35,11 @@ use Rattle.pc_interned.specs.Trees.{AreHandlesOf, ImportHasTree, ExportHasTree, 
 use Rattle.pc_interned.specs.Trees.{CasesHaveTrees, ValsHaveTrees, MaybeHasTree, ParamsHaveTrees, ResultsHaveTree}
 use Rattle.pc_interned.specs.Trees.{ExternsHaveTrees}
 use Rattle.pc_builder.specs.Trees.{identities}
-use Rattle.pc_builder.specs.Parts.{ValIs, MaybeIs, FieldIs, CaseIs, EntityIs, ExternIs, IsReady}
-use Rattle.pc_builder.specs.Parts.{MayBeReady, IsThere}
-use Rattle.pc_builder.specs.Entries.{ReturnsAre, DefinedIs, ImportIs, ExportIs, EntryIs, handles_of}
-use Rattle.pc_builder.specs.Entries.{handles_from}
-use Rattle.pc_builder.specs.Steps.{IsReadyEntry}
+use Rattle.pc_convert.specs.Parts.{ValIs, MaybeIs, FieldIs, CaseIs, EntityIs, ExternIs, IsReady}
+use Rattle.pc_convert.specs.Parts.{MayBeReady, IsThere}
+use Rattle.pc_convert.specs.Entries.{ReturnsAre, DefinedIs, ImportIs, ExportIs, EntryIs, handles_of}
+use Rattle.pc_convert.specs.Entries.{handles_from}
+use Rattle.pc_convert.specs.Steps.{IsReadyEntry}
 use Rattle.pc_builder.proofs.Simulation.{known_identity}
 use Rattle.pc_builder.proofs.TreeInversion.{map_inv, then_inv, both_inv, own_inv, borrow_inv}
 use Rattle.pc_builder.proofs.PartInversion.{prim_from, prim_value, import_from, export_from, all_zip_from}

@@ -2,19 +2,12 @@
 pub use Rattle.pc_interned.proofs.Growth
 pub mod TreeLemmas
 -- What the functions of this crate rest on.
-mod PartLemmas
-mod StepLemmas
-mod AmongLemmas
-mod NeededLemmas
-mod Simulation
-mod OneNumber
-mod TreeInversion
-mod PartInversion
+mod AloneLemmas
 mod EntryInversion
-mod RefusalLemmas
-mod SoundLemmas
+mod KindLemmas
+mod PartInversion
 mod ReadyLemmas
-mod FuncLemmas
-mod ThereLemmas
-mod FewLemmas
-mod HeldLemmas
+mod RefusalLemmas
+mod Simulation
+mod StepLemmas
+mod TreeInversion

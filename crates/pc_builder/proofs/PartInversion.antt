@@ -24,8 +24,8 @@ use Rattle.pc_types.specs.TypeTree.{core_tree, module_import_tree, module_export
 use Rattle.pc_interned.specs.Types.{Types}
 use Rattle.pc_interned.specs.Trees.{CoreHasTree, ImportHasTree, ExportHasTree, HasTree}
 use Rattle.pc_builder.specs.Trees.{identities}
-use Rattle.pc_builder.specs.Parts.{IsErrorContext, PrimIs}
-use Rattle.pc_builder.specs.Entries.{CoreIs, ImportIs, ExportIs}
+use Rattle.pc_convert.specs.Parts.{IsErrorContext, PrimIs}
+use Rattle.pc_convert.specs.Entries.{CoreIs, ImportIs, ExportIs}
 use Rattle.pc_interned.proofs.HeldLemmas.{value_of}
 use Rattle.pc_builder.proofs.TreeInversion.{map_inv}
 

@@ -20,13 +20,14 @@ use Rattle.pc_types.specs.Record.{is_typed}
 use Rattle.pc_types.specs.Table.{is_none_or, is_some_and}
 use Rattle.pc_types.specs.Table.{is_sound_entry, is_sound_val, holds_value, is_value, is_resource}
 use Rattle.pc_types.specs.Table.{is_defined_type}
-use Rattle.pc_builder.specs.Needed.{Each, parts_of, val_parts, maybe_parts, field_parts, case_parts, entity_parts}
-use Rattle.pc_builder.specs.Needed.{extern_parts}
-use Rattle.pc_builder.specs.Parts.{IsReady, MayBeReady, IsThere, HasHandles}
+use Rattle.pc_convert.specs.Needed.{Each, parts_of, val_parts, maybe_parts, field_parts, case_parts, entity_parts}
+use Rattle.pc_convert.specs.Needed.{extern_parts}
+use Rattle.pc_convert.specs.Parts.{IsReady, MayBeReady, IsThere, HasHandles}
 use Rattle.pc_builder.specs.Converted.{IsOfKind}
-use Rattle.pc_builder.specs.Steps.{IsReadyEntry}
-use Rattle.pc_builder.proofs.AmongLemmas.{each_front, each_back}
-use Rattle.pc_builder.proofs.SoundLemmas.{found_by, defined_kind, resource_kind}
+use Rattle.pc_convert.specs.Steps.{IsReadyEntry}
+use Rattle.pc_convert.proofs.AmongLemmas.{each_front, each_back}
+use Rattle.pc_convert.proofs.SoundLemmas.{found_by}
+use Rattle.pc_builder.proofs.KindLemmas.{defined_kind, resource_kind}
 
 -- an item of each that passes a test
 all_of_all : {A : Type 0} (P : A → Type 0) (Q : ℕ → Type 0) (test : A → Bool) (parts : A → List ℕ)

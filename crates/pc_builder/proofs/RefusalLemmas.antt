@@ -12,22 +12,28 @@ use Rattle.pc_types.specs.declared.types.TypeDef.{TypeDef}
 use Rattle.pc_types.specs.Table.{table_fault}
 use Rattle.pc_types.specs.TypeTree.{Identity, TypeTree, declared, imported, earlier_tree, entry_tree, trees_from}
 use Rattle.pc_interned.specs.Types.{Types, Grows, IsBuilder}
-use Rattle.pc_builder.specs.Trees.{IsEntry, identities}
-use Rattle.pc_builder.specs.Needed.{AreNeeded, Each, IsAmong, IsDone, parts_of}
+use Rattle.pc_builder.specs.Trees.{IsEntry, IsValue, identities, trees_in}
+use Rattle.pc_types.specs.declared.parsed.PrimType.{PrimType}
+use Rattle.pc_types.specs.declared.parsed.ValType.{ValType}
+use Rattle.pc_types.specs.declared.parsed.ValType.TheVariants as val
+use Rattle.pc_types.specs.declared.types.InterfaceType.{InterfaceType}
+use Rattle.pc_convert.specs.Parts.{PrimIs}
+use Rattle.pc_builder.proofs.PartInversion.{prim_from}
+use Rattle.pc_convert.specs.Needed.{AreNeeded, Each, IsAmong, IsDone, parts_of}
 use Rattle.pc_builder.specs.Converted.{AreConverted}
-use Rattle.pc_builder.specs.Entries.{EntryIs}
+use Rattle.pc_convert.specs.Entries.{EntryIs}
 use Rattle.pc_builder.proofs.StepLemmas.{among_next, earlier_back, parts_done, ready_step, take_found}
 use Rattle.pc_entity.proofs.LookupLemmas.{found_at}
-use Rattle.pc_builder.proofs.AmongLemmas.{each_among}
-use Rattle.pc_builder.proofs.OneNumber.{one_number}
+use Rattle.pc_convert.proofs.AmongLemmas.{each_among}
+use Rattle.pc_convert.proofs.OneNumber.{one_number}
 use Rattle.pc_builder.proofs.TreeInversion.{HasTypeOf, parts_have}
 use Rattle.pc_builder.proofs.EntryInversion.{entry_from}
 use Rattle.pc_builder.proofs.Simulation.{tree_at}
-use Rattle.pc_builder.proofs.SoundLemmas.{parts_below, sound_at}
+use Rattle.pc_convert.proofs.SoundLemmas.{parts_below, sound_at}
 use Rattle.pc_builder.proofs.TreeLemmas.{entry_grows}
 
 -- an identity of its own for each resource
-abbrev pub by_number : ResourceIndex → Identity
+abbrev by_number : ResourceIndex → Identity
 by_number r = declared r.0
 
 -- no two resources have one of these identities
@@ -45,6 +51,13 @@ earlier_forward : (known : List (ℕ × Identity)) (c : ℕ) (t : TypeTable) (be
 earlier_forward known c t before all kept n within tree h =
     let f = found_at before n within in
     ap (option_and_then (λ x. x)) (kept n f.0 f.1) ∙ sym (ap (option_and_then (λ x. x)) f.1) ∙ h
+
+-- a value type of the table that is a primitive is the primitive's
+pub prim_wanted : (b : Types) (t : TypeTable) (v : ValType) (p : PrimType) → v ≡ val.Prim p
+    → ((w : InterfaceType) × IsValue b t v w) → (w : InterfaceType) × PrimIs b p w
+prim_wanted b t v p is q =
+    let has = subst (λ x. IsValue b t x q.0) is q.1 by_number in
+    (q.0, prim_from b by_number t (trees_in b by_number t) p q.0 has.0 has.1 has.2)
 
 module _ (t : TypeTable) (sound : table_fault t ≡ None) where
   -- the tree of an entry is made from those of the entries in front

@@ -9,6 +9,7 @@ use Rattle.std.proofs.lemmas.List.{length-append}
 use Rattle.std.proofs.lemmas.Option.{none-some, same_Some}
 use Rattle.pc_entity.specs.Lists.{Kept, map_all, names_of}
 use Rattle.pc_entity.proofs.Growing.{append_kept, kept_refl, kept_trans, slice_get-append_seam}
+use Rattle.pc_types.specs.declared.parsed.PrimType.{PrimType}
 use Rattle.pc_types.specs.declared.parsed.PrimType.TheVariants as prim
 use Rattle.pc_types.specs.declared.parsed.ValType.TheVariants as val
 use Rattle.pc_types.specs.declared.parsed.DeclType.{DeclType}
@@ -39,9 +40,9 @@ use Rattle.pc_interned.specs.Known.{resource_of as known_resource}
 use Rattle.pc_interned.specs.Trees.{AreHandlesOf, NumbersHandlesOf, CoreHasTree, ImportHasTree, ExportHasTree, HasTree}
 use Rattle.pc_interned.specs.Trees.{FieldsHaveTrees, CasesHaveTrees, ValsHaveTrees, MaybeHasTree, ParamsHaveTrees}
 use Rattle.pc_interned.specs.Trees.{ResultsHaveTree, ExternsHaveTrees}
-use Rattle.pc_builder.specs.Trees.{identities}
-use Rattle.pc_builder.specs.Parts.{ValIs, MaybeIs, FieldIs, CaseIs, EntityIs, ExternIs}
-use Rattle.pc_builder.specs.Entries.{ReturnsAre, CoreIs, ImportIs, ExportIs, EntryIs, handles_of, handles_from}
+use Rattle.pc_builder.specs.Trees.{IsValue, identities, trees_in}
+use Rattle.pc_convert.specs.Parts.{PrimIs, ValIs, MaybeIs, FieldIs, CaseIs, EntityIs, ExternIs}
+use Rattle.pc_convert.specs.Entries.{ReturnsAre, CoreIs, ImportIs, ExportIs, EntryIs, handles_of, handles_from}
 
 -- the identity of a known resource is that of the resource
 pub known_identity : (who : ResourceIndex → Identity) (known : List (ℕ × ResourceIndex)) (n : ℕ)
@@ -356,6 +357,13 @@ module _ (b : Types) (who : ResourceIndex → Identity) (t : TypeTable) (done : 
       let x = imports_have imports h.1.imports h.4 in
       let y = exports_have exports h.1.exports h.5 in
       (module_of x.0 y.0, rw (x.1, y.1) refl, (h.0, h.1, h.2, h.3, x.2, y.2))
+
+-- the value type of a primitive has the tree of a value type that is one
+pub prim_is_value : (b : Types) (t : TypeTable) (v : ValType) (p : PrimType) (w : InterfaceType) → v ≡ val.Prim p
+    → PrimIs b p w → IsValue b t v w
+prim_is_value b t v p w is h =
+    subst (λ x. IsValue b t x w) (sym is)
+    (λ who. val_has b who t [] (trees_in b who t) (λ n d found. absurd (none-some (Some d) found)) (val.Prim p) w h)
 
 -- the trees of the entries in front of a place, the tree there, and those of all
 module _ (known : List (ℕ × Identity)) (c : ℕ) (t : TypeTable) where

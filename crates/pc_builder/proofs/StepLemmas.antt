@@ -12,19 +12,20 @@ use Rattle.pc_types.specs.declared.parsed.TypeTable.{TypeTable}
 use Rattle.pc_types.specs.declared.types.TypeDef.{TypeDef}
 use Rattle.pc_types.specs.declared.types.TypeDef.TheVariants as def
 use Rattle.pc_types.specs.Table.{table_fault}
-use Rattle.pc_types.specs.TypeTree.{Identity, TypeTree, earlier_tree, entry_tree, trees_from}
+use Rattle.pc_types.specs.TypeTree.{Identity, TypeTree, declared, earlier_tree, entry_tree, trees_from}
 use Rattle.pc_interned.specs.Types.{Types}
 use Rattle.pc_builder.specs.Trees.{IsEntry, identities}
 use Rattle.pc_builder.specs.Converted.{AreConverted, IsOfKind}
-use Rattle.pc_builder.specs.Entries.{EntryIs}
-use Rattle.pc_builder.specs.Needed.{AreNeeded, Ascend, Each, IsAmong, IsDone, parts_of}
-use Rattle.pc_builder.specs.Parts.{AreHeld}
-use Rattle.pc_builder.specs.Steps.{IsReadyEntry}
-use Rattle.pc_builder.proofs.HeldLemmas.{converted_held}
+use Rattle.pc_convert.specs.Entries.{EntryIs}
+use Rattle.pc_convert.specs.Needed.{AreNeeded, Ascend, Each, IsAmong, IsDone, parts_of}
+use Rattle.pc_convert.specs.Parts.{AreHeld}
+use Rattle.pc_convert.specs.Steps.{IsReadyEntry}
+use Rattle.pc_interned.proofs.HeldLemmas.{value_held}
+use Rattle.pc_numbers.specs.declared.runtime.ResourceIndex.{ResourceIndex}
 use Rattle.pc_entity.proofs.LookupLemmas.{found_at}
-use Rattle.pc_builder.proofs.AmongLemmas.{each_among, each_append, each_more}
+use Rattle.pc_convert.proofs.AmongLemmas.{each_among, each_append, each_more}
 use Rattle.pc_builder.proofs.Simulation.{entry_has, tree_at}
-use Rattle.pc_builder.proofs.SoundLemmas.{parts_below, sound_at}
+use Rattle.pc_convert.proofs.SoundLemmas.{parts_below, sound_at}
 use Rattle.pc_builder.proofs.ReadyLemmas.{IsDonePart, ready_entry}
 
 -- an item in front of a place is an item
@@ -85,7 +86,7 @@ set_found (x ∷ xs) (suc k) (suc n) y z h =
     ]
 
 -- what is done stays done where an entry gets its type
-pub done_kept : (done : List (Option TypeDef)) (k n : ℕ) (d : TypeDef) → IsDone done n
+done_kept : (done : List (Option TypeDef)) (k n : ℕ) (d : TypeDef) → IsDone done n
     → IsDone (slice_set done k (Some d)) n
 done_kept [] k n d h = h
 done_kept (x ∷ xs) zero zero d h = (d, refl)
@@ -93,10 +94,16 @@ done_kept (x ∷ xs) zero (suc n) d h = h
 done_kept (x ∷ xs) (suc k) zero d h = h
 done_kept (x ∷ xs) (suc k) (suc n) d h = done_kept xs k n d h
 
+-- and in the list that a step leaves
+pub kept_put : (done new : List (Option TypeDef)) (k : ℕ) (d : TypeDef) → new ≡ slice_set done k (Some d)
+    → (n : ℕ) → IsDone done n → IsDone new n
+kept_put done new k d put n h = subst (λ l. IsDone l n) (sym put) (done_kept done k n d h)
+
 -- an entry that gets its type is done
-pub done_here : (done : List (Option TypeDef)) (k : ℕ) (d : TypeDef) → k < length done
-    → IsDone (slice_set done k (Some d)) k
-done_here done k d within = (d, slice_get-set_same done k (Some d) within)
+pub done_put : (done new : List (Option TypeDef)) (k : ℕ) (d : TypeDef) → new ≡ slice_set done k (Some d)
+    → k < length done → IsDone new k
+done_put done new k d put within =
+    subst (λ l. IsDone l k) (sym put) (d, slice_get-set_same done k (Some d) within)
 
 -- an item is in front of a later place
 take_here : {A : Type 0} (xs : List A) (k p : ℕ) (x : A) → p < k → slice_get xs p ≡ Some x
@@ -130,11 +137,19 @@ among_at (n ∷ ns) (suc i) k at = inr (among_at ns i k at)
 pub among_next : (ns : List ℕ) (i : ℕ) → i < length ns → IsAmong (get_or ns i 0) ns
 among_next ns i within = among_at ns i (get_or ns i 0) (slice_get-get_or ns i 0 within)
 
+-- the converted value types are held
+converted_held : (b : Types) (t : TypeTable) (done : List (Option TypeDef)) → AreConverted b t done → AreHeld b done
+converted_held b t done are n w found =
+    let who = (λ (r : ResourceIndex). declared 0) in
+    let x = are.entries n (def.Interface w) found who in
+    value_held b who w x.0 x.2
+
 -- the value types in front of a place are held
-pub front_held : (b : Types) (t : TypeTable) (done : List (Option TypeDef)) (k : ℕ) → AreConverted b t done
-    → AreHeld b (take k done)
-front_held b t done k are n w found =
-    converted_held b t done are n w (take_found done k n (Some (def.Interface w)) found)
+pub front_held : (b : Types) (t : TypeTable) (done front : List (Option TypeDef)) (k : ℕ) → AreConverted b t done
+    → front ≡ take k done → AreHeld b front
+front_held b t done front k are before =
+    subst (AreHeld b) (sym before)
+    (λ n w found. converted_held b t done are n w (take_found done k n (Some (def.Interface w)) found))
 
 module _ (t : TypeTable) (sound : table_fault t ≡ None) where
   -- what a needed entry names is ready
@@ -152,6 +167,12 @@ module _ (t : TypeTable) (sound : table_fault t ≡ None) where
         λ f found. are.kinds p x.0 f x.1 (take_found t.types k p f found),
       ))
       (parts_of e) parts (parts_below t earlier e here.0))
+
+  -- the same of the list that a step reads
+  pub ready_front : (b : Types) (done front : List (Option TypeDef)) (k : ℕ) (e : DeclType) → AreConverted b t done
+      → front ≡ take k done → slice_get t.types k ≡ Some e → Each (IsDone done) (parts_of e) → IsReadyEntry t front e
+  ready_front b done front k e are before at parts =
+      subst (λ l. IsReadyEntry t l e) (sym before) (ready_step b done k e are at parts)
 
   -- the type of a converted entry has its tree
   converted_entry : (b : Types) (done : List (Option TypeDef)) (k : ℕ) (e : DeclType) (d : TypeDef)

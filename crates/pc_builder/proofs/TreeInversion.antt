@@ -28,9 +28,9 @@ use Rattle.pc_interned.specs.Types.{Types}
 use Rattle.pc_interned.specs.Trees.{HasTree, FieldsHaveTrees}
 use Rattle.pc_interned.specs.Trees.{CasesHaveTrees, ValsHaveTrees, MaybeHasTree, ParamsHaveTrees, ResultsHaveTree}
 use Rattle.pc_interned.specs.Trees.{ExternsHaveTrees}
-use Rattle.pc_builder.specs.Needed.{Each, parts_of, val_parts, maybe_parts, field_parts, case_parts, entity_parts}
-use Rattle.pc_builder.specs.Needed.{extern_parts}
-use Rattle.pc_builder.proofs.AmongLemmas.{each_append}
+use Rattle.pc_convert.specs.Needed.{Each, parts_of, val_parts, maybe_parts, field_parts, case_parts, entity_parts}
+use Rattle.pc_convert.specs.Needed.{extern_parts}
+use Rattle.pc_convert.proofs.AmongLemmas.{each_append}
 
 -- What an answer was made from.
 pub map_inv : {A B : Type 0} (f : A → B) (o : Option A) (y : B) → option_map f o ≡ Some y → (x : A) × (o ≡ Some x)

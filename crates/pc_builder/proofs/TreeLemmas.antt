@@ -25,7 +25,7 @@ use Rattle.pc_builder.specs.Trees.{IsEntry, IsEntity, identities}
 use Rattle.pc_types.specs.declared.parsed.Entity.TheVariants as entity
 use Rattle.pc_types.specs.TypeTree.{declared}
 use Rattle.std.proofs.lemmas.Option.{slice_get_within}
-use Rattle.pc_builder.specs.Needed.{entity_parts}
+use Rattle.pc_convert.specs.Needed.{entity_parts}
 use Rattle.pc_interned.proofs.HeldLemmas.{func_number, is_a_func}
 use Rattle.pc_interned.proofs.ZipLemmas.{all_zip_more}
 

@@ -21,16 +21,16 @@ ghost use Rattle.pc_types.specs.Table.{is_sound_val, is_value, table_fault};
 ghost use Rattle.pc_interned.specs.Types.{Grows, HasNumber, IsTooFullFor};
 ghost use Rattle.pc_interned.specs.Held.{IsHeld};
 ghost use Rattle.pc_interned.specs.Known.{resource_of};
-ghost use Rattle.pc_builder.specs.Entries.{handles_of};
-ghost use Rattle.pc_builder.specs.Parts.{IsErrorContext};
-ghost use Rattle.pc_builder.specs.Few.{AddsFuncs, AddsSignature, is_plain_func};
+ghost use Rattle.pc_convert.specs.Entries.{handles_of};
+ghost use Rattle.pc_convert.specs.Parts.{IsErrorContext};
+ghost use Rattle.pc_convert.specs.Few.{AddsFuncs, AddsSignature, is_plain_func};
 ghost use Rattle.pc_builder.specs.Trees.{IsEntity, IsEntry, IsValue};
 ghost use Rattle.pc_builder.specs.Converted.{AreConverted};
-ghost use Rattle.pc_builder.specs.Needed.{entity_parts};
+ghost use Rattle.pc_convert.specs.Needed.{entity_parts};
 
-use crate::steps::{entry_type, entry_with, signature_at};
-use crate::value::{error_contexts, primitive};
+use crate::steps::{entry_type, entry_with};
 use crate::{ComponentTypesBuilder, Converted};
+use pc_convert::{error_contexts, primitive, signature_at};
 use pc_entity::{ModuleInternedTypeIndex, Seq};
 use pc_types::{
     Entity, InterfaceType, TypeComponentInstanceIndex, TypeComponentLocalErrorContextTableIndex,

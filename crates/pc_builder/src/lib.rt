@@ -1,18 +1,13 @@
 //! The types builder: entries of a type table in, numbers of interned types out, one number for equal types.
-//! It stands on `pc_types` and `pc_interned`.
+//! It stands on `pc_types`, `pc_interned` and `pc_convert`.
 #![tactic(auto)]
 
 pub mod builder;
 mod convert;
 pub mod converted;
-mod defined;
-mod entry;
-mod extern_type;
-mod parts;
 pub mod pre_inlining;
 mod readers;
 mod steps;
-mod value;
 
 pub use builder::ComponentTypesBuilder;
 pub use converted::Converted;

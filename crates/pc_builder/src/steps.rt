@@ -5,50 +5,20 @@
 
 ghost use Rattle.std.specs.Prelude.{◌≡◌, ◌<◌, ℕ, true, None, Some, Err, IfOk, OnOk, length, take};
 ghost use Rattle.std.specs.Prelude.{slice_get};
-ghost use Rattle.pc_types.specs.declared.parsed.CoreFuncSig.{CoreFuncSig};
 ghost use Rattle.pc_types.specs.declared.parsed.DeclType.{DeclType};
 ghost use Rattle.pc_types.specs.declared.types.TypeDef.{TypeDef};
 ghost use Rattle.pc_types.specs.Table.{is_some_and, table_fault};
-ghost use Rattle.pc_interned.specs.Types.{Grows, HasNumber, IsTooFullFor};
-ghost use Rattle.pc_builder.specs.Few.{AddsFuncs, AddsSignature, is_plain_func};
+ghost use Rattle.pc_interned.specs.Types.{Grows, IsTooFullFor};
+ghost use Rattle.pc_convert.specs.Few.{AddsFuncs, is_plain_func};
 ghost use Rattle.pc_builder.specs.Trees.{IsEntry};
 ghost use Rattle.pc_builder.specs.Converted.{AreConverted, IsOfKind};
-ghost use Rattle.pc_builder.specs.Entries.{EntryIs};
-ghost use Rattle.pc_builder.specs.Parts.{AreHeld};
-ghost use Rattle.pc_builder.specs.Needed.{AreNeeded, Each, IsDone, parts_of};
-ghost use Rattle.pc_builder.specs.Steps.{IsReadyEntry};
+ghost use Rattle.pc_convert.specs.Entries.{EntryIs};
+ghost use Rattle.pc_convert.specs.Needed.{AreNeeded, Each, IsDone, parts_of};
 
 use crate::Converted;
-use crate::defined::{
-    borrow_entry, enum_entry, flags_entry, future_entry, list_entry, option_entry, own_entry,
-    record_entry, result_entry, stream_entry, tuple_entry, val_entry, variant_entry,
-};
-use crate::entry::func_type_entry;
-use crate::extern_type::{component_entry, instance_entry, module_entry, resource_entry, type_at};
-use crate::parts::{entry_at, needed};
-use pc_entity::{ModuleInternedTypeIndex, TryClone};
+use pc_convert::{convert, entry_at, needed, type_at};
 use pc_interned::{InternedTypes, NoPlace};
-use pc_types::{DeclType, TypeDef, TypeTable};
-
-/// The number of core signature `n`, which is there.
-pub(crate) fn signature_at(
-    interned: &mut InternedTypes,
-    table: &TypeTable,
-    n: u32,
-) -> Result<ModuleInternedTypeIndex, NoPlace>
-    requires there { n < length table.now.core_funcs }
-    ensures ok { IfOk result
-        (λ i. (s : CoreFuncSig) × (slice_get table.now.core_funcs n ≡ Some s)
-        × (slice_get interned.new.signatures i.0 ≡ Some s)) }
-    ensures grows { Grows interned.old interned.new }
-    ensures full { result ≡ Err NoPlace.TooMany → IsTooFullFor interned.new
-        (λ b. (s : CoreFuncSig) × (slice_get table.now.core_funcs n ≡ Some s) × HasNumber b.signatures s) }
-    ensures few { AddsSignature interned.old interned.new }
-{
-    let signature = &table.core_funcs.as_slice()[n as usize];
-    let signature = signature.try_clone(interned.alloc())?;
-    interned.put_signature(signature)
-}
+use pc_types::{TypeDef, TypeTable};
 
 /// Entry `n`, which is there, with all that it leads to.
 pub(crate) fn entry_type(
@@ -146,50 +116,4 @@ fn step(
     let type_ = convert(interned, table, converted.in_front(k), k, entry)?;
     converted.put(k, type_);
     Ok(())
-}
-
-/// Entry `n`, whose parts are done.
-fn convert(
-    interned: &mut InternedTypes,
-    table: &TypeTable,
-    done: &[Option<TypeDef>],
-    n: u32,
-    entry: &DeclType,
-) -> Result<TypeDef, NoPlace>
-    requires ready { IsReadyEntry table.now done.now entry.now }
-    requires held { AreHeld interned.old done.now }
-    ensures is { IfOk result (λ d. EntryIs interned.new done.now table.now n entry.now d) }
-    ensures grows { Grows interned.old interned.new }
-    ensures full { result ≡ Err NoPlace.TooMany → IsTooFullFor interned.new
-        (λ b. (d : TypeDef) × EntryIs b done.now table.now n entry.now d) }
-    ensures few { is_plain_func entry.now ≡ true → AddsFuncs 1 2 interned.old interned.new }
-{
-    match entry {
-        DeclType::Resource => resource_entry(interned, n),
-        DeclType::Func {
-            params,
-            result,
-            async_,
-        } => func_type_entry(interned, done, params.as_slice(), *result, *async_),
-        DeclType::Val(v) => val_entry(interned, done, *v),
-        DeclType::Record(fields) => record_entry(interned, done, fields.as_slice()),
-        DeclType::Variant(cases) => variant_entry(interned, done, cases.as_slice()),
-        DeclType::List(v) => list_entry(interned, done, *v),
-        DeclType::Tuple(vs) => tuple_entry(interned, done, vs.as_slice()),
-        DeclType::Flags(names) => flags_entry(interned, names),
-        DeclType::Enum(names) => enum_entry(interned, names),
-        DeclType::Option(v) => option_entry(interned, done, *v),
-        DeclType::Result { ok, err } => result_entry(interned, done, *ok, *err),
-        DeclType::Own(n) => Ok(own_entry(done, *n)),
-        DeclType::Borrow(n) => Ok(borrow_entry(done, *n)),
-        DeclType::Stream(v) => stream_entry(interned, done, *v),
-        DeclType::Future(v) => future_entry(interned, done, *v),
-        DeclType::Instance { exports } => instance_entry(interned, done, exports.as_slice()),
-        DeclType::Component { imports, exports } => {
-            component_entry(interned, done, imports.as_slice(), exports.as_slice())
-        }
-        DeclType::Module { imports, exports } => {
-            module_entry(interned, table, imports.as_slice(), exports.as_slice())
-        }
-    }
 }

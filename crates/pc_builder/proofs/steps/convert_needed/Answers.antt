@@ -1,7 +1,7 @@
 use Rattle.std.proofs.Common.{arith}
 use Rattle.pc_interned.proofs.ErrorLemmas.{passed_on}
 use Rattle.pc_interned.proofs.Growth.{grows_trans}
-use Rattle.pc_builder.proofs.FewLemmas.{adds_few, adds_last, adds_step}
+use Rattle.pc_builder.proofs.AloneLemmas.{adds_few, adds_last, adds_step}
 use Rattle.pc_builder.proofs.RefusalLemmas.{next_there}
 use Rattle.pc_builder.proofs.StepLemmas.{asked_done, done_next, parts_done}
 use Rattle.pc_builder.proofs.steps.convert_needed.Goals as goal

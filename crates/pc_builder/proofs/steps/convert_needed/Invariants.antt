@@ -2,9 +2,9 @@ use Rattle.std.proofs.Common.{◌≡◌, ◌≤◌, ◌+◌, ℕ, length, take, 
 use Rattle.std.specs.Prelude.{slice_get}
 use Rattle.pc_types.specs.Table.{is_some_and}
 use Rattle.pc_interned.specs.Types.{Grows}
-use Rattle.pc_builder.specs.Few.{AddsFuncs, is_plain_func}
+use Rattle.pc_convert.specs.Few.{AddsFuncs, is_plain_func}
 use Rattle.pc_builder.specs.Converted.{AreConverted}
-use Rattle.pc_builder.specs.Needed.{Each, IsDone}
+use Rattle.pc_convert.specs.Needed.{Each, IsDone}
 use Rattle.pc_builder.proofs.steps.convert_needed.Given as goal
 
 abbrev pub invariant-loop-k : goal.invariant-loop-k

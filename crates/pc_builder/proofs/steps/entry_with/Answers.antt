@@ -1,6 +1,6 @@
 use Rattle.std.proofs.Common.{refl, subst, sym}
-use Rattle.pc_builder.specs.Needed.{AreNeeded, IsDone}
-use Rattle.pc_builder.proofs.FewLemmas.{adds_none}
+use Rattle.pc_convert.specs.Needed.{AreNeeded, IsDone}
+use Rattle.pc_convert.proofs.FewLemmas.{adds_none}
 use Rattle.pc_builder.proofs.steps.entry_with.Goals as goal
 
 pub convert_needed-requires-clause-needed : goal.convert_needed-requires-clause-needed

@@ -1,24 +1,19 @@
-use Rattle.std.proofs.Common.{◌≡◌, arith, subst, sym, true}
+use Rattle.std.proofs.Common.{◌≡◌, arith, subst, true}
 use Rattle.pc_types.specs.Table.{is_some_and}
 use Rattle.pc_interned.proofs.ErrorLemmas.{passed_on}
-use Rattle.pc_builder.specs.Few.{is_plain_func}
-use Rattle.pc_builder.specs.Needed.{IsDone}
-use Rattle.pc_builder.specs.Parts.{AreHeld}
-use Rattle.pc_builder.specs.Steps.{IsReadyEntry}
-use Rattle.pc_builder.proofs.StepLemmas.{done_here, done_kept, entry_wanted, front_held, put_more, ready_step}
+use Rattle.pc_convert.specs.Few.{is_plain_func}
+use Rattle.pc_builder.proofs.StepLemmas.{done_put, entry_wanted, front_held, kept_put, put_more, ready_front}
 use Rattle.pc_builder.proofs.TreeLemmas.{converted_grows}
 use Rattle.pc_builder.proofs.steps.step.Goals as goal
 
 pub convert-requires-clause-ready : goal.convert-requires-clause-ready
 convert-requires-clause-ready c =
-    let e = c.entry_at-entry.result.now in
     let at = c.entry_at-entry.ensures in
-    subst (λ done. IsReadyEntry c.args.table.now done e) (sym c.in_front.ensures)
-    (ready_step c.args.table.now c.requires.sound _ _ c.args.k e c.requires.converted at (c.requires.parts e at))
+    ready_front c.args.table.now c.requires.sound _ _ _ c.args.k _ c.requires.converted c.in_front.ensures at
+    (c.requires.parts _ at)
 
 pub convert-requires-clause-held : goal.convert-requires-clause-held
-convert-requires-clause-held c =
-    subst (AreHeld c.args.interned.now) (sym c.in_front.ensures) (front_held _ _ _ c.args.k c.requires.converted)
+convert-requires-clause-held c = front_held _ _ _ _ c.args.k c.requires.converted c.in_front.ensures
 
 pub returns-in_err-type_-clause-converted : goal.returns-in_err-type_-clause-converted
 returns-in_err-type_-clause-converted c = converted_grows _ _ c.convert.ensures.grows _ _ c.requires.converted
@@ -38,13 +33,10 @@ returns-clause-converted c =
 
 pub returns-clause-done : goal.returns-clause-done
 returns-clause-done c =
-    subst (λ done. IsDone done c.args.k) (sym c.put.ensures)
-    (done_here c.args.converted.now c.args.k c.in_ok-type_.type_
-    (omega (arith, c.requires.there, c.requires.converted.room)))
+    done_put _ _ c.args.k _ c.put.ensures (omega (arith, c.requires.there, c.requires.converted.room))
 
 pub returns-clause-kept : goal.returns-clause-kept
-returns-clause-kept c m h =
-    subst (λ done. IsDone done m) (sym c.put.ensures) (done_kept c.args.converted.now c.args.k m c.in_ok-type_.type_ h)
+returns-clause-kept c = kept_put _ _ c.args.k _ c.put.ensures
 
 pub returns-in_err-type_-clause-few : goal.returns-in_err-type_-clause-few
 returns-in_err-type_-clause-few c h =

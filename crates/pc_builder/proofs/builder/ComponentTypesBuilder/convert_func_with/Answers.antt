@@ -5,7 +5,8 @@ use Rattle.std.proofs.Common.{◌∙◌, ap, subst, sym}
 use Rattle.std.specs.Prelude.{slice_get}
 use Rattle.pc_types.specs.Table.{is_func, is_some_and}
 use Rattle.pc_builder.specs.Trees.{IsEntry}
-use Rattle.pc_builder.proofs.SoundLemmas.{found_by, func_kind}
+use Rattle.pc_convert.proofs.SoundLemmas.{found_by}
+use Rattle.pc_builder.proofs.KindLemmas.{func_kind}
 use Rattle.pc_builder.proofs.TreeLemmas.{func_held}
 use Rattle.pc_builder.proofs.builder.ComponentTypesBuilder.convert_func_with.Goals as goal
 

@@ -5,7 +5,8 @@ use Rattle.std.proofs.Common.{◌∙◌, ap, subst, sym}
 use Rattle.std.specs.Prelude.{slice_get}
 use Rattle.pc_types.specs.Table.{is_instance, is_some_and}
 use Rattle.pc_builder.specs.Trees.{IsEntry}
-use Rattle.pc_builder.proofs.SoundLemmas.{found_by, instance_kind}
+use Rattle.pc_convert.proofs.SoundLemmas.{found_by}
+use Rattle.pc_builder.proofs.KindLemmas.{instance_kind}
 use Rattle.pc_builder.proofs.builder.ComponentTypesBuilder.convert_instance.Goals as goal
 
 pub unreachable-requires : goal.unreachable-requires

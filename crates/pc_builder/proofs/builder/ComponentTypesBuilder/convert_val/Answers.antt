@@ -1,25 +1,16 @@
-use Rattle.pc_builder.proofs.RefusalLemmas.{by_number}
-use Rattle.pc_builder.proofs.PartInversion.{prim_from}
 use Rattle.pc_interned.proofs.ErrorLemmas.{told}
 use Rattle.pc_interned.proofs.Growth.{too_full}
-use Rattle.std.proofs.Common.{[], Some, sym, subst}
-use Rattle.std.proofs.lemmas.Option.{none-some}
-use Rattle.pc_types.specs.declared.parsed.ValType.TheVariants as val
+use Rattle.std.proofs.Common.{sym, subst}
 use Rattle.pc_types.specs.declared.types.TypeDef.TheVariants as def
-use Rattle.pc_builder.specs.Trees.{IsEntry, IsValue, trees_in}
-use Rattle.pc_builder.proofs.PartLemmas.{if_ok_more}
-use Rattle.pc_builder.proofs.Simulation.{val_has}
+use Rattle.pc_convert.proofs.PartLemmas.{if_ok_more}
+use Rattle.pc_builder.specs.Trees.{IsEntry, IsValue}
+use Rattle.pc_builder.proofs.RefusalLemmas.{prim_wanted}
+use Rattle.pc_builder.proofs.Simulation.{prim_is_value}
 use Rattle.pc_builder.proofs.builder.ComponentTypesBuilder.convert_val.Goals as goal
 
 pub returns-in_ok-primitive-in-Prim-clause-tree : goal.returns-in_ok-primitive-in-Prim-clause-tree
 returns-in_ok-primitive-in-Prim-clause-tree c =
-    let b = c.primitive.new.interned in
-    let t = c.args.table.now in
-    let answer = c.in_ok-primitive-in-Prim in
-    subst (λ v. IsValue b t v answer.field-0) (sym c.in-Prim.is)
-    (λ who. val_has b who t [] (trees_in b who t) (λ n d found. absurd (none-some (Some d) found))
-    (val.Prim c.in-Prim.p)
-    answer.field-0 answer.ensures.is)
+    prim_is_value _ c.args.table.now c.args.v.now _ _ c.in-Prim.is c.in_ok-primitive-in-Prim.ensures.is
 
 pub returns-in-Type_-clause-tree : goal.returns-in-Type_-clause-tree
 returns-in-Type_-clause-tree c =
@@ -31,12 +22,8 @@ returns-in-Type_-clause-tree c =
 
 pub returns-in_err-primitive-in-Prim-clause-full : goal.returns-in_err-primitive-in-Prim-clause-full
 returns-in_err-primitive-in-Prim-clause-full c h =
-    let t = c.args.table.now in
     let refused = c.in_err-primitive-in-Prim in
-    too_full _ _ _
-    (λ next g is q.
-    let has = subst (λ v. IsValue next t v q.0) c.in-Prim.is q.1 by_number in
-    (q.0, prim_from next by_number t (trees_in next by_number t) c.in-Prim.p q.0 has.0 has.1 has.2))
+    too_full _ _ _ (λ next g is. prim_wanted next c.args.table.now c.args.v.now _ c.in-Prim.is)
     (told c.from_residual.result refused.field-0.0 c.from_residual.ensures.1 refused.ensures.full h)
 
 pub returns-in-Type_-clause-full : goal.returns-in-Type_-clause-full

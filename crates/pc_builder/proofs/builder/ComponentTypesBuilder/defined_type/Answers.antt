@@ -5,7 +5,8 @@ use Rattle.std.proofs.Common.{◌∙◌, subst, sym}
 use Rattle.std.specs.Prelude.{slice_get}
 use Rattle.pc_types.specs.Table.{is_defined_type}
 use Rattle.pc_builder.specs.Trees.{IsEntry}
-use Rattle.pc_builder.proofs.SoundLemmas.{found_by, defined_kind}
+use Rattle.pc_convert.proofs.SoundLemmas.{found_by}
+use Rattle.pc_builder.proofs.KindLemmas.{defined_kind}
 use Rattle.pc_builder.proofs.builder.ComponentTypesBuilder.defined_type.Goals as goal
 
 pub unreachable-requires : goal.unreachable-requires
