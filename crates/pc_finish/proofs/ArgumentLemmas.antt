@@ -25,7 +25,7 @@ use Rattle.pc_linearize.specs.Arguments.{host_defs}
 use Rattle.pc_linearize.specs.Closed.{Closed, Continues, Fits, Valued}
 use Rattle.pc_linearize.specs.Parts.{HasNumber, in_def}
 use Rattle.pc_linearize.specs.Ready.{IsReadyDef}
-use Rattle.pc_linearize.proofs.AllLemmas.{all_first, all_front, all_back, all_in, all_one}
+use Rattle.pc_linearize.proofs.AllLemmas.{all_at, all_first, all_front, all_back, all_in, all_one}
 use Rattle.pc_finish.proofs.OnlyLemmas.{only_more, only_one}
 use Rattle.pc_linearize.proofs.ContinueLemmas.{continues_refl, continues_then, goes_refl, goes_then}
 
@@ -135,6 +135,11 @@ module _ (g : ComponentDfg) (old new : Finish) (continues : Continues g old new)
   -- what could get its numbers still can
   pub can_still : (d : CoreDef) → CanNumber g (length old.instances) d → CanNumber g (length new.instances) d
   can_still d can = subst (λ is. CanNumber g (length is) d) (sym continues.instances) can
+
+  -- so can the one at a place, where all could
+  pub can_still_at : (ds : List CoreDef) (i : ℕ) (d : CoreDef) → All (CanNumber g (length old.instances)) ds
+      → slice_get ds i ≡ Some d → CanNumber g (length new.instances) d
+  can_still_at ds i d can at = can_still d (all_at (CanNumber g (length old.instances)) ds i d can at)
 
   pub all_can_still : (ds : List CoreDef) → All (CanNumber g (length old.instances)) ds
       → All (CanNumber g (length new.instances)) ds

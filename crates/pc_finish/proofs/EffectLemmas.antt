@@ -308,6 +308,10 @@ module _ (g : ComponentDfg) (ordered : IsOrdered g) (grouped : IsGrouped g) (old
           makes = makes;
         }
 
+    -- whatever the plan is called
+    pub made_done : (h : Finish) → h ≡ made → IsDone g old h (effect.Instance i c)
+    made_done h is = subst (λ z. IsDone g old z (effect.Instance i c)) (sym is) instance_done
+
   module _ (n : DefinedResourceIndex) (next : IsNext g old (effect.Resource n)) (x : Resource)
       (at : slice_get g.resources n.0 ≡ Some x) (d : Option PlanDef) (prepares : PreparesAny g old new x.dtor d) where
     -- the resource of the plan
@@ -410,3 +414,7 @@ module _ (g : ComponentDfg) (ordered : IsOrdered g) (grouped : IsGrouped g) (old
           resources = λ j. owners j ++ each_of (λ (y : Resource). y.instance ∷ []) (sym at j);
           makes = declares;
         }
+
+    -- whatever the plan is called
+    pub declared_done : (h : Finish) → h ≡ declared → IsDone g old h (effect.Resource n)
+    declared_done h is = subst (λ z. IsDone g old z (effect.Resource n)) (sym is) resource_done

@@ -16,13 +16,13 @@ use Rattle.pc_dfg.specs.Lists as list
 use Rattle.pc_dfg.specs.Ordered.{IsOrdered}
 use Rattle.pc_linearize.specs.declared.id.Id.{Id}
 use Rattle.pc_linearize.specs.declared.state.Finish.{Finish}
-use Rattle.pc_linearize.specs.Arguments.{CanNumber, HasMeaning, NumbersAll}
-use Rattle.pc_linearize.specs.Closed.{Closed, Continues, Fits}
+use Rattle.pc_linearize.specs.Arguments.{HasMeaning, NumbersAll}
+use Rattle.pc_linearize.specs.Closed.{Closed, Continues}
 use Rattle.pc_finish.specs.Exports.{CanExport, GoesFurther, IsExportable, IsLiftable, function_of}
 use Rattle.pc_linearize.specs.Grouped.{IsGrouped}
 use Rattle.pc_linearize.specs.Parts.{in_def}
 use Rattle.pc_linearize.specs.Ready.{IsReady, here}
-use Rattle.pc_linearize.proofs.ContinueLemmas.{continues_refl, continues_then, goes_refl, goes_then}
+use Rattle.pc_linearize.proofs.ContinueLemmas.{continues_then, goes_then}
 use Rattle.pc_linearize.proofs.PartLemmas.{all_one}
 use Rattle.pc_finish.proofs.ReadyLemmas.{export_ready}
 use Rattle.pc_linearize.proofs.ValueLemmas.{held_means, valued}
@@ -41,13 +41,6 @@ pub all_of : {A : Type 0} (P : A → Type 0) (xs : List A) → ((n : ℕ) (x : A
 all_of P xs each k d within = each k (get_or xs k d) (slice_get-get_or xs k d within)
 
 module _ (g : ComponentDfg) where
-  -- no step was added
-  pub further_none : (f : Finish) → Fits g f → GoesFurther g f f
-  further_none f fits = record {
-    continues = continues_refl g f fits;
-    goes = λ ms wired. goes_refl g ms f;
-  }
-
   -- further, and then further again
   pub further_then : (a b c : Finish) → GoesFurther g a b → GoesFurther g b c → GoesFurther g a c
   further_then a b c first second = record {
@@ -96,15 +89,6 @@ module _ (g : ComponentDfg) where
       (take i es) all in
       subst (All (IsExportable g new)) (sym (take-next es i e at))
       (All-push (IsExportable g new) (take i es) e before is)
-
-  -- what could get its numbers once all core instances are made still can
-  pub can_still_number : (made : ℕ) → made ≡ length g.instances → (d : CoreDef) → CanNumber g (length g.instances) d
-      → CanNumber g made d
-  can_still_number made same d can = subst (λ n. CanNumber g n d) (sym same) can
-
-  pub ready_still : (made : ℕ) → made ≡ length g.instances → (x : Id) → IsReady g (length g.instances) x
-      → IsReady g made x
-  ready_still made same x ready = subst (λ n. IsReady g n x) (sym same) ready
 
 module _ (g : ComponentDfg) (ordered : IsOrdered g) (grouped : IsGrouped g) where
   -- what an export depends on can get its numbers

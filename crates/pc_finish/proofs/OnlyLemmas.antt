@@ -16,10 +16,6 @@ use Rattle.pc_linearize.specs.Once.{IsUsedBy, OnlyFrom}
 use Rattle.pc_finish.specs.Exports.{in_export, in_exports}
 use Rattle.pc_linearize.specs.Parts.{HasNumber}
 
--- nothing got a number
-pub only_none : (g : ComponentDfg) (f : Finish) (xs : List Id) → OnlyFromThese g f f xs
-only_none g f xs y has = inl has
-
 -- it is what one of them leads to
 pub only_one : (g : ComponentDfg) (old new : Finish) (xs : List Id) (x : Id) → Contains xs x → OnlyFrom g old new x
     → OnlyFromThese g old new xs

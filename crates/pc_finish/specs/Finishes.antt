@@ -163,8 +163,8 @@ pub record Finishes (g : ComponentDfg) (converted : ℕ → Mark) (plan : Compon
   pub adapters_once : AreDistinct (map module_of g.adapter_modules) → (m : ℕ)
       → AtMostOne (MakesAdapters m) (steps_in plan)
   -- lowerings and slots carry their numbers in order; no two steps fill slots of a kind with one definition, where the
-  -- graph tells slots apart; and what is no side effect stands before the first one that uses it, with no other between,
-  -- or behind them all
+  -- graph tells slots apart; and what is no side effect stands before the first one that uses it, with no other
+  -- between, or behind them all
   pub carry : (i : ℕ) (s : Initializer) → slice_get (steps_in plan) i ≡ Some s → CarriesNext (take i (steps_in plan)) s
   pub slots_apart : TellsSlots g → (k : SlotKind) (d : Definition) → AtMostOne (FillsWith k d) (steps_in plan)
   pub late : (i : ℕ) (s : Initializer) (x : Piece) → slice_get (steps_in plan) i ≡ Some s → is_side_effect s ≡ false

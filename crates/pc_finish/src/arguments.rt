@@ -1,8 +1,8 @@
 //! Arguments of core modules. All that they depend on gets its number first; then they are looked up, so that nothing
 //! has to be carried over what the plan grows by.
 
-ghost use Rattle.std.specs.Prelude.{◌≡◌, ◌∷◌, [], All, Err, IfOk, OnOk, length};
-ghost use Rattle.pc_dfg.specs.Names.{if_any};
+ghost use Rattle.std.specs.Prelude.{◌≡◌, ◌++◌, ◌∷◌, [], None, All, Err, IfOk, OnOk, length};
+ghost use Rattle.pc_entity.specs.Lists.{value_of};
 ghost use Rattle.pc_dfg.specs.Ordered.{IsOrdered};
 ghost use Rattle.pc_linearize.specs.declared.error.FinishError.TheVariants as refusal;
 ghost use Rattle.pc_linearize.specs.Arguments.{CanNumber, IsNumbered, NumbersAll, named_defs, host_defs};
@@ -10,29 +10,11 @@ ghost use Rattle.pc_linearize.specs.Arguments.{named_in, host_in};
 ghost use Rattle.pc_linearize.specs.Closed.{Fits};
 ghost use Rattle.pc_linearize.specs.Grouped.{IsGrouped};
 ghost use Rattle.pc_linearize.specs.Outgrown.{Outgrows};
-ghost use Rattle.pc_linearize.specs.Parts.{in_def};
 
 use pc_dfg::{ComponentDfg, CoreDef};
 use pc_entity::{NoMemory, Text, TextMap};
-use pc_linearize::{Finish, FinishError, Id, def_of, number};
+use pc_linearize::{Finish, FinishError, def_of, id_in, number};
 use std::alloc::Global;
-
-/// What a definition depends on, if on anything.
-fn id_in(graph: &ComponentDfg, def: &CoreDef) -> Option<Id>
-    ensures { if_any result ≡ in_def graph.now def.now }
-{
-    match def {
-        CoreDef::Export(_) | CoreDef::InstanceFlags(_) => None,
-        CoreDef::Trampoline(trampoline) => Some(Id::Trampoline(*trampoline)),
-        CoreDef::UnsafeIntrinsic(signature, intrinsic) => Some(Id::Intrinsic(
-            *signature, *intrinsic,
-        )),
-        CoreDef::Adapter(adapter) => match graph.adapter_partitionings.get(*adapter) {
-            Some(place) => Some(Id::AdapterModule(place.0)),
-            None => None,
-        },
-    }
-}
 
 /// Gives what a definition depends on its number.
 pub(crate) fn number_def(
@@ -116,6 +98,19 @@ pub(crate) fn number_host(
     Ok(())
 }
 
+/// Adds a value under a copy of a name that is absent.
+fn push_copy<V: Drop>(
+    alloc: Global,
+    all: &mut TextMap<V>,
+    name: &str,
+    value: V,
+) -> Result<(), NoMemory>
+    requires absent { value_of name.now all.old ≡ None }
+    ensures { OnOk result (all.new ≡ all.old ++ (name.now, value) ∷ []) }
+{
+    all.push(Text::copy_of(alloc, name)?, value)
+}
+
 /// Arguments of a host module under one module name, as the plan has them.
 fn named_of(
     alloc: Global,
@@ -132,7 +127,7 @@ fn named_of(
     for place in 0..args.len() {
         let (name, def) = args.entry_at(place);
         let def = def_of(alloc, graph, finish, def)?;
-        all.push(Text::copy_of(alloc, name)?, def)?;
+        push_copy(alloc, &mut all, name, def)?;
     }
     Ok(all)
 }
@@ -153,7 +148,7 @@ pub(crate) fn host_of(
     for place in 0..args.len() {
         let (name, named) = args.entry_at(place);
         let named = named_of(alloc, graph, finish, named)?;
-        all.push(Text::copy_of(alloc, name)?, named)?;
+        push_copy(alloc, &mut all, name, named)?;
     }
     Ok(all)
 }

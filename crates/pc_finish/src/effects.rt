@@ -18,7 +18,7 @@ use crate::arguments::{host_of, number_all, number_def, number_host};
 use pc_dfg::{ComponentDfg, CoreDef, Instance, InstanceId, SideEffect};
 use pc_entity::{DefinedResourceIndex, RuntimeComponentInstanceIndex, RuntimeInstanceIndex};
 use pc_info::{GlobalInitializer, InstantiateModule};
-use pc_linearize::{Finish, FinishError, append, def_of, defs_of, next};
+use pc_linearize::{Finish, FinishError, add_step, append, def_of, defs_of};
 use std::alloc::Global;
 
 /// A module with its arguments as the plan has them, once all that they depend on has a number.
@@ -59,10 +59,10 @@ fn push_instance(
     ensures full { result ≡ Err refusal.TooMany
         → (4294967294 ≤ finish.old.counts.instances) ⊎ (4294967294 ≤ length finish.old.instances) }
 {
-    let number = next(finish.counts.instances)?;
-    finish.steps.push(GlobalInitializer::InstantiateModule(instantiation, Some(owner)))?;
-    append(&mut finish.instances, RuntimeInstanceIndex(number))?;
-    finish.counts.instances = number + 1;
+    let number = RuntimeInstanceIndex(finish.counts.instances);
+    let step = GlobalInitializer::InstantiateModule(instantiation, Some(owner));
+    add_step(&mut finish.steps, &mut finish.counts.instances, step)?;
+    append(&mut finish.instances, number)?;
     Ok(())
 }
 

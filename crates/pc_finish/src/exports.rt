@@ -2,7 +2,7 @@
 //! before it. All that the functions among them depend on is made first; then nothing changes any more, and the items
 //! are looked up.
 
-ghost use Rattle.std.specs.Prelude.{◌≡◌, None, Some, All, Err, IfOk, OnOk, length};
+ghost use Rattle.std.specs.Prelude.{◌≡◌, ◌++◌, ◌∷◌, [], None, Some, All, Err, IfOk, OnOk, length};
 ghost use Rattle.std.specs.List.{AllZip};
 ghost use Rattle.pc_dfg.specs.Ordered.{IsOrdered};
 ghost use Rattle.pc_linearize.specs.declared.error.FinishError.TheVariants as refusal;
@@ -208,6 +208,13 @@ fn item_of(
     }
 }
 
+/// Adds an export at the end.
+fn push_item(items: &mut Vec<pc_info::Export>, item: pc_info::Export) -> Result<(), NoMemory>
+    ensures { OnOk result (items.new.items ≡ items.old.items ++ item ∷ []) }
+{
+    Ok(items.push(item)?)
+}
+
 /// The exports as the plan has them, in their order.
 fn items_of(
     alloc: Global,
@@ -223,7 +230,8 @@ fn items_of(
 {
     let mut items = Vec::with_capacity(alloc, graph.export_items.len())?;
     for item in graph.export_items.as_slice() {
-        items.push(item_of(alloc, graph, finish, types, item)?)?;
+        let made = item_of(alloc, graph, finish, types, item)?;
+        push_item(&mut items, made)?;
     }
     Ok(PrimaryMap::from_vec(items))
 }

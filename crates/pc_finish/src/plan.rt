@@ -3,7 +3,7 @@
 //! First come the types of exported modules, since they ask most of the types builder. Then the side effects become
 //! steps, each after what it needs, and last come the exports with what they need.
 
-ghost use Rattle.std.specs.Prelude.{◌≡◌, ◌⊎◌, None, All, Contains, Err, IfOk};
+ghost use Rattle.std.specs.Prelude.{◌≡◌, ◌⊎◌, [], None, All, Contains, Err, IfOk, OnOk, length, replicate};
 ghost use Rattle.pc_types.specs.Table.{table_fault};
 ghost use Rattle.pc_builder.specs.Types.{Grows};
 ghost use Rattle.pc_dfg.specs.declared.export.Export.{Export};
@@ -13,7 +13,7 @@ ghost use Rattle.pc_finish.specs.Finished.{IsFinished};
 ghost use Rattle.pc_linearize.specs.Full.{HasTooMany};
 ghost use Rattle.pc_linearize.specs.Grouped.{IsGrouped};
 ghost use Rattle.pc_finish.specs.ModuleTypes.{HasModuleType, HasNoModule, HasNoPlace};
-ghost use Rattle.pc_finish.specs.Whole.{IsMade, empty_plan, no_numbers};
+ghost use Rattle.pc_finish.specs.Whole.{IsMade, empty_plan};
 
 use crate::effects::do_effects;
 use crate::exports::{Exported, exports};
@@ -27,29 +27,73 @@ use pc_linearize::{Counts, Finish, FinishError, INTRINSICS, NumberMap, Numbers};
 use pc_types::TypeTable;
 use std::alloc::Global;
 
-/// No entry has its number yet.
-fn no_numbers(alloc: Global, graph: &ComponentDfg) -> Result<Numbers, NoMemory>
-    ensures { IfOk result (λ n. n ≡ no_numbers graph.now) }
+/// No slot of the graph has its number yet.
+fn no_slots(alloc: Global, graph: &ComponentDfg, numbers: &mut Numbers) -> Result<(), NoMemory>
+    ensures { OnOk result (numbers.new ≡ record numbers.old {
+      memories = replicate (length graph.now.memories) None;
+      tables = replicate (length graph.now.tables) None;
+      reallocs = replicate (length graph.now.reallocs) None;
+      callbacks = replicate (length graph.now.callbacks) None;
+      post_returns = replicate (length graph.now.post_returns) None;
+    }) }
 {
-    Ok(Numbers {
-        memories: NumberMap::new(alloc, graph.memories.len())?,
-        tables: NumberMap::new(alloc, graph.tables.len())?,
-        reallocs: NumberMap::new(alloc, graph.reallocs.len())?,
-        callbacks: NumberMap::new(alloc, graph.callbacks.len())?,
-        post_returns: NumberMap::new(alloc, graph.post_returns.len())?,
-        options: NumberMap::new(alloc, graph.options.len())?,
-        lowerings: NumberMap::new(alloc, graph.trampolines.len())?,
-        trampolines: NumberMap::new(alloc, graph.trampolines.len())?,
-        adapter_modules: NumberMap::new(alloc, graph.adapter_modules.len())?,
-    })
+    numbers.memories = NumberMap::new(alloc, graph.memories.len())?;
+    numbers.tables = NumberMap::new(alloc, graph.tables.len())?;
+    numbers.reallocs = NumberMap::new(alloc, graph.reallocs.len())?;
+    numbers.callbacks = NumberMap::new(alloc, graph.callbacks.len())?;
+    numbers.post_returns = NumberMap::new(alloc, graph.post_returns.len())?;
+    Ok(())
 }
 
-/// A plan with nothing in it.
+/// No other entry of the graph has its number yet.
+fn no_others(alloc: Global, graph: &ComponentDfg, numbers: &mut Numbers) -> Result<(), NoMemory>
+    ensures { OnOk result (numbers.new ≡ record numbers.old {
+      options = replicate (length graph.now.options) None;
+      lowerings = replicate (length graph.now.trampolines) None;
+      trampolines = replicate (length graph.now.trampolines) None;
+      adapter_modules = replicate (length graph.now.adapter_modules) None;
+    }) }
+{
+    numbers.options = NumberMap::new(alloc, graph.options.len())?;
+    numbers.lowerings = NumberMap::new(alloc, graph.trampolines.len())?;
+    numbers.trampolines = NumberMap::new(alloc, graph.trampolines.len())?;
+    numbers.adapter_modules = NumberMap::new(alloc, graph.adapter_modules.len())?;
+    Ok(())
+}
+
+/// The numbers of the entries of a graph that has none.
+fn empty_numbers(alloc: Global) -> Numbers
+    ensures { result ≡ record {
+      memories = [];
+      tables = [];
+      reallocs = [];
+      callbacks = [];
+      post_returns = [];
+      options = [];
+      lowerings = [];
+      trampolines = [];
+      adapter_modules = [];
+    } }
+{
+    Numbers {
+        memories: NumberMap::empty(alloc),
+        tables: NumberMap::empty(alloc),
+        reallocs: NumberMap::empty(alloc),
+        callbacks: NumberMap::empty(alloc),
+        post_returns: NumberMap::empty(alloc),
+        options: NumberMap::empty(alloc),
+        lowerings: NumberMap::empty(alloc),
+        trampolines: NumberMap::empty(alloc),
+        adapter_modules: NumberMap::empty(alloc),
+    }
+}
+
+/// A plan with nothing in it, in which no entry of the graph has its number. Its maps are empty first, so that what a
+/// refusal drops is the plan and not each of them.
 fn start(alloc: Global, graph: &ComponentDfg) -> Result<Finish, NoMemory>
     ensures { IfOk result (λ f. f ≡ empty_plan graph.now) }
 {
-    let numbers = no_numbers(alloc, graph)?;
-    Ok(Finish {
+    let mut finish = Finish {
         steps: Seq::new(alloc),
         signatures: PrimaryMap::new(alloc),
         trampolines: PrimaryMap::new(alloc),
@@ -66,8 +110,11 @@ fn start(alloc: Global, graph: &ComponentDfg) -> Result<Finish, NoMemory>
             callbacks: 0,
             post_returns: 0,
         },
-        numbers,
-    })
+        numbers: empty_numbers(alloc),
+    };
+    no_slots(alloc, graph, &mut finish.numbers)?;
+    no_others(alloc, graph, &mut finish.numbers)?;
+    Ok(finish)
 }
 
 /// All that a plan of a graph consists of: its steps and lists, and its exports.

@@ -2,7 +2,7 @@
 
 ghost use Rattle.std.specs.Prelude.{◌≡◌, ◌<◌, ◌+◌, length, Err, IfOk};
 ghost use Rattle.pc_linearize.specs.declared.error.FinishError.TheVariants as refusal;
-ghost use Rattle.pc_finish.specs.Whole.{translation_of};
+ghost use Rattle.pc_finish.specs.Whole.{component_of, translation_of};
 
 use crate::exports::Exported;
 use pc_dfg::ComponentDfg;
@@ -25,22 +25,19 @@ fn resource_count(imported: usize, declared: usize) -> Result<u32, FinishError>
     }
 }
 
-/// The plan that was made, put together with what the graph has of the host.
-#[tactic(auto, unfolding(crate::specs::Whole::translation_of))]
-pub(crate) fn into_translation(
-    finish: Finish,
+/// The component of a plan that was made, which takes the lists of the plan and of the graph.
+fn component_of(
     alloc: Global,
-    graph: ComponentDfg,
+    finish: &mut Finish,
+    graph: &mut ComponentDfg,
     exported: Exported,
-) -> Result<ComponentTranslation, FinishError>
-    ensures plan { IfOk result (λ t. t ≡ translation_of graph finish exported.names exported.items) }
-    ensures full { result ≡ Err refusal.TooMany
-        → 4294967295 < length graph.imported_resources + length finish.resources }
+    num_resources: u32,
+) -> Component
+    requires sum { num_resources ≡ length graph.old.imported_resources + length finish.old.resources }
+    ensures component { result ≡ component_of graph.old finish.old exported.names exported.items }
+    ensures kept { finish.new.trampolines ≡ finish.old.trampolines }
 {
-    let num_resources = resource_count(graph.imported_resources.len(), finish.resources.len())?;
-    let mut finish = finish;
-    let mut graph = graph;
-    let component = Component {
+    Component {
         import_types: mem::replace(&mut graph.import_types, PrimaryMap::new(alloc)),
         imports: mem::replace(&mut graph.imports, PrimaryMap::new(alloc)),
         exports: exported.names,
@@ -63,7 +60,25 @@ pub(crate) fn into_translation(
         imported_resources: mem::replace(&mut graph.imported_resources, PrimaryMap::new(alloc)),
         defined_resource_instances: mem::replace(&mut finish.resources, PrimaryMap::new(alloc)),
         options: mem::replace(&mut finish.options, PrimaryMap::new(alloc)),
-    };
+    }
+}
+
+/// The plan that was made, put together with what the graph has of the host.
+#[tactic(auto, unfolding(crate::specs::Whole::translation_of))]
+pub(crate) fn into_translation(
+    finish: Finish,
+    alloc: Global,
+    graph: ComponentDfg,
+    exported: Exported,
+) -> Result<ComponentTranslation, FinishError>
+    ensures plan { IfOk result (λ t. t ≡ translation_of graph finish exported.names exported.items) }
+    ensures full { result ≡ Err refusal.TooMany
+        → 4294967295 < length graph.imported_resources + length finish.resources }
+{
+    let num_resources = resource_count(graph.imported_resources.len(), finish.resources.len())?;
+    let mut finish = finish;
+    let mut graph = graph;
+    let component = component_of(alloc, &mut finish, &mut graph, exported, num_resources);
     Ok(ComponentTranslation {
         component,
         trampolines: mem::replace(&mut finish.trampolines, PrimaryMap::new(alloc)),

@@ -9,6 +9,7 @@ use Rattle.pc_intern.specs.declared.ids.TableId.{TableId}
 use Rattle.pc_numbers.specs.declared.module_entity.MemoryIndex.{MemoryIndex}
 use Rattle.pc_numbers.specs.declared.module_entity.TableIndex.{TableIndex}
 use Rattle.pc_semantics.specs.PlanView as plan
+use Rattle.pc_info.specs.declared.core_def.CoreDef.{CoreDef as PlanDef}
 use Rattle.pc_info.specs.declared.core_def.CoreExport.{CoreExport as PlanExport}
 use Rattle.pc_info.specs.declared.initializer.GlobalInitializer.TheVariants as init
 use Rattle.pc_info.specs.declared.initializer.GlobalInitializer.{GlobalInitializer}
@@ -162,6 +163,16 @@ module _ (g : ComponentDfg) (k : plan.SlotKind) (n : ℕ) where
       subst (λ (x : Finish). Closed g f x (slot_id k n)) (sym is)
       (closed_slot g f k n i d held at (slot_ready (length f.instances) d can at) (slot_numbered f d all at) fits
       fresh view)
+
+  -- the same where the step has the definition as the plan has it
+  pub definition_closed : (f h : Finish) (i : GlobalInitializer) (d : CoreDef) (x : PlanDef) → AreHeld g
+      → CanClose g (length f.instances) (slot_id k n) → All (HasNumber f) (parts g (slot_id k n)) → Fits g f
+      → number_of f (slot_id k n) ≡ None → slice_get (slots_of g k) n ≡ Some d → h ≡ add_slot k n i f
+      → initializer_view i ≡ plan.extract k (slot_count f k) (def_view x) → x ≡ def_in g f d
+      → Closed g f h (slot_id k n)
+  definition_closed f h i d x held can all fits fresh at is view same =
+      slot_closed f h i d held can all fits fresh at is
+      (view ∙ ap (λ (y : PlanDef). plan.extract k (slot_count f k) (def_view y)) same)
 
 -- a memory, and a table
 pub memory_at : (g : ComponentDfg) (n : ℕ) (e : CoreExport MemoryIndex) → slice_get g.memories n ≡ Some e

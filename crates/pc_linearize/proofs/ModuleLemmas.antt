@@ -312,6 +312,17 @@ module_ready g made m x can at =
     subst (λ (y : StaticModuleIndex × List CoreDef). All (IsReadyDef g made) y.1) (same_Some can.0 x (sym can.1 ∙ at))
     can.2
 
+-- so it gets its number by its step, whose arguments are those of the graph as the plan has them
+pub module_closed : (g : ComponentDfg) (f h : Finish) (m : AdapterModuleId) (x : StaticModuleIndex × List CoreDef)
+    (ds : List CoreDef) (args : List PlanDef) → CanClose g (length f.instances) (id.AdapterModule m)
+    → slice_get g.adapter_modules m.0 ≡ Some x → Fits g f → All (HasNumber f) (parts g (id.AdapterModule m))
+    → number_of f (id.AdapterModule m) ≡ None → ds ≡ x.1 → args ≡ map (def_in g f) ds
+    → h ≡ add_module m.0 x.0 args f → Closed g f h (id.AdapterModule m)
+module_closed g f h m x ds args can at fits all fresh lent same is =
+    subst (λ (z : Finish). Closed g f z (id.AdapterModule m))
+    (sym (is ∙ ap (λ (l : List PlanDef). add_module m.0 x.0 l f) (same ∙ ap (map (def_in g f)) lent)))
+    (closed_module g f m x at fits (module_ready g (length f.instances) m x can at) all fresh)
+
 -- and what they depend on has its number
 pub module_numbered : (g : ComponentDfg) (f : Finish) (m : AdapterModuleId) (x : StaticModuleIndex × List CoreDef)
     → All (HasNumber f) (parts g (id.AdapterModule m)) → slice_get g.adapter_modules m.0 ≡ Some x

@@ -42,14 +42,6 @@ module _ (ns : List (Option ℕ)) (k n : ℕ) where
     | inr other ↦ inr (ap (option_and_then (λ (o : Option ℕ). o)) (sym (slice_get-set_other ns k j (Some n) other)) ∙ h)
   ]
 
-  -- an entry that had a number has one
-  pub number_kept : k < length ns → (j m : ℕ) → number_at ns j ≡ Some m
-      → (i : ℕ) × (number_at (with_number ns k n) j ≡ Some i)
-  number_kept within j m h = elim (cases_eq j k) as (λ _. (i : ℕ) × (number_at (with_number ns k n) j ≡ Some i)) [
-    | inl same ↦ (n, ap (number_at (with_number ns k n)) same ∙ number_noted within)
-    | inr other ↦ (m, ap (option_and_then (λ (o : Option ℕ). o)) (slice_get-set_other ns k j (Some n) other) ∙ h)
-  ]
-
 -- a trampoline that a definition is has its number
 pub trampoline_there : (g : ComponentDfg) (f : Finish) (d : CoreDef) (t : TrampolineIndex) → d ≡ def.Trampoline t
     → All (HasNumber f) (in_def g d) → IsSome (number_at f.numbers.trampolines t.0)

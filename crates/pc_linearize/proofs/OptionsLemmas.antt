@@ -55,6 +55,12 @@ module _ (g : ComponentDfg) (f : Finish) (o : OptionsId) (x : CanonicalOptions) 
   pub options_within : o.0 < length f.numbers.options
   options_within = subst (λ (m : ℕ). o.0 < m) (sym fits.options) (slice_get_within g.options o.0 x at)
 
+  -- what it names has its numbers
+  pub options_named : All (HasNumber f) (parts g (id.Options o)) → All (HasNumber f) (in_entry (options_entry x))
+  unfolding parts
+  options_named all =
+      subst (λ (w : Option CanonicalOptions). All (HasNumber f) (each_of (λ y. in_entry (options_entry y)) w)) at all
+
   noted : Notes f with_options (id.Options o) (length f.options)
   noted = options_noted f o.0 (options_in f x) options_within
 
@@ -152,9 +158,6 @@ module _ (g : ComponentDfg) (f : Finish) (o : OptionsId) (x : CanonicalOptions) 
           lowering = reached.filled.lowering;
           slot = reached.filled.slot;
         })
-        (options_resolve ms s held
-        (subst (λ (w : Option CanonicalOptions). All (HasNumber f) (each_of (λ y. in_entry (options_entry y)) w)) at
-        all)
-        reached.filled reached.resolves)
+        (options_resolve ms s held (options_named all) reached.filled reached.resolves)
         reached;
   }

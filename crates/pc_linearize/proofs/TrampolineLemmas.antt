@@ -77,6 +77,15 @@ kept_trampolines signatures ts s t es same kept n e at =
     ∙ ap (λ (o : Option ModuleInternedTypeIndex). Some (entry_view (unwrap_or o no_signature) b.0))
     (longer ∙ sym found.1) ∙ ap Some b.2)
 
+-- what a trampoline names has its numbers
+pub trampoline_named : (g : ComponentDfg) (f : Finish) (t : TrampolineIndex) (x : SignedTrampoline)
+    → slice_get g.trampolines t.0 ≡ Some x → All (HasNumber f) (parts g (id.Trampoline t))
+    → All (HasNumber f) (in_trampoline t (trampoline_entry x))
+unfolding parts
+trampoline_named g f t x at all =
+    subst (λ (w : Option SignedTrampoline).
+    All (HasNumber f) (each_of (λ z. in_trampoline t (trampoline_entry z)) w)) at all
+
 module _ (g : ComponentDfg) (f : Finish) (t : TrampolineIndex) (x : SignedTrampoline) (y : PlanTrampoline)
     (at : slice_get g.trampolines t.0 ≡ Some x) (is : parts_of y ≡ parts_in f t (parts_of x.1)) (fits : Fits g f) where
   -- a plan with the trampoline
@@ -195,9 +204,6 @@ module _ (g : ComponentDfg) (f : Finish) (t : TrampolineIndex) (x : SignedTrampo
           lowering = reached.filled.lowering;
           slot = reached.filled.slot;
         })
-        (trampoline_resolve ms s held
-        (subst (λ (w : Option SignedTrampoline).
-        All (HasNumber f) (each_of (λ z. in_trampoline t (trampoline_entry z)) w)) at all)
-        reached.filled reached.resolves)
+        (trampoline_resolve ms s held (trampoline_named g f t x at all) reached.filled reached.resolves)
         reached;
   }

@@ -1,6 +1,6 @@
 //! Definitions of the graph as the plan has them, once all that they name has a number.
 
-ghost use Rattle.std.specs.Prelude.{◌≡◌, ◌<◌, All, IfOk, length, map};
+ghost use Rattle.std.specs.Prelude.{◌≡◌, ◌<◌, ◌++◌, ◌∷◌, [], All, IfOk, OnOk, length, map};
 ghost use Rattle.pc_linearize.specs.Converted.{def_in, export_in};
 ghost use Rattle.pc_linearize.specs.Parts.{HasNumber, in_def};
 ghost use Rattle.pc_linearize.specs.Ready.{IsReadyDef};
@@ -56,6 +56,22 @@ pub fn def_of(
     }
 }
 
+/// Adds a definition as the plan has it.
+fn push_def(
+    alloc: Global,
+    graph: &ComponentDfg,
+    finish: &Finish,
+    all: &mut Seq<pc_info::CoreDef>,
+    def: &CoreDef,
+) -> Result<(), NoMemory>
+    requires ready { IsReadyDef graph.now (length finish.now.instances) def.now }
+    requires numbered { All (HasNumber finish.now) (in_def graph.now def.now) }
+    ensures { OnOk result (all.new ≡ all.old ++ def_in graph.now finish.now def.now ∷ []) }
+{
+    let converted = def_of(alloc, graph, finish, def)?;
+    all.push(converted)
+}
+
 /// Definitions in their order.
 pub fn defs_of(
     alloc: Global,
@@ -69,7 +85,7 @@ pub fn defs_of(
 {
     let mut all = Seq::with_capacity(alloc, defs.len())?;
     for def in defs {
-        all.push(def_of(alloc, graph, finish, def)?)?;
+        push_def(alloc, graph, finish, &mut all, def)?;
     }
     Ok(all)
 }

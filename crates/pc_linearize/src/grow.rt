@@ -2,7 +2,7 @@
 //!
 //! A numbered list has 4294967294 entries at most, so that no number is the one that stands for none.
 
-ghost use Rattle.std.specs.Prelude.{◌≡◌, ◌≤◌, ◌<◌, ◌↔◌, length, OnOk, IfOk, Ok, Err};
+ghost use Rattle.std.specs.Prelude.{◌≡◌, ◌≤◌, ◌<◌, ◌+◌, ◌↔◌, ◌++◌, ◌∷◌, [], length, OnOk, IfOk, Ok, Err};
 ghost use Rattle.pc_semantics.specs.PlanView as plan;
 ghost use Rattle.pc_info.specs.declared.initializer.GlobalInitializer.TheVariants as init;
 ghost use Rattle.pc_linearize.specs.declared.error.FinishError.TheVariants as refusal;
@@ -10,6 +10,7 @@ ghost use Rattle.pc_linearize.specs.Added.{add_slot, add_lowering, add_module, a
 ghost use Rattle.pc_linearize.specs.Added.{note_intrinsic};
 
 use crate::FinishError;
+use crate::listed::append;
 use crate::state::Finish;
 use pc_dfg::{AdapterModuleId, CallbackId, MemoryId, OptionsId, PostReturnId, ReallocId, TableId};
 use pc_entity::{
@@ -38,6 +39,22 @@ pub fn next(entries: u32) -> Result<u32, FinishError>
     }
 }
 
+/// Adds a step, and counts it among those of its kind.
+pub fn add_step(
+    steps: &mut Seq<GlobalInitializer>,
+    count: &mut u32,
+    step: GlobalInitializer,
+) -> Result<(), FinishError>
+    ensures added { OnOk result (steps.new ≡ steps.old ++ step ∷ []) }
+    ensures counted { OnOk result (count.new ≡ count.old + 1) }
+    ensures full { result ≡ Err refusal.TooMany → 4294967294 ≤ count.old }
+{
+    let number = next(*count)?;
+    steps.push(step)?;
+    *count = number + 1;
+    Ok(())
+}
+
 impl Finish {
     /// Fills a slot with a memory.
     pub fn fill_memory(
@@ -51,10 +68,9 @@ impl Finish {
             self.old) }
         ensures full { (result ≡ Err refusal.TooMany) → 4294967294 ≤ self.old.counts.memories }
     {
-        let number = next(self.counts.memories)?;
-        let index = RuntimeMemoryIndex(number);
-        self.steps.push(GlobalInitializer::ExtractMemory(ExtractMemory { index, export }))?;
-        self.counts.memories = number + 1;
+        let index = RuntimeMemoryIndex(self.counts.memories);
+        let step = GlobalInitializer::ExtractMemory(ExtractMemory { index, export });
+        add_step(&mut self.steps, &mut self.counts.memories, step)?;
         self.numbers.memories.note(entry, index);
         Ok(())
     }
@@ -70,10 +86,9 @@ impl Finish {
             (init.ExtractTable (record { index = record { 0 = self.old.counts.tables }; export = export })) self.old) }
         ensures full { (result ≡ Err refusal.TooMany) → 4294967294 ≤ self.old.counts.tables }
     {
-        let number = next(self.counts.tables)?;
-        let index = RuntimeTableIndex(number);
-        self.steps.push(GlobalInitializer::ExtractTable(ExtractTable { index, export }))?;
-        self.counts.tables = number + 1;
+        let index = RuntimeTableIndex(self.counts.tables);
+        let step = GlobalInitializer::ExtractTable(ExtractTable { index, export });
+        add_step(&mut self.steps, &mut self.counts.tables, step)?;
         self.numbers.tables.note(entry, index);
         Ok(())
     }
@@ -85,10 +100,9 @@ impl Finish {
             (init.ExtractRealloc (record { index = record { 0 = self.old.counts.reallocs }; def = def })) self.old) }
         ensures full { (result ≡ Err refusal.TooMany) → 4294967294 ≤ self.old.counts.reallocs }
     {
-        let number = next(self.counts.reallocs)?;
-        let index = RuntimeReallocIndex(number);
-        self.steps.push(GlobalInitializer::ExtractRealloc(ExtractRealloc { index, def }))?;
-        self.counts.reallocs = number + 1;
+        let index = RuntimeReallocIndex(self.counts.reallocs);
+        let step = GlobalInitializer::ExtractRealloc(ExtractRealloc { index, def });
+        add_step(&mut self.steps, &mut self.counts.reallocs, step)?;
         self.numbers.reallocs.note(entry, index);
         Ok(())
     }
@@ -100,10 +114,9 @@ impl Finish {
             (init.ExtractCallback (record { index = record { 0 = self.old.counts.callbacks }; def = def })) self.old) }
         ensures full { (result ≡ Err refusal.TooMany) → 4294967294 ≤ self.old.counts.callbacks }
     {
-        let number = next(self.counts.callbacks)?;
-        let index = RuntimeCallbackIndex(number);
-        self.steps.push(GlobalInitializer::ExtractCallback(ExtractCallback { index, def }))?;
-        self.counts.callbacks = number + 1;
+        let index = RuntimeCallbackIndex(self.counts.callbacks);
+        let step = GlobalInitializer::ExtractCallback(ExtractCallback { index, def });
+        add_step(&mut self.steps, &mut self.counts.callbacks, step)?;
         self.numbers.callbacks.note(entry, index);
         Ok(())
     }
@@ -116,10 +129,9 @@ impl Finish {
             self.old) }
         ensures full { (result ≡ Err refusal.TooMany) → 4294967294 ≤ self.old.counts.post_returns }
     {
-        let number = next(self.counts.post_returns)?;
-        let index = RuntimePostReturnIndex(number);
-        self.steps.push(GlobalInitializer::ExtractPostReturn(ExtractPostReturn { index, def }))?;
-        self.counts.post_returns = number + 1;
+        let index = RuntimePostReturnIndex(self.counts.post_returns);
+        let step = GlobalInitializer::ExtractPostReturn(ExtractPostReturn { index, def });
+        add_step(&mut self.steps, &mut self.counts.post_returns, step)?;
         self.numbers.post_returns.note(entry, index);
         Ok(())
     }
@@ -134,11 +146,9 @@ impl Finish {
         ensures ok { OnOk result (self.new ≡ add_lowering trampoline.0 import self.old) }
         ensures full { (result ≡ Err refusal.TooMany) → 4294967294 ≤ self.old.counts.lowerings }
     {
-        let number = next(self.counts.lowerings)?;
-        let index = LoweredIndex(number);
-        self.steps
-            .push(GlobalInitializer::LowerImport { index, import })?;
-        self.counts.lowerings = number + 1;
+        let index = LoweredIndex(self.counts.lowerings);
+        let step = GlobalInitializer::LowerImport { index, import };
+        add_step(&mut self.steps, &mut self.counts.lowerings, step)?;
         self.numbers.lowerings.note(trampoline, index);
         Ok(())
     }
@@ -154,14 +164,11 @@ impl Finish {
         ensures ok { OnOk result (self.new ≡ add_module entry.0 «module» args self.old) }
         ensures full { (result ≡ Err refusal.TooMany) → 4294967294 ≤ self.old.counts.instances }
     {
-        let number = next(self.counts.instances)?;
+        let index = RuntimeInstanceIndex(self.counts.instances);
         let made = InstantiateModule::Static(module, args);
-        self.steps
-            .push(GlobalInitializer::InstantiateModule(made, None))?;
-        self.counts.instances = number + 1;
-        self.numbers
-            .adapter_modules
-            .note(entry, RuntimeInstanceIndex(number));
+        let step = GlobalInitializer::InstantiateModule(made, None);
+        add_step(&mut self.steps, &mut self.counts.instances, step)?;
+        self.numbers.adapter_modules.note(entry, index);
         Ok(())
     }
 
@@ -175,10 +182,7 @@ impl Finish {
         ensures ok { OnOk result (self.new ≡ add_options entry.0 options self.old) }
         ensures full { (result ≡ Err refusal.TooMany) → 4294967294 ≤ length self.old.options }
     {
-        if self.options.len() >= MAX_ENTRIES as usize {
-            return Err(FinishError::TooMany);
-        }
-        let number = self.options.push(options)?;
+        let number = append(&mut self.options, options)?;
         self.numbers.options.note(entry, number);
         Ok(())
     }
@@ -195,11 +199,8 @@ impl Finish {
         ensures ok { OnOk result (self.new ≡ add_trampoline entry.0 signature trampoline self.old) }
         ensures full { (result ≡ Err refusal.TooMany) → 4294967294 ≤ length self.old.trampolines }
     {
-        if self.trampolines.len() >= MAX_ENTRIES as usize {
-            return Err(FinishError::TooMany);
-        }
-        self.signatures.push(signature)?;
-        let number = self.trampolines.push(trampoline)?;
+        append(&mut self.signatures, signature)?;
+        let number = append(&mut self.trampolines, trampoline)?;
         self.numbers.trampolines.note(entry, number);
         Ok(())
     }

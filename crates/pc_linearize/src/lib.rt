@@ -18,9 +18,10 @@ mod state;
 
 pub use convert::{def_of, defs_of};
 pub use error::FinishError;
-pub use grow::next;
+pub use grow::{add_step, next};
 pub use id::Id;
 pub use listed::append;
 pub use number_map::NumberMap;
+pub use open::id_in;
 pub use run::number;
 pub use state::{Counts, Finish, INTRINSICS, Numbers};

@@ -1,7 +1,7 @@
 //! The numbers that entries of a list have in a plan, so far.
 
-ghost use Rattle.std.specs.Prelude.{◌≡◌, ℕ, ◌<◌, length, replicate, None, Some, IfOk};
-ghost use Rattle.std.specs.Option.{option_map, IsSome, IfSome};
+ghost use Rattle.std.specs.Prelude.{◌≡◌, ℕ, ◌<◌, [], length, replicate, None, Some, IfOk};
+ghost use Rattle.std.specs.Option.{option_map, is_some, IsSome, IfSome};
 ghost use Rattle.pc_linearize.specs.Numbers.{number_at, numbered, with_number};
 
 use pc_entity::{EntityRef, NoMemory};
@@ -24,27 +24,50 @@ impl<K, V> Model for NumberMap<K, V> {
 }
 
 impl<K: EntityRef, V: EntityRef> NumberMap<K, V> {
+    /// A map for no entries.
+    pub fn empty(alloc: Global) -> NumberMap<K, V>
+        ensures { result ≡ [] }
+    {
+        NumberMap {
+            numbers: Vec::new(alloc),
+            types: PhantomData,
+        }
+    }
+
     /// A map for so many entries, none of which has a number.
     pub fn new(alloc: Global, entries: usize) -> Result<NumberMap<K, V>, NoMemory>
         ensures { IfOk result (λ m. m ≡ replicate entries None) }
     {
-        let mut numbers = Vec::with_capacity(alloc, entries)?;
-        for _ in 0..entries {
-            numbers.push(None)?;
-        }
         Ok(NumberMap {
-            numbers,
+            numbers: vec![in alloc; None; entries]?,
             types: PhantomData,
         })
+    }
+
+    /// The number of an entry, if it has one, as it is kept.
+    fn kept(&self, entry: K) -> Option<u32>
+        ensures { result ≡ number_at self.now (K.number entry) }
+    {
+        match self.numbers.get(entry.as_u32() as usize) {
+            Some(number) => *number,
+            None => None,
+        }
+    }
+
+    /// Whether an entry has its number.
+    pub fn has(&self, entry: K) -> bool
+        ensures { result ≡ is_some (number_at self.now (K.number entry)) }
+    {
+        self.kept(entry).is_some()
     }
 
     /// The number of an entry, if it has one.
     pub fn get(&self, entry: K) -> Option<V>
         ensures { result ≡ option_map (λ n. V.of_number n) (number_at self.now (K.number entry)) }
     {
-        match self.numbers.get(entry.as_u32() as usize) {
-            Some(Some(number)) => Some(V::from_u32(*number)),
-            _ => None,
+        match self.kept(entry) {
+            Some(number) => Some(V::from_u32(number)),
+            None => None,
         }
     }
 

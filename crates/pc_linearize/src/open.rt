@@ -3,7 +3,7 @@
 //! The stack holds ids alone. What an id depends on is read off the graph again when it is closed, and no list is
 //! copied: the parts go onto the stack from the last to the first, so that the first is made first.
 
-ghost use Rattle.std.specs.Prelude.{◌≡◌, ◌++◌, OnOk, option_map, ℕ};
+ghost use Rattle.std.specs.Prelude.{◌≡◌, ◌++◌, ◌∷◌, [], OnOk, option_map, ℕ};
 ghost use Rattle.std.specs.List.{flat_map};
 ghost use Rattle.std.specs.Option.{is_some};
 ghost use Rattle.pc_intern.specs.declared.ids.CallbackId.{CallbackId as Callbacks};
@@ -14,6 +14,7 @@ ghost use Rattle.pc_intern.specs.declared.ids.TableId.{TableId as Tables};
 ghost use Rattle.pc_semantics.specs.PlanView as plan;
 ghost use Rattle.pc_trampoline.specs.Parts.{list_of};
 ghost use Rattle.pc_trampoline.specs.View.{part_by, parts_entry};
+ghost use Rattle.pc_dfg.specs.Names.{if_any};
 ghost use Rattle.pc_dfg.specs.Numbers.{graph_numbers, options_entry};
 ghost use Rattle.pc_linearize.specs.Parts.{in_def, in_entry, in_part, in_trampoline, maybe_slot, number_of};
 ghost use Rattle.pc_linearize.specs.Parts.{options_id, parts, slot_id};
@@ -40,20 +41,40 @@ fn has_number(finish: &Finish, id: Id) -> bool
     ensures { result ≡ is_some (number_of finish.now id) }
 {
     match id {
-        Id::Memory(memory) => finish.numbers.memories.get(memory).is_some(),
-        Id::Table(table) => finish.numbers.tables.get(table).is_some(),
-        Id::Realloc(realloc) => finish.numbers.reallocs.get(realloc).is_some(),
-        Id::Callback(callback) => finish.numbers.callbacks.get(callback).is_some(),
-        Id::PostReturn(post_return) => finish.numbers.post_returns.get(post_return).is_some(),
-        Id::Options(options) => finish.numbers.options.get(options).is_some(),
-        Id::Lowering(trampoline) => finish.numbers.lowerings.get(trampoline).is_some(),
-        Id::Trampoline(trampoline) => finish.numbers.trampolines.get(trampoline).is_some(),
+        Id::Memory(memory) => finish.numbers.memories.has(memory),
+        Id::Table(table) => finish.numbers.tables.has(table),
+        Id::Realloc(realloc) => finish.numbers.reallocs.has(realloc),
+        Id::Callback(callback) => finish.numbers.callbacks.has(callback),
+        Id::PostReturn(post_return) => finish.numbers.post_returns.has(post_return),
+        Id::Options(options) => finish.numbers.options.has(options),
+        Id::Lowering(trampoline) => finish.numbers.lowerings.has(trampoline),
+        Id::Trampoline(trampoline) => finish.numbers.trampolines.has(trampoline),
         Id::Intrinsic(_, intrinsic) => !finish.intrinsics[intrinsic.index() as usize].is_none(),
-        Id::AdapterModule(adapter_module) => finish
-            .numbers
-            .adapter_modules
-            .get(adapter_module)
-            .is_some(),
+        Id::AdapterModule(adapter_module) => finish.numbers.adapter_modules.has(adapter_module),
+    }
+}
+
+/// Puts a task onto the stack.
+pub(crate) fn put(tasks: &mut Vec<Task>, task: Task) -> Result<(), NoMemory>
+    ensures { OnOk result (tasks.new.items ≡ tasks.old.items ++ task ∷ []) }
+{
+    Ok(tasks.push(task)?)
+}
+
+/// What a definition depends on, if on anything.
+pub fn id_in(graph: &ComponentDfg, def: &CoreDef) -> Option<Id>
+    ensures { if_any result ≡ in_def graph.now def.now }
+{
+    match def {
+        CoreDef::Export(_) | CoreDef::InstanceFlags(_) => None,
+        CoreDef::Trampoline(trampoline) => Some(Id::Trampoline(*trampoline)),
+        CoreDef::UnsafeIntrinsic(signature, intrinsic) => Some(Id::Intrinsic(
+            *signature, *intrinsic,
+        )),
+        CoreDef::Adapter(adapter) => match graph.adapter_partitionings.get(*adapter) {
+            Some(place) => Some(Id::AdapterModule(place.0)),
+            None => None,
+        },
     }
 }
 
@@ -61,19 +82,10 @@ fn has_number(finish: &Finish, id: Id) -> bool
 fn open_def(graph: &ComponentDfg, tasks: &mut Vec<Task>, def: &CoreDef) -> Result<(), NoMemory>
     ensures { OnOk result (tasks.new.items ≡ tasks.old.items ++ opens (in_def graph.now def.now)) }
 {
-    match def {
-        CoreDef::Export(_) | CoreDef::InstanceFlags(_) => {}
-        CoreDef::Trampoline(trampoline) => tasks.push(Task::Open(Id::Trampoline(*trampoline)))?,
-        CoreDef::UnsafeIntrinsic(signature, intrinsic) => {
-            tasks.push(Task::Open(Id::Intrinsic(*signature, *intrinsic)))?
-        }
-        CoreDef::Adapter(adapter) => {
-            if let Some(place) = graph.adapter_partitionings.get(*adapter) {
-                tasks.push(Task::Open(Id::AdapterModule(place.0)))?;
-            }
-        }
+    match id_in(graph, def) {
+        Some(id) => put(tasks, Task::Open(id)),
+        None => Ok(()),
     }
-    Ok(())
 }
 
 /// Puts what these definitions depend on onto the stack.
@@ -95,7 +107,7 @@ fn open_memory(tasks: &mut Vec<Task>, memory: Option<MemoryId>) -> Result<(), No
         ++ opens (maybe_slot plan.memory (option_map (λ (m : Memories). m.0) memory))) }
 {
     match memory {
-        Some(memory) => Ok(tasks.push(Task::Open(Id::Memory(memory)))?),
+        Some(memory) => put(tasks, Task::Open(Id::Memory(memory))),
         None => Ok(()),
     }
 }
@@ -106,7 +118,7 @@ fn open_realloc(tasks: &mut Vec<Task>, realloc: Option<ReallocId>) -> Result<(),
         ++ opens (maybe_slot plan.realloc (option_map (λ (r : Reallocs). r.0) realloc))) }
 {
     match realloc {
-        Some(realloc) => Ok(tasks.push(Task::Open(Id::Realloc(realloc)))?),
+        Some(realloc) => put(tasks, Task::Open(Id::Realloc(realloc))),
         None => Ok(()),
     }
 }
@@ -117,7 +129,7 @@ fn open_callback(tasks: &mut Vec<Task>, callback: Option<CallbackId>) -> Result<
         ++ opens (maybe_slot plan.callback (option_map (λ (c : Callbacks). c.0) callback))) }
 {
     match callback {
-        Some(callback) => Ok(tasks.push(Task::Open(Id::Callback(callback)))?),
+        Some(callback) => put(tasks, Task::Open(Id::Callback(callback))),
         None => Ok(()),
     }
 }
@@ -131,7 +143,7 @@ fn open_post_return(
         ++ opens (maybe_slot plan.post_return (option_map (λ (p : PostReturns). p.0) post_return))) }
 {
     match post_return {
-        Some(post_return) => Ok(tasks.push(Task::Open(Id::PostReturn(post_return)))?),
+        Some(post_return) => put(tasks, Task::Open(Id::PostReturn(post_return))),
         None => Ok(()),
     }
 }
@@ -162,10 +174,10 @@ fn open_part(tasks: &mut Vec<Task>, part: GraphPart) -> Result<(), NoMemory>
         Part::Type_(_) | Part::Number(_) | Part::Flag(_) => Ok(()),
         Part::Memory(memory) => open_memory(tasks, Some(memory)),
         Part::MaybeMemory(memory) => open_memory(tasks, memory),
-        Part::Table(table) => Ok(tasks.push(Task::Open(Id::Table(table)))?),
+        Part::Table(table) => put(tasks, Task::Open(Id::Table(table))),
         Part::Callback(callback) => open_callback(tasks, callback),
         Part::PostReturn(post_return) => open_post_return(tasks, post_return),
-        Part::Options(options) => Ok(tasks.push(Task::Open(Id::Options(options)))?),
+        Part::Options(options) => put(tasks, Task::Open(Id::Options(options))),
     }
 }
 
@@ -197,8 +209,8 @@ fn open_made(
 {
     match made_of.head {
         Head::Lowering(_, _, options) => {
-            tasks.push(Task::Open(Id::Options(options)))?;
-            Ok(tasks.push(Task::Open(Id::Lowering(trampoline)))?)
+            put(tasks, Task::Open(Id::Options(options)))?;
+            put(tasks, Task::Open(Id::Lowering(trampoline)))
         }
         Head::Builtin(_) | Head::Helper | Head::Transcoding(_, _, _) | Head::Trapping(_) => {
             open_part_list(tasks, made_of.parts)
@@ -269,6 +281,6 @@ pub(crate) fn open(
     if has_number(finish, id) {
         return Ok(());
     }
-    tasks.push(Task::Close(id))?;
+    put(tasks, Task::Close(id))?;
     open_parts(graph, tasks, id)
 }

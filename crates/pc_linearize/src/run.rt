@@ -18,7 +18,7 @@ ghost use Rattle.pc_linearize.specs.Stack.{CanTake, Takes, id_of};
 use crate::FinishError;
 use crate::close::close;
 use crate::id::{Id, Task};
-use crate::open::open;
+use crate::open::{open, put};
 use crate::state::Finish;
 use pc_dfg::ComponentDfg;
 use pc_entity::NoMemory;
@@ -29,7 +29,7 @@ fn begin(alloc: Global, id: Id) -> Result<Vec<Task>, NoMemory>
     ensures { IfOk result (λ tasks. tasks.items ≡ Task.Open id ∷ []) }
 {
     let mut tasks = Vec::new(alloc);
-    tasks.push(Task::Open(id))?;
+    put(&mut tasks, Task::Open(id))?;
     Ok(tasks)
 }
 

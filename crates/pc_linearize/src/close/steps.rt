@@ -1,6 +1,10 @@
 //! Lowerings and modules of adapters that get their numbers.
 
 ghost use Rattle.std.specs.Prelude.{◌≡◌, All, None, OnOk, length, Err};
+ghost use Rattle.pc_intern.specs.declared.ids.OptionsId.{OptionsId};
+ghost use Rattle.pc_numbers.specs.declared.runtime.RuntimeImportIndex.{RuntimeImportIndex};
+ghost use Rattle.pc_types.specs.declared.type_index.TypeFuncIndex.{TypeFuncIndex};
+ghost use Rattle.pc_trampoline.specs.declared.trampoline.Trampoline.TheVariants as kind;
 ghost use Rattle.pc_dfg.specs.Held.{AreHeld};
 ghost use Rattle.pc_linearize.specs.declared.error.FinishError.TheVariants as refusal;
 ghost use Rattle.pc_linearize.specs.declared.id.Id.TheVariants as id;
@@ -12,10 +16,22 @@ ghost use Rattle.pc_linearize.specs.Ready.{CanClose};
 use crate::FinishError;
 use crate::convert::defs_of;
 use crate::state::Finish;
-use pc_dfg::{AdapterModuleId, ComponentDfg};
-use pc_entity::TrampolineIndex;
+use pc_dfg::{AdapterModuleId, ComponentDfg, Trampoline as GraphTrampoline};
+use pc_entity::{RuntimeImportIndex, TrampolineIndex};
 use pc_trampoline::Trampoline;
 use std::alloc::Global;
+
+/// The host item of a trampoline that is a lowering.
+fn host_item(trampoline: &GraphTrampoline) -> RuntimeImportIndex
+    requires lowers { (r : RuntimeImportIndex) × (ty : TypeFuncIndex) × (o : OptionsId)
+        × (trampoline.now ≡ kind.LowerImport r ty o) }
+    ensures { (ty : TypeFuncIndex) × (o : OptionsId) × (trampoline.now ≡ kind.LowerImport result ty o) }
+{
+    match trampoline {
+        Trampoline::LowerImport { index, .. } => *index,
+        _ => unreachable!(),
+    }
+}
 
 /// Lowers the host item of a trampoline.
 pub(crate) fn close_lowering(
@@ -31,10 +47,8 @@ pub(crate) fn close_lowering(
     ensures closed { OnOk result (Closed graph.now finish.old finish.new (id.Lowering trampoline)) }
     ensures full { result ≡ Err refusal.TooMany → IsFull finish.old (id.Lowering trampoline) }
 {
-    match &graph.trampolines[trampoline].1 {
-        Trampoline::LowerImport { index, .. } => finish.lower_import(trampoline, *index),
-        _ => unreachable!(),
-    }
+    let import = host_item(&graph.trampolines[trampoline].1);
+    finish.lower_import(trampoline, import)
 }
 
 /// Makes the instance of a module of adapters.

@@ -1,4 +1,4 @@
-use Rattle.std.proofs.Common.{◌≤◌, length, ap, arith, ◌∙◌}
+use Rattle.std.proofs.Common.{◌≤◌, length, refl, ap, arith, ◌∙◌}
 use Rattle.std.proofs.lemmas.List.{take_all}
 use Rattle.pc_linearize.specs.Arguments.{CanNumber, IsNumbered, host_in, named_in}
 use Rattle.pc_finish.proofs.ArgumentLemmas.{host_all}
@@ -15,17 +15,17 @@ named_of-requires-clause-numbered c =
     host_all (IsNumbered c.args.graph.now c.args.finish.now) c.args.args.now c.loop-place.place _ c.requires.numbered
     c.entry_at.ensures
 
-pub push-requires : goal.push-requires
-push-requires c = record {
+pub push_copy-requires : goal.push_copy-requires
+push_copy-requires c = record {
   absent = copy_absent (named_in c.args.graph.now c.args.finish.now) c.args.args.now c.loop-place.place _
       c.entry_at.ensures
-      c.loop-place.all c.loop-place.invariant _ c.in_ok-copy_of.ensures c.names_are_distinct.ensures;
+      c.loop-place.all c.loop-place.invariant _ refl c.names_are_distinct.ensures;
 }
 
 pub loop-place-preserved : goal.loop-place-preserved
 loop-place-preserved c =
     copy_next (named_in c.args.graph.now c.args.finish.now) c.args.args.now c.loop-place.place _ c.entry_at.ensures
-    c.loop-place.all c.loop-place.invariant _ _ _ c.in_ok-copy_of.ensures c.in_ok-named.ensures c.in_ok-push.ensures.ok
+    c.loop-place.all c.loop-place.invariant _ _ _ refl c.in_ok-named.ensures c.in_ok-push_copy.ensures
 
 pub returns : goal.returns
 returns c =

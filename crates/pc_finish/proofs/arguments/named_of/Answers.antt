@@ -1,4 +1,4 @@
-use Rattle.std.proofs.Common.{◌≤◌, length, ap, arith, ◌∙◌}
+use Rattle.std.proofs.Common.{◌≤◌, length, refl, ap, arith, ◌∙◌}
 use Rattle.std.proofs.lemmas.List.{take_all}
 use Rattle.pc_linearize.specs.Arguments.{CanNumber, IsNumbered, named_defs, named_in}
 use Rattle.pc_linearize.specs.Converted.{def_in}
@@ -11,9 +11,8 @@ pub def_of-requires-clause-ready : goal.def_of-requires-clause-ready
 def_of-requires-clause-ready c =
     let args = c.args.args.now in
     let at = named_item args c.loop-place.place _ c.entry_at.ensures in
-    let can = all_at (CanNumber c.args.graph.now (length c.args.finish.now.instances)) (named_defs args) _ _
-    c.requires.ready at in
-    can.itself
+    (all_at (CanNumber c.args.graph.now (length c.args.finish.now.instances)) (named_defs args) _ _ c.requires.ready
+    at).itself
 
 pub def_of-requires-clause-numbered : goal.def_of-requires-clause-numbered
 def_of-requires-clause-numbered c =
@@ -21,17 +20,17 @@ def_of-requires-clause-numbered c =
     let at = named_item args c.loop-place.place _ c.entry_at.ensures in
     all_at (IsNumbered c.args.graph.now c.args.finish.now) (named_defs args) _ _ c.requires.numbered at
 
-pub push-requires : goal.push-requires
-push-requires c = record {
+pub push_copy-requires : goal.push_copy-requires
+push_copy-requires c = record {
   absent = copy_absent (def_in c.args.graph.now c.args.finish.now) c.args.args.now c.loop-place.place _
       c.entry_at.ensures
-      c.loop-place.all c.loop-place.invariant _ c.in_ok-copy_of.ensures c.names_are_distinct.ensures;
+      c.loop-place.all c.loop-place.invariant _ refl c.names_are_distinct.ensures;
 }
 
 pub loop-place-preserved : goal.loop-place-preserved
 loop-place-preserved c =
     copy_next (def_in c.args.graph.now c.args.finish.now) c.args.args.now c.loop-place.place _ c.entry_at.ensures
-    c.loop-place.all c.loop-place.invariant _ _ _ c.in_ok-copy_of.ensures c.in_ok-def.ensures c.in_ok-push.ensures.ok
+    c.loop-place.all c.loop-place.invariant _ _ _ refl c.in_ok-def.ensures c.in_ok-push_copy.ensures
 
 pub returns : goal.returns
 returns c =

@@ -1,9 +1,8 @@
-use Rattle.std.proofs.Common.{length, take, sym, subst}
+use Rattle.std.proofs.Common.{take, sym, subst}
 use Rattle.std.proofs.lemmas.List.{take_all}
 use Rattle.pc_entity.proofs.Growing.{take-next}
-use Rattle.pc_linearize.specs.Arguments.{CanNumber, NumbersAll}
-use Rattle.pc_linearize.proofs.AllLemmas.{all_at}
-use Rattle.pc_finish.proofs.ArgumentLemmas.{can_still, item_at, numbers_more, numbers_none}
+use Rattle.pc_linearize.specs.Arguments.{NumbersAll}
+use Rattle.pc_finish.proofs.ArgumentLemmas.{can_still_at, item_at, numbers_more, numbers_none}
 use Rattle.pc_finish.proofs.OutgrownLemmas.{outgrows_before}
 use Rattle.pc_finish.proofs.arguments.number_all.Goals as goal
 
@@ -12,12 +11,9 @@ loop-def-init c = numbers_none c.args.graph.now c.args.finish.now c.requires.fit
 
 pub number_def-requires-clause-ready : goal.number_def-requires-clause-ready
 number_def-requires-clause-ready c =
-    let g = c.args.graph.now in
-    let x = c.def-item.result in
-    let at = item_at c.args.defs.now c.loop-def.def-index x c.loop-def-test.true c.def-item.is in
-    can_still g c.args.finish.now c.loop-def.finish c.loop-def.invariant.continues x
-    (all_at (CanNumber g (length c.args.finish.now.instances)) c.args.defs.now c.loop-def.def-index x c.requires.ready
-    at)
+    let at = item_at c.args.defs.now c.loop-def.def-index c.def-item.result c.loop-def-test.true c.def-item.is in
+    can_still_at c.args.graph.now c.args.finish.now c.loop-def.finish c.loop-def.invariant.continues c.args.defs.now
+    c.loop-def.def-index _ c.requires.ready at
 
 pub number_def-requires-clause-fits : goal.number_def-requires-clause-fits
 number_def-requires-clause-fits c = c.loop-def.invariant.continues.fits

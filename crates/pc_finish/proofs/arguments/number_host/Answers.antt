@@ -10,10 +10,9 @@ loop-place-init c = numbers_none c.args.graph.now c.args.finish.now c.requires.f
 
 pub number_named-requires-clause-ready : goal.number_named-requires-clause-ready
 number_named-requires-clause-ready c =
-    let g = c.args.graph.now in
-    all_can_still g c.args.finish.now c.loop-place.finish c.loop-place.invariant.continues _
-    (host_all (CanNumber g (length c.args.finish.now.instances)) c.args.args.now c.loop-place.place _ c.requires.ready
-    c.entry_at.ensures)
+    all_can_still c.args.graph.now c.args.finish.now c.loop-place.finish c.loop-place.invariant.continues _
+    (host_all (CanNumber c.args.graph.now (length c.args.finish.now.instances)) c.args.args.now c.loop-place.place _
+    c.requires.ready c.entry_at.ensures)
 
 pub number_named-requires-clause-fits : goal.number_named-requires-clause-fits
 number_named-requires-clause-fits c = c.loop-place.invariant.continues.fits

@@ -1,8 +1,7 @@
 use Rattle.std.proofs.Common.{◌≤◌, length, take, subst, arith}
 use Rattle.std.proofs.lemmas.List.{take_all}
-use Rattle.pc_linearize.specs.Arguments.{CanNumber, NumbersAll, named_defs}
-use Rattle.pc_linearize.proofs.AllLemmas.{all_at}
-use Rattle.pc_finish.proofs.ArgumentLemmas.{can_still, named_item, named_next, numbers_more, numbers_none}
+use Rattle.pc_linearize.specs.Arguments.{NumbersAll, named_defs}
+use Rattle.pc_finish.proofs.ArgumentLemmas.{can_still_at, named_item, named_next, numbers_more, numbers_none}
 use Rattle.pc_finish.proofs.OutgrownLemmas.{outgrows_before}
 use Rattle.pc_finish.proofs.arguments.number_named.Goals as goal
 
@@ -11,12 +10,9 @@ loop-place-init c = numbers_none c.args.graph.now c.args.finish.now c.requires.f
 
 pub number_def-requires-clause-ready : goal.number_def-requires-clause-ready
 number_def-requires-clause-ready c =
-    let g = c.args.graph.now in
-    let args = c.args.args.now in
-    let at = named_item args c.loop-place.place _ c.entry_at.ensures in
-    can_still g c.args.finish.now c.loop-place.finish c.loop-place.invariant.continues c.entry_at.result.1.now
-    (all_at (CanNumber g (length c.args.finish.now.instances)) (named_defs args) c.loop-place.place _ c.requires.ready
-    at)
+    let at = named_item c.args.args.now c.loop-place.place _ c.entry_at.ensures in
+    can_still_at c.args.graph.now c.args.finish.now c.loop-place.finish c.loop-place.invariant.continues
+    (named_defs c.args.args.now) c.loop-place.place _ c.requires.ready at
 
 pub number_def-requires-clause-fits : goal.number_def-requires-clause-fits
 number_def-requires-clause-fits c = c.loop-place.invariant.continues.fits

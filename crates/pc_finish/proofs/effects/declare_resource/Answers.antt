@@ -1,10 +1,8 @@
-use Rattle.std.proofs.Common.{All, length, sym, subst}
-use Rattle.pc_dfg.specs.declared.instance.SideEffect.TheVariants as effect
+use Rattle.std.proofs.Common.{All, length, subst}
 use Rattle.pc_dfg.specs.Held.{HeldEffect}
 use Rattle.pc_dfg.specs.Names.{each_of, in_effect, in_resource}
 use Rattle.pc_linearize.specs.Arguments.{CanNumber}
-use Rattle.pc_linearize.specs.Made.{IsDone}
-use Rattle.pc_finish.proofs.EffectLemmas.{resource_done}
+use Rattle.pc_finish.proofs.EffectLemmas.{declared_done}
 use Rattle.pc_finish.proofs.NextLemmas.{next_held, next_ready}
 use Rattle.pc_finish.proofs.OutgrownLemmas.{resources_outgrow}
 use Rattle.pc_finish.proofs.RefusedLemmas.{ok_then}
@@ -23,13 +21,9 @@ destructor_of-requires-clause-ready c =
 
 pub returns-clause-done : goal.returns-clause-done
 returns-clause-done c =
-    let g = c.args.graph.now in
-    let f = c.destructor_of.new.finish in
-    ok_then c.push_resource.result (λ is. subst (λ z. IsDone g c.args.finish.now z (effect.Resource c.args.index))
-    (sym is)
-    (resource_done g c.requires.ordered c.requires.grouped c.args.finish.now f c.args.index c.requires.next
-    c.index-resource.result.now c.index-resource.ensures c.in_ok-dtor.dtor c.in_ok-dtor.ensures.prepares))
-    c.push_resource.ensures.added
+    ok_then c.push_resource.result (declared_done c.args.graph.now c.requires.ordered c.requires.grouped
+    c.args.finish.now c.destructor_of.new.finish c.args.index c.requires.next c.index-resource.result.now
+    c.index-resource.ensures c.in_ok-dtor.dtor c.in_ok-dtor.ensures.prepares _) c.push_resource.ensures.added
 
 pub returns-clause-full : goal.returns-clause-full
 returns-clause-full c is fills made =

@@ -1,10 +1,8 @@
-use Rattle.std.proofs.Common.{All, length, sym, subst}
-use Rattle.pc_dfg.specs.declared.instance.SideEffect.TheVariants as effect
+use Rattle.std.proofs.Common.{All, length, subst}
 use Rattle.pc_dfg.specs.Held.{HeldEffect}
 use Rattle.pc_dfg.specs.Names.{each_of, in_effect, in_instance}
 use Rattle.pc_linearize.specs.Arguments.{CanNumber}
-use Rattle.pc_linearize.specs.Made.{IsDone}
-use Rattle.pc_finish.proofs.EffectLemmas.{instance_done}
+use Rattle.pc_finish.proofs.EffectLemmas.{made_done}
 use Rattle.pc_finish.proofs.NextLemmas.{next_held, next_ready}
 use Rattle.pc_finish.proofs.OutgrownLemmas.{instances_outgrow}
 use Rattle.pc_finish.proofs.RefusedLemmas.{ok_then}
@@ -23,13 +21,10 @@ instantiation_of-requires-clause-ready c =
 
 pub returns-clause-done : goal.returns-clause-done
 returns-clause-done c =
-    let g = c.args.graph.now in
-    let f = c.instantiation_of.new.finish in
-    ok_then c.push_instance.result (λ is. subst (λ z. IsDone g c.args.finish.now z
-    (effect.Instance c.args.instance c.args.owner)) (sym is)
-    (instance_done g c.requires.ordered c.requires.grouped c.args.finish.now f c.args.instance c.args.owner
-    c.requires.next c.index.result.now c.index.ensures c.in_ok-instantiation.instantiation
-    c.in_ok-instantiation.ensures.prepares)) c.push_instance.ensures.added
+    ok_then c.push_instance.result (made_done c.args.graph.now c.requires.ordered c.requires.grouped
+    c.args.finish.now c.instantiation_of.new.finish c.args.instance c.args.owner c.requires.next c.index.result.now
+    c.index.ensures c.in_ok-instantiation.instantiation c.in_ok-instantiation.ensures.prepares _)
+    c.push_instance.ensures.added
 
 pub returns-clause-full : goal.returns-clause-full
 returns-clause-full c is =

@@ -13,9 +13,9 @@ loop-item-preserved c =
     let i = c.loop-item.item-index in
     let at = lent_at c.as_slice-item-items.result.now g.export_items c.as_slice-item-items.ensures i
     c.item-item.result c.loop-item-test.true c.item-item.is in
-    subst (AllZip R (take (i + 1) g.export_items)) (sym {A = List Export} c.in_ok-push.ensures.items)
-    (zip_next R g.export_items i c.item-item.result at c.loop-item.items.items c.in_ok-item_of.field-0
-    c.loop-item.invariant c.in_ok-item_of.ensures)
+    subst (AllZip R (take (i + 1) g.export_items)) (sym {A = List Export} c.in_ok-push_item.ensures)
+    (zip_next R g.export_items i c.item-item.result at c.loop-item.items.items c.in_ok-made.made
+    c.loop-item.invariant c.in_ok-made.ensures)
 
 pub returns : goal.returns
 returns c =

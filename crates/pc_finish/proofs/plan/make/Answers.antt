@@ -1,4 +1,4 @@
-use Rattle.std.proofs.Common.{All, Contains, inl, inr, length, sym, subst}
+use Rattle.std.proofs.Common.{◌≡◌, List, All, Contains, inl, inr, length, sym, subst}
 use Rattle.pc_dfg.specs.declared.export.Export.{Export}
 use Rattle.pc_linearize.specs.Made.{DoneBefore}
 use Rattle.pc_finish.specs.ModuleTypes.{HasNoModule, HasNoPlace, IsTyped}
@@ -6,6 +6,18 @@ use Rattle.pc_finish.proofs.OutgrownLemmas.{done_too_many}
 use Rattle.pc_finish.proofs.StartLemmas.{none_done}
 use Rattle.pc_finish.proofs.WholeLemmas.{all_made}
 use Rattle.pc_finish.proofs.plan.make.Goals as goal
+
+-- a list that is lent has no module where that has none
+none_lent : (xs ys : List Export) → ys ≡ xs → HasNoModule xs → HasNoModule ys
+none_lent xs ys same none = subst (λ es. HasNoModule es) (sym same) none
+
+pub returns-in_err-module_types-clause-unchanged : goal.returns-in_err-module_types-clause-unchanged
+returns-in_err-module_types-clause-unchanged c none =
+    c.in_err-module_types.ensures.unchanged (none_lent _ _ c.as_slice.ensures none)
+
+pub returns-in_err-finish-clause-unchanged : goal.returns-in_err-finish-clause-unchanged
+returns-in_err-finish-clause-unchanged c none =
+    c.in_ok-module_types.ensures.unchanged (none_lent _ _ c.as_slice.ensures none)
 
 pub do_effects-requires-clause-begins : goal.do_effects-requires-clause-begins
 do_effects-requires-clause-begins c =
@@ -31,7 +43,7 @@ returns-in_err-module_types-clause-full c is =
 
 pub returns-in_err-do_effects-clause-unchanged : goal.returns-in_err-do_effects-clause-unchanged
 returns-in_err-do_effects-clause-unchanged c none =
-    c.in_ok-module_types.ensures.unchanged (subst (λ es. HasNoModule es) (sym c.as_slice.ensures) none)
+    c.in_ok-module_types.ensures.unchanged (none_lent _ _ c.as_slice.ensures none)
 
 pub returns-in_err-do_effects-clause-full : goal.returns-in_err-do_effects-clause-full
 returns-in_err-do_effects-clause-full c is =
@@ -40,7 +52,7 @@ returns-in_err-do_effects-clause-full c is =
 
 pub returns-in_err-exported-clause-unchanged : goal.returns-in_err-exported-clause-unchanged
 returns-in_err-exported-clause-unchanged c none =
-    c.in_ok-module_types.ensures.unchanged (subst (λ es. HasNoModule es) (sym c.as_slice.ensures) none)
+    c.in_ok-module_types.ensures.unchanged (none_lent _ _ c.as_slice.ensures none)
 
 pub returns-in_err-exported-clause-full : goal.returns-in_err-exported-clause-full
 returns-in_err-exported-clause-full c is =
@@ -52,7 +64,7 @@ returns-in_err-exported-clause-full c is =
 
 pub returns-clause-unchanged : goal.returns-clause-unchanged
 returns-clause-unchanged c none =
-    c.in_ok-module_types.ensures.unchanged (subst (λ es. HasNoModule es) (sym c.as_slice.ensures) none)
+    c.in_ok-module_types.ensures.unchanged (none_lent _ _ c.as_slice.ensures none)
 
 pub returns-clause-made : goal.returns-clause-made
 returns-clause-made c = record {

@@ -3,8 +3,8 @@ use Rattle.pc_dfg.specs.declared.core_def.CoreDef.{CoreDef}
 use Rattle.pc_linearize.specs.Parts.{HasNumber, in_def}
 use Rattle.pc_linearize.proofs.convert.defs_of.Goals as goal
 
-pub def_of-requires-clause-numbered : goal.def_of-requires-clause-numbered
-def_of-requires-clause-numbered c =
+pub push_def-requires-clause-numbered : goal.push_def-requires-clause-numbered
+push_def-requires-clause-numbered c =
     let below : c.loop-def.def-index < length c.args.defs.now =
     omega (arith, c.loop-def-test.true, c.loop-def.auto.def-index-end) in
     subst (λ (d : CoreDef). All (HasNumber c.args.finish.now) (in_def c.args.graph.now d)) (sym c.def-item.is)

@@ -1,16 +1,12 @@
-use Rattle.std.proofs.Common.{All, Option, sym, ap, subst, ◌∙◌}
+use Rattle.std.proofs.Common.{sym, ap, subst, ◌∙◌}
 use Rattle.pc_info.specs.declared.options.CanonicalOptions.{CanonicalOptions as PlanOptions}
-use Rattle.pc_dfg.specs.declared.options.CanonicalOptions.{CanonicalOptions}
-use Rattle.pc_dfg.specs.Names.{each_of}
-use Rattle.pc_dfg.specs.Numbers.{options_entry}
 use Rattle.pc_linearize.specs.declared.id.Id.TheVariants as id
 use Rattle.pc_linearize.specs.declared.state.Finish.{Finish}
 use Rattle.pc_linearize.specs.Added.{IsFull, add_options}
 use Rattle.pc_linearize.specs.Closed.{Closed}
-use Rattle.pc_linearize.specs.Parts.{HasNumber, in_entry, parts}
 use Rattle.pc_linearize.specs.Ready.{CanClose}
 use Rattle.pc_linearize.proofs.ClosedSlotLemmas.{ok_then}
-use Rattle.pc_linearize.proofs.OptionsLemmas.{closed_options, options_within}
+use Rattle.pc_linearize.proofs.OptionsLemmas.{closed_options, options_named, options_within}
 use Rattle.pc_linearize.proofs.close.entries.close_options.Goals as goal
 
 pub index-requires : goal.index-requires
@@ -18,11 +14,9 @@ unfolding CanClose
 index-requires c = c.requires.can
 
 pub options_of-entry-requires : goal.options_of-entry-requires
-unfolding parts
 options_of-entry-requires c = record {
-  numbered = subst (λ (o : Option CanonicalOptions).
-      All (HasNumber c.args.finish.now) (each_of (λ x. in_entry (options_entry x)) o)) c.index.ensures
-      c.requires.numbered;
+  numbered = options_named c.args.graph.now c.args.finish.now c.args.options c.index.result.now c.index.ensures
+      c.requires.fits c.requires.numbered;
 }
 
 pub add_options-requires : goal.add_options-requires

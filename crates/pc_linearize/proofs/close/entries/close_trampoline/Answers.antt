@@ -1,14 +1,11 @@
-use Rattle.std.proofs.Common.{All, Option, sym, subst}
-use Rattle.pc_dfg.specs.Names.{each_of}
-use Rattle.pc_dfg.specs.Numbers.{SignedTrampoline, trampoline_entry}
+use Rattle.std.proofs.Common.{sym, subst}
 use Rattle.pc_linearize.specs.declared.id.Id.TheVariants as id
 use Rattle.pc_linearize.specs.declared.state.Finish.{Finish}
 use Rattle.pc_linearize.specs.Added.{IsFull}
 use Rattle.pc_linearize.specs.Closed.{Closed}
-use Rattle.pc_linearize.specs.Parts.{HasNumber, in_trampoline, parts}
 use Rattle.pc_linearize.specs.Ready.{CanClose}
 use Rattle.pc_linearize.proofs.ClosedSlotLemmas.{ok_then}
-use Rattle.pc_linearize.proofs.TrampolineLemmas.{closed_trampoline, trampoline_within}
+use Rattle.pc_linearize.proofs.TrampolineLemmas.{closed_trampoline, trampoline_named, trampoline_within}
 use Rattle.pc_linearize.proofs.close.entries.close_trampoline.Goals as goal
 
 pub index-signed-requires : goal.index-signed-requires
@@ -16,11 +13,9 @@ unfolding CanClose
 index-signed-requires c = c.requires.can
 
 pub trampoline_of-entry-requires : goal.trampoline_of-entry-requires
-unfolding parts
 trampoline_of-entry-requires c = record {
-  numbered = subst (λ (o : Option SignedTrampoline). All (HasNumber c.args.finish.now)
-      (each_of (λ x. in_trampoline c.args.trampoline (trampoline_entry x)) o)) c.index-signed.ensures
-      c.requires.numbered;
+  numbered = trampoline_named c.args.graph.now c.args.finish.now c.args.trampoline c.index-signed.result.now
+      c.index-signed.ensures c.requires.numbered;
 }
 
 pub add_trampoline-requires-clause-held : goal.add_trampoline-requires-clause-held

@@ -1,12 +1,9 @@
-use Rattle.std.proofs.Common.{◌≡◌, ap}
+use Rattle.std.proofs.Common.{refl}
 use Rattle.pc_semantics.specs.PlanView as plan
-use Rattle.pc_info.specs.declared.core_def.CoreDef.{CoreDef as PlanDef}
-use Rattle.pc_info.specs.Definitions.{def_view}
 use Rattle.pc_dfg.specs.Numbers.{slots_of}
 use Rattle.pc_linearize.specs.Added.{IsFull}
-use Rattle.pc_linearize.specs.Converted.{def_in}
-use Rattle.pc_linearize.proofs.ClosedSlotLemmas.{slot_closed, slot_held, slot_numbered, slot_ready, slot_within, ok_then}
-use Rattle.pc_linearize.proofs.ClosedSlotLemmas.{ok_value}
+use Rattle.pc_linearize.proofs.ClosedSlotLemmas.{definition_closed, slot_held, slot_numbered, slot_ready, slot_within}
+use Rattle.pc_linearize.proofs.ClosedSlotLemmas.{ok_then}
 use Rattle.pc_linearize.proofs.close.slots.close_realloc.Goals as goal
 
 pub index-requires : goal.index-requires
@@ -32,14 +29,9 @@ fill_realloc-requires c = record {
 pub returns-clause-closed : goal.returns-clause-closed
 unfolding slots_of
 returns-clause-closed c =
-    let def = ok_value (λ d. d ≡ def_in c.args.graph.now c.args.finish.now c.index.result.now) c.def_of.result
-    c.in_ok-def.def c.in_ok-def.was c.def_of.ensures in
-    ok_then c.fill_realloc.result (λ is. slot_closed c.args.graph.now plan.realloc c.args.realloc.0 c.args.finish.now
-    _ _
-    c.index.result.now c.requires.held c.requires.can c.requires.numbered c.requires.fits c.requires.fresh
-    c.index.ensures is
-    (ap (λ (d : PlanDef). plan.extract plan.realloc c.args.finish.now.counts.reallocs (def_view d)) def))
-    c.fill_realloc.ensures.ok
+    ok_then c.fill_realloc.result (λ is. definition_closed c.args.graph.now plan.realloc c.args.realloc.0
+    c.args.finish.now _ _ c.index.result.now c.in_ok-def.def c.requires.held c.requires.can c.requires.numbered
+    c.requires.fits c.requires.fresh c.index.ensures is refl c.in_ok-def.ensures) c.fill_realloc.ensures.ok
 
 pub returns-clause-full : goal.returns-clause-full
 unfolding IsFull
