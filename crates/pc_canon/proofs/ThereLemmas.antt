@@ -1,6 +1,5 @@
 -- What stands for a value of the reading is there.
-use Rattle.std.proofs.Common.{◌≡◌, ◌<◌, ◌⊎◌, inl, inr, ℕ, true≢false, false, List, [], length, Option, Some, refl, sym}
-use Rattle.std.proofs.Common.{ap, subst, ◌∙◌}
+use Rattle.std.proofs.Common.{◌≡◌, List, Option, Some, refl, sym, subst, ◌∙◌}
 use Rattle.std.specs.Prelude.{slice_get}
 use Rattle.std.proofs.lemmas.Option.{same_Some, slice_get_within}
 use Rattle.pc_types.specs.declared.module_record.ModuleRecord.{ModuleRecord}
@@ -8,22 +7,16 @@ use Rattle.pc_types.specs.declared.parsed.CoreKind.{CoreKind}
 use Rattle.pc_types.specs.declared.parsed.CoreKind.TheVariants as core
 use Rattle.pc_types.specs.declared.type_index.TypeFuncIndex.{TypeFuncIndex}
 use Rattle.pc_types.specs.TypeTree.{TypeTree}
-use Rattle.pc_numbers.specs.declared.component_entity.StaticComponentIndex.{StaticComponentIndex}
-use Rattle.pc_numbers.specs.declared.component_entity.StaticModuleIndex.{StaticModuleIndex}
-use Rattle.pc_numbers.specs.declared.runtime.ImportIndex.{ImportIndex}
 use Rattle.pc_semantics.specs.CoreValue as value
 use Rattle.pc_semantics.specs.CoreValue.{CoreValue, MaybeValue}
 use Rattle.pc_parsed.specs.Mark.{Mark}
-use Rattle.pc_reading.specs.Value.{Function, Value, func_value, host_function, lifted_function}
-use Rattle.pc_frames.specs.declared.definition.ClosureId.{ClosureId}
+use Rattle.pc_reading.specs.Value.{Function, Value, func_value, lifted_function}
 use Rattle.pc_frames.specs.declared.definition.CoreId.{CoreId}
 use Rattle.pc_frames.specs.declared.definition.DataModel.{DataModel}
 use Rattle.pc_frames.specs.declared.definition.Definition.{Definition}
 use Rattle.pc_frames.specs.declared.definition.Definition.TheVariants as definition
 use Rattle.pc_frames.specs.declared.definition.DefinitionId.{DefinitionId}
-use Rattle.pc_frames.specs.declared.definition.ExportsId.{ExportsId}
 use Rattle.pc_frames.specs.declared.definition.Options.{Options}
-use Rattle.pc_frames.specs.Definitions.{is_func}
 use Rattle.pc_frames.specs.Frames.{FuncStands}
 use Rattle.pc_frames.specs.Slots.{IsThere, MaybeThere, ModelThere, OptionsThere}
 use Rattle.pc_frames.specs.Stands.{DefinitionStands, IsFunc, ItemStands, MaybeStands, ModelStands, OptionsStand}
@@ -95,49 +88,3 @@ module _ (ms : List ModuleRecord) (b : Tables) where
       → slice_get b.definitions n.0 ≡ Some (definition.LiftedFunc ty fn o) → FuncStands ms b n x → LiftedAs ty fn o x
   lifted_there n ty fn o x at (stands {d = d} held y) =
       lifted_as d (func_value x) ty fn o x y (same_Some d (definition.LiftedFunc ty fn o) (sym held ∙ at)) refl
-
-  host_as : (d : Definition) (v : Value) (i : ImportIndex) (x : Function) → DefinitionStands ms b d v
-      → d ≡ definition.HostFunc i → v ≡ func_value x
-      → (x ≡ host_function (record { import = i.0; names = [] })) × (i.0 < length b.graph.import_types)
-  host_as d v i x (stands_host {i = j} below) is value =
-      let same_i : j ≡ i = cc in
-      let same_x : host_function (record { import = j.0; names = [] }) ≡ x = cc in (
-        sym same_x ∙ ap (λ (k : ImportIndex). host_function (record { import = k.0; names = [] })) same_i,
-        subst (λ (k : ImportIndex). k.0 < length b.graph.import_types) same_i below,
-      )
-  host_as d v i x stands_static is value = absurd (let x : ⊥ = cc in x)
-  host_as d v i x (stands_lifted f j s) is value = absurd (let x : ⊥ = cc in x)
-  host_as d v i x (stands_component tr body leaving closure modules components) is value =
-      absurd (let x : ⊥ = cc in x)
-  host_as d v i x (stands_instance held _) is value = absurd (let x : ⊥ = cc in x)
-
-  -- a function of the host, as the reading has it
-  pub host_there : (n : DefinitionId) (i : ImportIndex) (x : Function)
-      → slice_get b.definitions n.0 ≡ Some (definition.HostFunc i) → FuncStands ms b n x
-      → (x ≡ host_function (record { import = i.0; names = [] })) × (i.0 < length b.graph.import_types)
-  host_there n i x at (stands {d = d} held y) =
-      host_as d (func_value x) i x y (same_Some d (definition.HostFunc i) (sym held ∙ at)) refl
-
-  other_as : (d : Definition) (v : Value) (x : Function) → DefinitionStands ms b d v → is_func d ≡ false
-      → v ≡ func_value x → ⊥
-  other_as d v x (stands_host below) other value = absurd (true≢false other)
-  other_as d v x (stands_lifted f j s) other value = absurd (true≢false other)
-  other_as d v x stands_static other value = let x : ⊥ = cc in x
-  other_as d v x (stands_component tr body leaving closure modules components) other value = let x : ⊥ = cc in x
-  other_as d v x (stands_instance held _) other value = let x : ⊥ = cc in x
-
-  -- what is no function has no function's value
-  pub no_other : (n : DefinitionId) (d : Definition) (x : Function) → slice_get b.definitions n.0 ≡ Some d
-      → is_func d ≡ false → FuncStands ms b n x → ⊥
-  no_other n d x at other (stands {d = e} held y) =
-      other_as e (func_value x) x y (subst (λ k. is_func k ≡ false) (same_Some d e (sym at ∙ held)) other) refl
-
--- a core module, a component or an instance is no function
-pub is_no_func : (d : Definition)
-    → ((x : StaticModuleIndex) × (y : ℕ) × (d ≡ definition.StaticModule x y))
-    ⊎ (((x : StaticComponentIndex) × (y : ClosureId) × (d ≡ definition.Component x y))
-    ⊎ ((x : ExportsId) × (d ≡ definition.Instance x)))
-    → is_func d ≡ false
-is_no_func d (inl h) = ap is_func h.2
-is_no_func d (inr (inl h)) = ap is_func h.2
-is_no_func d (inr (inr h)) = ap is_func h.1

@@ -19,12 +19,12 @@ HasClosure b (Some k) = (closure : Closure) × (slice_get b.closures k.0 ≡ Som
 
 -- the modules of a closure in the table
 modules_in : (b : Tables) (k : ClosureId) (closure : Closure) → slice_get b.closures k.0 ≡ Some closure
-    → captured_modules b (Some k) ≡ closure.modules
+    → captured_modules b.closures (Some k) ≡ closure.modules
 modules_in b k closure at = ap (λ o. unwrap_or (option_map (λ (c : Closure). c.modules) o) []) at
 
 -- the components
 components_in : (b : Tables) (k : ClosureId) (closure : Closure) → slice_get b.closures k.0 ≡ Some closure
-    → captured_components b (Some k) ≡ closure.components
+    → captured_components b.closures (Some k) ≡ closure.components
 components_in b k closure at = ap (λ o. unwrap_or (option_map (λ (c : Closure). c.components) o) []) at
 
 module _ (ms : List ModuleRecord) (b : Tables) where
@@ -44,13 +44,15 @@ module _ (ms : List ModuleRecord) (b : Tables) where
 
   module _ (c : Tables) (keeps : Keeps b c) where
     -- the modules that a component instance captured are what they were
-    modules_kept : (k : Option ClosureId) → HasClosure b k → captured_modules c k ≡ captured_modules b k
+    modules_kept : (k : Option ClosureId) → HasClosure b k
+        → captured_modules c.closures k ≡ captured_modules b.closures k
     modules_kept None has = refl
     modules_kept (Some k) has =
         modules_in c k has.0 (keeps.closures k.0 has.0 has.1) ∙ sym (modules_in b k has.0 has.1)
 
     -- the components
-    components_kept : (k : Option ClosureId) → HasClosure b k → captured_components c k ≡ captured_components b k
+    components_kept : (k : Option ClosureId) → HasClosure b k
+        → captured_components c.closures k ≡ captured_components b.closures k
     components_kept None has = refl
     components_kept (Some k) has =
         components_in c k has.0 (keeps.closures k.0 has.0 has.1) ∙ sym (components_in b k has.0 has.1)
@@ -60,8 +62,8 @@ module _ (ms : List ModuleRecord) (b : Tables) where
         → IsEnclosed ms b names k chain → IsEnclosed ms c names k chain
     enclosed_kept names k chain has enclosed = record {
       modules = subst (λ ids. Captured ms c a_module ids names.modules chain) (sym (modules_kept k has))
-          (captured_kept ms b c keeps a_module (captured_modules b k) names.modules chain enclosed.modules);
+          (captured_kept ms b c keeps a_module (captured_modules b.closures k) names.modules chain enclosed.modules);
       components = subst (λ ids. Captured ms c a_component ids names.components chain) (sym (components_kept k has))
-          (captured_kept ms b c keeps a_component (captured_components b k) names.components chain
+          (captured_kept ms b c keeps a_component (captured_components b.closures k) names.components chain
           enclosed.components);
     }

@@ -2,9 +2,10 @@
 
 ghost use Rattle.std.specs.Prelude.{◌≡◌, ◌++◌, ◌∷◌, ◌<◌, [], length, slice_get, None, Some, is_some, IfOk, OnOk, OnErr};
 ghost use Rattle.std.specs.Option.{option_copied, option_map};
+ghost use Rattle.pc_entity.specs.FirstValues.{with_first};
 ghost use Rattle.pc_entity.specs.Lists.{value_of, with_value, names_of, AreDistinct};
 
-use crate::{NoMemory, Text};
+use crate::{NoMemory, Text, TryClone};
 use indexmap::IndexMap;
 use std::alloc::Global;
 use std::marker::Model;
@@ -95,6 +96,17 @@ impl<V: Drop> TextMap<V> {
     {
         self.insert(name, value)?;
         Ok(())
+    }
+
+    /// Adds a copy of `name` at the end, unless it has a value: of a name that stands twice the first counts.
+    pub fn insert_first(&mut self, alloc: Global, name: &Text, value: V) -> Result<(), NoMemory>
+        ensures ok { OnOk result (self.new ≡ with_first self.old (name.now, value)) }
+        ensures err { OnErr result (self.new ≡ self.old) }
+    {
+        if self.contains(name.as_str()) {
+            return Ok(());
+        }
+        self.push(name.try_clone(alloc)?, value)
     }
 
     /// Puts `value` at `name`, and answers the value that stood there. A name that is absent is added at the end, and

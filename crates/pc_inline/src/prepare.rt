@@ -1,7 +1,6 @@
 //! The imports of a root are prepared before its items.
 
-ghost use Rattle.std.specs.Prelude.{◌≡◌, IfErr, IfOk, OnErr, OnOk};
-ghost use Rattle.pc_entity.specs.FirstValues.{with_first};
+ghost use Rattle.std.specs.Prelude.{◌≡◌, IfErr, IfOk};
 ghost use Rattle.pc_reading.specs.Nodes.{extern_data};
 ghost use Rattle.pc_frames.specs.Adds.{Adds};
 ghost use Rattle.pc_frames.specs.AddsEach.{AddsEach, everywhere};
@@ -57,23 +56,6 @@ fn push_import(
     state.push_definition(Definition::HostFunc(number))
 }
 
-/// Adds an argument. Of a name that stands twice the first counts.
-fn push_argument(
-    frame: &mut Frame,
-    alloc: Global,
-    name: &ExternName,
-    id: DefinitionId,
-) -> Result<(), NoMemory>
-    ensures ok { OnOk result
-        (frame.new ≡ record frame.old { arguments = with_first frame.old.arguments (name.now.name, id) }) }
-    ensures err { OnErr result (frame.new ≡ frame.old) }
-{
-    if frame.arguments.contains(name.name.as_str()) {
-        return Ok(());
-    }
-    frame.arguments.push(name.name.try_clone(alloc)?, id)
-}
-
 /// An import of the root is prepared: it is the next in the order of the imports, and an argument of the root.
 pub(crate) fn prepare(
     context: &Context<'_>,
@@ -97,6 +79,6 @@ pub(crate) fn prepare(
     let ty = context.func_type(state, ty)?;
     let import = function_import(context.alloc, name, ty)?;
     let id = push_import(state, import)?;
-    push_argument(frame, context.alloc, name, id)?;
+    frame.arguments.insert_first(context.alloc, &name.name, id)?;
     Ok(())
 }

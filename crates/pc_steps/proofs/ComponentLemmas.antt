@@ -81,69 +81,70 @@ module _ (ms : List ModuleRecord) (b : Tables) (f : Frame) (s : Scope) (frame : 
   module _ (names : Names) (k : Option ClosureId) (enclosed : IsEnclosed ms b names k s.chain) where
     -- a module that a variable of the component instance is
     pub module_there : (v : Variable) (c n : ℕ) (id : DefinitionId) → Reads names.modules v c n
-        → captured_id f.modules (captured_modules b k) v ≡ Some id
+        → captured_id f.modules (captured_modules b.closures k) v ≡ Some id
         → (w : Value) × (lent_in (chain_of s) a_module c n ≡ Some w) × Stands ms b id w
     module_there =
         variable_there ms b a_module s.modules (pack_components s.components) s.chain names.modules f.modules
-        (captured_modules b k) lent_module enclosed.modules
+        (captured_modules b.closures k) lent_module enclosed.modules
 
     -- a component likewise
     pub component_there : (v : Variable) (c n : ℕ) (id : DefinitionId) → Reads names.components v c n
-        → captured_id f.components (captured_components b k) v ≡ Some id
+        → captured_id f.components (captured_components b.closures k) v ≡ Some id
         → (w : Value) × (lent_in (chain_of s) a_component c n ≡ Some w) × Stands ms b id w
     component_there =
         variable_there ms b a_component s.modules (pack_components s.components) s.chain names.components f.components
-        (captured_components b k) lent_component enclosed.components
+        (captured_components b.closures k) lent_component enclosed.components
 
     -- a module that isn't there
     pub module_missing : (v : Variable) (c n : ℕ) → Reads names.modules v c n
-        → captured_id f.modules (captured_modules b k) v ≡ None → lent_in (chain_of s) a_module c n ≡ None
+        → captured_id f.modules (captured_modules b.closures k) v ≡ None → lent_in (chain_of s) a_module c n ≡ None
     module_missing =
         variable_missing ms b a_module s.modules (pack_components s.components) s.chain names.modules f.modules
-        (captured_modules b k) lent_module enclosed.modules
+        (captured_modules b.closures k) lent_module enclosed.modules
 
     -- a component that isn't there
     pub component_missing : (v : Variable) (c n : ℕ) → Reads names.components v c n
-        → captured_id f.components (captured_components b k) v ≡ None → lent_in (chain_of s) a_component c n ≡ None
+        → captured_id f.components (captured_components b.closures k) v ≡ None
+        → lent_in (chain_of s) a_component c n ≡ None
     component_missing =
         variable_missing ms b a_component s.modules (pack_components s.components) s.chain names.components
-        f.components (captured_components b k) lent_component enclosed.components
+        f.components (captured_components b.closures k) lent_component enclosed.components
 
     -- the modules that a nested body captures
     modules_captured : (vs : List ClosedOverModule) (inner : List (ℕ × ℕ)) (out : List DefinitionId)
         → Gives names.modules (map module_variable vs) inner
-        → captured_ids module_variable f.modules (captured_modules b k) vs ≡ Some out
+        → captured_ids module_variable f.modules (captured_modules b.closures k) vs ≡ Some out
         → Captured ms b a_module out inner (chain_of s)
     modules_captured =
         all_captured ms b a_module s.modules (pack_components s.components) s.chain names.modules f.modules
-        (captured_modules b k) lent_module enclosed.modules module_variable
+        (captured_modules b.closures k) lent_module enclosed.modules module_variable
 
     -- the components that it captures
     components_captured : (vs : List ClosedOverComponent) (inner : List (ℕ × ℕ)) (out : List DefinitionId)
         → Gives names.components (map component_variable vs) inner
-        → captured_ids component_variable f.components (captured_components b k) vs ≡ Some out
+        → captured_ids component_variable f.components (captured_components b.closures k) vs ≡ Some out
         → Captured ms b a_component out inner (chain_of s)
     components_captured =
         all_captured ms b a_component s.modules (pack_components s.components) s.chain names.components f.components
-        (captured_components b k) lent_component enclosed.components component_variable
+        (captured_components b.closures k) lent_component enclosed.components component_variable
 
     -- the name of a module that isn't there
     modules_missing : (vs : List ClosedOverModule) (inner : List (ℕ × ℕ))
         → Gives names.modules (map module_variable vs) inner
-        → captured_ids module_variable f.modules (captured_modules b k) vs ≡ None
+        → captured_ids module_variable f.modules (captured_modules b.closures k) vs ≡ None
         → (c : ℕ) × (n : ℕ) × Has inner c n × (lent_in (chain_of s) a_module c n ≡ None)
     modules_missing =
         one_missing ms b a_module s.modules (pack_components s.components) s.chain names.modules f.modules
-        (captured_modules b k) lent_module enclosed.modules module_variable
+        (captured_modules b.closures k) lent_module enclosed.modules module_variable
 
     -- the name of a component that isn't there
     components_missing : (vs : List ClosedOverComponent) (inner : List (ℕ × ℕ))
         → Gives names.components (map component_variable vs) inner
-        → captured_ids component_variable f.components (captured_components b k) vs ≡ None
+        → captured_ids component_variable f.components (captured_components b.closures k) vs ≡ None
         → (c : ℕ) × (n : ℕ) × Has inner c n × (lent_in (chain_of s) a_component c n ≡ None)
     components_missing =
         one_missing ms b a_component s.modules (pack_components s.components) s.chain names.components f.components
-        (captured_components b k) lent_component enclosed.components component_variable
+        (captured_components b.closures k) lent_component enclosed.components component_variable
 
 no_more : (c e : ℕ) → c ≡ e + zero → e ≡ c
 no_more c e h = omega (arith, h)
@@ -222,7 +223,7 @@ module _ (t : TypeTable) (ms : List ModuleRecord) (k : Option ClosureId) (s : St
 
   -- a module isn't there
   pub module_lacks : (st' : State) (f' : Frame)
-      → captured_ids module_variable f.modules (captured_modules old k) vars.modules ≡ None
+      → captured_ids module_variable f.modules (captured_modules old.closures k) vars.modules ≡ None
       → StepsLocal t ms k it st f st' f' (Err (item_error.Fault item_fault.Invalid))
   module_lacks st' f' none = missing_steps st' f' (λ names body nested now at enclosed.
       let inner = nested.0 in
@@ -234,7 +235,7 @@ module _ (t : TypeTable) (ms : List ModuleRecord) (k : Option ClosureId) (s : St
 
   -- a component isn't there
   pub component_lacks : (st' : State) (f' : Frame)
-      → captured_ids component_variable f.components (captured_components old k) vars.components ≡ None
+      → captured_ids component_variable f.components (captured_components old.closures k) vars.components ≡ None
       → StepsLocal t ms k it st f st' f' (Err (item_error.Fault item_fault.Invalid))
   component_lacks st' f' none = missing_steps st' f' (λ names body nested now at enclosed.
       let inner = nested.0 in
@@ -245,9 +246,11 @@ module _ (t : TypeTable) (ms : List ModuleRecord) (k : Option ClosureId) (s : St
       (given.leaving.components lacks.0 lacks.1 lacks.2) lacks.3)
 
   module _ (modules components : List DefinitionId)
-      (modules_there : captured_ids module_variable f.modules (captured_modules old k) vars.modules ≡ Some modules)
+      (modules_there
+      : captured_ids module_variable f.modules (captured_modules old.closures k) vars.modules ≡ Some modules)
       (components_there
-      : captured_ids component_variable f.components (captured_components old k) vars.components ≡ Some components)
+      : captured_ids component_variable f.components (captured_components old.closures k) vars.components
+      ≡ Some components)
       (captured : ClosureId) (closure_last : captured.0 ≡ length st.closures) (key : DefinitionId)
       (last : key.0 ≡ length st.definitions) where
     abbrev closure : Closure
@@ -300,8 +303,9 @@ module _ (t : TypeTable) (ms : List ModuleRecord) (k : Option ClosureId) (s : St
 
   -- the same of a state and of components that are equal to these
   pub component_done : (modules components : List DefinitionId)
-      → captured_ids module_variable f.modules (captured_modules old k) vars.modules ≡ Some modules
-      → captured_ids component_variable f.components (captured_components old k) vars.components ≡ Some components
+      → captured_ids module_variable f.modules (captured_modules old.closures k) vars.modules ≡ Some modules
+      → captured_ids component_variable f.components (captured_components old.closures k) vars.components
+      ≡ Some components
       → (captured : ClosureId) → captured.0 ≡ length st.closures → (key : DefinitionId) (st1 st2 : State)
       (cs : List DefinitionId)
       → st1 ≡ record st { closures = st.closures ++ record { modules = modules; components = components } ∷ [] }

@@ -34,7 +34,7 @@ use Rattle.pc_canon.proofs.WorldLemmas.{point_kept}
 use Rattle.pc_frames.proofs.ZipLemmas.{both_missing, both_there, zip_at}
 
 -- one core item more is one of the same component instance
-core_same : (f : Frame) (k : CoreKind) (n : CoreId)
+pub core_same : (f : Frame) (k : CoreKind) (n : CoreId)
     → (with_core_id f k n).component_instance ≡ f.component_instance
 core_same f core.Func n = refl
 core_same f core.Table n = refl

@@ -196,3 +196,12 @@ answers_push R f ds xs x d v so_far is r =
     let e = both_there (AllZip R) (Some ds) (map_all f xs) ds so_far refl in
     subst (Both (AllZip R) (Some (ds ++ d ∷ []))) (sym (map_all-push f xs e.0 x v e.1 is))
     (both (zip_push R ds e.0 d v e.2 r))
+
+-- the same of lists that are equal to these
+pub answers_more : {X A B : Type 0} (R : A → B → Type 0) (f : X → Option B) (ds es : List A) (xs ys : List X) (x : X)
+    (d : A) (v : B) → es ≡ ds ++ d ∷ [] → ys ≡ xs ++ x ∷ [] → Both (AllZip R) (Some ds) (map_all f xs) → f x ≡ Some v
+    → R d v → Both (AllZip R) (Some es) (map_all f ys)
+answers_more R f ds es xs ys x d v grown longer so_far is r =
+    subst (λ zs. Both (AllZip R) (Some es) (map_all f zs)) (sym longer)
+    (subst (λ zs. Both (AllZip R) (Some zs) (map_all f (xs ++ x ∷ []))) (sym grown)
+    (answers_push R f ds xs x d v so_far is r))

@@ -53,12 +53,12 @@ use Rattle.pc_frames.specs.Points.{PointStands, Steps, StepsItem}
 use Rattle.pc_frames.specs.Stands.{DefinitionStands, stands, stands_component, stands_host, stands_instance}
 use Rattle.pc_frames.specs.Stands.{stands_lifted, stands_static}
 use Rattle.pc_frames.specs.Tables.{Keeps, Tables, tables_of}
-use Rattle.pc_frames.proofs.AddsLemmas.{adds_refl, everywhere_few}
+use Rattle.pc_frames.proofs.AddsLemmas.{everywhere_few}
 use Rattle.pc_frames.proofs.AddsPushLemmas.{instance_adds}
 use Rattle.pc_frames.proofs.GrowthLemmas.{graph_crowded, graph_grown}
 use Rattle.pc_canon.proofs.CoreInstanceLemmas.{made_point}
 use Rattle.pc_canon.proofs.FrameLemmas.{framed_point, instance_framed}
-use Rattle.pc_canon.proofs.StepLemmas.{row_goes, row_stuck, steps_full, steps_memory, steps_on, steps_stuck}
+use Rattle.pc_canon.proofs.StepLemmas.{row_goes, row_stuck, steps_full, steps_on, steps_stuck}
 use Rattle.pc_frames.proofs.ZipLemmas.{both_missing, both_there, zip_at, zip_length}
 
 module _ (ms : List ModuleRecord) (b : Tables) where
@@ -212,6 +212,3 @@ module _ (t : TypeTable) (ms : List ModuleRecord) (st : State) (f : Frame) (n : 
                 ∙ ap (λ o. found invalid o (λ (vs : List (CoreValue Mark)). Ok (add_static now m.0 vs))) vs.1)
                 entered.world.no_adapters;
           }))
-
--- what the step of an instance adds and keeps
-pub ruleset instance_rules = (adds_refl, instance_keeps, steps_memory)

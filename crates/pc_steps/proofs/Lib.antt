@@ -19,3 +19,4 @@ mod ModuleArgumentsLemmas
 mod UnbuiltLemmas
 pub mod LocalLemmas
 mod KindLemmas
+mod WholeLemmas

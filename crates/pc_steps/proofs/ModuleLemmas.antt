@@ -1,5 +1,6 @@
 -- The step of a core module that was handed in.
 use Rattle.std.proofs.Common.{◌≡◌, ℕ, List, [], ◌∷◌, ◌++◌, length, true, false, None, Some, Result, Ok, Err, refl}
+use Rattle.std.proofs.Common.{subst, sym}
 use Rattle.std.specs.Prelude.{⊤}
 use Rattle.pc_numbers.specs.declared.component_entity.StaticModuleIndex.{StaticModuleIndex}
 use Rattle.pc_types.specs.declared.module_record.ModuleRecord.{ModuleRecord}
@@ -79,5 +80,12 @@ module _ (t : TypeTable) (ms : List ModuleRecord) (m : StaticModuleIndex) (ty : 
         }
 
     -- it is a module of the component instance
-    pub module_steps : (r : ⊤) → StepsItem t ms module_ st f end with_it (Ok r)
+    module_steps : (r : ⊤) → StepsItem t ms module_ st f end with_it (Ok r)
     module_steps r = steps_on t ms reads st f end with_it r module_goes
+
+    -- the same of a state and of modules that are equal to these
+    pub module_done : (st' : State) (ns : List DefinitionId) → st' ≡ end → ns ≡ f.modules ++ key ∷ [] → (r : ⊤)
+        → StepsItem t ms module_ st f st' (record f { modules = ns }) (Ok r)
+    module_done st' ns is1 is2 r =
+        subst (λ x. StepsItem t ms module_ st f x (record f { modules = ns }) (Ok r)) (sym is1)
+        (subst (λ x. StepsItem t ms module_ st f end (record f { modules = x }) (Ok r)) (sym is2) (module_steps r))

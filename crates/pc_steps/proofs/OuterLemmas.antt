@@ -110,7 +110,7 @@ module _ (t : TypeTable) (ms : List ModuleRecord) (k : Option ClosureId) (st : S
 
   -- the module isn't there
   pub module_unaliased : (v : ClosedOverModule) (st' : State) (f' : Frame)
-      → captured_id f.modules (captured_modules b k) (module_variable v) ≡ None
+      → captured_id f.modules (captured_modules b.closures k) (module_variable v) ≡ None
       → StepsLocal t ms k (local.AliasModule v) st f st' f' (Err (item_error.Fault item_fault.Invalid))
   unfolding Follows
   module_unaliased v st' f' none =
@@ -120,7 +120,7 @@ module _ (t : TypeTable) (ms : List ModuleRecord) (k : Option ClosureId) (st : S
 
   -- nor the component
   pub component_unaliased : (v : ClosedOverComponent) (st' : State) (f' : Frame)
-      → captured_id f.components (captured_components b k) (component_variable v) ≡ None
+      → captured_id f.components (captured_components b.closures k) (component_variable v) ≡ None
       → StepsLocal t ms k (local.AliasComponent v) st f st' f' (Err (item_error.Fault item_fault.Invalid))
   unfolding Follows
   component_unaliased v st' f' none =
@@ -130,7 +130,7 @@ module _ (t : TypeTable) (ms : List ModuleRecord) (k : Option ClosureId) (st : S
 
   -- the module is one more of the component instance
   pub module_aliased : (v : ClosedOverModule) (id : DefinitionId)
-      → captured_id f.modules (captured_modules b k) (module_variable v) ≡ Some id → (r : ⊤)
+      → captured_id f.modules (captured_modules b.closures k) (module_variable v) ≡ Some id → (r : ⊤)
       → StepsLocal t ms k (local.AliasModule v) st f st (record f { modules = f.modules ++ id ∷ [] }) (Ok r)
   unfolding Follows
   module_aliased v id is r =
@@ -149,7 +149,7 @@ module _ (t : TypeTable) (ms : List ModuleRecord) (k : Option ClosureId) (st : S
 
   -- the component likewise
   pub component_aliased : (v : ClosedOverComponent) (id : DefinitionId)
-      → captured_id f.components (captured_components b k) (component_variable v) ≡ Some id → (r : ⊤)
+      → captured_id f.components (captured_components b.closures k) (component_variable v) ≡ Some id → (r : ⊤)
       → StepsLocal t ms k (local.AliasComponent v) st f st (record f { components = f.components ++ id ∷ [] }) (Ok r)
   unfolding Follows
   component_aliased v id is r =

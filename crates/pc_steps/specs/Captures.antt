@@ -24,19 +24,19 @@ abbrev pub captured_ids : {V : Type 0} → (V → Variable) → (local captured 
 captured_ids f ids captured vs = map_all (λ v. captured_id ids captured (f v)) vs
 
 -- what a component instance captured: the root nothing
-abbrev pub closure_of : Tables → Option ClosureId → Option Closure
-closure_of b k = option_and_then (λ (k : ClosureId). slice_get b.closures k.0) k
+abbrev pub closure_of : List Closure → Option ClosureId → Option Closure
+closure_of cs k = option_and_then (λ (k : ClosureId). slice_get cs k.0) k
 
 -- the modules
-abbrev pub captured_modules : Tables → Option ClosureId → List DefinitionId
-captured_modules b k = unwrap_or (option_map (λ (c : Closure). c.modules) (closure_of b k)) []
+abbrev pub captured_modules : List Closure → Option ClosureId → List DefinitionId
+captured_modules cs k = unwrap_or (option_map (λ (c : Closure). c.modules) (closure_of cs k)) []
 
 -- the components
-abbrev pub captured_components : Tables → Option ClosureId → List DefinitionId
-captured_components b k = unwrap_or (option_map (λ (c : Closure). c.components) (closure_of b k)) []
+abbrev pub captured_components : List Closure → Option ClosureId → List DefinitionId
+captured_components cs k = unwrap_or (option_map (λ (c : Closure). c.components) (closure_of cs k)) []
 
 -- what a component instance captured is what stands in a chain under these names
 pub record IsEnclosed (ms : List ModuleRecord) (b : Tables) (names : Names) (k : Option ClosureId) (chain : Chain)
     : Type 0 where
-  pub modules : Captured ms b a_module (captured_modules b k) names.modules chain
-  pub components : Captured ms b a_component (captured_components b k) names.components chain
+  pub modules : Captured ms b a_module (captured_modules b.closures k) names.modules chain
+  pub components : Captured ms b a_component (captured_components b.closures k) names.components chain

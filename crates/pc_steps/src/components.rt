@@ -11,10 +11,11 @@ ghost use Rattle.pc_frames.specs.Adds.{Adds};
 ghost use Rattle.pc_steps.specs.Captures.{captured_components, captured_id, captured_ids, captured_modules};
 ghost use Rattle.pc_steps.specs.Captures.{closure_of};
 ghost use Rattle.pc_frames.specs.Points.{IsInput, IsPoint};
+ghost use Rattle.pc_frames.specs.declared.state.State.{State};
 ghost use Rattle.pc_steps.specs.StepsLocal.{StepsLocal};
 ghost use Rattle.pc_frames.specs.Tables.{Keeps, tables_of};
 
-use pc_entity::{NoMemory, Seq, StaticComponentIndex};
+use pc_entity::{NoMemory, PrimaryMap, Seq, StaticComponentIndex};
 use pc_frames::{
     Closure, ClosureId, Context, Definition, DefinitionId, Frame, ItemError, ItemFault, State, at,
 };
@@ -22,31 +23,34 @@ use pc_local::captured::Variable;
 use pc_local::{ClosedOverComponent, ClosedOverModule, ClosedOverVars};
 use std::alloc::Global;
 
+/// What all components captured.
+type Closures = PrimaryMap<ClosureId, Closure>;
+
 /// What a component instance captured. The root captured nothing.
-fn closure_of<'s>(state: &'s State<'_>, closure: Option<ClosureId>) -> Option<&'s Closure>
-    ensures { option_copied result ≡ closure_of (tables_of state.now) closure }
+fn closure_of(closures: &Closures, closure: Option<ClosureId>) -> Option<&Closure>
+    ensures { option_copied result ≡ closure_of closures.now closure }
 {
     match closure {
-        Some(closure) => state.closures.get(closure),
+        Some(closure) => closures.get(closure),
         None => None,
     }
 }
 
 /// The modules that a component instance captured.
-fn captured_modules<'s>(state: &'s State<'_>, closure: Option<ClosureId>) -> &'s [DefinitionId]
-    ensures { result.now ≡ captured_modules (tables_of state.now) closure }
+fn captured_modules(closures: &Closures, closure: Option<ClosureId>) -> &[DefinitionId]
+    ensures { result.now ≡ captured_modules closures.now closure }
 {
-    match closure_of(state, closure) {
+    match closure_of(closures, closure) {
         Some(captured) => captured.modules.as_slice(),
         None => &[],
     }
 }
 
 /// The components that it captured.
-fn captured_components<'s>(state: &'s State<'_>, closure: Option<ClosureId>) -> &'s [DefinitionId]
-    ensures { result.now ≡ captured_components (tables_of state.now) closure }
+fn captured_components(closures: &Closures, closure: Option<ClosureId>) -> &[DefinitionId]
+    ensures { result.now ≡ captured_components closures.now closure }
 {
-    match closure_of(state, closure) {
+    match closure_of(closures, closure) {
         Some(captured) => captured.components.as_slice(),
         None => &[],
     }
@@ -119,16 +123,16 @@ fn captured_ids<V: AsVariable>(
 
 /// An outer alias of a module, or one of a module of the component instance itself.
 pub(crate) fn step_alias_module(
-    state: &State<'_>,
+    closures: &Closures,
     frame: &mut Frame,
     closure: Option<ClosureId>,
     variable: ClosedOverModule,
 ) -> Result<(), ItemError>
     ensures same { frame.new.component_instance ≡ frame.old.component_instance }
-    ensures steps { (t : TypeTable) (ms : List ModuleRecord)
-        → StepsLocal t ms closure (local.AliasModule variable) state.now frame.old state.now frame.new result }
+    ensures steps { (t : TypeTable) (ms : List ModuleRecord) (st : State) → st.closures ≡ closures.now
+        → StepsLocal t ms closure (local.AliasModule variable) st frame.old st frame.new result }
 {
-    let captured = captured_modules(state, closure);
+    let captured = captured_modules(closures, closure);
     match captured_id(frame.modules.as_slice(), captured, variable.variable()) {
         Some(id) => Ok(frame.modules.push(id)?),
         None => Err(ItemError::Fault(ItemFault::Invalid)),
@@ -137,16 +141,16 @@ pub(crate) fn step_alias_module(
 
 /// The same of a component.
 pub(crate) fn step_alias_component(
-    state: &State<'_>,
+    closures: &Closures,
     frame: &mut Frame,
     closure: Option<ClosureId>,
     variable: ClosedOverComponent,
 ) -> Result<(), ItemError>
     ensures same { frame.new.component_instance ≡ frame.old.component_instance }
-    ensures steps { (t : TypeTable) (ms : List ModuleRecord)
-        → StepsLocal t ms closure (local.AliasComponent variable) state.now frame.old state.now frame.new result }
+    ensures steps { (t : TypeTable) (ms : List ModuleRecord) (st : State) → st.closures ≡ closures.now
+        → StepsLocal t ms closure (local.AliasComponent variable) st frame.old st frame.new result }
 {
-    let captured = captured_components(state, closure);
+    let captured = captured_components(closures, closure);
     match captured_id(frame.components.as_slice(), captured, variable.variable()) {
         Some(id) => Ok(frame.components.push(id)?),
         None => Err(ItemError::Fault(ItemFault::Invalid)),
@@ -173,7 +177,7 @@ pub(crate) fn step_component(
     let Some(modules) = captured_ids(
         context.alloc,
         frame.modules.as_slice(),
-        captured_modules(state, closure),
+        captured_modules(&state.closures, closure),
         vars.modules.as_slice(),
     )?
     else {
@@ -182,7 +186,7 @@ pub(crate) fn step_component(
     let Some(components) = captured_ids(
         context.alloc,
         frame.components.as_slice(),
-        captured_components(state, closure),
+        captured_components(&state.closures, closure),
         vars.components.as_slice(),
     )?
     else {

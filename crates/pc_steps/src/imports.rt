@@ -13,7 +13,7 @@ use pc_parsed::{ExternName, ItemKind};
 use pc_types::{Entity, TypeTable, Unsupported};
 
 /// The kind of item that an import takes, if that is built.
-fn import_kind(kinds: TableKinds, entity: Entity) -> Option<ItemKind>
+pub fn import_kind(kinds: TableKinds, entity: Entity) -> Option<ItemKind>
     ensures { result ≡ import_kind kinds entity }
 {
     match entity {

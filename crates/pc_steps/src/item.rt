@@ -17,7 +17,6 @@ use pc_local::LocalInitializer;
 use pc_types::Unsupported;
 
 /// One item of a body, but an instantiation of a component, which the driver goes into.
-#[tactic(auto, using(pc_frames::proofs::AddsLemmas::adds_refl, crate::proofs::KindLemmas::local_steps))]
 pub fn step(
     context: &Context<'_>,
     state: &mut State<'_>,
@@ -74,10 +73,10 @@ pub fn step(
             name,
         } => step_alias(state, frame, *kind, *instance, name),
         LocalInitializer::AliasModule(variable) => {
-            step_alias_module(state, frame, closure, *variable)
+            step_alias_module(&state.closures, frame, closure, *variable)
         }
         LocalInitializer::AliasComponent(variable) => {
-            step_alias_component(state, frame, closure, *variable)
+            step_alias_component(&state.closures, frame, closure, *variable)
         }
         LocalInitializer::Export { kind, index, .. } => step_export(frame, *kind, *index),
         _ => Err(ItemError::Fault(ItemFault::Unsupported(Unsupported::NotBuilt))),

@@ -10,6 +10,7 @@ mod item;
 mod members;
 mod modules;
 
+pub use imports::import_kind;
 pub use instances::is_instance_type;
 pub use item::step;
 pub use members::{Named, are_built, are_there, members_of};

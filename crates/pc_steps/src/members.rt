@@ -1,10 +1,9 @@
 //! Items of a component instance under names: what it exports, and what a child is given.
 
-ghost use Rattle.std.specs.Prelude.{◌≡◌, ℕ, List, IfOk, OnOk};
-ghost use Rattle.pc_entity.specs.FirstValues.{with_first};
+ghost use Rattle.std.specs.Prelude.{◌≡◌, ℕ, List, IfOk};
 ghost use Rattle.pc_steps.specs.Members.{are_built, are_there, members_of};
 
-use pc_entity::{NoMemory, Text, TextMap, TryClone};
+use pc_entity::{NoMemory, Text, TextMap};
 use pc_frames::{DefinitionId, Frame, is_built_kind};
 use pc_parsed::{ExternName, ItemKind};
 use std::alloc::Global;
@@ -51,21 +50,6 @@ pub fn are_there<N>(frame: &Frame, items: &[(N, ItemKind, u32)]) -> bool
         .all(|item| frame.item(item.1, item.2).is_some())
 }
 
-/// Adds an item under a name, unless one stands under it.
-fn add_member(
-    alloc: Global,
-    members: &mut TextMap<DefinitionId>,
-    name: &Text,
-    id: DefinitionId,
-) -> Result<(), NoMemory>
-    ensures ok { OnOk result (members.new ≡ with_first members.old (name.now, id)) }
-{
-    if members.contains(name.as_str()) {
-        return Ok(());
-    }
-    members.push(name.try_clone(alloc)?, id)
-}
-
 /// The items of a component instance that are there, under their names. Of a name that stands twice the first counts.
 pub fn members_of<N: Named>(
     alloc: Global,
@@ -77,7 +61,7 @@ pub fn members_of<N: Named>(
     let mut members = TextMap::new(alloc);
     for item in items {
         if let Some(id) = frame.item(item.1, item.2) {
-            add_member(alloc, &mut members, item.0.text(), id)?;
+            members.insert_first(alloc, item.0.text(), id)?;
         }
     }
     Ok(members)

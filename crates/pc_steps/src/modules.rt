@@ -173,7 +173,6 @@ fn module_arguments(
 }
 
 /// A core instance of a module of the component instance, which is a side effect.
-#[tactic(auto, using(crate::proofs::InstantiationLemmas::instance_rules))]
 pub(crate) fn step_core_instance(
     context: &Context<'_>,
     state: &mut State<'_>,
@@ -208,7 +207,6 @@ pub(crate) fn step_core_instance(
 }
 
 /// An item of a core instance.
-#[tactic(auto, using(pc_frames::proofs::AddsLemmas::adds_refl, pc_frames::proofs::AddsLemmas::core_few))]
 pub(crate) fn step_core_alias(
     context: &Context<'_>,
     state: &mut State<'_>,

@@ -1,6 +1,7 @@
 -- Local items are of kinds that are built where the items are for which they stand.
 use Rattle.std.proofs.Common.{◌≡◌, ◌&&◌, ◌⊎◌, inl, inr, ℕ, Bool, true, false, List, [], ◌∷◌, map, Option, None, Some}
-use Rattle.std.proofs.Common.{refl, sym, ap, subst, ◌∙◌, true≢false}
+use Rattle.std.proofs.Common.{refl, sym, ap, subst, ◌∙◌, true≢false, if◌then◌else◌}
+use Rattle.std.specs.Prelude.{is_some}
 use Rattle.std.specs.List.{list_all}
 use Rattle.std.proofs.lemmas.Option.{none-some, same_Some}
 use Rattle.pc_types.specs.declared.error.Error.{Error}
@@ -9,6 +10,7 @@ use Rattle.pc_types.specs.declared.parsed.Entity.TheVariants as entity
 use Rattle.pc_types.specs.declared.parsed.TypeTable.{TypeTable}
 use Rattle.pc_parsed.specs.declared.canon.CanonItem.{CanonItem}
 use Rattle.pc_parsed.specs.declared.canon.CanonItem.TheVariants as canon
+use Rattle.pc_parsed.specs.declared.payload.ItemKind.TheVariants as kind
 use Rattle.pc_parsed.specs.declared.payload.Payload.{Payload}
 use Rattle.pc_types.specs.declared.parsed.WasmValType.TheVariants as val
 use Rattle.pc_parsed.specs.Program.{is_numbered, not_built}
@@ -26,16 +28,21 @@ use Rattle.pc_local.specs.Standing.{ItemStands, ItemsStand, Names, stand_more, s
 use Rattle.pc_local.specs.Standing.{stands_module, stands_nested, stands_plain}
 use Rattle.pc_reading.specs.Section.{argument_of, named_item}
 use Rattle.pc_frames.specs.Plain.{is_plain_table}
-use Rattle.pc_frames.specs.Today.{can_instantiate, is_built_import, is_built_item, is_built_kind}
+use Rattle.pc_frames.specs.Today.{can_instantiate, has_no_resource, is_built_import, is_built_item, is_built_kind}
 use Rattle.pc_translate.specs.Causes.{CanBeRead, HasCause, HasOwnCause, HasRoot, are_built}
-use Rattle.pc_frames.specs.Kinds.{kinds_of}
-use Rattle.pc_translate.specs.Planning.{is_built_entity, is_built_local}
+use Rattle.pc_frames.specs.Kinds.{import_kind, kinds_of}
+use Rattle.pc_translate.specs.Planning.{is_built_local}
 
 -- a test of each of mapped values is one of each value
 list_all-map : {A B : Type 0} (p : B → Bool) (f : A → B) (xs : List A)
     → list_all p (map f xs) ≡ list_all (λ x. p (f x)) xs
 list_all-map p f [] = refl
 list_all-map p f (x ∷ xs) = ap (λ b. p (f x) && b) (list_all-map p f xs)
+
+-- there is a kind where a test says so
+kind_if : (b : Bool) → b ≡ is_some (if b then Some kind.Instance else None)
+kind_if true = refl
+kind_if false = refl
 
 module _ (t : TypeTable) where
   -- no builtin is built
@@ -67,12 +74,12 @@ module _ (t : TypeTable) where
       ap (is_built_item t) (sym (same_Some (Item.context_item Item.setting s slot) i h))
   context_unbuilt c i h = absurd (none-some i h)
 
-  -- an import is built where its entity is
-  entity_built : (e : Entity) → is_built_import t e ≡ is_built_entity (kinds_of t) e
+  -- an import is built where it takes items of a kind
+  entity_built : (e : Entity) → is_built_import t e ≡ is_some (import_kind (kinds_of t) e)
   entity_built (entity.Func n) = refl
   entity_built (entity.Module n) = refl
   entity_built (entity.Component n) = refl
-  entity_built (entity.Instance n) = refl
+  entity_built (entity.Instance n) = kind_if (has_no_resource t)
   entity_built e = refl
 
   -- a local item that is this item whatever is around it is built where the item is

@@ -1,16 +1,12 @@
 -- What comes of a local program: a plan that stands for the reading of its root, or why there is none.
-use Rattle.std.specs.Prelude.{◌&&◌, ℕ, Bool, true, false, [], List, Result, Ok, Err}
-use Rattle.std.specs.List.{list_all}
+use Rattle.std.specs.Prelude.{◌&&◌, ℕ, Bool, true, false, [], List, Result, Ok, Err, is_some}
 use Rattle.pc_interned.specs.Types.{Types}
 use Rattle.pc_types.specs.declared.error.Error.{Error}
 use Rattle.pc_types.specs.declared.error.Error.TheVariants as error
 use Rattle.pc_types.specs.declared.module_record.ModuleRecord.{ModuleRecord}
-use Rattle.pc_types.specs.declared.parsed.Entity.{Entity}
-use Rattle.pc_types.specs.declared.parsed.Entity.TheVariants as entity
 use Rattle.pc_types.specs.declared.parsed.TypeTable.{TypeTable}
 use Rattle.pc_info.specs.declared.component.ComponentTranslation.{ComponentTranslation}
 use Rattle.pc_info.specs.declared.module.ModuleTranslation.{ModuleTranslation}
-use Rattle.pc_parsed.specs.declared.payload.ItemKind.{ItemKind}
 use Rattle.pc_reading.specs.Item.{Items}
 use Rattle.pc_local.specs.declared.item.LocalInitializer.{LocalInitializer}
 use Rattle.pc_local.specs.declared.item.LocalInitializer.TheVariants as local
@@ -19,7 +15,9 @@ use Rattle.pc_linearize.specs.declared.error.FinishError.{FinishError}
 use Rattle.pc_linearize.specs.declared.error.FinishError.TheVariants as finish_error
 use Rattle.pc_finish.specs.Finished.{IsFinished}
 use Rattle.pc_inline.specs.Inlines.{IsFault, StandsForReading}
+use Rattle.pc_frames.specs.Kinds.{import_kind}
 use Rattle.pc_frames.specs.Today.{is_built_kind}
+use Rattle.pc_steps.specs.Members.{are_built}
 use Rattle.pc_frames.specs.declared.kinds.TableKinds.{TableKinds}
 
 -- why a graph has no plan, as an error of the translation
@@ -27,30 +25,18 @@ abbrev pub error_of_finish : FinishError → Error
 error_of_finish finish_error.TooMany = error.TooMany
 error_of_finish finish_error.NoMemory = error.NoMemory
 
--- what is named, an argument or an export of a component instance, is of a kind that is built
-abbrev pub has_built_kind : {N : Type 0} → N × ItemKind × ℕ → Bool
-has_built_kind x = is_built_kind x.1
-
 module _ (kinds : TableKinds) where
-  -- an import of a kind that is built
-  abbrev pub is_built_entity : Entity → Bool
-  is_built_entity (entity.Func n) = true
-  is_built_entity (entity.Module n) = true
-  is_built_entity (entity.Component n) = true
-  is_built_entity (entity.Instance n) = kinds.has_no_resource
-  is_built_entity _ = false
-
   -- a local item of a kind that is built
   abbrev pub is_built_local : LocalInitializer → Bool
-  is_built_local (local.Import name ty) = is_built_entity ty
+  is_built_local (local.Import name ty) = is_some (import_kind kinds ty)
   is_built_local (local.Lift func ty signature opts) = true
   is_built_local (local.Lower func ty signature opts) = true
   is_built_local (local.ModuleStatic index ty) = true
   is_built_local (local.ModuleInstantiate m args) = true
   is_built_local (local.ModuleSynthetic items) = true
   is_built_local (local.ComponentStatic index vars) = true
-  is_built_local (local.ComponentInstantiate c args ty) = kinds.can_instantiate && list_all has_built_kind args
-  is_built_local (local.ComponentSynthetic exports ty) = list_all has_built_kind exports
+  is_built_local (local.ComponentInstantiate c args ty) = kinds.can_instantiate && are_built args
+  is_built_local (local.ComponentSynthetic exports ty) = are_built exports
   is_built_local (local.AliasCoreExport k n name) = true
   is_built_local (local.AliasComponentExport k n name) = is_built_kind k
   is_built_local (local.AliasModule v) = true

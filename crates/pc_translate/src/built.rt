@@ -4,37 +4,19 @@ ghost use Rattle.std.specs.Prelude.{◌≡◌, ◌&&◌};
 ghost use Rattle.std.specs.List.{list_all};
 ghost use Rattle.pc_frames.specs.Kinds.{kinds_of};
 ghost use Rattle.pc_frames.specs.Plain.{is_plain_table};
-ghost use Rattle.pc_translate.specs.Planning.{has_built_kind, is_built_entity, is_built_local};
+ghost use Rattle.pc_translate.specs.Planning.{is_built_local};
 
 use pc_frames::{TableKinds, is_built_kind, is_plain_table, kinds_of};
 use pc_local::{LocalInitializer, LocalProgram};
-use pc_parsed::ItemKind;
-use pc_types::{Entity, TypeTable};
-
-/// Whether each named item is of a kind that is built.
-fn have_built_kinds<N>(named: &[(N, ItemKind, u32)]) -> bool
-    ensures { result ≡ list_all has_built_kind named.now }
-{
-    named.iter().all(|item| is_built_kind(item.1))
-}
-
-/// Whether an import is of a kind that is built.
-fn is_built_entity(kinds: TableKinds, entity: Entity) -> bool
-    ensures { result ≡ is_built_entity kinds entity }
-{
-    match entity {
-        Entity::Func(_) | Entity::Module(_) | Entity::Component(_) => true,
-        Entity::Instance(_) => kinds.has_no_resource,
-        _ => false,
-    }
-}
+use pc_steps::{are_built, import_kind};
+use pc_types::TypeTable;
 
 /// Whether a local item is of a kind that is built.
 fn is_built_item(kinds: TableKinds, item: &LocalInitializer) -> bool
     ensures { result ≡ is_built_local kinds item.now }
 {
     match item {
-        LocalInitializer::Import { ty, .. } => is_built_entity(kinds, *ty),
+        LocalInitializer::Import { ty, .. } => import_kind(kinds, *ty).is_some(),
         LocalInitializer::Lift { .. }
         | LocalInitializer::Lower { .. }
         | LocalInitializer::ModuleStatic { .. }
@@ -45,11 +27,9 @@ fn is_built_item(kinds: TableKinds, item: &LocalInitializer) -> bool
         | LocalInitializer::AliasModule(_)
         | LocalInitializer::AliasComponent(_) => true,
         LocalInitializer::ComponentInstantiate { args, .. } => {
-            kinds.can_instantiate && have_built_kinds(args.as_slice())
+            kinds.can_instantiate && are_built(args.as_slice())
         }
-        LocalInitializer::ComponentSynthetic { exports, .. } => {
-            have_built_kinds(exports.as_slice())
-        }
+        LocalInitializer::ComponentSynthetic { exports, .. } => are_built(exports.as_slice()),
         LocalInitializer::AliasComponentExport { kind, .. }
         | LocalInitializer::Export { kind, .. } => is_built_kind(*kind),
         _ => false,

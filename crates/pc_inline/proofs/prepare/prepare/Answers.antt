@@ -4,7 +4,7 @@ use Rattle.pc_inline.proofs.PreparedLemmas.{prepare_steps}
 use Rattle.pc_canon.proofs.PassedLemmas.{passed_lacking, passed_unfed}
 use Rattle.pc_frames.proofs.AddsLemmas.{adds_refl}
 use Rattle.pc_frames.proofs.StateLemmas.{keeps_refl}
-use Rattle.std.proofs.Common.{refl}
+use Rattle.std.proofs.Common.{ap, refl}
 use Rattle.pc_inline.proofs.prepare.prepare.Goals as goal
 
 pub returns-in_default : goal.returns-in_default
@@ -26,15 +26,16 @@ pub returns-in_err-id-clause-steps : goal.returns-in_err-id-clause-steps
 returns-in_err-id-clause-steps c =
     passed_lacking _ _ _ _ _ _ _ _ _ c.from_residual-in_err-id.ensures.1 c.in_err-id.ensures.lacks
 
-pub returns-in_err-push_argument-clause-steps : goal.returns-in_err-push_argument-clause-steps
-returns-in_err-push_argument-clause-steps c =
-    passed_unfed _ _ _ _ _ _ _ _ c.from_residual-in_err-push_argument.ensures.1
+pub returns-in_err-insert_first-clause-steps : goal.returns-in_err-insert_first-clause-steps
+returns-in_err-insert_first-clause-steps c =
+    passed_unfed _ _ _ _ _ _ _ _ c.from_residual-in_err-insert_first.ensures.1
 
 pub returns-clause-steps : goal.returns-clause-steps
 returns-clause-steps c =
     prepare_steps _ _ _ _ c.func_type.new.state _ _ _ _ _ c.in-Func.is c.func_type.ensures.converts c.in_ok-ty.ty
     c.in_ok-ty.ensures.is.0 c.in_ok-ty.ensures.is.1 _ c.in_ok-import.ensures _ c.in_ok-id.ensures.gives
-    c.push_import.ensures.keeps c.in_ok-push_argument.ensures.ok tt
+    c.push_import.ensures.keeps
+    (ap (λ xs. record c.args.frame.now { arguments = xs }) c.in_ok-insert_first.ensures.ok) tt
 
 pub returns-in_err-ty-clause-adds : goal.returns-in_err-ty-clause-adds
 returns-in_err-ty-clause-adds c = type_adds c.func_type.ensures.converts c.func_type.ensures.few
@@ -46,8 +47,8 @@ pub returns-in_err-id-clause-adds : goal.returns-in_err-id-clause-adds
 returns-in_err-id-clause-adds c =
     given_adds c.func_type.ensures.converts c.func_type.ensures.few _ c.push_import.ensures.adds
 
-pub returns-in_err-push_argument-clause-adds : goal.returns-in_err-push_argument-clause-adds
-returns-in_err-push_argument-clause-adds c =
+pub returns-in_err-insert_first-clause-adds : goal.returns-in_err-insert_first-clause-adds
+returns-in_err-insert_first-clause-adds c =
     given_adds c.func_type.ensures.converts c.func_type.ensures.few _ c.push_import.ensures.adds
 
 pub returns-clause-adds : goal.returns-clause-adds

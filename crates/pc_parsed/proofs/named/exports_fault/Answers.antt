@@ -1,4 +1,5 @@
-use Rattle.std.proofs.Common.{◌≡◌, ◌<◌, ◌+◌, ◌∷◌, length, drop, suc, sym, ◌∙◌, add-one, drop-cons, arith}
+use Rattle.std.proofs.Common.{sym, ◌∙◌, arith}
+use Rattle.pc_entity.proofs.LookupLemmas.{left_here}
 use Rattle.pc_parsed.proofs.NameLemmas.{exports_step}
 use Rattle.pc_parsed.proofs.named.exports_fault.Goals as goal
 
@@ -7,10 +8,7 @@ loop-n-preserved c =
     let n = c.loop-n.n in
     let xs = c.args.entries.now in
     let x = c.index-entries-n.result in
-    let is_it = c.index-entries-n.is in
-    let within : n < length xs = omega arith in
-    let at : drop n xs ≡ x ∷ drop (n + 1) xs =
-    rw add-one (drop-cons xs n x within ∙ (λ j. sym is_it j ∷ drop (suc n) xs)) in
+    let at = left_here xs n x (omega arith) c.index-entries-n.is in
     let none = c.in-None.is in
     exports_step xs n x c.loop-n.names c.export_fault.new.names _ _ at (sym c.in_ok-fault.ensures.fault ∙ none)
     (c.in_ok-fault.ensures.gains none) c.loop-n.invariant

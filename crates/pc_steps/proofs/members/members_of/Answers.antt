@@ -6,7 +6,7 @@ use Rattle.pc_frames.specs.Lists.{item_ids}
 use Rattle.pc_steps.specs.Members.{members_of, with_member}
 use Rattle.pc_steps.proofs.MemberLemmas.{one_more}
 use Rattle.pc_steps.proofs.members.members_of.Goals as goal
-use Rattle.pc_steps.proofs.members.members_of.Goals.{in-Some+in_ok-add_member, in_default}
+use Rattle.pc_steps.proofs.members.members_of.Goals.{in-Some+in_ok-insert_first, in_default}
 
 pub loop-item-init : goal.loop-item-init
 loop-item-init g c = c.new-members.ensures
@@ -24,8 +24,8 @@ loop-item-preserved g c =
     ap (λ ds. with_member ds (text x.0) (slice_get (item_ids f x.1) x.2)) c.loop-item.invariant
     ∙ sym (one_more text f [] (take i xs) x) ∙ ap (members_of text f) (sym (done_here xs i x within c.item-item.is)) in
     elim c.match-item.branch [
-      | in-Some+in_ok-add_member w ↦
-          w.members-is ∙ w.in_ok-add_member.ensures.ok
+      | in-Some+in_ok-insert_first w ↦
+          w.members-is ∙ w.in_ok-insert_first.ensures.ok
           ∙ (λ j. with_member es (w.text.ensures j) ((sym w.in-Some.is ∙ c.item.ensures) j)) ∙ next
       | in_default w ↦ w.members-is ∙ ap (with_member es (text x.0)) (sym w.in_default.is ∙ c.item.ensures) ∙ next
     ]

@@ -1,4 +1,4 @@
-use Rattle.std.proofs.Common.{◌<◌, ◌++◌, ◌∷◌, [], Some, None, take, length, refl, ap, sym, subst, ◌∙◌, arith}
+use Rattle.std.proofs.Common.{◌<◌, [], Some, None, length, refl, ap, sym, subst, ◌∙◌, arith}
 use Rattle.std.proofs.lemmas.Option.{slice_get-get_or}
 use Rattle.std.proofs.lemmas.List.{take_all}
 use Rattle.pc_entity.specs.Lists.{map_all}
@@ -8,7 +8,7 @@ use Rattle.pc_frames.specs.Found.{ArgumentStands, ArgumentsStand}
 use Rattle.pc_frames.specs.Frames.{Both, both, neither}
 use Rattle.pc_frames.specs.Tables.{tables_of}
 use Rattle.pc_steps.proofs.BagLemmas.{map_all_missing}
-use Rattle.pc_steps.proofs.ExportedLemmas.{answers_push, argument_stands, found_there}
+use Rattle.pc_steps.proofs.ExportedLemmas.{answers_more, argument_stands, found_there}
 use Rattle.pc_frames.proofs.ZipLemmas.{both_missing, both_there}
 use Rattle.pc_steps.proofs.modules.arguments.Goals as goal
 
@@ -30,18 +30,13 @@ pub loop-import-preserved : goal.loop-import-preserved
 loop-import-preserved c s written same stands =
     let within : c.loop-import.import-index < length c.args.imports.now = omega (arith, c.loop-import-test.true) in
     let x = c.import-item.result in
-    let longer = done_here c.args.imports.now c.loop-import.import-index x within c.import-item.is in
     let a = argument_stands c.args.context.now.table.now c.args.context.now.modules c.requires.input
     (tables_of c.args.state.now) c.args.frame.now s stands c.args.args.now written same x in
     let v = both_there _ _ _ c.in-Some.item a (sym c.argument.ensures ∙ c.in-Some.is) in
-    subst (λ xs. Both (ArgumentsStand c.args.context.now.modules (tables_of c.args.state.now)) (Some c.push.new.self)
-    (map_all (static_argument c.args.context.now.modules s written) xs)) (sym longer)
-    (subst (λ ds. Both (ArgumentsStand c.args.context.now.modules (tables_of c.args.state.now)) (Some ds)
-    (map_all (static_argument c.args.context.now.modules s written)
-    (take c.loop-import.import-index c.args.imports.now ++ x ∷ []))) (sym c.in_ok-push-in-Some.ensures.ok)
-    (answers_push (ArgumentStands c.args.context.now.modules (tables_of c.args.state.now))
-    (static_argument c.args.context.now.modules s written) c.loop-import.defs _ x _ v.0
-    (c.loop-import.invariant s written same stands) v.1 (c.in_ok-found_def-in-Some.ensures _ v.0 v.2)))
+    answers_more (ArgumentStands c.args.context.now.modules (tables_of c.args.state.now))
+    (static_argument c.args.context.now.modules s written) _ _ _ _ x _ v.0 c.in_ok-push-in-Some.ensures.ok
+    (done_here c.args.imports.now c.loop-import.import-index x within c.import-item.is)
+    (c.loop-import.invariant s written same stands) v.1 (c.in_ok-found_def-in-Some.ensures _ v.0 v.2)
 
 pub returns-in-None : goal.returns-in-None
 returns-in-None c s written same stands =
