@@ -1,5 +1,6 @@
 //! Tests of `pc_entity`.
 
+use crate::support::{holds, text};
 use pc_entity::{
     Atom, EntityRef, EntitySet, ExactEq, FuncIndex, Interner, MemoryIndex, ModuleIndex,
     PackedOption, PrimaryMap, SecondaryMap, Seq, StringPool, TableIndex, TagIndex, Text, TextMap,
@@ -7,128 +8,161 @@ use pc_entity::{
 };
 use std::test::*;
 
+/// Whether 5 alone is numbered.
+fn is_five(numbers: &Interner<u32>) -> bool {
+    numbers.get(0).copied() == Some(5)
+        && numbers.iter().count() == 1
+        && numbers.as_slice().len() == 1
+        && numbers.len() == 1
+        && numbers.find(&5) == Some(0)
+}
+
 #[test]
-fn a_value_has_a_number(rt: HostRuntime) -> Result<(), Fail> {
+fn a_value_has_a_number(rt: HostRuntime) {
     let mut numbers = Interner::new(rt.alloc());
-    assert!(rt; numbers.push(5u32)? == 0);
-    assert!(rt; numbers.get(0).copied() == Some(5));
-    assert!(rt; numbers.iter().count() == 1 && numbers.as_slice().len() == 1);
-    assert!(rt; numbers.len() == 1 && numbers.find(&5) == Some(0));
-    Ok(())
+    let is_first = numbers.push(5u32) == Ok(0);
+    holds(&rt, "number", is_first && is_five(&numbers));
+}
+
+/// Whether `a` alone is held.
+fn is_a(pool: &StringPool) -> bool {
+    pool.len() == 1 && pool.text(Atom(0)) == "a" && pool.get_atom("a") == Some(Atom(0))
 }
 
 #[test]
-fn a_text_has_an_atom(rt: HostRuntime) -> Result<(), Fail> {
+fn a_text_has_an_atom(rt: HostRuntime) {
     let mut pool = StringPool::new(rt.alloc());
-    assert!(rt; pool.insert("a")?.as_u32() == 0);
-    assert!(rt; pool.len() == 1);
-    assert!(rt; pool.text(Atom(0)) == "a");
-    assert!(rt; matches!(pool.get_atom("a"), Some(Atom(0))));
-    Ok(())
+    let is_first = pool.insert("a") == Ok(Atom(0)) && Atom(0).as_u32() == 0;
+    holds(&rt, "atom", is_first && is_a(&pool));
 }
 
 #[test]
-fn a_set_tells_whether_it_changed(rt: HostRuntime) -> Result<(), Fail> {
+fn a_set_tells_whether_it_changed(rt: HostRuntime) {
     let mut set = EntitySet::new(rt.alloc());
-    assert!(rt; set.insert(FuncIndex(4294967295))?);
-    assert!(rt; set.contains(FuncIndex(4294967295)));
-    assert!(rt; set.remove(FuncIndex(4294967295)));
-    Ok(())
+    let last = FuncIndex(4294967295);
+    let is_inserted = set.insert(last) == Ok(true) && set.contains(last);
+    holds(&rt, "set", is_inserted && set.remove(last));
+}
+
+/// Whether number 2 has the value 9, and other numbers the default.
+fn is_nine(map: &SecondaryMap<MemoryIndex, u32>) -> bool {
+    map.len() == 3
+        && !map.is_empty()
+        && map.get(MemoryIndex(2)) == 9
+        && map.get(MemoryIndex(7)) == 0
 }
 
 #[test]
-fn a_number_that_was_not_set_has_the_default(rt: HostRuntime) -> Result<(), Fail> {
+fn a_number_that_was_not_set_has_the_default(rt: HostRuntime) {
     let mut map = SecondaryMap::new(rt.alloc(), 0u32);
-    map.set(MemoryIndex(2), 9)?;
-    assert!(rt; map.len() == 3 && !map.is_empty());
-    assert!(rt; map.get(MemoryIndex(2)) == 9 && map.get(MemoryIndex(7)) == 0);
-    Ok(())
+    let is_set = map.set(MemoryIndex(2), 9).is_ok();
+    holds(&rt, "values", is_set && is_nine(&map));
+}
+
+/// Writes 9 at a place of a list.
+fn is_written(map: &mut PrimaryMap<TableIndex, u32>, place: TableIndex) -> bool {
+    match map.get_mut(place) {
+        Some(value) => {
+            *value = 9;
+            map.get(place).copied() == Some(9) && map.as_slice().len() == 1
+        }
+        None => false,
+    }
 }
 
 #[test]
-fn a_list_hands_out_its_places(rt: HostRuntime) -> Result<(), Fail> {
+fn a_list_hands_out_its_places(rt: HostRuntime) {
     let mut map = PrimaryMap::new(rt.alloc());
     let next: TableIndex = map.next_key();
-    assert!(rt; map.push(7u32)? == next);
-    if let Some(value) = map.get_mut(next) {
-        *value = 9;
-    }
-    assert!(rt; map.get(next).copied() == Some(9));
-    assert!(rt; map.as_slice().len() == 1);
-    Ok(())
+    let is_pushed = map.push(7u32) == Ok(next);
+    holds(&rt, "place", is_pushed && is_written(&mut map, next));
 }
 
 #[test]
-fn a_list_is_a_vector_of_its_values(rt: HostRuntime) -> Result<(), Fail> {
-    let map: PrimaryMap<TagIndex, u32> = PrimaryMap::from_vec([9, 8].to_vec(rt.alloc())?);
-    assert!(rt; !map.is_empty() && map.len() == 2);
-    assert!(rt; map[TagIndex(1)] == 8);
-    assert!(rt; map.into_vec().len() == 2);
-    Ok(())
+fn a_list_is_a_vector_of_its_values(rt: HostRuntime) {
+    let values = [9, 8].to_vec(rt.alloc()).expect(&rt, "no memory");
+    let map: PrimaryMap<TagIndex, u32> = PrimaryMap::from_vec(values);
+    let is_list = !map.is_empty() && map.len() == 2 && map[TagIndex(1)] == 8;
+    holds(&rt, "vector", is_list && map.into_vec().len() == 2);
+}
+
+/// Whether the name that is empty has a place and the value 1.
+fn is_placed(map: &TextMap<u32>) -> bool {
+    map.len() == 1 && *map.entry_at(0).1 == 1 && map.get_index(0).is_some()
 }
 
 #[test]
-fn a_name_has_a_place(rt: HostRuntime) -> Result<(), Fail> {
-    let mut map = TextMap::new(rt.alloc());
-    assert!(rt; map.insert(Text::new(rt.alloc()), 1u32)?.is_none());
-    assert!(rt; map.len() == 1);
-    assert!(rt; *map.entry_at(0).1 == 1);
-    assert!(rt; map.get_index(0).is_some());
-    Ok(())
+fn a_name_has_a_place(rt: HostRuntime) {
+    let alloc = rt.alloc();
+    let mut map = TextMap::new(alloc);
+    let is_new = map.insert(Text::new(alloc), 1u32) == Ok(None);
+    holds(&rt, "insert", is_new);
+    let is_kept = map.insert_first(alloc, &Text::new(alloc), 2).is_ok();
+    holds(&rt, "place", is_kept && is_placed(&map));
 }
 
-#[test]
-fn a_name_is_found(rt: HostRuntime) -> Result<(), Fail> {
-    let mut map = TextMap::new(rt.alloc());
-    map.push(Text::new(rt.alloc()), 4u32)?;
+/// Whether the name that is empty has the value 4, and `c` has none.
+fn is_named(map: &TextMap<u32>) -> bool {
     map.names_are_distinct();
-    assert!(rt; map.get("").copied() == Some(4));
-    assert!(rt; map.contains("") && !map.contains("c"));
-    Ok(())
+    map.get("").copied() == Some(4) && map.contains("") && !map.contains("c")
 }
 
 #[test]
-fn a_text_is_a_string(rt: HostRuntime) -> Result<(), Fail> {
-    let mut text = Text::from_string(String::from_str(rt.alloc(), "wasm")?);
-    text.push_str("/p1")?;
-    assert!(rt; !text.is_empty() && text.len() == 7);
-    assert!(rt; text > Text::new(rt.alloc()));
-    assert!(rt; text.into_string().as_str() == "wasm/p1");
-    Ok(())
+fn a_name_is_found(rt: HostRuntime) {
+    let mut map = TextMap::new(rt.alloc());
+    let is_pushed = map.push(Text::new(rt.alloc()), 4u32).is_ok();
+    holds(&rt, "name", is_pushed && is_named(&map));
 }
 
 #[test]
-fn a_copy_is_its_source(rt: HostRuntime) -> Result<(), Fail> {
-    let mut texts = Seq::with_capacity(rt.alloc(), 2)?;
-    texts.push((Text::new(rt.alloc()), Some(FuncIndex(1))))?;
-    let copy = texts.try_clone(rt.alloc())?;
-    assert!(rt; copy.is_same(&texts));
-    assert!(rt; !copy.is_empty() && copy.len() == 1);
-    Ok(())
+fn a_text_is_a_string(rt: HostRuntime) {
+    let string = String::from_str(rt.alloc(), "wasm").expect(&rt, "no memory");
+    let mut text = Text::from_string(string);
+    let is_longer = text.push_str("/p1").is_ok() && !text.is_empty() && text.len() == 7;
+    let is_greater = text > Text::new(rt.alloc());
+    let is_string = text.into_string().as_str() == "wasm/p1";
+    holds(&rt, "string", is_longer && is_greater && is_string);
 }
 
 #[test]
-fn a_copy_of_three_parts_is_its_source(rt: HostRuntime) -> Result<(), Fail> {
-    let name = Text::copy_of(rt.alloc(), "a")?;
-    let copy = (name, 1u32, true).try_clone(rt.alloc())?;
-    assert!(rt; copy.0.as_str() == "a" && copy.1 == 1 && copy.2);
-    Ok(())
+fn a_copy_is_its_source(rt: HostRuntime) {
+    let alloc = rt.alloc();
+    let mut texts = Seq::with_capacity(alloc, 2).expect(&rt, "no memory");
+    let is_pushed = texts.push((Text::new(alloc), Some(FuncIndex(1)))).is_ok();
+    let copy = texts.try_clone(alloc).expect(&rt, "no memory");
+    let is_same = copy.is_same(&texts) && !copy.is_empty() && copy.len() == 1;
+    holds(&rt, "copy", is_pushed && is_same);
 }
 
 #[test]
-fn a_list_of_items_is_a_vector(rt: HostRuntime) -> Result<(), Fail> {
-    let items = Seq::from_vec([1u32, 2, 3].to_vec(rt.alloc())?);
-    assert!(rt; items.iter().filter(|n| **n > 1).count() == 2);
-    assert!(rt; items.as_slice().len() == 3);
-    assert!(rt; items.into_vec().len() == 3);
-    Ok(())
+fn a_copy_of_three_parts_is_its_source(rt: HostRuntime) {
+    let parts = (text(&rt, rt.alloc(), "a"), 1u32, true);
+    let copy = parts.try_clone(rt.alloc()).expect(&rt, "no memory");
+    let is_same = copy.0.as_str() == "a" && copy.1 == 1 && copy.2;
+    holds(&rt, "copy", is_same);
+}
+
+/// Whether the items are three, and the second is 2.
+fn are_three(items: &Seq<u32>) -> bool {
+    items.iter().count() == 3
+        && items.iter().nth(1).copied() == Some(2)
+        && items.as_slice().len() == 3
 }
 
 #[test]
-fn the_greatest_number_may_be_held(rt: HostRuntime) -> Result<(), Fail> {
+fn a_list_of_items_is_a_vector(rt: HostRuntime) {
+    let values = [1u32, 2, 3].to_vec(rt.alloc()).expect(&rt, "no memory");
+    let items = Seq::from_vec(values);
+    let is_list = are_three(&items);
+    holds(&rt, "vector", is_list && items.into_vec().len() == 3);
+}
+
+#[test]
+fn the_greatest_number_may_be_held(rt: HostRuntime) {
     let most = PackedOption::some(ModuleIndex(4294967295));
-    assert!(rt; most.expand() == Some(ModuleIndex(4294967295)));
-    assert!(rt; most.try_clone(rt.alloc())? == most);
-    assert!(rt; !most.is_none() && PackedOption::<ModuleIndex>::none().is_none());
-    Ok(())
+    let is_held = most.expand() == Some(ModuleIndex(4294967295))
+        && most.try_clone(rt.alloc()) == Ok(most)
+        && !most.is_none()
+        && PackedOption::<ModuleIndex>::none().is_none();
+    holds(&rt, "greatest", is_held);
 }

@@ -1,7 +1,10 @@
 //! Tests of `pc_facts`.
 
+use crate::support::holds;
+use pc_entity::NoMemory;
 use pc_facts::{FactList, FactTable, TypeFacts};
 use pc_types::{InterfaceType, TypeStreamTableIndex};
+use std::alloc::Global;
 use std::test::*;
 
 /// The fact of a string alone.
@@ -20,21 +23,30 @@ fn stream() -> TypeFacts {
 
 const STREAM: InterfaceType = InterfaceType::Stream(TypeStreamTableIndex(0));
 
-#[test]
-fn a_type_without_parts_has_its_own_fact(rt: HostRuntime) {
-    let table = FactTable::new(rt.alloc());
-    assert!(rt; table.facts(InterfaceType::U8) == TypeFacts::none());
-    assert!(rt; table.facts(InterfaceType::String) == text());
-    assert!(rt; table.maybe_facts(None) == TypeFacts::none());
-    assert!(rt; table.maybe_facts(Some(STREAM)).has_handle());
+/// Whether types without parts have their own facts.
+fn knows_plain_types(table: &FactTable) -> bool {
+    table.facts(InterfaceType::U8) == TypeFacts::none()
+        && table.facts(InterfaceType::String) == text()
+        && table.maybe_facts(None) == TypeFacts::none()
+        && table.maybe_facts(Some(STREAM)).has_handle()
 }
 
 #[test]
-fn a_list_of_facts_keeps_what_stays(rt: HostRuntime) -> Result<(), Fail> {
-    let mut list = FactList::new(rt.alloc());
+fn a_type_without_parts_has_its_own_fact(rt: HostRuntime) {
+    let table = FactTable::new(rt.alloc());
+    holds(&rt, "facts", knows_plain_types(&table));
+}
+
+/// The first of two facts, behind which the list was cut.
+fn kept(alloc: Global) -> Result<TypeFacts, NoMemory> {
+    let mut list = FactList::new(alloc);
     list.push(text())?;
     list.push(stream())?;
     list.truncate(1);
-    assert!(rt; list.get(0) == text());
-    Ok(())
+    Ok(list.get(0))
+}
+
+#[test]
+fn a_list_of_facts_keeps_what_stays(rt: HostRuntime) {
+    holds(&rt, "kept", kept(rt.alloc()) == Ok(text()));
 }

@@ -10,4 +10,6 @@ mod facts;
 #[cfg(test)]
 mod record;
 #[cfg(test)]
+mod support;
+#[cfg(test)]
 mod types;

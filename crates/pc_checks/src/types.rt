@@ -1,69 +1,51 @@
 //! Tests of `pc_types`.
 
-use pc_entity::{EntityIndex, FuncIndex, MemoryIndex, NoMemory, Seq, Text, TryClone};
+use crate::support::{holds, is_sound, one, push, text};
+use pc_entity::{EntityIndex, FuncIndex, MemoryIndex, Seq, Text, TryClone};
 use pc_types::{
-    CoreEntity, CoreKind, DeclType, Error, ModuleRecord, Place, TypeTable, check_table,
-    distinct_keys, distinct_pairs, distinct_texts,
+    CoreEntity, CoreKind, DeclType, ModuleRecord, Place, TypeTable, distinct_keys, distinct_pairs,
+    distinct_texts,
 };
 use std::alloc::Global;
+use std::process::Abort;
 use std::test::*;
 
-/// What a table of these entries is answered.
-fn checked(alloc: Global, types: Seq<DeclType>) -> Result<(), Error> {
-    let core_funcs = Seq::new(alloc);
-    let table = TypeTable { core_funcs, types };
-    if table.types.len() < 9 {
-        check_table(alloc, &table)
-    } else {
-        Err(Error::TooMany)
-    }
-}
-
-fn with<T: Drop>(mut list: Seq<T>, item: T) -> Result<Seq<T>, NoMemory> {
-    list.push(item)?;
-    Ok(list)
-}
-
-/// A resource and a handle on it.
-fn resource_with_handle(alloc: Global) -> Result<Seq<DeclType>, NoMemory> {
-    let types = with(Seq::new(alloc), DeclType::Resource)?;
-    with(types, DeclType::Own(0))
-}
-
 #[test]
-fn entries_that_name_earlier_ones_are_sound(rt: HostRuntime) -> Result<(), Fail> {
-    checked(rt.alloc(), resource_with_handle(rt.alloc())?)?;
-    Ok(())
+fn entries_that_name_earlier_ones_are_sound(rt: HostRuntime) {
+    let mut table = TypeTable {
+        core_funcs: Seq::new(rt.alloc()),
+        types: one(&rt, rt.alloc(), DeclType::Resource),
+    };
+    push(&rt, &mut table.types, DeclType::Own(0));
+    holds(&rt, "sound", is_sound(rt.alloc(), &table));
 }
 
+/// An import with no names.
 fn import(alloc: Global, entity: CoreEntity) -> (Text, Text, CoreEntity) {
     (Text::new(alloc), Text::new(alloc), entity)
 }
 
 /// Functions of signatures 2 and 3 around a memory.
-fn imports(alloc: Global) -> Result<Seq<(Text, Text, CoreEntity)>, NoMemory> {
-    let list = with(Seq::new(alloc), import(alloc, CoreEntity::Func(2)))?;
-    let list = with(list, import(alloc, CoreEntity::Memory { memory64: true }))?;
-    with(list, import(alloc, CoreEntity::Func(3)))
+fn imports(rt: &impl Abort, alloc: Global) -> Seq<(Text, Text, CoreEntity)> {
+    let memory = CoreEntity::Memory { memory64: true };
+    let mut list = one(rt, alloc, import(alloc, CoreEntity::Func(2)));
+    push(rt, &mut list, import(alloc, memory));
+    push(rt, &mut list, import(alloc, CoreEntity::Func(3)));
+    list
 }
 
-/// The third function, under the name `run`.
-fn exports(alloc: Global) -> Result<Seq<(Text, EntityIndex)>, NoMemory> {
-    let run = Text::copy_of(alloc, "run")?;
-    with(Seq::new(alloc), (run, EntityIndex::Function(FuncIndex(2))))
-}
-
-/// A module with these imports, a function of signature 5 and a memory.
-pub(crate) fn record(alloc: Global) -> Result<ModuleRecord, NoMemory> {
-    Ok(ModuleRecord {
-        imports: imports(alloc)?,
-        funcs: with(Seq::new(alloc), 5)?,
+/// A module with these imports, a function of signature 5 and a memory. The function is the third, and has a name.
+pub(crate) fn record(rt: &impl Abort, alloc: Global) -> ModuleRecord {
+    let run = EntityIndex::Function(FuncIndex(2));
+    ModuleRecord {
+        imports: imports(rt, alloc),
+        funcs: one(rt, alloc, 5),
         tables: 1,
-        memories: with(Seq::new(alloc), false)?,
+        memories: one(rt, alloc, false),
         globals: 0,
         tags: 0,
-        exports: exports(alloc)?,
-    })
+        exports: one(rt, alloc, (text(rt, alloc, "run"), run)),
+    }
 }
 
 /// The second imported function stands behind the memory.
@@ -74,57 +56,60 @@ fn imports_are_found(record: &ModuleRecord) -> bool {
         && record.is_imported(second)
         && record.import_position(second) == Some(2)
         && record.imports.len() < 9
-        && matches!(
-            record.import_index(2),
-            Some(EntityIndex::Function(FuncIndex(1)))
-        )
+        && record.import_index(2) == Some(second)
 }
 
-/// The function that the module defines is the third, and has a name.
+/// The function that the module defines is found.
 fn the_rest_is_found(record: &ModuleRecord) -> bool {
+    let third = FuncIndex(2);
     record.defined(CoreKind::Table) == 1
-        && record.func_sig(FuncIndex(2)) == Some(5)
-        && record.memory64(MemoryIndex(0)).unwrap_or(false)
-        && matches!(
-            record.export("run"),
-            Some(EntityIndex::Function(FuncIndex(2)))
-        )
+        && record.func_sig(third) == Some(5)
+        && record.memory64(MemoryIndex(0)) == Some(true)
+        && record.export("run") == Some(EntityIndex::Function(third))
+}
+
+/// Whether a copy has three imports and an export.
+fn is_copied(alloc: Global, record: &ModuleRecord) -> bool {
+    match record.try_clone(alloc) {
+        Ok(copy) => copy.imports.len() == 3 && copy.exports.len() == 1 && copy.tables == 1,
+        Err(_) => false,
+    }
 }
 
 #[test]
-fn a_record_is_looked_up(rt: HostRuntime) -> Result<(), Fail> {
-    let record = record(rt.alloc())?;
-    assert!(rt; imports_are_found(&record) && the_rest_is_found(&record));
-    Ok(())
+fn a_record_is_looked_up_and_copied(rt: HostRuntime) {
+    let record = record(&rt, rt.alloc());
+    let is_found = imports_are_found(&record) && the_rest_is_found(&record);
+    holds(&rt, "record", is_found);
+    holds(&rt, "copy", is_copied(rt.alloc(), &record));
 }
 
 #[test]
-fn a_copy_of_a_record_has_its_parts(rt: HostRuntime) -> Result<(), Fail> {
-    let copy = record(rt.alloc())?.try_clone(rt.alloc())?;
-    assert!(rt; copy.imports.len() == 3 && copy.exports.len() == 1 && copy.tables == 1);
-    Ok(())
-}
-
-#[test]
-fn lists_are_searched_for_a_name_that_stands_twice(rt: HostRuntime) -> Result<(), Fail> {
+fn lists_are_searched_for_a_name_that_stands_twice(rt: HostRuntime) {
     let alloc = rt.alloc();
-    assert!(rt; distinct_texts(alloc, &[Text::new(alloc)])?);
-    assert!(rt; distinct_keys(alloc, &[(Text::new(alloc), 0u32)])?);
-    assert!(rt; distinct_pairs(alloc, &[(Text::new(alloc), Text::new(alloc), 0u32)])?);
-    Ok(())
+    let texts = distinct_texts(alloc, &[Text::new(alloc)]);
+    holds(&rt, "texts", texts == Ok(true));
+    let keys = distinct_keys(alloc, &[(Text::new(alloc), 0u32)]);
+    holds(&rt, "keys", keys == Ok(true));
+    let pairs = distinct_pairs(alloc, &[(Text::new(alloc), Text::new(alloc), 0u32)]);
+    holds(&rt, "pairs", pairs == Ok(true));
 }
 
-fn text_of(alloc: Global, place: Place) -> Result<String, Fail> {
-    Ok(format!(in alloc; "{place}")?)
+/// Whether a place has this text.
+fn says(alloc: Global, place: Place, want: &str) -> bool {
+    match format!(in alloc; "{place}") {
+        Ok(text) => text.as_str() == want,
+        Err(_) => false,
+    }
 }
 
 #[test]
-fn a_place_has_a_text(rt: HostRuntime) -> Result<(), Fail> {
+fn a_place_has_a_text(rt: HostRuntime) {
     let item = Place::Payload {
         payload: 1,
         item: 2,
     };
-    assert!(rt; text_of(rt.alloc(), item)?.as_str() == "payload 1, item 2");
-    assert!(rt; text_of(rt.alloc(), Place::Table(3))?.as_str() == "table entry 3");
-    Ok(())
+    holds(&rt, "item", says(rt.alloc(), item, "payload 1, item 2"));
+    let entry = Place::Table(3);
+    holds(&rt, "entry", says(rt.alloc(), entry, "table entry 3"));
 }

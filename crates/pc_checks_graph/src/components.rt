@@ -1,28 +1,33 @@
 //! Strong components and the edges between them.
 
 ghost use Rattle.std.specs.Prelude.{◌≡◌, nat_eq, not};
+ghost use Rattle.pc_graph.specs.Classes.{flat};
 ghost use Rattle.pc_graph.specs.Digraph.{Digraph};
+ghost use Rattle.pc_graph.specs.Evaporation.{IsClosed};
 
-use crate::graphs::{Edges, MANY, graph_of, listed};
-use pc_entity::{FuncIndex, NoMemory};
-use pc_graph::{EntityGraph, Evaporation, Graph, GraphError, Scc, StronglyConnectedComponents};
+use crate::graphs::{A, B, C, D, E, Edges, F, MANY, graph, lists};
+use crate::support::holds;
+use pc_entity::FuncIndex;
+use pc_graph::{Evaporation, Graph, Scc, SccKeys, StronglyConnectedComponents};
 use std::alloc::Global;
+use std::process::Abort;
 use std::test::*;
 
 /// The nodes of a component, and the components that have an edge into it.
-type Part<'a> = (&'a [FuncIndex], &'a [Scc]);
+pub type Part<'a> = (&'a [FuncIndex], &'a [Scc]);
 
-const A: FuncIndex = FuncIndex(0);
+/// What is wanted of the components of a graph.
+#[derive(Clone, Copy)]
+pub enum Wanted<'a> {
+    /// That they are these, in this order.
+    Parts(&'a [Part<'a>]),
 
-const B: FuncIndex = FuncIndex(1);
+    /// That the first has one node, the second two, and there is no third.
+    Two,
 
-const C: FuncIndex = FuncIndex(2);
-
-const D: FuncIndex = FuncIndex(3);
-
-const E: FuncIndex = FuncIndex(4);
-
-const F: FuncIndex = FuncIndex(5);
+    /// So many of them, and so many that have an edge into the first and into the second of them.
+    Sizes(usize, usize, usize),
+}
 
 /// Nodes 1 and 2 reach each other, and so do 3, 4 and 5; node 0 has an edge to itself.
 const CHAIN: [(u32, u32); 8] = [
@@ -82,47 +87,75 @@ fn are_parts(
     components.len() == parts.len()
 }
 
-/// The components of a graph, and the edges between them.
-fn parts_of<G: Graph<FuncIndex>>(
+/// Whether the numbers are 0 and 1.
+fn are_two_keys(mut keys: SccKeys) -> bool {
+    keys.next() == Some(Scc(0)) && keys.next() == Some(Scc(1)) && keys.next().is_none()
+}
+
+/// Whether the first component has one node, the second two, and there is no third.
+fn are_two(components: &StronglyConnectedComponents<FuncIndex>) -> bool {
+    for (number, nodes) in components.iter() {
+        if nodes.len() != number.0 as usize + 1 {
+            return false;
+        }
+    }
+    components.values().len() == 2 && !components.is_empty() && are_two_keys(components.keys())
+}
+
+/// Whether components are as they are wanted.
+fn are_wanted(
+    components: &StronglyConnectedComponents<FuncIndex>,
+    evaporation: &Evaporation,
+    wanted: Wanted<'_>,
+) -> bool {
+    match wanted {
+        Wanted::Parts(parts) => are_parts(components, evaporation, parts),
+        Wanted::Two => are_two(components),
+        Wanted::Sizes(count, first, second) => {
+            components.len() == count
+                && evaporation.reverse_edges(Scc(0)).len() == first
+                && evaporation.reverse_edges(Scc(1)).len() == second
+        }
+    }
+}
+
+/// Whether the components of a graph and the edges between them are as they are wanted.
+fn evaporates<G: Graph<FuncIndex>>(
     alloc: Global,
     graph: &G,
-) -> Result<(StronglyConnectedComponents<FuncIndex>, Evaporation), NoMemory>
-    requires { (d : Digraph FuncIndex) × G.Shows graph.now d }
+    components: &StronglyConnectedComponents<FuncIndex>,
+    wanted: Wanted<'_>,
+) -> bool
+    requires { (d : Digraph FuncIndex) × G.Shows graph.now d × IsClosed d (flat components.now) }
 {
-    let components = StronglyConnectedComponents::new(alloc, graph)?;
-    let evaporation = components.evaporation(alloc, graph)?;
-    Ok((components, evaporation))
+    match components.evaporation(alloc, graph) {
+        Ok(evaporation) => are_wanted(components, &evaporation, wanted),
+        Err(_) => false,
+    }
 }
 
 /// Whether a graph has these components.
-fn has_parts<G: Graph<FuncIndex>>(
-    alloc: Global,
-    graph: &G,
-    parts: &[Part<'_>],
-) -> Result<bool, NoMemory>
+pub fn splits<G: Graph<FuncIndex>>(alloc: Global, graph: &G, wanted: Wanted<'_>) -> bool
     requires { (d : Digraph FuncIndex) × G.Shows graph.now d }
 {
-    let (components, evaporation) = parts_of(alloc, graph)?;
-    Ok(are_parts(&components, &evaporation, parts))
+    match StronglyConnectedComponents::new(alloc, graph) {
+        Ok(components) => evaporates(alloc, graph, &components, wanted),
+        Err(_) => false,
+    }
 }
 
-/// Whether the graph of so many nodes with these edges has these components.
-fn is_worked(
-    alloc: Global,
-    count: u32,
-    edges: &[(u32, u32)],
-    parts: &[Part<'_>],
-) -> Result<bool, GraphError<u32>> {
-    let graph = graph_of(alloc, count, Edges::Listed(edges))?;
-    Ok(has_parts(alloc, &graph, parts)?)
+/// Splits the graph of so many nodes with these edges into these components.
+fn works(rt: &impl Abort, alloc: Global, count: u32, edges: Edges<'_>, wanted: Wanted<'_>) {
+    let graph = graph(rt, alloc, count, edges);
+    holds(rt, "components", splits(alloc, &graph, wanted));
 }
 
 #[test]
-fn components_stand_as_they_are_left(rt: HostRuntime) -> Result<(), Fail> {
-    for (count, edges, parts) in WORKED {
-        assert!(rt; is_worked(rt.alloc(), count, edges, parts)?);
+fn components_stand_as_they_are_left(rt: HostRuntime) {
+    for (count, edges, parts) in &WORKED {
+        let edges = Edges::Listed(edges);
+        works(&rt, rt.alloc(), *count, edges, Wanted::Parts(parts));
     }
-    Ok(())
 }
 
 /// The nodes that are left in the chain without node 3, and behind them the successors of node 1.
@@ -136,71 +169,35 @@ const LEFT: [Part<'_>; 4] = [
     (&[A], &[]),
 ];
 
-/// Whether a graph lists these nodes, with the successors of node 1 behind them, and has these components.
-fn shows<G: Graph<FuncIndex>>(
-    alloc: Global,
-    graph: &G,
-    nodes: &[FuncIndex],
-    parts: &[Part<'_>],
-) -> Result<bool, NoMemory>
+/// Whether a graph lists these nodes, and has these components.
+fn shows<G: Graph<FuncIndex>>(alloc: Global, graph: &G) -> bool
     requires { (d : Digraph FuncIndex) × G.Shows graph.now d }
 {
-    let found = listed(alloc, graph, 1)?;
-    Ok(found.as_slice() == nodes && has_parts(alloc, graph, parts)?)
+    lists(alloc, graph, 1, &NODES) && splits(alloc, graph, Wanted::Parts(&LEFT))
 }
 
 #[test]
-fn a_node_that_is_filtered_out_is_no_successor(rt: HostRuntime) -> Result<(), Fail> {
-    let graph = graph_of(rt.alloc(), 6, Edges::Listed(&CHAIN))?;
+fn a_node_that_is_filtered_out_is_no_successor(rt: HostRuntime) {
+    let graph = graph(&rt, rt.alloc(), 6, Edges::Listed(&CHAIN));
     let filtered = graph.by_ref().filter_nodes(
         |node: &FuncIndex| -> bool
             ensures { result ≡ not (nat_eq node.now.0 3) }
         { node.0 != 3 },
     );
-    assert!(rt; shows(rt.alloc(), &filtered, &NODES, &LEFT)?);
-    Ok(())
-}
-
-/// Whether the first component has one node, the second two, and there is no third.
-fn are_two(components: &StronglyConnectedComponents<FuncIndex>) -> bool {
-    for (number, nodes) in components.iter() {
-        if nodes.len() != number.0 as usize + 1 {
-            return false;
-        }
-    }
-    components.keys().eq([Scc(0), Scc(1)])
-        && components.values().len() == 2
-        && !components.is_empty()
-}
-
-/// The components of a graph.
-pub fn split(
-    alloc: Global,
-    graph: &EntityGraph<FuncIndex>,
-) -> Result<StronglyConnectedComponents<FuncIndex>, NoMemory> {
-    StronglyConnectedComponents::new(alloc, graph)
+    holds(&rt, "nodes", shows(rt.alloc(), &filtered));
 }
 
 #[test]
-fn components_are_told_with_their_numbers(rt: HostRuntime) -> Result<(), Fail> {
-    let graph = graph_of(rt.alloc(), 3, Edges::Listed(&[(0, 1), (1, 0), (1, 2)]))?;
-    assert!(rt; are_two(&split(rt.alloc(), &graph)?));
-    Ok(())
-}
-
-/// How many components there are, and how many have an edge into the first and into the second of them.
-fn star_sizes(alloc: Global, count: u32) -> Result<(usize, usize, usize), GraphError<u32>> {
-    let graph = graph_of(alloc, count, Edges::Star)?;
-    let (components, evaporation) = parts_of(alloc, &graph)?;
-    let first = evaporation.reverse_edges(Scc(0)).len();
-    let second = evaporation.reverse_edges(Scc(1)).len();
-    Ok((components.len(), first, second))
+fn components_are_told_with_their_numbers(rt: HostRuntime) {
+    let edges = Edges::Listed(&[(0, 1), (1, 0), (1, 2)]);
+    works(&rt, rt.alloc(), 3, edges, Wanted::Two);
 }
 
 #[test]
-fn the_edges_of_a_star_are_reversed(rt: HostRuntime) -> Result<(), Fail> {
+fn the_edges_of_a_star_are_reversed(rt: HostRuntime) {
     // The component of node 0 is left first.
-    assert!(rt; star_sizes(rt.alloc(), 300)? == (300, 299, 0));
-    assert!(rt; star_sizes(rt.alloc(), MANY)? == (200000, 199999, 0));
-    Ok(())
+    let few = Wanted::Sizes(300, 299, 0);
+    works(&rt, rt.alloc(), 300, Edges::Star, few);
+    let many = Wanted::Sizes(200000, 199999, 0);
+    works(&rt, rt.alloc(), MANY, Edges::Star, many);
 }

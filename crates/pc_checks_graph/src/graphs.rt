@@ -5,13 +5,27 @@ ghost use Rattle.std.specs.List.{All};
 ghost use Rattle.pc_entity.specs.Lists.{AreDistinct};
 ghost use Rattle.pc_graph.specs.Digraph.{Digraph};
 
+use crate::support::holds;
 use pc_entity::{FuncIndex, NoMemory};
 use pc_graph::{EntityGraph, Graph, GraphError};
 use std::alloc::Global;
+use std::process::Abort;
 use std::test::*;
 
 /// How many nodes a large graph has.
 pub const MANY: u32 = 200000;
+
+pub const A: FuncIndex = FuncIndex(0);
+
+pub const B: FuncIndex = FuncIndex(1);
+
+pub const C: FuncIndex = FuncIndex(2);
+
+pub const D: FuncIndex = FuncIndex(3);
+
+pub const E: FuncIndex = FuncIndex(4);
+
+pub const F: FuncIndex = FuncIndex(5);
 
 /// The numbers below `count`.
 fn numbers(alloc: Global, count: u32) -> Result<Vec<FuncIndex>, NoMemory>
@@ -49,8 +63,7 @@ impl Edges<'_> {
                 Some((from, to)) if *from == node => Some(*to),
                 _ => None,
             },
-            Edges::Long(_) if number > 0 => None,
-            Edges::Long(last) => {
+            Edges::Long(last) if number == 0 => {
                 if node < MANY - 1 {
                     Some(node + 1)
                 } else {
@@ -100,36 +113,57 @@ pub fn graph_of(
     made(alloc, nodes.as_slice(), edges)
 }
 
-#[test]
-fn a_refused_node_is_told(rt: HostRuntime) -> Result<(), Fail> {
-    let refused = graph_of(rt.alloc(), 5, Edges::Refused);
-    assert!(rt; matches!(refused, Err(GraphError::Successors(7))));
-    Ok(())
+/// The graph of the nodes below `count` with these edges, none of which is refused.
+pub fn graph(
+    rt: &impl Abort,
+    alloc: Global,
+    count: u32,
+    edges: Edges<'_>,
+) -> EntityGraph<FuncIndex> {
+    graph_of(alloc, count, edges).expect(rt, "no graph")
 }
 
-/// The nodes of a graph, and behind them the successors of one.
-pub fn listed<G: Graph<FuncIndex>>(
-    alloc: Global,
+#[test]
+fn a_refused_node_is_told(rt: HostRuntime) {
+    let refused = graph_of(rt.alloc(), 5, Edges::Refused).err();
+    holds(&rt, "refused", refused == Some(GraphError::Successors(7)));
+}
+
+/// Appends the nodes of a graph, and behind them the successors of one.
+fn list<G: Graph<FuncIndex>>(
     graph: &G,
     node: u32,
-) -> Result<Vec<FuncIndex>, NoMemory>
+    into: &mut Vec<FuncIndex>,
+) -> Result<(), NoMemory>
     requires { (d : Digraph FuncIndex) × G.Shows graph.now d }
 {
-    let mut listed = Vec::new(alloc);
-    graph.nodes(&mut listed)?;
-    graph.successors(FuncIndex(node), &mut listed)?;
-    Ok(listed)
+    graph.nodes(into)?;
+    graph.successors(FuncIndex(node), into)
 }
 
-/// How many nodes a graph and one of its nodes list: there are four, and half of each given number follows it.
-const LENGTHS: [(u32, usize); 6] = [(0, 4), (1, 5), (2, 4), (3, 5), (4, 4), (4294967295, 4)];
+/// Whether these are the nodes of a graph, and behind them the successors of one.
+pub fn lists<G: Graph<FuncIndex>>(alloc: Global, graph: &G, node: u32, nodes: &[FuncIndex]) -> bool
+    requires { (d : Digraph FuncIndex) × G.Shows graph.now d }
+{
+    let mut found = Vec::new(alloc);
+    list(graph, node, &mut found).is_ok() && found.as_slice() == nodes
+}
+
+/// What a graph of four nodes and one of its nodes list: half of each given number follows it.
+const LISTED: [(u32, &[FuncIndex]); 6] = [
+    (0, &[A, B, C, D]),
+    (1, &[A, B, C, D, A]),
+    (2, &[A, B, C, D]),
+    (3, &[A, B, C, D, B]),
+    (4, &[A, B, C, D]),
+    (4294967295, &[A, B, C, D]),
+];
 
 #[test]
-fn a_number_that_was_not_given_has_no_successors(rt: HostRuntime) -> Result<(), Fail> {
+fn a_number_that_was_not_given_has_no_successors(rt: HostRuntime) {
     let edges = Edges::Listed(&[(3, 1), (1, 0)]);
-    let graph = made(rt.alloc(), &[FuncIndex(3), FuncIndex(1)], edges)?;
-    for (node, length) in &LENGTHS {
-        assert!(rt; listed(rt.alloc(), &graph, *node)?.len() == *length);
+    let graph = made(rt.alloc(), &[D, B], edges).expect(&rt, "no graph");
+    for (node, nodes) in &LISTED {
+        holds(&rt, "listed", lists(rt.alloc(), &graph, *node, nodes));
     }
-    Ok(())
 }

@@ -11,4 +11,6 @@ mod graphs;
 #[cfg(test)]
 mod names;
 #[cfg(test)]
+mod support;
+#[cfg(test)]
 mod traversal;

@@ -1,5 +1,6 @@
 //! Name maps, over both interners, and the tracks of names.
 
+use crate::support::holds;
 use pc_entity::{NoMemory, StringPool, Text, TryClone};
 use pc_names::{NameError, NameMap, NameMapIntern, NameMapNoIntern, alternate_lookup_key};
 use std::alloc::Global;
@@ -7,32 +8,37 @@ use std::hash::Hash;
 use std::process::Abort;
 use std::test::*;
 
-/// The map of these names with their items.
-fn map_of<K: Eq + Ord + Hash + TryClone + Drop, I: NameMapIntern<Key = K>>(
+/// Inserts names with their items.
+fn inserts<K: Eq + Ord + Hash + TryClone + Drop, I: NameMapIntern<Key = K>>(
     rt: &impl Abort,
-    alloc: Global,
+    map: &mut NameMap<K, u32>,
     cx: &mut I,
     names: &[(&str, u32)],
-) -> Result<NameMap<K, u32>, NameError> {
-    let mut map = NameMap::new(alloc);
+) {
     for (name, item) in names {
-        assert!(rt; cx.room() >= 2);
-        map.insert(name, cx, true, *item)?;
+        let has_room = cx.room() >= 2;
+        holds(
+            rt,
+            name,
+            has_room && map.insert(name, cx, true, *item).is_ok(),
+        );
     }
-    Ok(map)
 }
 
-/// Looks names up, each of which finds this item.
+/// Looks names up, each of which finds this item, or none.
 fn finds<K: Eq + Ord + Hash + TryClone + Drop, I: NameMapIntern<Key = K>>(
     rt: &impl Abort,
     map: &NameMap<K, u32>,
     cx: &I,
     rows: &[(&str, Option<u32>)],
-) -> Result<(), NoMemory> {
+) {
     for (name, want) in rows {
-        assert!(rt; map.get(name, cx)?.copied() == *want, "{name}");
+        let is_found = match map.get(name, cx) {
+            Ok(item) => item.copied() == *want,
+            Err(_) => false,
+        };
+        holds(rt, name, is_found);
     }
-    Ok(())
 }
 
 /// Inserts names and looks names up.
@@ -42,9 +48,10 @@ fn maps_to<K: Eq + Ord + Hash + TryClone + Drop, I: NameMapIntern<Key = K>>(
     cx: &mut I,
     names: &[(&str, u32)],
     rows: &[(&str, Option<u32>)],
-) -> Result<(), NameError> {
-    let map = map_of(rt, alloc, cx, names)?;
-    Ok(finds(rt, &map, cx, rows)?)
+) {
+    let mut map = NameMap::new(alloc);
+    inserts(rt, &mut map, cx, names);
+    finds(rt, &map, cx, rows);
 }
 
 /// The names of wasmtime's own tests.
@@ -97,20 +104,18 @@ const NEWEST: [(&str, Option<u32>); 15] = [
 ];
 
 #[test]
-fn the_greatest_version_of_a_track_is_found(rt: HostRuntime) -> Result<(), Fail> {
+fn the_greatest_version_of_a_track_is_found(rt: HostRuntime) {
     let mut cx = NameMapNoIntern::new(rt.alloc());
-    maps_to(&rt, rt.alloc(), &mut cx, &COMPATIBLE, &FOUND)?;
-    maps_to(&rt, rt.alloc(), &mut cx, &VERSIONS, &NEWEST)?;
-    Ok(())
+    maps_to(&rt, rt.alloc(), &mut cx, &COMPATIBLE, &FOUND);
+    maps_to(&rt, rt.alloc(), &mut cx, &VERSIONS, &NEWEST);
 }
 
 #[test]
-fn the_greatest_version_is_found_by_numbers_of_texts(rt: HostRuntime) -> Result<(), Fail> {
+fn the_greatest_version_is_found_by_numbers_of_texts(rt: HostRuntime) {
     let mut pool = StringPool::new(rt.alloc());
-    maps_to(&rt, rt.alloc(), &mut pool, &VERSIONS, &NEWEST)?;
+    maps_to(&rt, rt.alloc(), &mut pool, &VERSIONS, &NEWEST);
     // Ten names, and the tracks `a@1`, `a@0.1`, `a@0.2` and `b@1`.
-    assert_eq!(rt; pool.room(), 4294967295 - 14);
-    Ok(())
+    holds(&rt, "room", pool.room() == 4294967295 - 14);
 }
 
 /// Whether a name is refused where shadowing is off.
@@ -118,120 +123,129 @@ fn is_refused(map: &mut NameMap<Text, u32>, cx: &mut NameMapNoIntern, name: &str
     map.insert(name, cx, false, 7).err() == Some(NameError::DefinedTwice)
 }
 
-#[test]
-fn a_name_is_defined_once_where_shadowing_is_off(rt: HostRuntime) -> Result<(), Fail> {
-    let mut cx = NameMapNoIntern::new(rt.alloc());
-    let mut map = map_of(&rt, rt.alloc(), &mut cx, &[("a", 0), ("b", 1)])?;
-    assert!(rt; is_refused(&mut map, &mut cx, "a"));
-    finds(
-        &rt,
-        &map,
-        &cx,
-        &[("a", Some(0)), ("b", Some(1)), ("c", None)],
-    )?;
-    Ok(())
+/// Whether an error has this text.
+fn says(alloc: Global, error: NameError, want: &str) -> bool {
+    match format!(in alloc; "{error}") {
+        Ok(text) => text.as_str() == want,
+        Err(_) => false,
+    }
 }
 
 #[test]
-fn an_error_says_its_cause(rt: HostRuntime) -> Result<(), Fail> {
-    let text = format!(in rt.alloc(); "{}", NameError::DefinedTwice)?;
-    assert_eq!(rt; text.as_str(), "the name is defined twice");
-    assert!(rt; NameError::from(NoMemory) == NameError::NoMemory);
-    Ok(())
+fn an_error_says_its_cause(rt: HostRuntime) {
+    let twice = says(
+        rt.alloc(),
+        NameError::DefinedTwice,
+        "the name is defined twice",
+    );
+    holds(&rt, "defined twice", twice);
+    let refused = NameError::from(NoMemory);
+    holds(&rt, "no memory", refused == NameError::NoMemory);
 }
 
-/// Whether a row has this name and this item.
-fn is_row(row: Option<&(&str, u32)>, key: &Text, item: u32) -> bool {
+/// Whether a definition has this name and this item.
+fn is_row(row: Option<(&Text, &u32)>, name: &str, item: u32) -> bool {
     match row {
-        Some((name, value)) => key.as_str() == *name && *value == item,
+        Some((key, value)) => key.as_str() == name && *value == item,
         None => false,
     }
 }
 
-/// Whether the definitions are these, in this order.
-fn lists(map: &NameMap<Text, u32>, want: &[(&str, u32)]) -> bool {
-    let mut left = want.iter();
-    for (key, item) in map.raw_iter() {
-        if !is_row(left.next(), key, *item) {
-            return false;
-        }
-    }
-    left.next().is_none()
+/// Whether the definitions are `a` and `b`, in this order, with these items.
+fn lists(map: &NameMap<Text, u32>, a: u32, b: u32) -> bool {
+    let mut rows = map.raw_iter();
+    is_row(rows.next(), "a", a) && is_row(rows.next(), "b", b) && rows.next().is_none()
 }
 
-/// Writes 5 under a name, and copies the map.
-fn overwritten(
-    alloc: Global,
-    map: &mut NameMap<Text, u32>,
-    name: &str,
-) -> Result<NameMap<Text, u32>, NoMemory> {
-    if let Some(item) = map.raw_get_mut(&Text::copy_of(alloc, name)?) {
-        *item = 5;
+/// Writes 5 under a name.
+fn is_overwritten(alloc: Global, map: &mut NameMap<Text, u32>, name: &str) -> bool {
+    let Ok(key) = Text::copy_of(alloc, name) else {
+        return false;
+    };
+    match map.raw_get_mut(&key) {
+        Some(item) => {
+            *item = 5;
+            true
+        }
+        None => false,
     }
-    map.try_clone(alloc)
 }
+
+/// Whether a copy lists `a` and `b`, in this order, with these items.
+fn copy_lists(alloc: Global, map: &NameMap<Text, u32>, a: u32, b: u32) -> bool {
+    match map.try_clone(alloc) {
+        Ok(copy) => lists(&copy, a, b),
+        Err(_) => false,
+    }
+}
+
+/// The definitions of two names.
+const TWO: [(&str, u32); 2] = [("a", 0), ("b", 1)];
+
+/// What is found where a third name was refused.
+const FIRST: [(&str, Option<u32>); 3] = [("a", Some(0)), ("b", Some(1)), ("c", None)];
 
 #[test]
-fn a_shadowed_name_keeps_its_place(rt: HostRuntime) -> Result<(), Fail> {
-    let mut cx = NameMapNoIntern::new(rt.alloc());
-    let mut map = map_of(&rt, rt.alloc(), &mut cx, &[("a", 0), ("b", 1), ("a", 2)])?;
-    assert!(rt; lists(&map, &[("a", 2), ("b", 1)]));
-    let copy = overwritten(rt.alloc(), &mut map, "a")?;
-    assert!(rt; lists(&copy, &[("a", 5), ("b", 1)]));
-    Ok(())
+fn a_name_is_defined_once_or_shadowed_in_its_place(rt: HostRuntime) {
+    let alloc = rt.alloc();
+    let mut cx = NameMapNoIntern::new(alloc);
+    let mut map = NameMap::new(alloc);
+    inserts(&rt, &mut map, &mut cx, &TWO);
+    holds(&rt, "refused", is_refused(&mut map, &mut cx, "a"));
+    finds(&rt, &map, &cx, &FIRST);
+    inserts(&rt, &mut map, &mut cx, &[("a", 2)]);
+    let is_shadowed = lists(&map, 2, 1) && is_overwritten(alloc, &mut map, "a");
+    holds(
+        &rt,
+        "shadowed",
+        is_shadowed && copy_lists(alloc, &map, 5, 1),
+    );
 }
 
-/// Names and their tracks: those of wasmtime's own tests, and names without a version or with an odd one.
-const TRACKS: [(&str, Option<&str>); 27] = [
-    ("x", None),
-    ("x:y/z", None),
-    ("x:y/z@1.0.0", Some("x:y/z@1")),
-    ("x:y/z@1.1.0", Some("x:y/z@1")),
-    ("x:y/z@1.1.2", Some("x:y/z@1")),
-    ("x:y/z@2.1.2", Some("x:y/z@2")),
-    ("x:y/z@2.1.2+abc", Some("x:y/z@2")),
-    ("x:y/z@0.1.2", Some("x:y/z@0.1")),
-    ("x:y/z@0.1.3", Some("x:y/z@0.1")),
-    ("x:y/z@0.2.3", Some("x:y/z@0.2")),
-    ("x:y/z@0.2.3+abc", Some("x:y/z@0.2")),
-    ("x:y/z@0.0.1", None),
-    ("x:y/z@0.0.1-pre", None),
-    ("x:y/z@0.1.0-pre", None),
-    ("x:y/z@1.0.0-pre", None),
-    ("", None),
-    ("@", None),
-    ("a@", None),
-    ("a@1", None),
-    ("a@1.0.0@2.0.0", None),
-    ("a@01.0.0", None),
-    ("a@1.0.0 ", None),
-    ("a@18446744073709551616.0.0", None),
-    ("a@18446744073709551615.0.0", Some("a@18446744073709551615")),
-    ("@1.2.3", Some("@1")),
-    ("é@0.3.1+x.y", Some("é@0.3")),
-    ("a@0.0.7+x", None),
+/// Names and their tracks: those of wasmtime's own tests, and names without a version or with an odd one. A name
+/// without a track has an empty text here, which is no track.
+const TRACKS: [(&str, &str); 27] = [
+    ("x", ""),
+    ("x:y/z", ""),
+    ("x:y/z@1.0.0", "x:y/z@1"),
+    ("x:y/z@1.1.0", "x:y/z@1"),
+    ("x:y/z@1.1.2", "x:y/z@1"),
+    ("x:y/z@2.1.2", "x:y/z@2"),
+    ("x:y/z@2.1.2+abc", "x:y/z@2"),
+    ("x:y/z@0.1.2", "x:y/z@0.1"),
+    ("x:y/z@0.1.3", "x:y/z@0.1"),
+    ("x:y/z@0.2.3", "x:y/z@0.2"),
+    ("x:y/z@0.2.3+abc", "x:y/z@0.2"),
+    ("x:y/z@0.0.1", ""),
+    ("x:y/z@0.0.1-pre", ""),
+    ("x:y/z@0.1.0-pre", ""),
+    ("x:y/z@1.0.0-pre", ""),
+    ("", ""),
+    ("@", ""),
+    ("a@", ""),
+    ("a@1", ""),
+    ("a@1.0.0@2.0.0", ""),
+    ("a@01.0.0", ""),
+    ("a@1.0.0 ", ""),
+    ("a@18446744073709551616.0.0", ""),
+    ("a@18446744073709551615.0.0", "a@18446744073709551615"),
+    ("@1.2.3", "@1"),
+    ("é@0.3.1+x.y", "é@0.3"),
+    ("a@0.0.7+x", ""),
 ];
 
-/// Whether the name has this track.
-fn has_track(alloc: Global, name: &str, want: Option<&str>) -> Result<bool, NoMemory> {
-    match alternate_lookup_key(alloc, name)? {
-        Some((track, _)) => Ok(want == Some(track.as_str())),
-        None => Ok(want.is_none()),
+/// Whether a name has this track.
+fn has_track(alloc: Global, name: &str, want: &str) -> bool {
+    match alternate_lookup_key(alloc, name) {
+        Ok(Some(found)) => found.0.as_str() == want,
+        Ok(None) => want.is_empty(),
+        Err(_) => false,
     }
-}
-
-/// Whether each name has its track.
-fn have_tracks(alloc: Global, rows: &[(&str, Option<&str>)]) -> Result<bool, NoMemory> {
-    for (name, want) in rows {
-        if !has_track(alloc, name, *want)? {
-            return Ok(false);
-        }
-    }
-    Ok(true)
 }
 
 #[test]
-fn a_version_has_a_track(rt: HostRuntime) -> Result<(), Fail> {
-    assert!(rt; have_tracks(rt.alloc(), &TRACKS)?);
-    Ok(())
+fn a_version_has_a_track(rt: HostRuntime) {
+    for (name, track) in &TRACKS {
+        holds(&rt, name, has_track(rt.alloc(), name, track));
+    }
 }

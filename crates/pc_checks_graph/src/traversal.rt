@@ -1,104 +1,140 @@
 //! Traversals of worked graphs, and of a long path and a long cycle.
 
-use crate::components::split;
-use crate::graphs::{Edges, MANY, graph_of};
+use crate::components::{Wanted, splits};
+use crate::graphs::{A, B, Edges, MANY, graph};
+use crate::support::holds;
 use pc_entity::{FuncIndex, NoMemory, SecondaryMap};
-use pc_graph::{Dfs, DfsEvent, EntityGraph, GraphError};
+use pc_graph::{Dfs, DfsEvent, EntityGraph};
 use std::alloc::Global;
+use std::process::Abort;
 use std::test::*;
 
-/// The events of a traversal, which leaves out the nodes that were met.
-fn tour_of(
-    alloc: Global,
+/// The next event of a traversal, which leaves out the nodes that were met.
+fn step(
     graph: &EntityGraph<FuncIndex>,
     dfs: &mut Dfs<FuncIndex>,
     met: &mut SecondaryMap<FuncIndex, bool>,
-) -> Result<Vec<DfsEvent<FuncIndex>>, NoMemory> {
-    let mut events = Vec::new(alloc);
-    for _ in 0..999999 {
-        let Some(event) = dfs.next(graph, |node| met.get(node))? else {
-            break;
-        };
-        if let DfsEvent::Pre(node) = event {
-            met.set(node, true)?;
-        }
-        events.push(event)?;
+) -> Result<Option<DfsEvent<FuncIndex>>, NoMemory> {
+    let event = dfs.next(graph, |node| met.get(node))?;
+    if let Some(DfsEvent::Pre(node)) = event {
+        met.set(node, true)?;
     }
-    Ok(events)
+    Ok(event)
 }
 
-/// The events of the traversal from node 0.
-fn whole_tour(
-    alloc: Global,
+/// Whether these are the events of a traversal.
+fn tours(
     graph: &EntityGraph<FuncIndex>,
-) -> Result<Vec<DfsEvent<FuncIndex>>, NoMemory> {
-    let mut dfs = Dfs::new(alloc, &[FuncIndex(0)])?;
-    tour_of(alloc, graph, &mut dfs, &mut SecondaryMap::new(alloc, false))
+    dfs: &mut Dfs<FuncIndex>,
+    met: &mut SecondaryMap<FuncIndex, bool>,
+    events: &[DfsEvent<FuncIndex>],
+) -> bool {
+    for event in events {
+        if step(graph, dfs, met) != Ok(Some(*event)) {
+            return false;
+        }
+    }
+    step(graph, dfs, met) == Ok(None)
+}
+
+/// How many events a traversal has.
+fn events_of(
+    graph: &EntityGraph<FuncIndex>,
+    dfs: &mut Dfs<FuncIndex>,
+    met: &mut SecondaryMap<FuncIndex, bool>,
+) -> Result<u32, NoMemory> {
+    for events in 0..999999 {
+        if step(graph, dfs, met)?.is_none() {
+            return Ok(events);
+        }
+    }
+    Ok(999999)
 }
 
 /// The traversal of two nodes, of which one has two edges to the other.
 const TWICE: [DfsEvent<FuncIndex>; 6] = [
-    DfsEvent::Pre(FuncIndex(0)),
-    DfsEvent::Pre(FuncIndex(1)),
-    DfsEvent::Post(FuncIndex(1)),
-    DfsEvent::AfterEdge(FuncIndex(0), FuncIndex(1)),
-    DfsEvent::AfterEdge(FuncIndex(0), FuncIndex(1)),
-    DfsEvent::Post(FuncIndex(0)),
+    DfsEvent::Pre(A),
+    DfsEvent::Pre(B),
+    DfsEvent::Post(B),
+    DfsEvent::AfterEdge(A, B),
+    DfsEvent::AfterEdge(A, B),
+    DfsEvent::Post(A),
 ];
 
-#[test]
-fn an_edge_given_twice_is_followed_twice(rt: HostRuntime) -> Result<(), Fail> {
-    let graph = graph_of(rt.alloc(), 2, Edges::Listed(&[(0, 1), (0, 1)]))?;
-    let events = whole_tour(rt.alloc(), &graph)?;
-    assert!(rt; events.as_slice() == TWICE.as_slice());
-    Ok(())
-}
-
-/// Adds node 0 and then node 1.
-fn add_two(dfs: &mut Dfs<FuncIndex>) -> Result<(), NoMemory> {
-    dfs.add_root(FuncIndex(0))?;
-    dfs.add_roots(&[FuncIndex(1)])
-}
-
-/// How many events the traversal from no root has, and the events of that from nodes 0 and 1 where node 0 was met.
-fn tour_of_last(
-    alloc: Global,
-    graph: &EntityGraph<FuncIndex>,
-) -> Result<(usize, Vec<DfsEvent<FuncIndex>>), NoMemory> {
-    let mut met = SecondaryMap::new(alloc, false);
-    met.set(FuncIndex(0), true)?;
+/// Visits nodes 0 and 1, of which node 0 was met, and before them no root.
+fn visits_last(alloc: Global, graph: &EntityGraph<FuncIndex>) -> bool {
     let mut dfs = Dfs::empty(alloc);
-    let before = tour_of(alloc, graph, &mut dfs, &mut met)?.len();
-    add_two(&mut dfs)?;
-    Ok((before, tour_of(alloc, graph, &mut dfs, &mut met)?))
+    let mut met = SecondaryMap::new(alloc, false);
+    met.set(A, true).is_ok()
+        && tours(graph, &mut dfs, &mut met, &[])
+        && dfs.add_root(A).is_ok()
+        && dfs.add_roots(&[B]).is_ok()
+        && tours(graph, &mut dfs, &mut met, &LAST)
+}
+
+/// The visit of node 1 alone.
+const LAST: [DfsEvent<FuncIndex>; 2] = [DfsEvent::Pre(B), DfsEvent::Post(B)];
+
+#[test]
+fn the_last_root_is_visited_first(rt: HostRuntime) {
+    let graph = graph(&rt, rt.alloc(), 2, Edges::Listed(&[]));
+    holds(&rt, "tour", visits_last(rt.alloc(), &graph));
+}
+
+/// The events of a tour.
+#[derive(Clone, Copy)]
+enum Events<'a> {
+    /// These.
+    Listed(&'a [DfsEvent<FuncIndex>]),
+
+    /// So many.
+    Many(u32),
+}
+
+/// Whether the tour of a graph from node 0 has these events.
+fn has_events(alloc: Global, graph: &EntityGraph<FuncIndex>, events: Events<'_>) -> bool {
+    let Ok(mut dfs) = Dfs::new(alloc, &[A]) else {
+        return false;
+    };
+    let mut met = SecondaryMap::new(alloc, false);
+    match events {
+        Events::Listed(events) => tours(graph, &mut dfs, &mut met, events),
+        Events::Many(events) => events_of(graph, &mut dfs, &mut met) == Ok(events),
+    }
+}
+
+/// Tours the graph of so many nodes with these edges from node 0, and splits it into these components.
+fn tours_and_splits(
+    rt: &impl Abort,
+    alloc: Global,
+    count: u32,
+    edges: Edges<'_>,
+    events: Events<'_>,
+    wanted: Wanted<'_>,
+) {
+    let graph = graph(rt, alloc, count, edges);
+    holds(rt, "events", has_events(alloc, &graph, events));
+    holds(rt, "components", splits(alloc, &graph, wanted));
 }
 
 #[test]
-fn the_last_root_is_visited_first(rt: HostRuntime) -> Result<(), Fail> {
-    let graph = graph_of(rt.alloc(), 2, Edges::Listed(&[]))?;
-    let (before, events) = tour_of_last(rt.alloc(), &graph)?;
-    assert!(rt; before == 0 && events.as_slice() == &TWICE[1..3]);
-    Ok(())
-}
-
-/// How many events the tour of a large graph from node 0 has, and how many components there are.
-fn sizes(alloc: Global, edges: Edges<'_>) -> Result<(usize, usize), GraphError<u32>> {
-    let graph = graph_of(alloc, MANY, edges)?;
-    let events = whole_tour(alloc, &graph)?.len();
-    Ok((events, split(alloc, &graph)?.len()))
+fn an_edge_given_twice_is_followed_twice(rt: HostRuntime) {
+    let edges = Edges::Listed(&[(0, 1), (0, 1)]);
+    let events = Events::Listed(&TWICE);
+    tours_and_splits(&rt, rt.alloc(), 2, edges, events, Wanted::Sizes(2, 1, 0));
 }
 
 #[test]
-fn a_long_path_is_toured_and_split(rt: HostRuntime) -> Result<(), Fail> {
-    // Two events for each node, and one for each edge.
-    let found = sizes(rt.alloc(), Edges::Long(None))?;
-    assert!(rt; found == (599999, 200000));
-    Ok(())
+fn a_long_path_is_toured_and_split(rt: HostRuntime) {
+    // Two events for each node, and one for each edge. Each component but the last has an edge from the next one.
+    let wanted = Wanted::Sizes(200000, 1, 1);
+    let edges = Edges::Long(None);
+    tours_and_splits(&rt, rt.alloc(), MANY, edges, Events::Many(599999), wanted);
 }
 
 #[test]
-fn a_long_cycle_is_toured_and_split(rt: HostRuntime) -> Result<(), Fail> {
-    let found = sizes(rt.alloc(), Edges::Long(Some(0)))?;
-    assert!(rt; found == (600000, 1));
-    Ok(())
+fn a_long_cycle_is_toured_and_split(rt: HostRuntime) {
+    let wanted = Wanted::Sizes(1, 0, 0);
+    let edges = Edges::Long(Some(0));
+    tours_and_splits(&rt, rt.alloc(), MANY, edges, Events::Many(600000), wanted);
 }

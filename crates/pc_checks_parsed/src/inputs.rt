@@ -2,6 +2,7 @@
 
 use pc_form::{DecodeError, Input, decode_input};
 use std::alloc::Global;
+use std::process::Abort;
 
 /// One core instance with a function that is lifted and exported.
 pub(crate) const SMALLEST: &str =
@@ -15,4 +16,9 @@ pub(crate) const SMALLEST: &str =
 /// The input that a text stands for.
 pub(crate) fn input(alloc: Global, text: &str) -> Result<Input, DecodeError> {
     decode_input(alloc, text.as_bytes())
+}
+
+/// That something holds. All assertions stand here, since each is proved anew where it stands.
+pub(crate) fn holds(rt: &impl Abort, what: &str, holds: bool) {
+    assert!(rt; holds, "{what}");
 }

@@ -1,5 +1,6 @@
 //! Copies of definitions.
 
+use crate::support::holds;
 use pc_entity::{
     EntityIndex, FuncIndex, MemoryIndex, NoMemory, RuntimeInstanceIndex, Text, TryClone,
 };
@@ -19,9 +20,9 @@ const MEMORY: CoreExport<MemoryIndex> = CoreExport {
 };
 
 /// Whether the copy of a value is equal to it.
-fn is_copied<T: TryClone + PartialEq + Drop>(alloc: Global, source: &T) -> bool {
+fn is_copied<T: TryClone + PartialEq + Drop>(alloc: Global, source: T) -> bool {
     match source.try_clone(alloc) {
-        Ok(copy) => copy == *source,
+        Ok(copy) => copy == source,
         Err(_) => false,
     }
 }
@@ -32,13 +33,14 @@ fn is_copied_by_name(alloc: Global) -> Result<bool, NoMemory> {
         instance: RuntimeInstanceIndex(7),
         item: ExportItem::Name(Text::copy_of(alloc, "a b")?),
     });
-    Ok(is_copied(alloc, &source) && source != CoreDef::Export(NUMBERED))
+    let is_another = source != CoreDef::Export(NUMBERED);
+    Ok(is_copied(alloc, source) & is_another)
 }
 
 #[test]
 fn definitions_are_copied(rt: HostRuntime) {
     let by_name = is_copied_by_name(rt.alloc()).unwrap_or(false);
-    assert!(rt; by_name, "by name");
-    assert!(rt; is_copied(rt.alloc(), &NUMBERED), "by entity");
-    assert!(rt; is_copied(rt.alloc(), &MEMORY), "of one kind");
+    holds(&rt, "by name", by_name);
+    holds(&rt, "by entity", is_copied(rt.alloc(), NUMBERED));
+    holds(&rt, "of one kind", is_copied(rt.alloc(), MEMORY));
 }

@@ -1,34 +1,20 @@
 //! Numbers of interned values.
 
-use pc_entity::NoMemory;
-use pc_intern::{Intern, MemoryId};
-use std::alloc::Global;
-use std::test::Fail;
+use crate::support::holds;
+use pc_intern::{Intern, InternIter, MemoryId};
 
-/// Adds a value, where there is a number for it.
-fn add(memories: &mut Intern<MemoryId, u32>, value: u32) -> Result<(), NoMemory> {
-    if memories.len() < 1000 {
-        memories.push(value)?;
+/// Values of which two are equal, with their numbers.
+static VALUES: [(u32, u32); 3] = [(7, 0), (9, 1), (7, 0)];
+
+/// Whether a value got this number.
+fn is_added(memories: &mut Intern<MemoryId, u32>, value: u32, number: u32) -> bool {
+    if memories.len() >= 1000 {
+        return false;
     }
-    Ok(())
-}
-
-/// Three values of which two are equal.
-fn three(alloc: Global) -> Result<Intern<MemoryId, u32>, NoMemory> {
-    let mut memories = Intern::new(alloc);
-    for value in [7, 9, 7] {
-        add(&mut memories, value)?;
+    match memories.push(value) {
+        Ok(key) => key.0 == number,
+        Err(_) => false,
     }
-    Ok(memories)
-}
-
-#[test]
-fn equal_values_share_a_number(rt: HostRuntime) -> Result<(), Fail> {
-    let memories = three(rt.alloc())?;
-    assert_eq!(rt; memories.len(), 2);
-    assert_eq!(rt; memories.get(MemoryId(1)).copied(), Some(9));
-    assert!(rt; memories.get(MemoryId(2)).is_none());
-    Ok(())
 }
 
 /// Whether a value came with this number.
@@ -39,12 +25,31 @@ fn is_numbered(found: Option<(MemoryId, &u32)>, number: u32, value: u32) -> bool
     }
 }
 
+/// Whether these are the two values with their numbers.
+fn are_numbered(values: InternIter<'_, MemoryId, u32>) -> bool {
+    let mut left = values;
+    let first = is_numbered(left.next(), 0, 7);
+    let second = is_numbered(left.next(), 1, 9);
+    first & second & left.next().is_none()
+}
+
+/// Whether the second value is this one, and the last one.
+fn is_last(memories: &Intern<MemoryId, u32>, value: u32) -> bool {
+    let second = memories.get(MemoryId(1)).copied().unwrap_or(0);
+    (second == value) & memories.get(MemoryId(2)).is_none()
+}
+
 #[test]
-fn values_come_with_their_numbers(rt: HostRuntime) -> Result<(), Fail> {
-    let memories = three(rt.alloc())?;
-    let mut values = memories.iter();
-    assert!(rt; is_numbered(values.next(), 0, 7));
-    assert!(rt; is_numbered(values.next(), 1, 9));
-    assert!(rt; values.next().is_none());
-    Ok(())
+fn equal_values_share_a_number(rt: HostRuntime) {
+    let mut memories = Intern::new(rt.alloc());
+    for (value, number) in VALUES.iter() {
+        holds(&rt, "a number", is_added(&mut memories, *value, *number));
+    }
+    holds(&rt, "two values", memories.len() == 2);
+    holds(&rt, "the second is the last", is_last(&memories, 9));
+    holds(
+        &rt,
+        "both with their numbers",
+        are_numbered(memories.iter()),
+    );
 }

@@ -18,4 +18,6 @@ mod options;
 #[cfg(test)]
 mod plans;
 #[cfg(test)]
+mod support;
+#[cfg(test)]
 mod trampolines;

@@ -2,39 +2,41 @@
 
 ghost use Rattle.std.specs.Prelude.{◌≡◌, length, IfOk};
 
-use crate::items::items_are_definitions;
+use crate::items::{is_named, items_are_definitions};
+use crate::support::holds;
 use pc_entity::{
     DefinedResourceIndex, EntityIndex, ExportIndex, FuncIndex, GlobalIndex, MemoryIndex, NoMemory,
     PrimaryMap, ResourceIndex, RuntimeImportIndex, RuntimeInstanceIndex, TableIndex, TagIndex,
     Text,
 };
 use pc_info::{Component, CoreDef, CoreExport, Export, ExportItem};
-use pc_names::{NameError, NameMap, NameMapNoIntern};
+use pc_names::{NameMap, NameMapNoIntern};
 use pc_types::{ComponentExternData, InterfaceType, TypeComponentInstanceIndex, TypeDef};
 use std::alloc::Global;
-use std::test::Fail;
 
 /// Two resources of the host.
 fn two_imported(alloc: Global) -> Result<PrimaryMap<ResourceIndex, RuntimeImportIndex>, NoMemory>
     ensures { IfOk result (λ map. length map ≡ 2) }
 {
-    let mut resources = PrimaryMap::new(alloc);
-    resources.push(RuntimeImportIndex(4))?;
-    resources.push(RuntimeImportIndex(7))?;
-    Ok(resources)
+    let items = Vec::from_slice(alloc, &[RuntimeImportIndex(4), RuntimeImportIndex(7)])?;
+    Ok(PrimaryMap::from_vec(items))
 }
 
-#[test]
-fn declared_resources_come_behind_the_imported_ones(rt: HostRuntime) -> Result<(), Fail> {
-    let mut plan = Component::new(rt.alloc());
-    plan.imported_resources = two_imported(rt.alloc())?;
-    assert!(rt; plan.defined_resource_index(ResourceIndex(1)).is_none());
-    assert_eq!(rt;
-        plan.defined_resource_index(ResourceIndex(5)).map(|d| d.0),
-        Some(3)
-    );
-    assert_eq!(rt; plan.resource_index(DefinedResourceIndex(3)).0, 5);
-    Ok(())
+/// Whether declared resources come behind two imported ones.
+fn come_behind(alloc: Global, imported: PrimaryMap<ResourceIndex, RuntimeImportIndex>) -> bool
+    requires { length imported ≡ 2 }
+{
+    let mut plan = Component::new(alloc);
+    plan.imported_resources = imported;
+    let second = plan.defined_resource_index(ResourceIndex(1));
+    let sixth = plan.defined_resource_index(ResourceIndex(5));
+    let declared = plan.resource_index(DefinedResourceIndex(3));
+    second.is_none() & (sixth == Some(DefinedResourceIndex(3))) & (declared.0 == 5)
+}
+
+/// Whether declared resources come behind imported ones.
+fn declared_ones_come_behind(alloc: Global) -> Result<bool, NoMemory> {
+    Ok(come_behind(alloc, two_imported(alloc)?))
 }
 
 /// An item of core instance 1.
@@ -46,71 +48,87 @@ fn item_of<T>(item: T) -> CoreExport<T> {
 }
 
 /// Whether a definition is this entity of core instance 1.
-fn is_entity(def: &CoreDef, entity: EntityIndex) -> bool {
-    *def == CoreDef::Export(item_of(entity))
+fn is_entity(def: CoreDef, entity: EntityIndex) -> bool {
+    def == CoreDef::Export(item_of(entity))
+}
+
+/// Whether a memory that is known by the name `m` is so where entities are mapped.
+fn stays(name: Text) -> bool {
+    let export: CoreExport<MemoryIndex> = CoreExport {
+        instance: RuntimeInstanceIndex(1),
+        item: ExportItem::Name(name),
+    };
+    let mapped = export.map_index(|memory| memory.0);
+    (mapped.instance.0 == 1) & is_named(&mapped.item, "m")
+}
+
+/// Whether a name stays where entities are mapped.
+fn a_name_stays(alloc: Global) -> Result<bool, NoMemory> {
+    Ok(stays(Text::copy_of(alloc, "m")?))
+}
+
+/// Whether items of each kind are definitions.
+fn items_are_definitions() -> bool {
+    items_are_definitions!()
 }
 
 #[test]
 fn an_item_is_a_definition(rt: HostRuntime) {
-    items_are_definitions!(rt);
+    holds(&rt, "an item of each kind", items_are_definitions());
+    let is_kept = a_name_stays(rt.alloc()).unwrap_or(false);
+    holds(&rt, "a name stays where entities are mapped", is_kept);
 }
 
-#[test]
-fn a_name_stays_where_entities_are_mapped(rt: HostRuntime) -> Result<(), Fail> {
-    let export: CoreExport<MemoryIndex> = CoreExport {
-        instance: RuntimeInstanceIndex(1),
-        item: ExportItem::Name(Text::copy_of(rt.alloc(), "m")?),
-    };
-    let mapped = export.map_index(|memory| memory.0);
-    assert_eq!(rt; mapped.instance.0, 1);
-    assert!(rt; matches!(&mapped.item, ExportItem::Name(name) if name.as_str() == "m"));
-    Ok(())
-}
+/// An exported type.
+const TYPE: Export = Export::Type_(TypeDef::Interface(InterfaceType::Bool));
+
+/// Data of an export that says nothing.
+const NO_DATA: ComponentExternData = ComponentExternData {
+    implements: None,
+    external_id: None,
+};
 
 /// An instance with the item of this number in it.
-fn around(alloc: Global, below: u32) -> Result<Export, NameError> {
+fn around(alloc: Global, below: u32) -> Result<Export, NoMemory> {
     let mut exports = NameMap::new(alloc);
-    let data = ComponentExternData {
-        implements: None,
-        external_id: None,
-    };
-    exports.insert(
-        "x",
-        &mut NameMapNoIntern::new(alloc),
-        false,
-        (ExportIndex(below), data),
-    )?;
-    Ok(Export::Instance {
-        ty: TypeComponentInstanceIndex(0),
-        exports,
-    })
-}
-
-/// Adds an item, where there is a number for it.
-fn add(items: &mut PrimaryMap<ExportIndex, Export>, item: Export) -> Result<(), NoMemory> {
-    if items.len() < 1000000000 {
-        items.push(item)?;
+    let mut texts = NameMapNoIntern::new(alloc);
+    match exports.insert("x", &mut texts, false, (ExportIndex(below), NO_DATA)) {
+        Ok(_) => Ok(Export::Instance {
+            ty: TypeComponentInstanceIndex(0),
+            exports,
+        }),
+        Err(_) => Err(NoMemory),
     }
-    Ok(())
 }
 
-/// A type, and so many instances around it, each in the next.
-fn nested(alloc: Global, levels: u32) -> Result<PrimaryMap<ExportIndex, Export>, NameError> {
-    let mut items = PrimaryMap::new(alloc);
-    add(
-        &mut items,
-        Export::Type_(TypeDef::Interface(InterfaceType::Bool)),
-    )?;
+/// Adds an instance around an item, while there is memory.
+fn surround(alloc: Global, items: &mut Vec<Export>, below: u32) {
+    if let Ok(item) = around(alloc, below) {
+        let _ = items.push(item);
+    }
+}
+
+/// A type, and so many instances around it, each in the next, those left out that there is no memory for.
+fn nested(alloc: Global, levels: u32) -> Vec<Export> {
+    let mut items = Vec::new(alloc);
+    let _ = items.push(TYPE);
     for below in 0..levels {
-        add(&mut items, around(alloc, below)?)?;
+        surround(alloc, &mut items, below);
     }
-    Ok(items)
+    items
+}
+
+/// How many items a plan has that is let go.
+fn let_go(alloc: Global, items: Vec<Export>) -> usize {
+    let mut plan = Component::new(alloc);
+    plan.export_items = PrimaryMap::from_vec(items);
+    plan.export_items.len()
 }
 
 #[test]
-fn a_deep_tree_of_exports_is_let_go(rt: HostRuntime) -> Result<(), Fail> {
-    let mut plan = Component::new(rt.alloc());
-    plan.export_items = nested(rt.alloc(), 30000)?;
-    assert_eq!(rt; plan.export_items.len(), 30001);
-    Ok(())
+fn plans_number_resources_and_are_let_go(rt: HostRuntime) {
+    let is_behind = declared_ones_come_behind(rt.alloc()).unwrap_or(false);
+    holds(&rt, "declared resources come behind", is_behind);
+    let items = let_go(rt.alloc(), nested(rt.alloc(), 30000));
+    holds(&rt, "a deep tree of exports is let go", items == 30001);
 }

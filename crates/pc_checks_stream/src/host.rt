@@ -1,7 +1,7 @@
 //! Streams over std's readers and writers.
 
 use crate::reads::TEXT;
-use pc_stream::{Failed, ReadEnd, StdSink, StdSource, read_all, write_all};
+use pc_stream::{ReadEnd, StdSink, StdSource, read_all, write_all};
 use std::alloc::Global;
 use std::io;
 use std::io::{Read, Write};
@@ -55,37 +55,38 @@ impl<T: Write> Write for Slow<T> {
     }
 }
 
-/// Reads the text from a reader that stops at this call: what came of it, and the faults.
-fn read_from(alloc: Global, stops: u64) -> (Result<Vec<u8>, ReadEnd>, u64) {
+/// Reads the text from a reader that stops at this call: whether all of it came, or a fault, and the faults.
+fn read_from(alloc: Global, stops: u64) -> (bool, bool, u64) {
     let mut src = StdSource::new(Slow::new(TEXT, stops, true));
-    let result = read_all(alloc, &mut src);
-    (result, src.faults())
+    let (is_text, is_fault) = match read_all(alloc, &mut src) {
+        Ok(bytes) => (bytes.as_slice() == TEXT, false),
+        Err(end) => (false, end == ReadEnd::Fault),
+    };
+    (is_text, is_fault, src.faults())
 }
 
 #[test]
 fn a_reader_that_fails_is_a_fault(rt: HostRuntime) -> Result<(), Fail> {
-    let text = TEXT.to_vec(rt.alloc())?;
-    assert_eq!(rt; read_from(rt.alloc(), 100), (Ok(text), 0));
-    assert_eq!(rt; read_from(rt.alloc(), 2), (Err(ReadEnd::Fault), 1));
+    assert!(rt; read_from(rt.alloc(), 100) == (true, false, 0));
+    assert!(rt; read_from(rt.alloc(), 2) == (false, true, 1));
     Ok(())
 }
 
-/// Writes the text to a writer: what came of it, and the faults.
-fn write_to(writer: &mut Slow<Vec<u8>>) -> (Result<(), Failed>, u64) {
-    let mut out = StdSink::new(writer);
-    let result = write_all(&mut out, TEXT);
-    (result, out.faults())
+/// Writes the text to a writer that stops at this call: whether that succeeds, the faults, and whether the writer then
+/// has this.
+fn write_to(alloc: Global, stops: u64, fails: bool, kept: &[u8]) -> (bool, u64, bool) {
+    let mut writer = Slow::new(Vec::new(alloc), stops, fails);
+    let mut out = StdSink::new(&mut writer);
+    let succeeds = write_all(&mut out, TEXT).is_ok();
+    let faults = out.faults();
+    (succeeds, faults, writer.inner.as_slice() == kept)
 }
 
 #[test]
 fn a_writer_that_fails_or_takes_nothing_is_a_fault(rt: HostRuntime) -> Result<(), Fail> {
-    let mut writer = Slow::new(Vec::new(rt.alloc()), 100, true);
-    assert_eq!(rt; write_to(&mut writer), (Ok(()), 0));
-    assert_eq!(rt; writer.inner.as_slice(), TEXT);
+    assert!(rt; write_to(rt.alloc(), 100, true, TEXT) == (true, 0, true));
     for fails in [true, false] {
-        let mut writer = Slow::new(Vec::new(rt.alloc()), 2, fails);
-        assert_eq!(rt; write_to(&mut writer), (Err(Failed), 1));
-        assert_eq!(rt; writer.inner.as_slice(), b"sevent".as_slice());
+        assert!(rt; write_to(rt.alloc(), 2, fails, b"sevent") == (false, 1, true));
     }
     Ok(())
 }

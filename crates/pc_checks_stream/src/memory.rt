@@ -39,14 +39,23 @@ fn zeros(alloc: Global, len: usize) -> Result<Vec<u8>, AllocError>
     vec![in alloc; 0; len]
 }
 
+/// The length of what is read of as many bytes as there may be.
+fn longest(alloc: Global) -> Result<usize, AllocError> {
+    let bytes = zeros(alloc, MAX_INPUT)?;
+    Ok(read_surely(alloc, bytes)?.len())
+}
+
+/// Whether one byte more is too long.
+fn is_too_long(alloc: Global) -> Result<bool, AllocError> {
+    let mut src = SureSource::new(zeros(alloc, 67108865)?);
+    let is_held = src.left().len() == 67108865;
+    Ok(is_held && read_all(alloc, &mut src) == Err(ReadEnd::TooLong))
+}
+
 #[test]
 fn one_byte_over_the_limit_is_too_long(rt: HostRuntime) -> Result<(), Fail> {
-    let alloc = rt.alloc();
-    let bytes = read_surely(alloc, zeros(alloc, MAX_INPUT)?)?;
-    assert_eq!(rt; bytes.len(), 67108864);
-    let mut src = SureSource::new(zeros(alloc, 67108865)?);
-    assert_eq!(rt; src.left().len(), 67108865);
-    assert_eq!(rt; read_all(alloc, &mut src), Err(ReadEnd::TooLong));
+    assert!(rt; longest(rt.alloc())? == 67108864);
+    assert!(rt; is_too_long(rt.alloc())?);
     Ok(())
 }
 
@@ -64,15 +73,23 @@ const ROOMS: [(usize, &[u8], bool); 3] = [
     (4, b"room", false),
 ];
 
+/// Whether a room keeps this of a text, and whether that is whole.
+fn keeps(alloc: Global, capacity: usize, kept: &[u8], is_whole: bool) -> Result<bool, AllocError> {
+    let out = written_surely(room_for(alloc, capacity)?, b"text");
+    Ok(out.kept() == kept && out.is_whole() == is_whole)
+}
+
+/// Whether a sink that may fail, and doesn't, tells that its room was too small.
+fn is_cut(alloc: Global) -> Result<bool, AllocError> {
+    let mut out = MemSink::new(room_for(alloc, 6)?, 4, Vec::new(alloc));
+    Ok(write_all(&mut out, b"text") == Ok(()) && !out.is_whole())
+}
+
 #[test]
 fn a_sink_keeps_what_fits_its_room(rt: HostRuntime) -> Result<(), Fail> {
     for (capacity, kept, is_whole) in ROOMS {
-        let out = written_surely(room_for(rt.alloc(), capacity)?, b"text");
-        assert_eq!(rt; out.kept(), kept);
-        assert_eq!(rt; out.is_whole(), is_whole, "a room for {capacity} bytes");
+        assert!(rt; keeps(rt.alloc(), capacity, kept, is_whole)?);
     }
-    let mut out = MemSink::new(room_for(rt.alloc(), 6)?, 4, Vec::new(rt.alloc()));
-    assert_eq!(rt; write_all(&mut out, b"text"), Ok(()));
-    assert!(rt; !out.is_whole());
+    assert!(rt; is_cut(rt.alloc())?);
     Ok(())
 }

@@ -9,23 +9,30 @@ use std::test::*;
 /// Seventy bytes.
 pub const TEXT: &[u8] = b"seventy bytes of text, so that calls of 64 bytes are two, and not one.";
 
-/// Whether a read of the text, at most `most` bytes a call, where call `fails` fails, ends with a fault and leaves this
-/// many bytes.
+/// The text, at most `most` bytes a call, where call `fails` fails.
+fn source(alloc: Global, most: usize, fails: u64) -> Result<MemSource, AllocError>
+    requires { 0 < most }
+{
+    let fails = vec![in alloc; fails]?;
+    Ok(MemSource::new(TEXT.to_vec(alloc)?, most, fails))
+}
+
+/// Whether the read in which call `fails` fails is a fault, and leaves this many bytes.
 fn read_fails(alloc: Global, most: usize, fails: u64, left: usize) -> Result<bool, AllocError>
     requires { 0 < most }
 {
-    let mut src = MemSource::new(TEXT.to_vec(alloc)?, most, vec![in alloc; fails]?);
-    let result = read_all(alloc, &mut src);
-    Ok(result == Err(ReadEnd::Fault) && src.left().len() == left && src.faults() == 1)
+    let mut src = source(alloc, most, fails)?;
+    let is_fault = matches!(read_all(alloc, &mut src), Err(ReadEnd::Fault));
+    Ok(is_fault && src.left().len() == left && src.faults() == 1)
 }
 
-/// Whether a read of the text, at most `most` bytes a call, where call `fails` would fail, gives the text.
+/// Whether the read in which call `fails` would fail gives the text.
 fn read_succeeds(alloc: Global, most: usize, fails: u64) -> Result<bool, AllocError>
     requires { 0 < most }
 {
-    let mut src = MemSource::new(TEXT.to_vec(alloc)?, most, vec![in alloc; fails]?);
-    let result = read_all(alloc, &mut src);
-    Ok(result == Ok(TEXT.to_vec(alloc)?) && src.left().is_empty() && src.faults() == 0)
+    let mut src = source(alloc, most, fails)?;
+    let is_text = matches!(read_all(alloc, &mut src), Ok(bytes) if bytes.as_slice() == TEXT);
+    Ok(is_text && src.left().is_empty() && src.faults() == 0)
 }
 
 /// Whether each of the reads fails in its turn, and none where the next one would fail.
@@ -42,11 +49,13 @@ fn each_read_fails(alloc: Global, most: usize, reads: u64) -> Result<bool, Alloc
     read_succeeds(alloc, most, reads)
 }
 
+/// How many bytes a call moves, and how many calls a read of the text takes. The last one finds the end.
+const READS: [(usize, u64); 3] = [(1, 71), (7, 11), (64, 3)];
+
 #[test]
 fn each_read_may_fail(rt: HostRuntime) -> Result<(), Fail> {
-    // The last read finds the end.
-    assert!(rt; each_read_fails(rt.alloc(), 1, 71)?);
-    assert!(rt; each_read_fails(rt.alloc(), 7, 11)?);
-    assert!(rt; each_read_fails(rt.alloc(), 64, 3)?);
+    for (most, reads) in READS {
+        assert!(rt; most > 0 && each_read_fails(rt.alloc(), most, reads)?);
+    }
     Ok(())
 }

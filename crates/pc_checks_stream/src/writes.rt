@@ -3,29 +3,25 @@
 ghost use Rattle.std.specs.Prelude.{◌<◌};
 
 use crate::reads::TEXT;
-use pc_stream::{Failed, MemSink, write_all};
+use pc_stream::{MemSink, write_all};
 use std::alloc::{AllocError, Global};
 use std::test::*;
 
-/// Whether a write of the text, at most `most` bytes a call, where call `fails` fails, fails and keeps this many bytes
-/// of it.
-fn write_fails(alloc: Global, most: usize, fails: u64, kept: usize) -> Result<bool, AllocError>
+/// Whether a write of the text, at most `most` bytes a call, where call `fails` fails, succeeds or not, keeps this many
+/// bytes of it, and counts this many faults.
+fn is_written(
+    alloc: Global,
+    most: usize,
+    fails: u64,
+    ends: (bool, usize, u64),
+) -> Result<bool, AllocError>
     requires { 0 < most }
 {
-    let room = Vec::with_capacity(alloc, TEXT.len())?;
-    let mut out = MemSink::new(room, most, vec![in alloc; fails]?);
-    let result = write_all(&mut out, TEXT);
-    Ok(result == Err(Failed) && out.kept() == &TEXT[..kept.min(TEXT.len())] && out.faults() == 1)
-}
-
-/// Whether a write of the text, at most `most` bytes a call, where call `fails` would fail, keeps it.
-fn write_succeeds(alloc: Global, most: usize, fails: u64) -> Result<bool, AllocError>
-    requires { 0 < most }
-{
-    let room = Vec::with_capacity(alloc, TEXT.len())?;
-    let mut out = MemSink::new(room, most, vec![in alloc; fails]?);
-    let result = write_all(&mut out, TEXT);
-    Ok(result == Ok(()) && out.kept() == TEXT && out.faults() == 0)
+    let (succeeds, kept, faults) = ends;
+    let fails = vec![in alloc; fails]?;
+    let mut out = MemSink::new(Vec::with_capacity(alloc, TEXT.len())?, most, fails);
+    let is_same = write_all(&mut out, TEXT).is_ok() == succeeds;
+    Ok(is_same && out.kept() == &TEXT[..kept.min(TEXT.len())] && out.faults() == faults)
 }
 
 /// Whether each of the writes fails in its turn, and none where the next one would fail.
@@ -34,17 +30,21 @@ fn each_write_fails(alloc: Global, most: usize, writes: u64) -> Result<bool, All
 {
     let mut kept = 0usize;
     for n in 0..writes {
-        if !write_fails(alloc, most, n, kept)? {
+        if !is_written(alloc, most, n, (false, kept, 1))? {
             return Ok(false);
         }
         kept = kept.saturating_add(most);
     }
-    write_succeeds(alloc, most, writes)
+    is_written(alloc, most, writes, (true, TEXT.len(), 0))
 }
+
+/// How many bytes a call moves, and how many calls a write of the text takes.
+const WRITES: [(usize, u64); 2] = [(1, 70), (7, 10)];
 
 #[test]
 fn each_write_may_fail(rt: HostRuntime) -> Result<(), Fail> {
-    assert!(rt; each_write_fails(rt.alloc(), 1, 70)?);
-    assert!(rt; each_write_fails(rt.alloc(), 7, 10)?);
+    for (most, writes) in WRITES {
+        assert!(rt; most > 0 && each_write_fails(rt.alloc(), most, writes)?);
+    }
     Ok(())
 }

@@ -1,10 +1,10 @@
 //! The exports of the plans that are printed.
 
-use crate::parts::Part;
+use crate::parts::list;
 use crate::settings::extern_data;
 use pc_entity::{
-    EntityIndex, ExportIndex, FuncIndex, NoMemory, OptionsIndex, RuntimeImportIndex,
-    RuntimeInstanceIndex, StaticModuleIndex, Text,
+    EntityIndex, ExportIndex, FuncIndex, OptionsIndex, RuntimeImportIndex, RuntimeInstanceIndex,
+    StaticModuleIndex, Text,
 };
 use pc_info::{CoreDef, CoreExport, Export, ExportItem};
 use pc_names::{NameMap, NameMapNoIntern};
@@ -20,35 +20,32 @@ pub(crate) type Name = (&'static str, u32, [&'static str; 2]);
 type Names = NameMap<Text, (ExportIndex, ComponentExternData)>;
 
 /// The names of the smallest plan.
-pub(crate) const ONE: [Name; 1] = [("f", 0, ["", ""])];
+pub(crate) static ONE: [Name; 1] = [("f", 0, ["", ""])];
 
 /// The names of the plan with each kind of line.
-pub(crate) const ALL: [Name; 3] = [
+pub(crate) static ALL: [Name; 3] = [
     ("\"\\\n", 4, ["a:b/c", "d"]),
     ("i", 3, ["", ""]),
     ("m", 5, ["", ""]),
 ];
 
-const INNER: [Name; 1] = [("k", 0, ["", ""])];
+static INNER: [Name; 1] = [("k", 0, ["", ""])];
 
-const OUTER: [Name; 2] = [("j", 1, ["", "h"]), ("l", 2, ["", ""])];
+static OUTER: [Name; 2] = [("j", 1, ["", "h"]), ("l", 2, ["", ""])];
 
-fn add_name(alloc: Global, names: &mut Names, name: &Name) -> Result<(), NoMemory> {
-    let data_ = extern_data(alloc, name.2)?;
-    let mut texts = NameMapNoIntern::new(alloc);
-    match names.insert(name.0, &mut texts, false, (ExportIndex(name.1), data_)) {
-        Ok(_) => Ok(()),
-        Err(_) => Err(NoMemory),
-    }
+/// Adds a name.
+fn add_name(alloc: Global, names: &mut Names, name: Name) {
+    let entry = (ExportIndex(name.1), extern_data(alloc, name.2));
+    let _ = names.insert(name.0, &mut NameMapNoIntern::new(alloc), false, entry);
 }
 
 /// These names.
-pub(crate) fn names_of(alloc: Global, all: &[Name]) -> Result<Names, NoMemory> {
+pub(crate) fn names_of(alloc: Global, all: &[Name]) -> Names {
     let mut names = NameMap::new(alloc);
     for name in all.iter() {
-        add_name(alloc, &mut names, name)?;
+        add_name(alloc, &mut names, *name);
     }
-    Ok(names)
+    names
 }
 
 /// A function of core instance 0, lifted.
@@ -63,11 +60,11 @@ fn function(number: u32) -> Export {
     }
 }
 
-fn instance(alloc: Global, number: u32, names: &[Name]) -> Result<Export, NoMemory> {
-    Ok(Export::Instance {
+fn instance(alloc: Global, number: u32, names: &[Name]) -> Export {
+    Export::Instance {
         ty: TypeComponentInstanceIndex(number),
-        exports: names_of(alloc, names)?,
-    })
+        exports: names_of(alloc, names),
+    }
 }
 
 const TYPE: Export = Export::Type_(TypeDef::Interface(InterfaceType::Bool));
@@ -82,17 +79,20 @@ const IMPORTED: Export = Export::ModuleImport {
     import: RuntimeImportIndex(2),
 };
 
-/// An item of each kind, two of which are instances, and the only item of the smallest plan.
-impl Part for Export {
-    fn part(alloc: Global, number: u32) -> Result<Export, NoMemory> {
-        match number {
-            0 => Ok(TYPE),
-            1 => instance(alloc, 0, &INNER),
-            2 => Ok(STATIC),
-            3 => instance(alloc, 1, &OUTER),
-            4 => Ok(function(10)),
-            5 => Ok(IMPORTED),
-            _ => Ok(function(0)),
-        }
-    }
+/// The only item of the smallest plan.
+pub(crate) fn one_item(alloc: Global) -> Vec<Export> {
+    list(alloc, [function(0)])
+}
+
+/// An item of each kind, two of which are instances.
+pub(crate) fn all_items(alloc: Global) -> Vec<Export> {
+    let all = [
+        TYPE,
+        instance(alloc, 0, &INNER),
+        STATIC,
+        instance(alloc, 1, &OUTER),
+        function(10),
+        IMPORTED,
+    ];
+    list(alloc, all)
 }

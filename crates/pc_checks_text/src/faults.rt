@@ -17,8 +17,9 @@ const ITEM: Place = Place::Reading {
 
 const EXPORT: Place = Place::Export(0);
 
-/// A fault of each kind, with each kind of place.
-const FAULTS: [(Error, &str); 10] = [
+/// A fault of each kind, with each kind of place, and what isn't supported: in a list of payloads, and of an import or
+/// an export.
+static FAULTS: [(Error, &str); 24] = [
     (
         Error::Malformed(BODY),
         "fault malformed at payload 2 item 3\n",
@@ -50,114 +51,98 @@ const FAULTS: [(Error, &str); 10] = [
     ),
     (Error::TooManyInstances, "fault too-many-instances\n"),
     (Error::TooMany, "fault too-many\n"),
-];
-
-/// What isn't supported: in a list of payloads, and of an import or an export.
-const UNSUPPORTED: [(Unsupported, Place, &str); 14] = [
     (
-        Unsupported::Module,
-        BODY,
+        Error::Unsupported(Unsupported::Module, BODY),
         "fault unsupported module at payload 2 item 3\n",
     ),
     (
-        Unsupported::ThreadSpawn,
-        BODY,
+        Error::Unsupported(Unsupported::ThreadSpawn, BODY),
         "fault unsupported thread-spawn at payload 2 item 3\n",
     ),
     (
-        Unsupported::ContextGetType,
-        BODY,
+        Error::Unsupported(Unsupported::ContextGetType, BODY),
         "fault unsupported context-get-type at payload 2 item 3\n",
     ),
     (
-        Unsupported::ContextSetType,
-        BODY,
+        Error::Unsupported(Unsupported::ContextSetType, BODY),
         "fault unsupported context-set-type at payload 2 item 3\n",
     ),
     (
-        Unsupported::StreamForward,
-        BODY,
+        Error::Unsupported(Unsupported::StreamForward, BODY),
         "fault unsupported stream-forward at payload 2 item 3\n",
     ),
     (
-        Unsupported::FutureForward,
-        BODY,
+        Error::Unsupported(Unsupported::FutureForward, BODY),
         "fault unsupported future-forward at payload 2 item 3\n",
     ),
     (
-        Unsupported::StartSection,
-        BODY,
+        Error::Unsupported(Unsupported::StartSection, BODY),
         "fault unsupported start-section at payload 2 item 3\n",
     ),
     (
-        Unsupported::ComponentValue,
-        BODY,
+        Error::Unsupported(Unsupported::ComponentValue, BODY),
         "fault unsupported component-value at payload 2 item 3\n",
     ),
     (
-        Unsupported::NotBuilt,
-        BODY,
+        Error::Unsupported(Unsupported::NotBuilt, BODY),
         "fault unsupported not-built at payload 2 item 3\n",
     ),
     (
-        Unsupported::ComponentImport,
-        EXPORT,
+        Error::Unsupported(Unsupported::ComponentImport, EXPORT),
         "fault unsupported component-import at export 0\n",
     ),
     (
-        Unsupported::ReexportedFunction,
-        EXPORT,
+        Error::Unsupported(Unsupported::ReexportedFunction, EXPORT),
         "fault unsupported reexported-function at export 0\n",
     ),
     (
-        Unsupported::ReexportedIntrinsic,
-        EXPORT,
+        Error::Unsupported(Unsupported::ReexportedIntrinsic, EXPORT),
         "fault unsupported reexported-intrinsic at export 0\n",
     ),
     (
-        Unsupported::ReexportedIntrinsics,
-        EXPORT,
+        Error::Unsupported(Unsupported::ReexportedIntrinsics, EXPORT),
         "fault unsupported reexported-intrinsics at export 0\n",
     ),
     (
-        Unsupported::ExportedComponent,
-        EXPORT,
+        Error::Unsupported(Unsupported::ExportedComponent, EXPORT),
         "fault unsupported exported-component at export 0\n",
     ),
 ];
 
-const USAGE: &str = "usage: plan translate | plan context | plan facts | plan gen N\n";
+/// The texts that depend on nothing.
+static TEXTS: [&str; 4] = [
+    "fault not-json\n",
+    "fault bad-form\n",
+    "fault too-long\n",
+    "usage: plan translate | plan context | plan facts | plan gen N\n",
+];
 
 /// Whether a refusal has this text. That there was no memory has none.
-fn says(alloc: Global, e: Error, want: &str) -> bool {
+fn says(alloc: Global, e: &Error, want: &str) -> bool {
     match e {
         Error::NoMemory => false,
-        _ => match fault_text(alloc, &e) {
+        _ => match fault_text(alloc, e) {
             Ok(text) => text.as_slice() == want.as_bytes(),
             Err(_) => false,
         },
     }
 }
 
-#[test]
-fn every_fault_and_place(rt: HostRuntime) {
-    for (e, want) in FAULTS.iter() {
-        holds(&rt, want, says(rt.alloc(), *e, want));
-    }
+/// Whether the texts that depend on nothing are these.
+fn texts_are(texts: &[&str]) -> bool {
+    let all = [
+        not_json_text(),
+        bad_form_text(),
+        too_long_text(),
+        usage_text(),
+    ];
+    all.as_slice() == texts
 }
 
 #[test]
-fn every_unsupported_item(rt: HostRuntime) {
-    for (what, place, want) in UNSUPPORTED.iter() {
-        let e = Error::Unsupported(*what, *place);
+fn every_fault_and_place_and_unsupported_item_has_its_line(rt: HostRuntime) {
+    for (e, want) in FAULTS.iter() {
         holds(&rt, want, says(rt.alloc(), e, want));
     }
-}
-
-#[test]
-fn texts_that_depend_on_nothing(rt: HostRuntime) {
-    holds(&rt, "not JSON", not_json_text() == "fault not-json\n");
-    holds(&rt, "bad form", bad_form_text() == "fault bad-form\n");
-    holds(&rt, "too long", too_long_text() == "fault too-long\n");
-    holds(&rt, "usage", usage_text() == USAGE);
+    holds(&rt, "the texts that depend on nothing", texts_are(&TEXTS));
 }

@@ -1,7 +1,7 @@
 //! The modules of the plans that are printed.
 
-use crate::parts::Part;
-use pc_entity::{FuncIndex, ModuleInternedTypeIndex, NoMemory, RuntimeComponentInstanceIndex, Seq};
+use crate::parts::{list, values};
+use pc_entity::{FuncIndex, ModuleInternedTypeIndex, RuntimeComponentInstanceIndex, Seq};
 use pc_info::{AdapterRecord, ModuleTranslation, SideRecord};
 use pc_types::{ModuleRecord, StringEncoding, TypeFuncIndex};
 use std::alloc::Global;
@@ -32,21 +32,38 @@ const LOWER: SideRecord = SideRecord {
     realloc: None,
 };
 
-fn adapter(number: u32, func: u32, callee: u32) -> AdapterRecord {
-    AdapterRecord {
-        adapter: number,
-        func: FuncIndex(func),
-        callee,
-        lift_ty: TypeFuncIndex(0),
-        lower_ty: TypeFuncIndex(0),
-        lift: LIFT,
-        lower: LOWER,
-    }
-}
+const ADAPTER: AdapterRecord = AdapterRecord {
+    adapter: 0,
+    func: FuncIndex(14),
+    callee: 15,
+    lift_ty: TypeFuncIndex(0),
+    lower_ty: TypeFuncIndex(0),
+    lift: LIFT,
+    lower: LOWER,
+};
 
-fn translation(alloc: Global, adapters: &[AdapterRecord]) -> Result<ModuleTranslation, NoMemory> {
-    let adapters = Vec::from_slice(alloc, adapters)?;
-    Ok(ModuleTranslation {
+/// The adapters of the second module, whose numbers don't follow the order of the modules.
+static TWO: [AdapterRecord; 2] = [
+    AdapterRecord {
+        adapter: 2,
+        func: FuncIndex(10),
+        callee: 11,
+        ..ADAPTER
+    },
+    AdapterRecord {
+        adapter: 1,
+        func: FuncIndex(12),
+        callee: 13,
+        ..ADAPTER
+    },
+];
+
+/// The adapter of the third module.
+static ONE: [AdapterRecord; 1] = [ADAPTER];
+
+/// A module with these adapters.
+fn module(alloc: Global, adapters: &[AdapterRecord]) -> ModuleTranslation {
+    ModuleTranslation {
         module: ModuleRecord {
             imports: Seq::new(alloc),
             funcs: Seq::new(alloc),
@@ -56,17 +73,17 @@ fn translation(alloc: Global, adapters: &[AdapterRecord]) -> Result<ModuleTransl
             tags: 0,
             exports: Seq::new(alloc),
         },
-        adapters: Seq::from_vec(adapters),
-    })
+        adapters: Seq::from_vec(values(alloc, adapters)),
+    }
 }
 
-/// A module that was handed in, and two of adapters, whose numbers don't follow the order of the modules.
-impl Part for ModuleTranslation {
-    fn part(alloc: Global, number: u32) -> Result<ModuleTranslation, NoMemory> {
-        match number {
-            0 => translation(alloc, &[]),
-            1 => translation(alloc, &[adapter(2, 10, 11), adapter(1, 12, 13)]),
-            _ => translation(alloc, &[adapter(0, 14, 15)]),
-        }
-    }
+/// A module that was handed in.
+pub(crate) fn one_module(alloc: Global) -> Vec<ModuleTranslation> {
+    list(alloc, [module(alloc, &[])])
+}
+
+/// A module that was handed in, and two of adapters.
+pub(crate) fn all_modules(alloc: Global) -> Vec<ModuleTranslation> {
+    let all = [module(alloc, &[]), module(alloc, &TWO), module(alloc, &ONE)];
+    list(alloc, all)
 }

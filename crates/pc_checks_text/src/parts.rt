@@ -1,46 +1,30 @@
-//! Lists of the parts of a plan, each of which is made by its number.
+//! Texts, lists and maps for the plans that are printed. What there is no memory for is left out, and then the text of
+//! the plan is another one.
 
-use pc_entity::{EntityRef, NoMemory, PrimaryMap, Text, TextMap};
+use pc_entity::{EntityRef, PrimaryMap, Text, TextMap};
 use std::alloc::Global;
-use std::ops::Range;
 
-/// What a plan is made of.
-pub(crate) trait Part: Drop {
-    /// The part of this number.
-    fn part(alloc: Global, number: u32) -> Result<Self, NoMemory>;
+/// This text.
+pub(crate) fn text(alloc: Global, text: &str) -> Text {
+    Text::copy_of(alloc, text).unwrap_or(Text::new(alloc))
 }
 
-/// The parts of these numbers.
-pub(crate) fn parts<T: Part>(alloc: Global, numbers: Range<u32>) -> Result<Vec<T>, NoMemory> {
-    let mut all = Vec::new(alloc);
-    for number in numbers {
-        all.push(T::part(alloc, number)?)?;
-    }
-    Ok(all)
-}
-
-/// The parts of these numbers, under keys.
-pub(crate) fn entries<K: EntityRef, T: Part>(
-    alloc: Global,
-    numbers: Range<u32>,
-) -> Result<PrimaryMap<K, T>, NoMemory> {
-    Ok(PrimaryMap::from_vec(parts(alloc, numbers)?))
+/// These values.
+pub(crate) fn values<T: Copy>(alloc: Global, values: &[T]) -> Vec<T> {
+    Vec::from_slice(alloc, values).unwrap_or(Vec::new(alloc))
 }
 
 /// These values, under keys.
-pub(crate) fn copied<K: EntityRef, T: Copy>(
-    alloc: Global,
-    values: &[T],
-) -> Result<PrimaryMap<K, T>, NoMemory> {
-    Ok(PrimaryMap::from_vec(Vec::from_slice(alloc, values)?))
+pub(crate) fn copied<K: EntityRef, T: Copy>(alloc: Global, all: &[T]) -> PrimaryMap<K, T> {
+    PrimaryMap::from_vec(values(alloc, all))
 }
 
-/// Parts under names, each with its number.
-pub(crate) fn named<T: Part>(alloc: Global, names: &[(&str, u32)]) -> Result<TextMap<T>, NoMemory> {
-    let mut map = TextMap::new(alloc);
-    for (name, number) in names.iter() {
-        let part = T::part(alloc, *number)?;
-        map.insert(Text::copy_of(alloc, name)?, part)?;
-    }
-    Ok(map)
+/// These values, none of which is copied.
+pub(crate) fn list<T: Drop, const N: usize>(alloc: Global, all: [T; N]) -> Vec<T> {
+    Vec::from_array(alloc, all).unwrap_or(Vec::new(alloc))
+}
+
+/// Puts a value under a name.
+pub(crate) fn put<T: Drop>(alloc: Global, map: &mut TextMap<T>, name: &str, value: T) {
+    let _ = map.insert(text(alloc, name), value);
 }

@@ -1,20 +1,21 @@
 //! The texts of two plans, after the format of the texts.
 
-use crate::exports::{ALL, Name, ONE, names_of};
+use crate::exports::{ALL, ONE, all_items, names_of, one_item};
 use crate::held::has_items;
-use crate::imports::add_imports;
-use crate::parts::{copied, entries, parts};
-use crate::settings::{BOTH, PLAIN};
+use crate::imports::{RESOURCES, import_types, imports};
+use crate::modules::{all_modules, one_module};
+use crate::parts::copied;
+use crate::settings::{BOTH, SINGLE};
+use crate::steps::{all_steps, one_step};
 use crate::support::holds;
-use crate::trampolines::{TRAMPOLINES, intrinsics};
-use pc_entity::{NoMemory, PrimaryMap, Seq, StaticModuleIndex};
-use pc_info::{CanonicalOptions, Component, ComponentTranslation, ModuleTranslation};
+use crate::trampolines::{INTRINSICS, TRAMPOLINES};
+use pc_entity::{PrimaryMap, StaticModuleIndex};
+use pc_info::{Component, ComponentTranslation, ModuleTranslation, Trampoline};
 use pc_text::plan_text;
 use std::alloc::Global;
-use std::ops::Range;
 
 /// The text of a plan with one module and one lifted export.
-const SMALLEST: &str = "plan 1
+static SMALLEST: &str = "plan 1
 modules 1 0
 counts 1 1 0 0 0 0 0 0 0 0 0 0
 init static 0 0 []
@@ -23,7 +24,7 @@ export \"f\" lifted export(0 func 0) options 0
 ";
 
 /// The text of a plan with each kind of line.
-const EVERY_LINE: &str = "plan 1
+static EVERY_LINE: &str = "plan 1
 modules 1 2
 counts 1 2 3 4 5 6 7 8 9 10 11 12
 import-type 0 \"f\" func
@@ -67,91 +68,84 @@ export \"i\" \"l\" module-static 1
 export \"m\" module-import 2
 ";
 
-/// Whether a plan has this text.
-fn says(
+/// The smallest plan that does something.
+fn smallest(alloc: Global) -> Component {
+    let mut plan = Component::new(alloc);
+    plan.num_runtime_instances = 1;
+    plan.num_runtime_component_instances = 1;
+    plan.initializers = one_step(alloc);
+    plan.options = copied(alloc, &SINGLE);
+    plan.export_items = PrimaryMap::from_vec(one_item(alloc));
+    plan.exports = names_of(alloc, &ONE);
+    plan
+}
+
+/// A plan with each kind of line, in which each count has a number of its own.
+fn every_line(alloc: Global) -> Component {
+    let unsafe_intrinsics = INTRINSICS;
+    Component {
+        import_types: import_types(alloc),
+        imports: imports(alloc),
+        exports: names_of(alloc, &ALL),
+        export_items: PrimaryMap::from_vec(all_items(alloc)),
+        initializers: all_steps(alloc),
+        num_runtime_instances: 1,
+        num_runtime_component_instances: 2,
+        num_lowerings: 3,
+        num_runtime_memories: 4,
+        num_runtime_tables: 5,
+        num_runtime_reallocs: 6,
+        num_runtime_callbacks: 7,
+        num_runtime_post_returns: 8,
+        num_resources: 9,
+        num_future_tables: 10,
+        num_stream_tables: 11,
+        num_error_context_tables: 12,
+        trampolines: PrimaryMap::new(alloc),
+        unsafe_intrinsics,
+        imported_resources: copied(alloc, &RESOURCES),
+        defined_resource_instances: PrimaryMap::new(alloc),
+        options: copied(alloc, &BOTH),
+    }
+}
+
+/// Whether a plan with its modules has this text.
+fn is_printed(
     alloc: Global,
     t: &ComponentTranslation,
     modules: &PrimaryMap<StaticModuleIndex, ModuleTranslation>,
     want: &str,
-) -> Result<bool, NoMemory> {
+) -> bool {
     if !has_items(&t.component) {
-        return Ok(false);
+        return false;
     }
-    let text = plan_text(alloc, t, modules)?;
-    Ok(text.as_slice() == want.as_bytes())
+    match plan_text(alloc, t, modules) {
+        Ok(text) => text.as_slice() == want.as_bytes(),
+        Err(_) => false,
+    }
 }
 
-/// Fills a plan with steps, options, and exports by their items and names.
-fn fill(
+/// Whether a plan with its trampolines and modules has this text.
+fn says(
     alloc: Global,
-    plan: &mut Component,
-    steps: Range<u32>,
-    options: &[CanonicalOptions],
-    items: Range<u32>,
-    names: &[Name],
-) -> Result<(), NoMemory> {
-    plan.initializers = Seq::from_vec(parts(alloc, steps)?);
-    plan.options = copied(alloc, options)?;
-    plan.export_items = entries(alloc, items)?;
-    plan.exports = names_of(alloc, names)?;
-    Ok(())
-}
-
-/// The smallest plan that does something.
-fn smallest(alloc: Global) -> Result<Component, NoMemory> {
-    let mut plan = Component::new(alloc);
-    plan.num_runtime_instances = 1;
-    plan.num_runtime_component_instances = 1;
-    fill(alloc, &mut plan, 10..11, &[PLAIN], 6..7, &ONE)?;
-    Ok(plan)
-}
-
-fn says_smallest(alloc: Global) -> Result<bool, NoMemory> {
+    component: Component,
+    trampolines: &[Trampoline],
+    modules: Vec<ModuleTranslation>,
+    want: &str,
+) -> bool {
     let t = ComponentTranslation {
-        component: smallest(alloc)?,
-        trampolines: PrimaryMap::new(alloc),
+        component,
+        trampolines: copied(alloc, trampolines),
     };
-    says(alloc, &t, &entries(alloc, 0..1)?, SMALLEST)
-}
-
-/// Gives each count a number of its own.
-fn set_counts(plan: &mut Component) {
-    plan.num_runtime_instances = 1;
-    plan.num_runtime_component_instances = 2;
-    plan.num_lowerings = 3;
-    plan.num_runtime_memories = 4;
-    plan.num_runtime_tables = 5;
-    plan.num_runtime_reallocs = 6;
-    plan.num_runtime_callbacks = 7;
-    plan.num_runtime_post_returns = 8;
-    plan.num_resources = 9;
-    plan.num_future_tables = 10;
-    plan.num_stream_tables = 11;
-    plan.num_error_context_tables = 12;
-}
-
-/// A plan with each kind of line.
-fn every_line(alloc: Global) -> Result<Component, NoMemory> {
-    let mut plan = Component::new(alloc);
-    set_counts(&mut plan);
-    plan.unsafe_intrinsics = intrinsics();
-    add_imports(alloc, &mut plan)?;
-    fill(alloc, &mut plan, 0..10, &BOTH, 0..6, &ALL)?;
-    Ok(plan)
-}
-
-fn says_every_line(alloc: Global) -> Result<bool, NoMemory> {
-    let t = ComponentTranslation {
-        component: every_line(alloc)?,
-        trampolines: copied(alloc, &TRAMPOLINES)?,
-    };
-    says(alloc, &t, &entries(alloc, 0..3)?, EVERY_LINE)
+    is_printed(alloc, &t, &PrimaryMap::from_vec(modules), want)
 }
 
 #[test]
 fn plans_are_printed(rt: HostRuntime) {
-    let smallest = says_smallest(rt.alloc()).unwrap_or(false);
-    holds(&rt, "one module and one lifted export", smallest);
-    let every_line = says_every_line(rt.alloc()).unwrap_or(false);
-    holds(&rt, "each kind of line", every_line);
+    let alloc = rt.alloc();
+    let is_small = says(alloc, smallest(alloc), &[], one_module(alloc), SMALLEST);
+    holds(&rt, "one module and one lifted export", is_small);
+    let (plan, modules) = (every_line(alloc), all_modules(alloc));
+    let is_whole = says(alloc, plan, &TRAMPOLINES, modules, EVERY_LINE);
+    holds(&rt, "each kind of line", is_whole);
 }

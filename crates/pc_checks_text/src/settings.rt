@@ -1,7 +1,8 @@
 //! Options and extern data of the plans that are printed.
 
+use crate::parts::text;
 use pc_entity::{
-    NoMemory, RuntimeCallbackIndex, RuntimeComponentInstanceIndex, RuntimeMemoryIndex,
+    RuntimeCallbackIndex, RuntimeComponentInstanceIndex, RuntimeMemoryIndex,
     RuntimePostReturnIndex, RuntimeReallocIndex, Text,
 };
 use pc_info::{CanonicalOptions, CanonicalOptionsDataModel, LinearMemoryOptions};
@@ -9,7 +10,7 @@ use pc_types::{ComponentExternData, ModuleInternedTypeIndex, StringEncoding};
 use std::alloc::Global;
 
 /// Options of linear memory, without slots.
-pub(crate) const PLAIN: CanonicalOptions = CanonicalOptions {
+const PLAIN: CanonicalOptions = CanonicalOptions {
     instance: RuntimeComponentInstanceIndex(0),
     string_encoding: StringEncoding::Utf8,
     callback: None,
@@ -22,8 +23,11 @@ pub(crate) const PLAIN: CanonicalOptions = CanonicalOptions {
     }),
 };
 
+/// Options without slots.
+pub(crate) static SINGLE: [CanonicalOptions; 1] = [PLAIN];
+
 /// Options with each slot, and options of the managed heap.
-pub(crate) const BOTH: [CanonicalOptions; 2] = [
+pub(crate) static BOTH: [CanonicalOptions; 2] = [
     CanonicalOptions {
         instance: RuntimeComponentInstanceIndex(9),
         string_encoding: StringEncoding::Utf16,
@@ -44,23 +48,18 @@ pub(crate) const BOTH: [CanonicalOptions; 2] = [
 ];
 
 /// A text, or none where it is empty.
-fn some_text(alloc: Global, text: &str) -> Result<Option<Text>, NoMemory> {
-    if text.is_empty() {
-        Ok(None)
+fn some_text(alloc: Global, name: &str) -> Option<Text> {
+    if name.is_empty() {
+        None
     } else {
-        Ok(Some(Text::copy_of(alloc, text)?))
+        Some(text(alloc, name))
     }
 }
 
 /// An interface and an id, which are none where they are empty.
-pub(crate) fn extern_data(
-    alloc: Global,
-    [implements, id]: [&str; 2],
-) -> Result<ComponentExternData, NoMemory> {
-    let implements = some_text(alloc, implements)?;
-    let external_id = some_text(alloc, id)?;
-    Ok(ComponentExternData {
-        implements,
-        external_id,
-    })
+pub(crate) fn extern_data(alloc: Global, [implements, id]: [&str; 2]) -> ComponentExternData {
+    ComponentExternData {
+        implements: some_text(alloc, implements),
+        external_id: some_text(alloc, id),
+    }
 }

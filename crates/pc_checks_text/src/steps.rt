@@ -1,11 +1,11 @@
 //! The steps of the plans that are printed.
 
-use crate::parts::{Part, named, parts};
+use crate::parts::{list, put, text};
 use pc_entity::{
-    DefinedResourceIndex, EntityIndex, FuncIndex, GlobalIndex, LoweredIndex, MemoryIndex, NoMemory,
+    DefinedResourceIndex, EntityIndex, FuncIndex, GlobalIndex, LoweredIndex, MemoryIndex,
     RuntimeCallbackIndex, RuntimeComponentInstanceIndex, RuntimeImportIndex, RuntimeInstanceIndex,
     RuntimeMemoryIndex, RuntimePostReturnIndex, RuntimeReallocIndex, RuntimeTableIndex, Seq,
-    StaticModuleIndex, TableIndex, TagIndex, Text, TextMap, TrampolineIndex,
+    StaticModuleIndex, TableIndex, TagIndex, TextMap, TrampolineIndex,
 };
 use pc_info::{
     CoreDef, CoreExport, ExportItem, ExtractCallback, ExtractMemory, ExtractPostReturn,
@@ -21,63 +21,66 @@ fn entity(instance: u32, entity: EntityIndex) -> CoreDef {
     })
 }
 
+/// The flags of a component instance.
+fn flags(instance: u32) -> CoreDef {
+    CoreDef::InstanceFlags(RuntimeComponentInstanceIndex(instance))
+}
+
+/// A trampoline.
+fn trampoline(number: u32) -> CoreDef {
+    CoreDef::Trampoline(TrampolineIndex(number))
+}
+
 /// An item that is known by its name.
-fn by_name<T>(alloc: Global, instance: u32, name: &str) -> Result<CoreExport<T>, NoMemory> {
-    Ok(CoreExport {
+fn by_name<T>(alloc: Global, instance: u32, name: &str) -> CoreExport<T> {
+    CoreExport {
         instance: RuntimeInstanceIndex(instance),
-        item: ExportItem::Name(Text::copy_of(alloc, name)?),
-    })
-}
-
-/// The definitions that take no memory.
-fn plain_def(number: u32) -> CoreDef {
-    match number {
-        0 => entity(0, EntityIndex::Table(TableIndex(1))),
-        1 => entity(1, EntityIndex::Memory(MemoryIndex(2))),
-        2 => entity(2, EntityIndex::Global(GlobalIndex(3))),
-        3 => entity(3, EntityIndex::Tag(TagIndex(4))),
-        5 => CoreDef::InstanceFlags(RuntimeComponentInstanceIndex(5)),
-        7 => CoreDef::UnsafeIntrinsic(UnsafeIntrinsic::U8NativeLoad),
-        9 => CoreDef::InstanceFlags(RuntimeComponentInstanceIndex(9)),
-        _ => CoreDef::Trampoline(TrampolineIndex(number)),
+        item: ExportItem::Name(text(alloc, name)),
     }
 }
 
-/// The first eight are an argument of each kind, one of which has a name with all that is escaped. Of the next three
-/// each has its number in it.
-impl Part for CoreDef {
-    fn part(alloc: Global, number: u32) -> Result<CoreDef, NoMemory> {
-        match number {
-            4 => Ok(CoreDef::Export(by_name(alloc, 4294967295, "a\"b\\c\nd")?)),
-            _ => Ok(plain_def(number)),
-        }
-    }
-}
+const INTRINSIC: CoreDef = CoreDef::UnsafeIntrinsic(UnsafeIntrinsic::U8NativeLoad);
 
-/// The arguments of each module name.
-impl Part for TextMap<CoreDef> {
-    fn part(alloc: Global, number: u32) -> Result<TextMap<CoreDef>, NoMemory> {
-        match number {
-            0 => Ok(TextMap::new(alloc)),
-            1 => named(alloc, &[("a", 8), ("b", 9)]),
-            _ => named(alloc, &[("c", 10)]),
-        }
-    }
+/// An argument of each kind, one of which has a name with all that is escaped.
+fn arguments(alloc: Global) -> Seq<CoreDef> {
+    let all = [
+        entity(0, EntityIndex::Table(TableIndex(1))),
+        entity(1, EntityIndex::Memory(MemoryIndex(2))),
+        entity(2, EntityIndex::Global(GlobalIndex(3))),
+        entity(3, EntityIndex::Tag(TagIndex(4))),
+        CoreDef::Export(by_name(alloc, 4294967295, "a\"b\\c\nd")),
+        flags(5),
+        trampoline(6),
+        INTRINSIC,
+    ];
+    Seq::from_vec(list(alloc, all))
 }
 
 /// A module that was handed in, with an argument of each kind.
-fn handed_in(alloc: Global) -> Result<GlobalInitializer, NoMemory> {
-    let arguments = Seq::from_vec(parts(alloc, 0..8)?);
-    let source = InstantiateModule::Static(StaticModuleIndex(7), arguments);
-    Ok(GlobalInitializer::InstantiateModule(source, None))
+fn handed_in(alloc: Global) -> GlobalInitializer {
+    let source = InstantiateModule::Static(StaticModuleIndex(7), arguments(alloc));
+    GlobalInitializer::InstantiateModule(source, None)
 }
 
-/// A module of the host with three arguments, two of which have one module name; a third module name has none.
-fn imported(alloc: Global) -> Result<GlobalInitializer, NoMemory> {
-    let arguments = named(alloc, &[("none", 0), ("m", 1), ("n", 2)])?;
-    let source = InstantiateModule::Import(RuntimeImportIndex(1), arguments);
+/// Three arguments, two of which have one module name; a third module name has none.
+fn named_arguments(alloc: Global) -> TextMap<TextMap<CoreDef>> {
+    let mut two = TextMap::new(alloc);
+    put(alloc, &mut two, "a", trampoline(8));
+    put(alloc, &mut two, "b", flags(9));
+    let mut one = TextMap::new(alloc);
+    put(alloc, &mut one, "c", trampoline(10));
+    let mut all = TextMap::new(alloc);
+    put(alloc, &mut all, "none", TextMap::new(alloc));
+    put(alloc, &mut all, "m", two);
+    put(alloc, &mut all, "n", one);
+    all
+}
+
+/// A module of the host with three arguments.
+fn imported(alloc: Global) -> GlobalInitializer {
+    let source = InstantiateModule::Import(RuntimeImportIndex(1), named_arguments(alloc));
     let instance = Some(RuntimeComponentInstanceIndex(2));
-    Ok(GlobalInitializer::InstantiateModule(source, instance))
+    GlobalInitializer::InstantiateModule(source, instance)
 }
 
 /// A module that was handed in, with no arguments.
@@ -87,18 +90,18 @@ fn without_arguments(alloc: Global) -> GlobalInitializer {
     GlobalInitializer::InstantiateModule(source, instance)
 }
 
-fn post_return(alloc: Global) -> Result<GlobalInitializer, NoMemory> {
-    Ok(GlobalInitializer::ExtractPostReturn(ExtractPostReturn {
+fn post_return(alloc: Global) -> GlobalInitializer {
+    GlobalInitializer::ExtractPostReturn(ExtractPostReturn {
         index: RuntimePostReturnIndex(10),
-        def: CoreDef::Export(by_name(alloc, 11, "p")?),
-    }))
+        def: CoreDef::Export(by_name(alloc, 11, "p")),
+    })
 }
 
-fn table(alloc: Global) -> Result<GlobalInitializer, NoMemory> {
-    Ok(GlobalInitializer::ExtractTable(ExtractTable {
+fn table(alloc: Global) -> GlobalInitializer {
+    GlobalInitializer::ExtractTable(ExtractTable {
         index: RuntimeTableIndex(12),
-        export: by_name(alloc, 13, "t")?,
-    }))
+        export: by_name(alloc, 13, "t"),
+    })
 }
 
 const LOWERED: GlobalInitializer = GlobalInitializer::LowerImport {
@@ -143,21 +146,24 @@ const RESOURCE: GlobalInitializer = GlobalInitializer::Resource(Resource {
     instance: RuntimeComponentInstanceIndex(18),
 });
 
-/// A step of each kind, and the only step of the smallest plan.
-impl Part for GlobalInitializer {
-    fn part(alloc: Global, number: u32) -> Result<GlobalInitializer, NoMemory> {
-        match number {
-            0 => handed_in(alloc),
-            1 => imported(alloc),
-            2 => Ok(LOWERED),
-            3 => Ok(MEMORY),
-            4 => Ok(REALLOC),
-            5 => Ok(CALLBACK),
-            6 => post_return(alloc),
-            7 => table(alloc),
-            8 => Ok(PLAIN_RESOURCE),
-            9 => Ok(RESOURCE),
-            _ => Ok(without_arguments(alloc)),
-        }
-    }
+/// The only step of the smallest plan.
+pub(crate) fn one_step(alloc: Global) -> Seq<GlobalInitializer> {
+    Seq::from_vec(list(alloc, [without_arguments(alloc)]))
+}
+
+/// A step of each kind.
+pub(crate) fn all_steps(alloc: Global) -> Seq<GlobalInitializer> {
+    let all = [
+        handed_in(alloc),
+        imported(alloc),
+        LOWERED,
+        MEMORY,
+        REALLOC,
+        CALLBACK,
+        post_return(alloc),
+        table(alloc),
+        PLAIN_RESOURCE,
+        RESOURCE,
+    ];
+    Seq::from_vec(list(alloc, all))
 }

@@ -8,7 +8,7 @@ use pc_info::{FixedEncoding, Trampoline, Transcode, Trap};
 use pc_types::{TypeFuncIndex, TypeResourceTableIndex, TypeStreamTableIndex};
 
 /// Trampolines of each shape.
-pub(crate) const TRAMPOLINES: [Trampoline; 7] = [
+pub(crate) static TRAMPOLINES: [Trampoline; 7] = [
     Trampoline::LowerImport {
         index: LoweredIndex(3),
         lower_ty: TypeFuncIndex(0),
@@ -42,10 +42,13 @@ pub(crate) const TRAMPOLINES: [Trampoline; 7] = [
     Trampoline::Trap(Trap(1)),
 ];
 
+/// The signature of an intrinsic that isn't used.
+const N: PackedOption<ModuleInternedTypeIndex> = PackedOption::None;
+
+/// The signature of an intrinsic that is used.
+const U: PackedOption<ModuleInternedTypeIndex> = PackedOption::Some(ModuleInternedTypeIndex(0));
+
 /// The signatures of two intrinsics, the second of which is the last of all.
-pub(crate) fn intrinsics() -> [PackedOption<ModuleInternedTypeIndex>; 21] {
-    let mut signatures = [PackedOption::None; 21];
-    signatures[1] = PackedOption::Some(ModuleInternedTypeIndex(0));
-    signatures[20] = PackedOption::Some(ModuleInternedTypeIndex(0));
-    signatures
-}
+pub(crate) static INTRINSICS: [PackedOption<ModuleInternedTypeIndex>; 21] = [
+    N, U, N, N, N, N, N, N, N, N, N, N, N, N, N, N, N, N, N, N, U,
+];

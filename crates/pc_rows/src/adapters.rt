@@ -1,13 +1,12 @@
 //! Functions that go from one component to another. The lowering of one that was lifted isn't built yet.
 
-use crate::inputs::{are_refused, is_answered};
+use crate::inputs::{ALONE, are_refused, holds, is_answered};
 use pc_tool::Status;
 use std::alloc::{AllocError, Global};
-use std::test::Fail;
 
 /// Lowered functions of components, in each place where a function can stand, and where the lowering is told. One is
 /// over a table with a resource, and is refused as a whole.
-const ADAPTERS: [(&str, &str); 6] = [
+static ADAPTERS: [(&str, &str); 6] = [
     // async lower
     (
         r#"{"limit":100,"intrinsics":null,"types":{"core":[[["i32"],["i32"]]],
@@ -124,7 +123,7 @@ const ADAPTERS: [(&str, &str); 6] = [
 ];
 
 /// The payloads of an input with two adapters.
-const TWO_ADAPTERS: [&str; 20] = [
+static TWO_ADAPTERS: [&str; 20] = [
     r#""version""#,
     r#""component""#,
     r#""version""#,
@@ -160,26 +159,30 @@ fn prefix(alloc: Global, count: usize) -> Result<String, AllocError> {
     [TYPES, payloads.as_str(), "]}"].join(alloc, "")
 }
 
-/// Whether this many payloads end too early.
-fn ends_too_early(alloc: Global, count: usize) -> Result<bool, AllocError> {
+/// Whether the first so many payloads are refused with this text.
+fn is_refused(alloc: Global, count: usize, fault: &str) -> Result<bool, AllocError> {
     let input = prefix(alloc, count)?;
+    is_answered(alloc, "translate", &input, Status::Refused, fault)
+}
+
+/// Whether the first so many payloads are refused at their end.
+fn ends_too_early(alloc: Global, count: usize) -> Result<bool, AllocError> {
     let fault = format!(in alloc; "fault malformed at payload {count} item 0\n")?;
-    is_answered(alloc, "translate", &input, Status::Refused, &fault)
+    is_refused(alloc, count, &fault)
 }
 
 #[test]
-fn adapters_are_not_built(rt: HostRuntime) -> Result<(), Fail> {
-    are_refused(&rt, rt.alloc(), &ADAPTERS)?;
-    let two_adapters = prefix(rt.alloc(), 20)?;
+fn adapters_are_not_built(rt: HostRuntime) {
+    are_refused(&rt, rt.alloc(), ALONE, &ADAPTERS);
     let fault = "fault unsupported not-built at instance 3 item 2\n";
-    are_refused(&rt, rt.alloc(), &[(&two_adapters, fault)])?;
-    Ok(())
+    let is_so = is_refused(rt.alloc(), 20, fault).unwrap_or(false);
+    holds(&rt, "two adapters", is_so);
 }
 
 #[test]
-fn each_prefix_ends_too_early(rt: HostRuntime) -> Result<(), Fail> {
+fn each_prefix_ends_too_early(rt: HostRuntime) {
     for count in 0..20 {
-        assert!(rt; ends_too_early(rt.alloc(), count)?, "{count}");
+        let is_so = ends_too_early(rt.alloc(), count).unwrap_or(false);
+        holds(&rt, "the first payloads", is_so);
     }
-    Ok(())
 }

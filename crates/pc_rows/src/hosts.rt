@@ -1,10 +1,9 @@
 //! What the host gives besides functions, built-in functions and intrinsics. None is translated yet.
 
-use crate::inputs::{are_not_built, are_refused};
-use std::test::Fail;
+use crate::inputs::{ALONE, are_not_built, are_refused};
 
 /// Imports of the root that are no functions, told at their place.
-const IMPORTS: [(&str, &str); 2] = [
+static IMPORTS: [(&str, &str); 2] = [
     (
         r#"{"limit":100,"intrinsics":null,"types":{"core":[],
            "types":[{"module":[[["e","m",["memory",false]]],[["g",["table"]]]]},{"module":[[],[]]}]},
@@ -23,14 +22,14 @@ const IMPORTS: [(&str, &str); 2] = [
 ];
 
 /// An import with a resource, which is refused as a whole.
-const RESOURCES: [(&str, &str); 1] = [(
+static RESOURCES: [(&str, &str); 1] = [(
     "host resource",
     r#"{"limit":100,"intrinsics":null,"types":{"core":[],"types":["resource",{"instance":[["r",["type",0]]]}]},
            "payloads":["version",{"imports":[["i",["instance",1]]]},"end"]}"#,
 )];
 
 /// Built-in functions, resources and the unsafe intrinsics.
-const BUILTINS: [(&str, &str); 5] = [
+static BUILTINS: [(&str, &str); 5] = [
     (
         "intrinsic aliased",
         r#"{"limit":100,"intrinsics":"i","types":{"core":[],
@@ -123,7 +122,7 @@ const BUILTINS: [(&str, &str); 5] = [
 ];
 
 /// An import of the intrinsics in which one has another type.
-const INTRINSIC_OF_ANOTHER_TYPE: [(&str, &str); 1] = [(
+static INTRINSIC_OF_ANOTHER_TYPE: [(&str, &str); 1] = [(
     r#"{"limit":100,"intrinsics":"i","types":{"core":[],
            "types":[{"func":{"params":[["a","u32"]],"result":"u8","async":false}},
            {"instance":[["u8-native-load",["func",0]]]}]},"payloads":["version",{"imports":[["i",["instance",1]]]},
@@ -132,10 +131,9 @@ const INTRINSIC_OF_ANOTHER_TYPE: [(&str, &str); 1] = [(
 )];
 
 #[test]
-fn hosts_and_builtins_are_not_built(rt: HostRuntime) -> Result<(), Fail> {
-    are_refused(&rt, rt.alloc(), &INTRINSIC_OF_ANOTHER_TYPE)?;
-    are_refused(&rt, rt.alloc(), &IMPORTS)?;
-    are_not_built(&rt, rt.alloc(), &RESOURCES)?;
-    are_not_built(&rt, rt.alloc(), &BUILTINS)?;
-    Ok(())
+fn hosts_and_builtins_are_not_built(rt: HostRuntime) {
+    are_refused(&rt, rt.alloc(), ALONE, &INTRINSIC_OF_ANOTHER_TYPE);
+    are_refused(&rt, rt.alloc(), ALONE, &IMPORTS);
+    are_not_built(&rt, rt.alloc(), &RESOURCES);
+    are_not_built(&rt, rt.alloc(), &BUILTINS);
 }

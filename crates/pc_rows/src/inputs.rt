@@ -89,6 +89,19 @@ fn runs_to(
         && (src.faults(), out.faults()) == (want.read_faults, want.write_faults)
 }
 
+/// Whether a run of these words over bytes comes to this.
+fn ends_in(
+    alloc: Global,
+    words: &[String],
+    bytes: &[u8],
+    ends: &Ends,
+    want: &Ran<'_>,
+) -> Result<bool, AllocError> {
+    let mut src = source(alloc, bytes, ends)?;
+    let mut out = sink(alloc, ends)?;
+    Ok(runs_to(alloc, words, &mut src, &mut out, want))
+}
+
 /// Whether a run of words over bytes comes to this.
 pub(crate) fn comes_to(
     alloc: Global,
@@ -98,9 +111,7 @@ pub(crate) fn comes_to(
     want: &Ran<'_>,
 ) -> Result<bool, AllocError> {
     let words = words(alloc, text)?;
-    let mut src = source(alloc, bytes, ends)?;
-    let mut out = sink(alloc, ends)?;
-    Ok(runs_to(alloc, words.as_slice(), &mut src, &mut out, want))
+    ends_in(alloc, words.as_slice(), bytes, ends, want)
 }
 
 /// Whether a command ends with this status for an input that is read whole, and writes this text.
@@ -121,97 +132,77 @@ pub(crate) fn is_answered(
     comes_to(alloc, command, input.as_bytes(), &WHOLE, &want)
 }
 
-/// Checks that each input has the plan beside it.
-pub(crate) fn are_planned(
-    rt: &impl Abort,
-    alloc: Global,
-    rows: &[(&str, &str)],
-) -> Result<(), AllocError> {
-    for (input, plan) in rows {
-        assert!(rt;
-            is_answered(alloc, "translate", input, Status::Done, plan)?,
-            "{input}"
-        );
-    }
-    Ok(())
+/// What stands before and behind a text to make an input of it.
+#[derive(Clone, Copy)]
+pub(crate) struct Around {
+    pub(crate) before: &'static str,
+    pub(crate) after: &'static str,
 }
 
-/// Checks that each input is refused with the text beside it.
-pub(crate) fn are_refused(
+/// The text is the input.
+pub(crate) const ALONE: Around = Around {
+    before: "",
+    after: "",
+};
+
+/// Payloads. The type table has an empty instance type.
+pub(crate) const PAYLOADS: Around = Around {
+    before: r#"{"limit":100,"intrinsics":null,"types":{"core":[],"types":[{"instance":[]}]},"payloads":["#,
+    after: "]}",
+};
+
+/// Entries of the type table, before payloads that are at fault.
+pub(crate) const ENTRIES: Around = Around {
+    before: r#"{"limit":100,"intrinsics":null,"types":{"core":[],"types":["#,
+    after: r#"]},"payloads":["custom"]}"#,
+};
+
+/// Whether the input that is made of a text is translated with this status, and this text is written.
+fn is_translated(
+    alloc: Global,
+    around: Around,
+    text: &str,
+    status: Status,
+    written: &str,
+) -> Result<bool, AllocError> {
+    let input = [around.before, text, around.after].join(alloc, "")?;
+    is_answered(alloc, "translate", &input, status, written)
+}
+
+/// That something holds. All assertions stand here, since each is proved anew where it stands.
+pub(crate) fn holds(rt: &impl Abort, what: &str, holds: bool) {
+    assert!(rt; holds, "{what}");
+}
+
+/// Checks that the inputs that are made of these texts are translated with this status, and that the text beside each
+/// of them is written.
+fn are_translated(
     rt: &impl Abort,
     alloc: Global,
+    around: Around,
+    status: Status,
     rows: &[(&str, &str)],
-) -> Result<(), AllocError> {
-    for (input, fault) in rows {
-        assert!(rt;
-            is_answered(alloc, "translate", input, Status::Refused, fault)?,
-            "{input}"
-        );
+) {
+    for (text, written) in rows {
+        let is_so = is_translated(alloc, around, text, status, written);
+        holds(rt, text, is_so.unwrap_or(false));
     }
-    Ok(())
+}
+
+/// Checks that the input that is made of each text has the plan beside it.
+pub(crate) fn are_planned(rt: &impl Abort, alloc: Global, around: Around, rows: &[(&str, &str)]) {
+    are_translated(rt, alloc, around, Status::Done, rows);
+}
+
+/// Checks that the input that is made of each text is refused with the text beside it.
+pub(crate) fn are_refused(rt: &impl Abort, alloc: Global, around: Around, rows: &[(&str, &str)]) {
+    are_translated(rt, alloc, around, Status::Refused, rows);
 }
 
 /// Checks that each input is refused, since not all of it is built. Its name stands before it.
-pub(crate) fn are_not_built(
-    rt: &impl Abort,
-    alloc: Global,
-    rows: &[(&str, &str)],
-) -> Result<(), AllocError> {
+pub(crate) fn are_not_built(rt: &impl Abort, alloc: Global, rows: &[(&str, &str)]) {
     for (name, input) in rows {
-        assert!(rt;
-            is_answered(alloc, "translate", input, Status::Refused, NOT_BUILT)?,
-            "{name}"
-        );
+        let is_so = is_answered(alloc, "translate", input, Status::Refused, NOT_BUILT);
+        holds(rt, name, is_so.unwrap_or(false));
     }
-    Ok(())
-}
-
-/// Whether an input with these intrinsics, entries of the type table and payloads is refused with this text.
-pub(crate) fn is_refused(
-    alloc: Global,
-    intrinsics: &str,
-    types: &str,
-    payloads: &str,
-    fault: &str,
-) -> Result<bool, AllocError> {
-    let parts = [
-        r#"{"limit":100,"intrinsics":"#,
-        intrinsics,
-        r#","types":{"core":[],"types":["#,
-        types,
-        r#"]},"payloads":["#,
-        payloads,
-        "]}",
-    ];
-    let input = parts.join(alloc, "")?;
-    is_answered(alloc, "translate", &input, Status::Refused, fault)
-}
-
-/// Checks that payloads are refused with the text beside them. The type table has an empty instance type.
-pub(crate) fn payloads_are_refused(
-    rt: &impl Abort,
-    alloc: Global,
-    intrinsics: &str,
-    rows: &[(&str, &str)],
-) -> Result<(), AllocError> {
-    for (payloads, fault) in rows {
-        let refused = is_refused(alloc, intrinsics, r#"{"instance":[]}"#, payloads, fault)?;
-        assert!(rt; refused, "{payloads}");
-    }
-    Ok(())
-}
-
-/// Checks that entries of the type table are refused with the text beside them, before payloads that are at fault.
-pub(crate) fn entries_are_refused(
-    rt: &impl Abort,
-    alloc: Global,
-    rows: &[(&str, &str)],
-) -> Result<(), AllocError> {
-    for (types, fault) in rows {
-        assert!(rt;
-            is_refused(alloc, "null", types, r#""custom""#, fault)?,
-            "{types}"
-        );
-    }
-    Ok(())
 }

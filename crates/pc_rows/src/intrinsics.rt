@@ -1,8 +1,9 @@
 //! What the root declares the unsafe intrinsics to be.
 
-use crate::inputs::{NOT_BUILT, is_refused, payloads_are_refused};
+use crate::inputs::{Around, NOT_BUILT, are_refused, holds, is_answered};
+use pc_tool::Status;
 use std::alloc::{AllocError, Global};
-use std::test::Fail;
+use std::process::Abort;
 
 /// An instance type of all intrinsics, behind the types of its functions.
 const ALL: &str =
@@ -30,7 +31,7 @@ const ALL: &str =
        ["context-get-i32-1",["func",17]],["context-set-i32-1",["func",18]]]}"#;
 
 /// Entries of the type table, what the import is declared to be, and how the input is refused.
-const FUNCTIONS: [(&str, &str, &str); 10] = [
+static FUNCTIONS: [(&str, &str, &str); 10] = [
     (ALL, r#"["instance",19]"#, NOT_BUILT),
     (
         r#"{"func":{"params":[["a","u64"]],"result":"u8","async":false}},{"instance":[["u8-native-load",["func",0]]]}"#,
@@ -84,7 +85,7 @@ const FUNCTIONS: [(&str, &str, &str); 10] = [
 ];
 
 /// The same with what is no function of a known name.
-const OTHER: [(&str, &str, &str); 8] = [
+static OTHER: [(&str, &str, &str); 8] = [
     (
         r#"{"func":{"params":[],"result":null,"async":false}}"#,
         r#"["func",0]"#,
@@ -131,7 +132,7 @@ const OTHER: [(&str, &str, &str); 8] = [
 ];
 
 /// Payloads of an input that has one entry, an empty instance type.
-const IMPORTS: [(&str, &str); 3] = [
+static IMPORTS: [(&str, &str); 3] = [
     (
         r#""version",{"imports":[["a",["func",0]],["b",["func",0]]]},"end""#,
         "fault bad-type at instance 0 item 0\n",
@@ -146,41 +147,40 @@ const IMPORTS: [(&str, &str); 3] = [
     ),
 ];
 
-/// Whether an input whose root imports this entity as the intrinsics is refused with this text.
+/// What stands around the payloads of the rows above.
+const EXPOSED: Around = Around {
+    before: r#"{"limit":100,"intrinsics":"i","types":{"core":[],"types":[{"instance":[]}]},"payloads":["#,
+    after: "]}",
+};
+
+/// Whether an input with these entries whose root imports this entity as the intrinsics is refused with this text.
 fn is_declared(alloc: Global, types: &str, entity: &str, fault: &str) -> Result<bool, AllocError> {
     let parts = [
-        r#""version",{"imports":[["a",["func",0]],["i","#,
+        r#"{"limit":100,"intrinsics":"i","types":{"core":[],"types":["#,
+        types,
+        r#"]},"payloads":["version",{"imports":[["a",["func",0]],["i","#,
         entity,
-        r#"]]},"end""#,
+        r#"]]},"end"]}"#,
     ];
-    let payloads = parts.join(alloc, "")?;
-    is_refused(alloc, r#""i""#, types, &payloads, fault)
+    let input = parts.join(alloc, "")?;
+    is_answered(alloc, "translate", &input, Status::Refused, fault)
 }
 
-#[test]
-fn each_intrinsic_has_its_type(rt: HostRuntime) -> Result<(), Fail> {
-    for (types, entity, fault) in FUNCTIONS {
-        assert!(rt;
-            is_declared(rt.alloc(), types, entity, fault)?,
-            "{types} {entity}"
-        );
+/// Checks that each input is refused with the text beside it.
+fn are_declared(rt: &impl Abort, alloc: Global, rows: &[(&str, &str, &str)]) {
+    for (types, entity, fault) in rows {
+        let is_so = is_declared(alloc, types, entity, fault);
+        holds(rt, types, is_so.unwrap_or(false));
     }
-    Ok(())
 }
 
 #[test]
-fn only_functions_of_known_names_are_declared(rt: HostRuntime) -> Result<(), Fail> {
-    for (types, entity, fault) in OTHER {
-        assert!(rt;
-            is_declared(rt.alloc(), types, entity, fault)?,
-            "{types} {entity}"
-        );
-    }
-    Ok(())
+fn each_intrinsic_has_its_type(rt: HostRuntime) {
+    are_declared(&rt, rt.alloc(), &FUNCTIONS);
 }
 
 #[test]
-fn the_root_alone_imports_intrinsics_once(rt: HostRuntime) -> Result<(), Fail> {
-    payloads_are_refused(&rt, rt.alloc(), r#""i""#, &IMPORTS)?;
-    Ok(())
+fn the_root_alone_imports_functions_of_known_names_once(rt: HostRuntime) {
+    are_declared(&rt, rt.alloc(), &OTHER);
+    are_refused(&rt, rt.alloc(), EXPOSED, &IMPORTS);
 }

@@ -1,10 +1,9 @@
 //! Items that are at fault by themselves, and names that stand twice.
 
-use crate::inputs::payloads_are_refused;
-use std::test::Fail;
+use crate::inputs::{PAYLOADS, are_refused};
 
 /// Canonical functions that are not supported, and a start section.
-const FUNCTIONS: [(&str, &str); 8] = [
+static FUNCTIONS: [(&str, &str); 8] = [
     (
         r#""version",{"canon":[["thread.spawn-ref"]]},"end""#,
         "fault unsupported thread-spawn at payload 1 item 0\n",
@@ -40,7 +39,7 @@ const FUNCTIONS: [(&str, &str); 8] = [
 ];
 
 /// Component values, which are not supported.
-const VALUES: [(&str, &str); 5] = [
+static VALUES: [(&str, &str); 5] = [
     (
         r#""version",{"imports":[["a",["func",0]],["b",["value"]]]},"end""#,
         "fault unsupported component-value at payload 1 item 1\n",
@@ -64,7 +63,7 @@ const VALUES: [(&str, &str); 5] = [
 ];
 
 /// Names that stand twice in a list.
-const LISTS: [(&str, &str); 4] = [
+static LISTS: [(&str, &str); 4] = [
     (
         r#""version",{"instances":[{"instantiate":[0,[]]},{"instantiate":[0,[["a",0],["b",0],["a",1]]]}]},"end""#,
         "fault defined-twice at payload 1 item 1\n",
@@ -86,7 +85,7 @@ const LISTS: [(&str, &str); 4] = [
 
 /// Names that stand twice in a component, and names that may: there the type of an import, which is no function, is the
 /// fault, or the component within isn't built.
-const COMPONENTS: [(&str, &str); 7] = [
+static COMPONENTS: [(&str, &str); 7] = [
     (
         r#""version",{"imports":[["a",["func",0]],["a",["module",0]]]},"end""#,
         "fault defined-twice at payload 1 item 1\n",
@@ -119,7 +118,7 @@ const COMPONENTS: [(&str, &str); 7] = [
 ];
 
 /// Core modules whose parts do not fit.
-const MODULES: [(&str, &str); 4] = [
+static MODULES: [(&str, &str); 4] = [
     (
         r#""version",{"module":{"ty":0,"imports":[],"funcs":[0],"tables":0,"memories":[],"globals":0,"tags":0,
            "exports":[]}},"end""#,
@@ -144,21 +143,14 @@ const MODULES: [(&str, &str); 4] = [
 ];
 
 #[test]
-fn what_is_not_supported_is_refused(rt: HostRuntime) -> Result<(), Fail> {
-    payloads_are_refused(&rt, rt.alloc(), "null", &FUNCTIONS)?;
-    payloads_are_refused(&rt, rt.alloc(), "null", &VALUES)?;
-    Ok(())
+fn what_is_not_supported_is_refused(rt: HostRuntime) {
+    are_refused(&rt, rt.alloc(), PAYLOADS, &FUNCTIONS);
+    are_refused(&rt, rt.alloc(), PAYLOADS, &VALUES);
 }
 
 #[test]
-fn names_stand_once(rt: HostRuntime) -> Result<(), Fail> {
-    payloads_are_refused(&rt, rt.alloc(), "null", &LISTS)?;
-    payloads_are_refused(&rt, rt.alloc(), "null", &COMPONENTS)?;
-    Ok(())
-}
-
-#[test]
-fn modules_are_consistent(rt: HostRuntime) -> Result<(), Fail> {
-    payloads_are_refused(&rt, rt.alloc(), "null", &MODULES)?;
-    Ok(())
+fn names_stand_once_and_modules_are_consistent(rt: HostRuntime) {
+    are_refused(&rt, rt.alloc(), PAYLOADS, &LISTS);
+    are_refused(&rt, rt.alloc(), PAYLOADS, &COMPONENTS);
+    are_refused(&rt, rt.alloc(), PAYLOADS, &MODULES);
 }

@@ -1,17 +1,16 @@
 //! Inputs that are deep, and a long one, with their plans.
 
-use crate::inputs::is_answered;
+use crate::inputs::{holds, is_answered};
 use crate::root::EMPTY_PLAN;
 use pc_form::decode_input;
 use pc_tool::Status;
 use std::alloc::{AllocError, Global};
-use std::test::Fail;
 
 /// The end of a component, and an instance of it in the component around it.
 const INSTANTIATED: &str = r#""end",{"component-instances":[{"instantiate":[0,[],0]}]},"#;
 
 /// A limit, what ends each of 2000 components that stand in each other, and how many payloads that makes.
-const DEPTHS: [(&str, &str, usize); 3] = [
+static DEPTHS: [(&str, &str, usize); 3] = [
     ("2001", INSTANTIATED, 8002),
     ("2000", INSTANTIATED, 8002),
     ("1", r#""end","#, 6002),
@@ -52,125 +51,142 @@ fn nested(alloc: Global, limit: &str, depth: usize, end: &str) -> Result<String,
 fn lowered(alloc: Global, count: usize) -> Result<String, AllocError> {
     let mut lowered = String::from_str(alloc, r#"["lower",0,0,0,[]]"#)?;
     for k in 0..count {
-        lowered.push_str(&format!(in alloc; r#",["lower",0,0,0,[["realloc",{k}]]]"#)?)?;
+        write!(lowered, r#",["lower",0,0,0,[["realloc",{k}]]]"#)?;
     }
     Ok(lowered)
 }
 
-/// An input with a chain of 2000 lowered functions, whose last one is given to a core instance.
+/// What stands around 2000 lowerings, the last of which is given to a core instance.
+static CHAIN: [&str; 2] = [
+    r#"{"limit":100,"intrinsics":null,"types":{"core":[[["i32","i32"],[]],[["i32","i32","i32","i32"],["i32"]]],
+           "types":[{"func":{"params":[["s","string"]],"result":null,"async":false}},{"module":[[],[]]}]},
+           "payloads":["version",{"imports":[["log",["func",0]]]},{"canon":["#,
+    r#"]},{"module":{"ty":1,"imports":[["env","log",["func",0]]],"funcs":[],"tables":0,"memories":[],"globals":0,
+           "tags":0,"exports":[]}},
+           {"instances":[{"exports":[["log","func",1999]]},{"instantiate":[0,[["env",0]]]}]},"end"]}"#,
+];
+
+/// An input with a chain of 2000 lowered functions.
 fn chain(alloc: Global) -> Result<String, AllocError> {
     let lowered = lowered(alloc, 1999)?;
-    format!(in alloc;
-        r#"{{"limit":100,"intrinsics":null,"types":{{"core":[[["i32","i32"],[]],[["i32","i32","i32","i32"],["i32"]]],
-           "types":[{{"func":{{"params":[["s","string"]],"result":null,"async":false}}}},{{"module":[[],[]]}}]}},
-           "payloads":["version",{{"imports":[["log",["func",0]]]}},{{"canon":[{lowered}]}},
-           {{"module":{{"ty":1,"imports":[["env","log",["func",0]]],"funcs":[],"tables":0,"memories":[],"globals":0,
-           "tags":0,"exports":[]}}}},
-           {{"instances":[{{"exports":[["log","func",1999]]}},{{"instantiate":[0,[["env",0]]]}}]}},"end"]}}"#
-    )
+    [CHAIN[0], lowered.as_str(), CHAIN[1]].join(alloc, "")
 }
 
-/// The steps of its lowerings, from the outermost to the innermost.
-fn lower_lines(alloc: Global) -> Result<String, AllocError> {
-    let mut lines = String::new(alloc);
-    for k in 0..2000 {
-        lines.push_str(&format!(in alloc; "init lower {k} 0\n")?)?;
-    }
-    Ok(lines)
-}
-
-/// The steps that fill its slots, from the innermost to the outermost.
-fn realloc_lines(alloc: Global) -> Result<String, AllocError> {
-    let mut lines = String::new(alloc);
-    for k in 0..1999 {
-        lines.push_str(&format!(in alloc; "init realloc {k} trampoline({k})\n")?)?;
-    }
-    Ok(lines)
-}
-
-/// Its options, from the innermost to the outermost.
-fn options_lines(alloc: Global) -> Result<String, AllocError> {
-    let mut lines = String::from_str(alloc, "options 0 0 utf8 sync - - - -\n")?;
-    for k in 1..2000usize {
-        let slot = k.saturating_sub(1);
-        lines.push_str(&format!(in alloc; "options {k} 0 utf8 sync - - - {slot}\n")?)?;
-    }
-    Ok(lines)
-}
-
-/// Its trampolines, from the innermost to the outermost.
-fn trampoline_lines(alloc: Global) -> Result<String, AllocError> {
-    let mut lines = String::new(alloc);
-    for k in 0..2000usize {
-        let n = 1999usize.saturating_sub(k);
-        let line = format!(in alloc; "trampoline {k} component-lower-import[{n}] {n} {k}\n")?;
-        lines.push_str(&line)?;
-    }
-    Ok(lines)
-}
-
-/// Its plan.
-fn chain_plan(alloc: Global) -> Result<String, AllocError> {
-    let lowers = lower_lines(alloc)?;
-    let reallocs = realloc_lines(alloc)?;
-    let options = options_lines(alloc)?;
-    let trampolines = trampoline_lines(alloc)?;
-    format!(in alloc;
-        "plan 1
+/// The first lines of its plan.
+const CHAIN_PLAN: &str = "plan 1
 modules 1 0
 counts 1 1 2000 0 0 1999 0 0 0 0 0 0
 import-type 0 \"log\" func
 import 0 0
-{lowers}{reallocs}init static 0 0 [trampoline(1999)]
-{options}{trampolines}"
-    )
-}
+";
 
-#[test]
-fn deep_inputs_are_read(rt: HostRuntime) -> Result<(), Fail> {
-    let alloc = rt.alloc();
-    for (limit, end, payloads) in DEPTHS {
-        let text = nested(alloc, limit, 2000, end)?;
-        let input = decode_input(alloc, text.as_bytes())?;
-        assert_eq!(rt; input.payloads.len(), payloads, "{limit}");
+/// Adds the steps of its lowerings, from the outermost to the innermost.
+fn add_lowerings(plan: &mut String) -> Result<(), AllocError> {
+    for k in 0..2000 {
+        write!(plan, "init lower {k} 0\n")?;
     }
     Ok(())
 }
 
-#[test]
-fn deep_components_are_defined(rt: HostRuntime) -> Result<(), Fail> {
-    let input = nested(rt.alloc(), "1", 2000, r#""end","#)?;
-    let planned = is_answered(rt.alloc(), "translate", &input, Status::Done, EMPTY_PLAN)?;
-    assert!(rt; planned);
+/// Adds the steps that fill its slots, from the innermost to the outermost.
+fn add_reallocs(plan: &mut String) -> Result<(), AllocError> {
+    for k in 0..1999 {
+        write!(plan, "init realloc {k} trampoline({k})\n")?;
+    }
     Ok(())
 }
 
-/// Whether components that stand in each other, each instantiated by the one around it, have this answer under a limit.
-fn is_instantiated(
+/// Adds its options, from the innermost to the outermost.
+fn add_options(plan: &mut String) -> Result<(), AllocError> {
+    for k in 0..1999usize {
+        write!(plan, "options {} 0 utf8 sync - - - {k}\n", k + 1)?;
+    }
+    Ok(())
+}
+
+/// Adds its trampolines, from the innermost to the outermost.
+fn add_trampolines(plan: &mut String) -> Result<(), AllocError> {
+    for k in 0..2000usize {
+        let n = 1999 - k;
+        write!(plan, "trampoline {k} component-lower-import[{n}] {n} {k}\n")?;
+    }
+    Ok(())
+}
+
+/// Its plan.
+fn chain_plan(alloc: Global) -> Result<String, AllocError> {
+    let mut plan = String::from_str(alloc, CHAIN_PLAN)?;
+    add_lowerings(&mut plan)?;
+    add_reallocs(&mut plan)?;
+    plan.push_str("init static 0 0 [trampoline(1999)]\noptions 0 0 utf8 sync - - - -\n")?;
+    add_options(&mut plan)?;
+    add_trampolines(&mut plan)?;
+    Ok(plan)
+}
+
+/// How many payloads an input has, or none where it isn't read.
+fn payloads_of(alloc: Global, input: &str) -> usize {
+    match decode_input(alloc, input.as_bytes()) {
+        Ok(input) => input.payloads.len(),
+        Err(_) => 0,
+    }
+}
+
+/// How many payloads 2000 components have that stand in each other and end with this text.
+fn deep_payloads(alloc: Global, limit: &str, end: &str) -> Result<usize, AllocError> {
+    let input = nested(alloc, limit, 2000, end)?;
+    Ok(payloads_of(alloc, &input))
+}
+
+#[test]
+fn deep_inputs_are_read(rt: HostRuntime) {
+    for (limit, end, payloads) in DEPTHS.iter() {
+        let found = deep_payloads(rt.alloc(), limit, end).unwrap_or(0);
+        holds(&rt, limit, found == *payloads);
+    }
+}
+
+/// Whether 2000 components that stand in each other and end with the first text have this answer under a limit.
+fn is_deep(
     alloc: Global,
     limit: &str,
+    end: &str,
     status: Status,
     text: &str,
 ) -> Result<bool, AllocError> {
-    let input = nested(alloc, limit, 2000, INSTANTIATED)?;
+    let input = nested(alloc, limit, 2000, end)?;
     is_answered(alloc, "translate", &input, status, text)
 }
 
+/// Limits, what ends each component, and the answers. A component is instantiated by the one around it, or not at all.
+static DEEP: [(&str, &str, Status, &str); 3] = [
+    ("1", r#""end","#, Status::Done, EMPTY_PLAN),
+    ("2001", INSTANTIATED, Status::Done, DEEP_PLAN),
+    (
+        "2000",
+        INSTANTIATED,
+        Status::Refused,
+        "fault too-many-instances\n",
+    ),
+];
+
 #[test]
-fn deep_components_are_instantiated(rt: HostRuntime) -> Result<(), Fail> {
-    let planned = is_instantiated(rt.alloc(), "2001", Status::Done, DEEP_PLAN)?;
-    assert!(rt; planned);
-    let fault = "fault too-many-instances\n";
-    let refused = is_instantiated(rt.alloc(), "2000", Status::Refused, fault)?;
-    assert!(rt; refused);
-    Ok(())
+fn deep_components_are_defined_and_instantiated(rt: HostRuntime) {
+    for (limit, end, status, text) in DEEP.iter() {
+        let is_so = is_deep(rt.alloc(), limit, end, *status, text);
+        holds(&rt, limit, is_so.unwrap_or(false));
+    }
+}
+
+/// Whether the long chain has its plan.
+fn is_chain_planned(alloc: Global) -> Result<bool, AllocError> {
+    let input = chain(alloc)?;
+    let plan = chain_plan(alloc)?;
+    is_answered(alloc, "translate", &input, Status::Done, &plan)
 }
 
 #[test]
-fn a_long_chain_is_planned(rt: HostRuntime) -> Result<(), Fail> {
-    let input = chain(rt.alloc())?;
-    let plan = chain_plan(rt.alloc())?;
-    let planned = is_answered(rt.alloc(), "translate", &input, Status::Done, &plan)?;
-    assert!(rt; planned);
-    Ok(())
+fn a_long_chain_is_planned(rt: HostRuntime) {
+    let is_so = is_chain_planned(rt.alloc());
+    holds(&rt, "chain", is_so.unwrap_or(false));
 }

@@ -1,9 +1,6 @@
 //! Imports of functions, and what a function is lifted or lowered with.
 
-use crate::inputs::{are_planned, are_refused, is_answered};
-use pc_tool::Status;
-use std::alloc::{AllocError, Global};
-use std::test::Fail;
+use crate::inputs::{ALONE, Around, are_planned, are_refused};
 
 /// A host function that is lowered with a memory and a realloc.
 pub(crate) const HOST_LOWERING: &str =
@@ -87,20 +84,22 @@ export \"f\" lifted export(0 func 0) options 0
 ";
 
 /// Whole inputs and their plans.
-const PLANS: [(&str, &str); 3] = [
+static PLANS: [(&str, &str); 3] = [
     (HOST_LOWERING, HOST_LOWERING_PLAN),
     (REALLOC_IS_A_LOWERING, REALLOC_IS_A_LOWERING_PLAN),
     (POST_RETURN, POST_RETURN_PLAN),
 ];
 
-/// What stands before the payloads of the rows below: two signatures, a function type and a module type.
-const BEGIN: &str =
-    r#"{"limit":100,"intrinsics":null,"types":{"core":[[["i32","i32"],[]],[["i32","i32","i32","i32"],
+/// What stands around the payloads of the rows below: two signatures, a function type and a module type.
+const ROOT: Around = Around {
+    before: r#"{"limit":100,"intrinsics":null,"types":{"core":[[["i32","i32"],[]],[["i32","i32","i32","i32"],
        ["i32"]]],"types":[{"func":{"params":[["s","string"]],"result":null,"async":false}},{"module":[[],[]]}]},
-       "payloads":["version","#;
+       "payloads":["version","#,
+    after: r#","end"]}"#,
+};
 
 /// Payloads in which host functions are lowered, and the plan.
-const LOWERINGS: [(&str, &str); 6] = [
+static LOWERINGS: [(&str, &str); 6] = [
     // two equal lowerings are one
     (
         r#"{"imports":[["log",["func",0]]]},{"canon":[["lower",0,0,0,[]],["lower",0,0,0,[]]]},
@@ -222,7 +221,7 @@ trampoline 1 component-lower-import[1] 1 1
 ];
 
 /// Payloads in which a core function is lifted, and the plan.
-const LIFTS: [(&str, &str); 2] = [
+static LIFTS: [(&str, &str); 2] = [
     // slots are filled in the order memory, realloc, callback, post-return, however the options are written
     (
         r#"{"module":{"ty":1,"imports":[],"funcs":[0,1,0,0],"tables":0,"memories":[false],"globals":0,"tags":0,
@@ -262,7 +261,7 @@ export \"f\" lifted export(0 func 0) options 0
 ];
 
 /// Payloads in which core items go from one core instance to another, and the plan.
-const CORE_ITEMS: [(&str, &str); 3] = [
+static CORE_ITEMS: [(&str, &str); 3] = [
     // an item of each kind in a core instance from items; what is taken from that is the item itself
     (
         r#"{"module":{"ty":1,"imports":[],"funcs":[0,0],"tables":2,"memories":[false,true],"globals":2,"tags":2,
@@ -324,14 +323,8 @@ init static 1 0 [export(1 memory 0), export(0 func 0), export(1 func 0)]
     ),
 ];
 
-/// Whether an input of these payloads is planned so.
-fn is_planned(alloc: Global, payloads: &str, plan: &str) -> Result<bool, AllocError> {
-    let input = [BEGIN, payloads, r#","end"]}"#].join(alloc, "")?;
-    is_answered(alloc, "translate", &input, Status::Done, plan)
-}
-
 /// A host function as an export of the root.
-const REEXPORTS: [(&str, &str); 2] = [
+static REEXPORTS: [(&str, &str); 2] = [
     (
         r#"{"limit":100,"intrinsics":null,"types":{"core":[[["i32","i32"],[]],[["i32","i32","i32","i32"],["i32"]]],
            "types":[{"func":{"params":[["s","string"]],"result":null,"async":false}},{"module":[[],[]]}]},
@@ -358,7 +351,7 @@ const REEXPORTS: [(&str, &str); 2] = [
 ];
 
 /// A lifted function that is lowered. That isn't built yet, and told at its item: whether it comes to that is read.
-const LIFTED_IS_LOWERED: [(&str, &str); 1] = [(
+static LIFTED_IS_LOWERED: [(&str, &str); 1] = [(
     r#"{"limit":100,"intrinsics":null,"types":{"core":[[["i32"],["i32"]]],
        "types":[{"func":{"params":[["x","u32"]],"result":"u32","async":false}},{"module":[[],[]]}]},
        "payloads":["version",{"module":{"ty":1,"imports":[],"funcs":[0],"tables":0,"memories":[],"globals":0,
@@ -369,28 +362,15 @@ const LIFTED_IS_LOWERED: [(&str, &str); 1] = [(
 )];
 
 #[test]
-fn lifts_and_lowerings_are_planned(rt: HostRuntime) -> Result<(), Fail> {
-    are_planned(&rt, rt.alloc(), &PLANS)?;
-    Ok(())
+fn lifts_and_lowerings_are_planned(rt: HostRuntime) {
+    are_planned(&rt, rt.alloc(), ALONE, &PLANS);
+    are_planned(&rt, rt.alloc(), ROOT, &LOWERINGS);
+    are_planned(&rt, rt.alloc(), ROOT, &LIFTS);
+    are_planned(&rt, rt.alloc(), ROOT, &CORE_ITEMS);
 }
 
 #[test]
-fn options_and_core_items_are_planned(rt: HostRuntime) -> Result<(), Fail> {
-    for (payloads, plan) in LOWERINGS {
-        assert!(rt; is_planned(rt.alloc(), payloads, plan)?, "{payloads}");
-    }
-    for (payloads, plan) in LIFTS {
-        assert!(rt; is_planned(rt.alloc(), payloads, plan)?, "{payloads}");
-    }
-    for (payloads, plan) in CORE_ITEMS {
-        assert!(rt; is_planned(rt.alloc(), payloads, plan)?, "{payloads}");
-    }
-    Ok(())
-}
-
-#[test]
-fn functions_that_go_on_are_refused(rt: HostRuntime) -> Result<(), Fail> {
-    are_refused(&rt, rt.alloc(), &REEXPORTS)?;
-    are_refused(&rt, rt.alloc(), &LIFTED_IS_LOWERED)?;
-    Ok(())
+fn functions_that_go_on_are_refused(rt: HostRuntime) {
+    are_refused(&rt, rt.alloc(), ALONE, &REEXPORTS);
+    are_refused(&rt, rt.alloc(), ALONE, &LIFTED_IS_LOWERED);
 }

@@ -1,16 +1,13 @@
 //! Components that stand in each other: defined, instantiated, and given functions, modules, components and instances.
 
 use crate::inputs::{
-    NOT_BUILT, SMALLEST_PLAN, are_not_built, are_planned, are_refused, is_answered,
+    ALONE, Around, NOT_BUILT, SMALLEST_PLAN, are_not_built, are_planned, are_refused,
 };
 use crate::root::EMPTY_PLAN;
-use pc_tool::Status;
-use std::alloc::{AllocError, Global};
-use std::test::Fail;
 
 /// Components that are never instantiated: one without content, one that stands in another, and one that imports the
 /// name of the intrinsics, which is that of the root alone.
-const DEFINED: [(&str, &str); 3] = [
+static DEFINED: [(&str, &str); 3] = [
     (
         r#"{"limit":100,"intrinsics":null,"types":{"core":[],"types":[]},
            "payloads":["version","component","version","end","end"]}"#,
@@ -31,7 +28,7 @@ const DEFINED: [(&str, &str); 3] = [
 
 /// A component that captures what isn't there, which is found where it is defined, and one that captures what comes
 /// later.
-const BAD_CAPTURES: [(&str, &str); 2] = [
+static BAD_CAPTURES: [(&str, &str); 2] = [
     (
         r#"{"limit":100,"intrinsics":null,"types":{"core":[],"types":[{"module":[[],[]]}]},
            "payloads":["version",{"module":{"ty":0,"imports":[],"funcs":[],"tables":0,"memories":[],"globals":0,
@@ -48,7 +45,7 @@ const BAD_CAPTURES: [(&str, &str); 2] = [
 ];
 
 /// Components that are instantiated, with what they are given and what they capture, and the plans.
-const PLANS: [(&str, &str); 3] = [
+static PLANS: [(&str, &str); 3] = [
     // two instances of one component, each given another module
     (
         r#"{"limit":100,"intrinsics":null,"types":{"core":[],"types":[{"module":[[],[]]},{"instance":[]}]},
@@ -131,7 +128,7 @@ init static 0 3 []
 ];
 
 /// Inputs whose reading isn't done, and why.
-const FAULTS: [(&str, &str); 3] = [
+static FAULTS: [(&str, &str); 3] = [
     (
         r#"{"limit":100,"intrinsics":null,"types":{"core":[],"types":[{"instance":[]}]},
            "payloads":["version","component","version","end",{"component-instances":[{"instantiate":[1,[],0]}]},
@@ -156,7 +153,7 @@ const FAULTS: [(&str, &str); 3] = [
 ];
 
 /// Imports and exports of the root that aren't built, which are told at their place.
-const ROOTS: [(&str, &str); 4] = [
+static ROOTS: [(&str, &str); 4] = [
     (
         r#"{"limit":100,"intrinsics":null,"types":{"core":[],"types":[{"component":[[],[]]}]},
            "payloads":["version",{"imports":[["c",["component",0]]]},"end"]}"#,
@@ -267,7 +264,7 @@ const ROOTS: [(&str, &str); 4] = [
 ];
 
 /// Instantiations over a table with a resource, which are refused as a whole.
-const RESOURCES: [(&str, &str); 3] = [
+static RESOURCES: [(&str, &str); 3] = [
     (
         "argument of another kind",
         r#"{"limit":100,"intrinsics":null,"types":{"core":[],
@@ -304,14 +301,17 @@ const RESOURCES: [(&str, &str); 3] = [
     ),
 ];
 
-/// What stands before the payloads of the rows below. The types are those of a function, of a module, of two instances,
+/// What stands around the payloads of the rows below. The types are those of a function, of a module, of two instances,
 /// the second of which has the function, and of a component.
-const BEGIN: &str = r#"{"limit":3,"intrinsics":null,"types":{"core":[[[],[]]],
+const NESTED: Around = Around {
+    before: r#"{"limit":3,"intrinsics":null,"types":{"core":[[[],[]]],
        "types":[{"func":{"params":[],"result":null,"async":false}},{"module":[[],[]]},{"instance":[]},
-       {"instance":[["f",["func",0]]]},{"component":[[],[]]}]},"payloads":["version","#;
+       {"instance":[["f",["func",0]]]},{"component":[[],[]]}]},"payloads":["version","#,
+    after: r#","end"]}"#,
+};
 
 /// Payloads in which items go from one component instance to another, and the plan.
-const GIVEN: [(&str, &str); 6] = [
+static GIVEN: [(&str, &str); 6] = [
     // a function of the host, lowered by a child
     (
         r#"{"imports":[["h",["func",0]]]},"component","version",{"imports":[["f",["func",0]]]},
@@ -400,7 +400,7 @@ init static 0 0 []
 ];
 
 /// Payloads whose reading ends elsewhere, and the fault.
-const ENDS: [(&str, &str); 10] = [
+static ENDS: [(&str, &str); 10] = [
     // an argument that is missing, or of another kind
     (
         r#""component","version",{"imports":[["f",["func",0]]]},"end",
@@ -460,46 +460,18 @@ const ENDS: [(&str, &str); 10] = [
     ),
 ];
 
-/// Whether payloads behind these types have this answer.
-fn has_answer(
-    alloc: Global,
-    payloads: &str,
-    status: Status,
-    text: &str,
-) -> Result<bool, AllocError> {
-    let input = [BEGIN, payloads, r#","end"]}"#].join(alloc, "")?;
-    is_answered(alloc, "translate", &input, status, text)
+#[test]
+fn components_are_defined_and_instantiated(rt: HostRuntime) {
+    are_planned(&rt, rt.alloc(), ALONE, &DEFINED);
+    are_refused(&rt, rt.alloc(), ALONE, &BAD_CAPTURES);
+    are_planned(&rt, rt.alloc(), ALONE, &PLANS);
+    are_refused(&rt, rt.alloc(), ALONE, &FAULTS);
+    are_refused(&rt, rt.alloc(), ALONE, &ROOTS);
+    are_not_built(&rt, rt.alloc(), &RESOURCES);
 }
 
 #[test]
-fn components_are_defined(rt: HostRuntime) -> Result<(), Fail> {
-    are_planned(&rt, rt.alloc(), &DEFINED)?;
-    are_refused(&rt, rt.alloc(), &BAD_CAPTURES)?;
-    Ok(())
-}
-
-#[test]
-fn components_are_instantiated(rt: HostRuntime) -> Result<(), Fail> {
-    are_planned(&rt, rt.alloc(), &PLANS)?;
-    are_refused(&rt, rt.alloc(), &FAULTS)?;
-    are_refused(&rt, rt.alloc(), &ROOTS)?;
-    are_not_built(&rt, rt.alloc(), &RESOURCES)?;
-    Ok(())
-}
-
-#[test]
-fn items_go_from_one_instance_to_another(rt: HostRuntime) -> Result<(), Fail> {
-    for (payloads, plan) in GIVEN {
-        assert!(rt;
-            has_answer(rt.alloc(), payloads, Status::Done, plan)?,
-            "{payloads}"
-        );
-    }
-    for (payloads, fault) in ENDS {
-        assert!(rt;
-            has_answer(rt.alloc(), payloads, Status::Refused, fault)?,
-            "{payloads}"
-        );
-    }
-    Ok(())
+fn items_go_from_one_instance_to_another(rt: HostRuntime) {
+    are_planned(&rt, rt.alloc(), NESTED, &GIVEN);
+    are_refused(&rt, rt.alloc(), NESTED, &ENDS);
 }

@@ -1,30 +1,26 @@
 //! Bytes that are no input, and items that fit nothing.
 
-use crate::inputs::{NOT_BUILT, are_refused, is_answered};
-use pc_tool::Status;
-use std::alloc::{AllocError, Global};
-use std::test::Fail;
+use crate::inputs::{ALONE, Around, NOT_BUILT, are_refused};
 
 /// Bytes that are no input, and why.
-const NO_INPUTS: [(&str, &str); 4] = [
+static NO_INPUTS: [(&str, &str); 4] = [
     ("{", "fault not-json\n"),
     ("", "fault not-json\n"),
     ("{}", "fault bad-form\n"),
     ("null", "fault bad-form\n"),
 ];
 
-/// What stands before the module.
-const BEGIN: &str = r#"{"limit":100,"intrinsics":null,"types":{"core":[[["i32"],["i32"]]],
+/// What stands around the payloads of the rows below. A core module has one function, which it exports.
+const MODULE: Around = Around {
+    before: r#"{"limit":100,"intrinsics":null,"types":{"core":[[["i32"],["i32"]]],
            "types":[{"func":{"params":[["x","u32"]],"result":"u32","async":false}},{"module":[[],[]]}]},
-           "payloads":["version","#;
-
-/// A core module with one function, which it exports.
-const MODULE: &str =
-    r#"{"module":{"ty":1,"imports":[],"funcs":[0],"tables":0,"memories":[],"globals":0,"tags":0,
-       "exports":[["f","func",0]]}}"#;
+           "payloads":["version",{"module":{"ty":1,"imports":[],"funcs":[0],"tables":0,"memories":[],"globals":0,
+           "tags":0,"exports":[["f","func",0]]}},"#,
+    after: r#","end"]}"#,
+};
 
 /// What stands behind the module, which is item 0, and the fault.
-const ROWS: [(&str, &str); 15] = [
+static ROWS: [(&str, &str); 15] = [
     // an instance of a module that isn't there, first and later
     (
         r#"{"instances":[{"instantiate":[1,[]]}]}"#,
@@ -101,7 +97,7 @@ const ROWS: [(&str, &str); 15] = [
 ];
 
 /// The same with imports, lowerings, options and core items. The module is type 1, and exports a function alone.
-const LOWERINGS: [(&str, &str); 15] = [
+static LOWERINGS: [(&str, &str); 15] = [
     // an import whose type is of another kind or isn't there, before any fault of an item
     (
         r#"{"imports":[["h",["func",1]]]}"#,
@@ -175,25 +171,9 @@ const LOWERINGS: [(&str, &str); 15] = [
     ),
 ];
 
-/// Whether the input with the module above and these payloads is refused with this text.
-fn is_refused(alloc: Global, payloads: &str, fault: &str) -> Result<bool, AllocError> {
-    let input = [BEGIN, MODULE, ",", payloads, r#","end"]}"#].join(alloc, "")?;
-    is_answered(alloc, "translate", &input, Status::Refused, fault)
-}
-
 #[test]
-fn bytes_that_are_no_input_are_refused(rt: HostRuntime) -> Result<(), Fail> {
-    are_refused(&rt, rt.alloc(), &NO_INPUTS)?;
-    Ok(())
-}
-
-#[test]
-fn each_fault_has_its_place(rt: HostRuntime) -> Result<(), Fail> {
-    for (payloads, fault) in ROWS {
-        assert!(rt; is_refused(rt.alloc(), payloads, fault)?, "{payloads}");
-    }
-    for (payloads, fault) in LOWERINGS {
-        assert!(rt; is_refused(rt.alloc(), payloads, fault)?, "{payloads}");
-    }
-    Ok(())
+fn each_fault_has_its_place(rt: HostRuntime) {
+    are_refused(&rt, rt.alloc(), ALONE, &NO_INPUTS);
+    are_refused(&rt, rt.alloc(), MODULE, &ROWS);
+    are_refused(&rt, rt.alloc(), MODULE, &LOWERINGS);
 }

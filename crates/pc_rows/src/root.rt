@@ -1,7 +1,6 @@
 //! A root component alone: inputs that are translated, faults of their reading, and static faults.
 
-use crate::inputs::{SMALLEST, SMALLEST_PLAN, are_planned, are_refused};
-use std::test::Fail;
+use crate::inputs::{ALONE, SMALLEST, SMALLEST_PLAN, are_planned, are_refused};
 
 /// A component without content.
 pub(crate) const EMPTY_ROOT: &str =
@@ -62,7 +61,7 @@ const LIFT_TYPE_OF_ANOTHER_KIND: &str =
        "end"]}"#;
 
 /// Inputs and their plans.
-const PLANS: [(&str, &str); 4] = [
+static PLANS: [(&str, &str); 4] = [
     (SMALLEST, SMALLEST_PLAN),
     (EMPTY_ROOT, EMPTY_PLAN),
     (GLOBALS_AT_THE_LIMIT, SMALLEST_PLAN),
@@ -79,7 +78,7 @@ const LIMIT_ZERO_BEFORE_A_FAULT: &str =
        "payloads":["version",{"imports":[["f",["func",0]]]},"end"]}"#;
 
 /// Inputs whose reading isn't done, and why.
-const FAULTS: [(&str, &str); 4] = [
+static FAULTS: [(&str, &str); 4] = [
     (
         CORE_FUNCTION_MISSING,
         "fault invalid at instance 0 item 3\n",
@@ -93,7 +92,7 @@ const FAULTS: [(&str, &str); 4] = [
 ];
 
 /// Inputs with a static fault, and its text.
-const STATIC_FAULTS: [(&str, &str); 7] = [
+static STATIC_FAULTS: [(&str, &str); 7] = [
     (
         r#"{"limit":100,"intrinsics":null,"types":{"core":[],"types":[{"list":0}]},"payloads":["version","end"]}"#,
         "fault bad-table at table 0\n",
@@ -141,14 +140,8 @@ const STATIC_FAULTS: [(&str, &str); 7] = [
 ];
 
 #[test]
-fn whole_inputs_are_answered(rt: HostRuntime) -> Result<(), Fail> {
-    are_planned(&rt, rt.alloc(), &PLANS)?;
-    Ok(())
-}
-
-#[test]
-fn faults_have_their_place(rt: HostRuntime) -> Result<(), Fail> {
-    are_refused(&rt, rt.alloc(), &FAULTS)?;
-    are_refused(&rt, rt.alloc(), &STATIC_FAULTS)?;
-    Ok(())
+fn whole_inputs_are_answered(rt: HostRuntime) {
+    are_planned(&rt, rt.alloc(), ALONE, &PLANS);
+    are_refused(&rt, rt.alloc(), ALONE, &FAULTS);
+    are_refused(&rt, rt.alloc(), ALONE, &STATIC_FAULTS);
 }

@@ -1,9 +1,8 @@
 //! Streams that move little a call, and fail at each of their calls in turn.
 
-use crate::inputs::{Ends, Ran, SMALLEST, SMALLEST_PLAN, WHOLE, comes_to};
+use crate::inputs::{Ends, Ran, SMALLEST, SMALLEST_PLAN, WHOLE, comes_to, holds};
 use pc_tool::Status;
 use std::alloc::{AllocError, Global};
-use std::test::Fail;
 
 /// What a run comes to that reads all and writes this text.
 fn done(text: &str) -> Ran<'_> {
@@ -22,22 +21,24 @@ fn smallest_comes_to(alloc: Global, ends: &Ends, want: &Ran<'_>) -> Result<bool,
 }
 
 /// The most bytes a call of source and sink.
-const LITTLE: [(usize, usize); 4] = [(1, 1), (7, 1000), (64, 7), (1000, 1)];
+static LITTLE: [(usize, usize); 4] = [(1, 1), (7, 1000), (64, 7), (1000, 1)];
+
+/// Whether a run is done whose streams move at most so much a call.
+fn is_done(alloc: Global, read_most: usize, write_most: usize) -> Result<bool, AllocError> {
+    let ends = Ends {
+        read_most,
+        write_most,
+        ..WHOLE
+    };
+    smallest_comes_to(alloc, &ends, &done(SMALLEST_PLAN))
+}
 
 #[test]
-fn little_a_call_is_enough(rt: HostRuntime) -> Result<(), Fail> {
-    for (read_most, write_most) in LITTLE {
-        let ends = Ends {
-            read_most,
-            write_most,
-            ..WHOLE
-        };
-        assert!(rt;
-            smallest_comes_to(rt.alloc(), &ends, &done(SMALLEST_PLAN))?,
-            "{read_most}, {write_most}"
-        );
+fn little_a_call_is_enough(rt: HostRuntime) {
+    for (read_most, write_most) in LITTLE.iter() {
+        let is_so = is_done(rt.alloc(), *read_most, *write_most);
+        holds(&rt, "bytes a call", is_so.unwrap_or(false));
     }
-    Ok(())
 }
 
 /// Whether a run ends with a fault where this read fails, which leaves this many bytes, and writes nothing.
@@ -73,11 +74,11 @@ fn each_read_fails(alloc: Global, most: usize) -> Result<bool, AllocError> {
 }
 
 #[test]
-fn a_failed_read_writes_nothing(rt: HostRuntime) -> Result<(), Fail> {
+fn a_failed_read_writes_nothing(rt: HostRuntime) {
     for most in [1, 7, 64] {
-        assert!(rt; each_read_fails(rt.alloc(), most)?, "{most}");
+        let is_so = each_read_fails(rt.alloc(), most);
+        holds(&rt, "bytes a call", is_so.unwrap_or(false));
     }
-    Ok(())
 }
 
 /// Whether a run ends with a fault where this write fails, before which so many bytes were written.
@@ -113,11 +114,11 @@ fn each_write_fails(alloc: Global, most: usize) -> Result<bool, AllocError> {
 }
 
 #[test]
-fn a_failed_write_leaves_a_front(rt: HostRuntime) -> Result<(), Fail> {
+fn a_failed_write_leaves_a_front(rt: HostRuntime) {
     for most in [1, 7] {
-        assert!(rt; each_write_fails(rt.alloc(), most)?, "{most}");
+        let is_so = each_write_fails(rt.alloc(), most);
+        holds(&rt, "bytes a call", is_so.unwrap_or(false));
     }
-    Ok(())
 }
 
 /// What an input over the limit comes to: one byte more was read than may be.
@@ -131,13 +132,13 @@ fn one_byte_over(alloc: Global) -> Result<bool, AllocError> {
 }
 
 #[test]
-fn one_byte_over_the_limit_is_too_long(rt: HostRuntime) -> Result<(), Fail> {
-    assert!(rt; one_byte_over(rt.alloc())?);
-    Ok(())
+fn one_byte_over_the_limit_is_too_long(rt: HostRuntime) {
+    let is_so = one_byte_over(rt.alloc());
+    holds(&rt, "one byte over", is_so.unwrap_or(false));
 }
 
 /// Words that name no command.
-const WORDS: [&str; 8] = [
+static WORDS: [&str; 8] = [
     "",
     "translate x",
     "Translate",
@@ -173,16 +174,11 @@ const FAILING: Ends = Ends {
 };
 
 #[test]
-fn other_words_name_no_command(rt: HostRuntime) -> Result<(), Fail> {
-    for words in WORDS {
-        assert!(rt;
-            comes_to(rt.alloc(), words, b"{", &WHOLE, &UNREAD)?,
-            "{words}"
-        );
-        assert!(rt;
-            comes_to(rt.alloc(), words, b"{", &FAILING, &UNWRITTEN)?,
-            "{words}"
-        );
+fn other_words_name_no_command(rt: HostRuntime) {
+    for words in WORDS.iter() {
+        let is_so = comes_to(rt.alloc(), words, b"{", &WHOLE, &UNREAD);
+        holds(&rt, words, is_so.unwrap_or(false));
+        let is_so = comes_to(rt.alloc(), words, b"{", &FAILING, &UNWRITTEN);
+        holds(&rt, words, is_so.unwrap_or(false));
     }
-    Ok(())
 }

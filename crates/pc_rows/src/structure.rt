@@ -1,11 +1,10 @@
 //! The structure of a payload list, and which of two faults counts.
 
-use crate::inputs::{are_planned, entries_are_refused, payloads_are_refused};
+use crate::inputs::{ALONE, ENTRIES, PAYLOADS, are_planned, are_refused};
 use crate::root::EMPTY_PLAN;
-use std::test::Fail;
 
 /// Bodies that begin with another payload than a version.
-const BEGINS: [(&str, &str); 6] = [
+static BEGINS: [(&str, &str); 6] = [
     (r#""custom""#, "fault malformed at payload 0 item 0\n"),
     (
         r#""version-module""#,
@@ -30,7 +29,7 @@ const BEGINS: [(&str, &str); 6] = [
 ];
 
 /// Lists that end elsewhere than with the root.
-const ENDS: [(&str, &str); 6] = [
+static ENDS: [(&str, &str); 6] = [
     (r#""#, "fault malformed at payload 0 item 0\n"),
     (r#""version""#, "fault malformed at payload 1 item 0\n"),
     (
@@ -52,7 +51,7 @@ const ENDS: [(&str, &str); 6] = [
 ];
 
 /// Outer aliases that cross more bodies than are open.
-const ALIASES: [(&str, &str); 3] = [
+static ALIASES: [(&str, &str); 3] = [
     (
         r#""version",{"aliases":[{"outer":["core-module",0,0]},{"outer":["component",1,0]}]},"end""#,
         "fault malformed at payload 1 item 1\n",
@@ -73,7 +72,7 @@ const TYPE_ALIASES: &str = r#"{"limit":100,"intrinsics":null,"types":{"core":[],
        "payloads":["version",{"aliases":[{"outer":["type",9,0]},{"outer":["core-type",9,0]}]},"end"]}"#;
 
 /// Lists with two faults, the earlier of which counts.
-const EARLIER: [(&str, &str); 7] = [
+static EARLIER: [(&str, &str); 7] = [
     (
         r#""version",{"canon":[["future.forward"],["stream.forward"]]},"end""#,
         "fault unsupported future-forward at payload 1 item 0\n",
@@ -105,7 +104,7 @@ const EARLIER: [(&str, &str); 7] = [
 ];
 
 /// Entries of a type table that are at fault before the payloads are.
-const ENTRIES: [(&str, &str); 4] = [
+static BAD_ENTRIES: [(&str, &str); 4] = [
     (r#"{"list":0}"#, "fault bad-table at table 0\n"),
     (
         r#""resource",{"own":0},{"borrow":1},{"list":9}"#,
@@ -122,17 +121,15 @@ const ENTRIES: [(&str, &str); 4] = [
 ];
 
 #[test]
-fn bodies_begin_and_end(rt: HostRuntime) -> Result<(), Fail> {
-    payloads_are_refused(&rt, rt.alloc(), "null", &BEGINS)?;
-    payloads_are_refused(&rt, rt.alloc(), "null", &ENDS)?;
-    payloads_are_refused(&rt, rt.alloc(), "null", &ALIASES)?;
-    are_planned(&rt, rt.alloc(), &[(TYPE_ALIASES, EMPTY_PLAN)])?;
-    Ok(())
+fn bodies_begin_and_end(rt: HostRuntime) {
+    are_refused(&rt, rt.alloc(), PAYLOADS, &BEGINS);
+    are_refused(&rt, rt.alloc(), PAYLOADS, &ENDS);
+    are_refused(&rt, rt.alloc(), PAYLOADS, &ALIASES);
+    are_planned(&rt, rt.alloc(), ALONE, &[(TYPE_ALIASES, EMPTY_PLAN)]);
 }
 
 #[test]
-fn the_earlier_fault_counts(rt: HostRuntime) -> Result<(), Fail> {
-    payloads_are_refused(&rt, rt.alloc(), "null", &EARLIER)?;
-    entries_are_refused(&rt, rt.alloc(), &ENTRIES)?;
-    Ok(())
+fn the_earlier_fault_counts(rt: HostRuntime) {
+    are_refused(&rt, rt.alloc(), PAYLOADS, &EARLIER);
+    are_refused(&rt, rt.alloc(), ENTRIES, &BAD_ENTRIES);
 }

@@ -3,9 +3,10 @@
 ghost use Rattle.std.specs.Prelude.{◌≡◌, None};
 ghost use Rattle.pc_types.specs.Table.{table_fault};
 
-use crate::builder::entries::{Shape, table_of};
+use crate::builder::converts;
+use crate::builder::entries::Shape;
 use crate::builder::readers::reads_each;
-use crate::builder::support::{holds, is_number, is_sound};
+use crate::support::{holds, is_sound};
 use pc_builder::{ComponentTypesBuilder, Converted};
 use pc_entity::ModuleInternedTypeIndex;
 use pc_types::{
@@ -18,20 +19,24 @@ use std::test::*;
 
 #[test]
 fn a_table_of_each_kind_is_converted(rt: HostRuntime) {
-    let table = table_of(&rt, rt.alloc(), Shape::EachKind);
-    let mut types = ComponentTypesBuilder::new(rt.alloc());
-    holds_of_each(&rt, &types, 0, 0);
-    converts(&rt, rt.alloc(), &mut types, &table);
-    holds_of_each(&rt, &types, 3, 1);
-    reads_each(&rt, &types);
+    converts(&rt, rt.alloc(), Shape::EachKind);
 }
 
-fn converts(rt: &impl Abort, alloc: Global, types: &mut ComponentTypesBuilder, table: &TypeTable) {
-    assert!(rt; is_sound(alloc, table));
+/// Converts the entries of a table of each kind, and reads their types.
+pub fn converts_each(
+    rt: &impl Abort,
+    alloc: Global,
+    types: &mut ComponentTypesBuilder,
+    table: &TypeTable,
+) {
+    holds(rt, "sound", is_sound(alloc, table));
+    holds_of_each(rt, types, 0, 0);
     converts_last(rt, types, table);
     converts_externs(rt, types, table);
     converts_parts(rt, types, table);
     holds(rt, "function", converts_again(alloc, types, table));
+    holds_of_each(rt, types, 3, 1);
+    reads_each(rt, types);
 }
 
 /// The component is of the other entries, so that each of them is converted with it.
@@ -46,6 +51,7 @@ fn converts_last(rt: &impl Abort, types: &mut ComponentTypesBuilder, table: &Typ
     );
 }
 
+/// The function, the instance and the module.
 fn converts_externs(rt: &impl Abort, types: &mut ComponentTypesBuilder, table: &TypeTable)
     requires sound { table_fault table.now ≡ None }
 {
@@ -117,10 +123,11 @@ const KINDS: [TypeKind; 17] = [
 fn holds_of_each(rt: &impl Abort, types: &ComponentTypesBuilder, tuples: usize, others: usize) {
     for kind in KINDS.iter() {
         let want = wanted(*kind, tuples, others);
-        is_number(rt, "types of a kind", types.held(*kind), want);
+        holds(rt, "types of a kind", types.held(*kind) == want);
     }
 }
 
+/// How many types of a kind are held.
 fn wanted(kind: TypeKind, tuples: usize, others: usize) -> usize {
     match kind {
         TypeKind::Tuple => tuples,

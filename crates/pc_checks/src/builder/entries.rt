@@ -1,6 +1,7 @@
 //! The tables that are tested.
 
-use pc_entity::{NoMemory, Seq, Text};
+use crate::support::{one, push, text};
+use pc_entity::{Seq, Text};
 use pc_types::{CoreEntity, CoreFuncSig, DeclType, Entity, PrimType, TypeTable, ValType};
 use std::alloc::Global;
 use std::process::Abort;
@@ -21,6 +22,7 @@ pub enum Shape {
 }
 
 impl Shape {
+    /// How many entries there are.
     fn len(self) -> u32 {
         match self {
             Shape::EachKind => 18,
@@ -29,53 +31,37 @@ impl Shape {
         }
     }
 
-    fn entry(self, alloc: Global, n: u32) -> Result<DeclType, NoMemory> {
+    /// The entry of this number.
+    fn entry(self, rt: &impl Abort, alloc: Global, n: u32) -> DeclType {
         match self {
-            Shape::EachKind => entry(alloc, n),
-            Shape::Chain => Ok(DeclType::List(before(n))),
-            Shape::Diamond => diamond_entry(alloc, n),
+            Shape::EachKind => entry(rt, alloc, n),
+            Shape::Chain => DeclType::List(before(n)),
+            Shape::Diamond => diamond_entry(rt, alloc, n),
         }
     }
 }
 
 /// A table with these entries, and one core signature.
 pub fn table_of(rt: &impl Abort, alloc: Global, shape: Shape) -> TypeTable {
-    filled(alloc, shape).expect(rt, "no memory")
-}
-
-fn filled(alloc: Global, shape: Shape) -> Result<TypeTable, NoMemory> {
-    let core_funcs = one_signature(alloc)?;
-    let types = entries(alloc, shape)?;
-    Ok(TypeTable { core_funcs, types })
-}
-
-fn one_signature(alloc: Global) -> Result<Seq<CoreFuncSig>, NoMemory> {
-    let mut signatures = Seq::new(alloc);
-    signatures.push(CoreFuncSig {
-        params: Seq::new(alloc),
-        results: Seq::new(alloc),
-    })?;
-    Ok(signatures)
-}
-
-fn entries(alloc: Global, shape: Shape) -> Result<Seq<DeclType>, NoMemory> {
     let mut types = Seq::new(alloc);
     for n in 0..shape.len() {
-        push_entry(alloc, &mut types, shape, n)?;
+        push(rt, &mut types, shape.entry(rt, alloc, n));
     }
-    Ok(types)
+    TypeTable {
+        core_funcs: one(rt, alloc, signature(alloc)),
+        types,
+    }
 }
 
-fn push_entry(
-    alloc: Global,
-    types: &mut Seq<DeclType>,
-    shape: Shape,
-    n: u32,
-) -> Result<(), NoMemory> {
-    types.push(shape.entry(alloc, n)?)?;
-    Ok(())
+/// The signature of a function that takes and gives nothing.
+fn signature(alloc: Global) -> CoreFuncSig {
+    CoreFuncSig {
+        params: Seq::new(alloc),
+        results: Seq::new(alloc),
+    }
 }
 
+/// The type of strings.
 fn string() -> ValType {
     ValType::Prim(PrimType::String)
 }
@@ -89,31 +75,38 @@ fn before(n: u32) -> ValType {
     }
 }
 
-fn diamond_entry(alloc: Global, n: u32) -> Result<DeclType, NoMemory> {
+/// An entry of the diamond.
+fn diamond_entry(rt: &impl Abort, alloc: Global, n: u32) -> DeclType {
     match n {
-        0 => Ok(DeclType::Val(string())),
-        61 => Ok(DeclType::Stream(None)),
-        62 => Ok(DeclType::Option(ValType::Type_(60))),
-        _ => pair_of(alloc, before(n), before(n)),
+        0 => DeclType::Val(string()),
+        61 => DeclType::Stream(None),
+        62 => DeclType::Option(ValType::Type_(60)),
+        _ => pair_of(rt, alloc, before(n), before(n)),
     }
 }
 
-fn entry(alloc: Global, n: u32) -> Result<DeclType, NoMemory> {
+/// An entry of the table that has one of each kind.
+fn entry(rt: &impl Abort, alloc: Global, n: u32) -> DeclType {
     match n {
-        3 => record_of(alloc, ValType::Type_(1), string()),
-        4 => variant_of(alloc, ValType::Type_(3)),
-        6 => pair_of(
-            alloc,
-            ValType::Type_(5),
-            ValType::Prim(PrimType::ErrorContext),
-        ),
-        7 => flags_of_one(alloc),
-        8 => enum_of_one(alloc),
-        14 => func_entry(alloc),
-        15 => instance_entry(alloc),
-        16 => module_entry(alloc),
-        17 => component_entry(alloc),
-        _ => Ok(small_entry(n)),
+        3 | 4 | 6 | 7 | 8 => value_entry(rt, alloc, n),
+        14 => func_entry(rt, alloc),
+        15 => instance_entry(rt, alloc),
+        16 => module_entry(rt, alloc),
+        17 => component_entry(rt, alloc),
+        _ => small_entry(n),
+    }
+}
+
+/// The values of several parts: a record, a variant of a case with no value and one with a value, a pair, flags and an
+/// enum.
+fn value_entry(rt: &impl Abort, alloc: Global, n: u32) -> DeclType {
+    let context = ValType::Prim(PrimType::ErrorContext);
+    match n {
+        3 => DeclType::Record(two(rt, alloc, ValType::Type_(1), string())),
+        4 => DeclType::Variant(two(rt, alloc, None, Some(ValType::Type_(3)))),
+        6 => pair_of(rt, alloc, ValType::Type_(5), context),
+        7 => DeclType::Flags(one(rt, alloc, text(rt, alloc, "x"))),
+        _ => DeclType::Enum(one(rt, alloc, text(rt, alloc, "x"))),
     }
 }
 
@@ -135,87 +128,51 @@ fn small_entry(n: u32) -> DeclType {
     }
 }
 
-fn record_of(alloc: Global, a: ValType, b: ValType) -> Result<DeclType, NoMemory> {
-    Ok(DeclType::Record(two(alloc, a, b)?))
-}
-
-/// A variant of a case with no value, and one with a value.
-fn variant_of(alloc: Global, value: ValType) -> Result<DeclType, NoMemory> {
-    Ok(DeclType::Variant(two(alloc, None, Some(value))?))
-}
-
-fn pair_of(alloc: Global, a: ValType, b: ValType) -> Result<DeclType, NoMemory> {
-    let both = vec![in alloc; a, b]?;
-    Ok(DeclType::Tuple(Seq::from_vec(both)))
-}
-
-fn flags_of_one(alloc: Global) -> Result<DeclType, NoMemory> {
-    Ok(DeclType::Flags(one_name(alloc)?))
-}
-
-fn enum_of_one(alloc: Global) -> Result<DeclType, NoMemory> {
-    Ok(DeclType::Enum(one_name(alloc)?))
+/// A tuple of two.
+fn pair_of(rt: &impl Abort, alloc: Global, a: ValType, b: ValType) -> DeclType {
+    let mut both = one(rt, alloc, a);
+    push(rt, &mut both, b);
+    DeclType::Tuple(both)
 }
 
 /// An async function of the pair and the stream, which gives the future.
-fn func_entry(alloc: Global) -> Result<DeclType, NoMemory> {
-    Ok(DeclType::Func {
-        params: two(alloc, ValType::Type_(6), ValType::Type_(12))?,
+fn func_entry(rt: &impl Abort, alloc: Global) -> DeclType {
+    DeclType::Func {
+        params: two(rt, alloc, ValType::Type_(6), ValType::Type_(12)),
         result: Some(ValType::Type_(13)),
         async_: true,
-    })
+    }
 }
 
-fn instance_entry(alloc: Global) -> Result<DeclType, NoMemory> {
-    Ok(DeclType::Instance {
-        exports: two(alloc, Entity::Func(14), Entity::Type_(0))?,
-    })
+/// An instance that exports the function and the resource.
+fn instance_entry(rt: &impl Abort, alloc: Global) -> DeclType {
+    DeclType::Instance {
+        exports: two(rt, alloc, Entity::Func(14), Entity::Type_(0)),
+    }
 }
 
-fn module_entry(alloc: Global) -> Result<DeclType, NoMemory> {
-    Ok(DeclType::Module {
-        imports: one_import(alloc, CoreEntity::Func(0))?,
-        exports: two(
-            alloc,
-            CoreEntity::Func(0),
-            CoreEntity::Memory { memory64: true },
-        )?,
-    })
+/// A module that imports a function, and exports one and a memory.
+fn module_entry(rt: &impl Abort, alloc: Global) -> DeclType {
+    let func = CoreEntity::Func(0);
+    let memory = CoreEntity::Memory { memory64: true };
+    let import = (text(rt, alloc, "m"), text(rt, alloc, "f"), func);
+    DeclType::Module {
+        imports: one(rt, alloc, import),
+        exports: two(rt, alloc, func, memory),
+    }
 }
 
-fn component_entry(alloc: Global) -> Result<DeclType, NoMemory> {
-    Ok(DeclType::Component {
-        imports: two(alloc, Entity::Instance(15), Entity::Type_(0))?,
-        exports: two(alloc, Entity::Module(16), Entity::Type_(0))?,
-    })
+/// A component that imports the instance, and exports the module.
+fn component_entry(rt: &impl Abort, alloc: Global) -> DeclType {
+    DeclType::Component {
+        imports: two(rt, alloc, Entity::Instance(15), Entity::Type_(0)),
+        exports: two(rt, alloc, Entity::Module(16), Entity::Type_(0)),
+    }
 }
 
-fn one_name(alloc: Global) -> Result<Seq<Text>, NoMemory> {
-    let mut list = Seq::new(alloc);
-    list.push(Text::copy_of(alloc, "x")?)?;
-    Ok(list)
-}
-
-fn one_import(alloc: Global, e: CoreEntity) -> Result<Seq<(Text, Text, CoreEntity)>, NoMemory> {
-    let mut list = Seq::new(alloc);
-    list.push((Text::copy_of(alloc, "m")?, Text::copy_of(alloc, "f")?, e))?;
-    Ok(list)
-}
-
-/// The names `a` and `b`.
-fn two<V: Copy>(alloc: Global, a: V, b: V) -> Result<Seq<(Text, V)>, NoMemory> {
-    let mut list = Seq::new(alloc);
-    push_named(alloc, &mut list, "a", a)?;
-    push_named(alloc, &mut list, "b", b)?;
-    Ok(list)
-}
-
-fn push_named<V: Copy>(
-    alloc: Global,
-    list: &mut Seq<(Text, V)>,
-    name: &str,
-    value: V,
-) -> Result<(), NoMemory> {
-    list.push((Text::copy_of(alloc, name)?, value))?;
-    Ok(())
+/// The names `a` and `b`, with these.
+fn two<V: Copy>(rt: &impl Abort, alloc: Global, a: V, b: V) -> Seq<(Text, V)> {
+    let mut list = one(rt, alloc, (text(rt, alloc, "a"), a));
+    push(rt, &mut list, (text(rt, alloc, "b"), b));
+    list
 }

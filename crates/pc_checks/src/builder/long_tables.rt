@@ -2,8 +2,9 @@
 
 ghost use Rattle.pc_builder.specs.Converted.{AreConverted};
 
-use crate::builder::entries::{Shape, table_of};
-use crate::builder::support::{holds, is_number, is_sound};
+use crate::builder::converts;
+use crate::builder::entries::Shape;
+use crate::support::{holds, is_sound};
 use pc_builder::{ComponentTypesBuilder, Converted};
 use pc_entity::NoMemory;
 use pc_types::{
@@ -16,11 +17,19 @@ use std::test::*;
 /// A look through the table for each of its entries would take minutes.
 #[test]
 fn each_of_a_long_chain_is_met_once(rt: HostRuntime) {
-    let table = table_of(&rt, rt.alloc(), Shape::Chain);
-    let mut types = ComponentTypesBuilder::new(rt.alloc());
-    let lists = are_lists(rt.alloc(), &mut types, &table);
-    holds(&rt, "lists", lists.unwrap_or(false));
-    is_number(&rt, "lists", types.held(TypeKind::List), 200_000);
+    converts(&rt, rt.alloc(), Shape::Chain);
+}
+
+/// Converts each entry of a chain.
+pub fn converts_chain(
+    rt: &impl Abort,
+    alloc: Global,
+    types: &mut ComponentTypesBuilder,
+    table: &TypeTable,
+) {
+    let lists = are_lists(alloc, types, table);
+    holds(rt, "lists", lists.unwrap_or(false));
+    holds(rt, "held", types.held(TypeKind::List) == 200_000);
 }
 
 /// Whether each entry of a chain, from the last to the first, is the list of its number.
@@ -45,24 +54,20 @@ fn are_lists(
 /// The tree of the last entry has 2 ^ 60 leaves.
 #[test]
 fn a_diamond_is_converted(rt: HostRuntime) {
-    let table = table_of(&rt, rt.alloc(), Shape::Diamond);
-    let mut types = ComponentTypesBuilder::new(rt.alloc());
-    converts_diamond(&rt, rt.alloc(), &mut types, &table);
-    is_number(&rt, "tuples", types.held(TypeKind::Tuple), 60);
-    is_number(&rt, "streams", types.held(TypeKind::StreamTable), 0);
+    converts(&rt, rt.alloc(), Shape::Diamond);
 }
 
-fn converts_diamond(
+/// That the last entry of a diamond is an option, and that no pair is converted twice.
+pub fn converts_diamond(
     rt: &impl Abort,
     alloc: Global,
     types: &mut ComponentTypesBuilder,
     table: &TypeTable,
 ) {
-    assert!(rt; is_sound(alloc, table));
+    holds(rt, "sound", is_sound(alloc, table));
     let top = types.convert_val(table, &ValType::Type_(62));
-    holds(
-        rt,
-        "option",
-        top == Ok(InterfaceType::Option(TypeOptionIndex(0))),
-    );
+    let option = InterfaceType::Option(TypeOptionIndex(0));
+    holds(rt, "option", top == Ok(option));
+    holds(rt, "tuples", types.held(TypeKind::Tuple) == 60);
+    holds(rt, "streams", types.held(TypeKind::StreamTable) == 0);
 }

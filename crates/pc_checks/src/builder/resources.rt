@@ -1,12 +1,11 @@
 //! Resources that are registered, and types that are made without a table.
 
-use crate::builder::support::{holds, is_number};
+use crate::support::holds;
 use pc_builder::{ComponentTypesBuilder, PreInliningComponentTypes, ResourcesBuilder};
 use pc_entity::{ResourceIndex, RuntimeComponentInstanceIndex, TryClone};
 use pc_types::{
     TypeComponentLocalErrorContextTableIndex, TypeKind, TypeResourceTableIndex, TypeTupleIndex,
 };
-use std::alloc::Global;
 use std::process::Abort;
 use std::test::*;
 
@@ -17,41 +16,28 @@ fn a_registered_resource_is_found(rt: HostRuntime) {
     holds(&rt, "resource", known.is_ok());
     resources.set_current_instance(RuntimeComponentInstanceIndex(2));
     let copy = resources.try_clone(rt.alloc()).expect(&rt, "no memory");
-    finds_one(&rt, &copy);
+    holds(&rt, "copy", is_known(&copy));
 }
 
-fn finds_one(rt: &impl Abort, resources: &ResourcesBuilder) {
-    holds(
-        rt,
-        "resource",
-        resources.lookup(3) == Some(ResourceIndex(7)),
-    );
-    holds(rt, "no resource", resources.lookup(9) == None);
-    is_number(rt, "instance", resources.current_instance().0 as usize, 2);
+/// Whether resource 3 alone is known, in instance 2.
+fn is_known(resources: &ResourcesBuilder) -> bool {
+    resources.lookup(3) == Some(ResourceIndex(7))
+        && resources.lookup(9) == None
+        && resources.current_instance().0 == 2
 }
 
 #[test]
 fn types_without_a_table_are_numbered(rt: HostRuntime) {
     let mut types = ComponentTypesBuilder::new(rt.alloc());
-    numbers_error_contexts(&rt, &mut types);
-    numbers_tuples(&rt, rt.alloc(), &mut types);
+    let contexts = types.error_context_table_type();
+    let first = TypeComponentLocalErrorContextTableIndex(0);
+    holds(&rt, "error contexts", contexts == Ok(first));
+    let tuple = types.new_tuple_type(Vec::new(rt.alloc()));
+    holds(&rt, "tuple", tuple == Ok(TypeTupleIndex(0)));
     numbers_handles(&rt, &mut types);
 }
 
-fn numbers_error_contexts(rt: &impl Abort, types: &mut ComponentTypesBuilder) {
-    let found = types.error_context_table_type();
-    holds(
-        rt,
-        "error contexts",
-        found == Ok(TypeComponentLocalErrorContextTableIndex(0)),
-    );
-}
-
-fn numbers_tuples(rt: &impl Abort, alloc: Global, types: &mut ComponentTypesBuilder) {
-    let found = types.new_tuple_type(Vec::new(alloc));
-    holds(rt, "tuple", found == Ok(TypeTupleIndex(0)));
-}
-
+/// The handles of a resource that is registered get a number.
 fn numbers_handles(rt: &impl Abort, types: &mut ComponentTypesBuilder) {
     let known = types.resources_mut().register_resource(9, ResourceIndex(0));
     holds(rt, "resource", known.is_ok());
@@ -68,14 +54,11 @@ fn a_lent_builder_is_read_and_changed(rt: HostRuntime) {
     types.types_are_distinct();
 }
 
+/// A builder that is lent numbers its error contexts, and tells of them.
 fn lends(rt: &impl Abort, types: &mut ComponentTypesBuilder) {
     let mut lent = PreInliningComponentTypes::new(types);
     let found = lent.types_mut_for_inlining().error_context_table_type();
     holds(rt, "error contexts", found.is_ok());
-    is_number(
-        rt,
-        "error contexts",
-        lent.types().held(TypeKind::ErrorContextTable),
-        1,
-    );
+    let held = lent.types().held(TypeKind::ErrorContextTable);
+    holds(rt, "error contexts", held == 1);
 }

@@ -1,12 +1,12 @@
 //! Bytes that are refused.
 
 use crate::form::inputs::bytes_of;
+use crate::inputs::holds;
 use pc_form::{DecodeError, decode_input};
 use std::alloc::{AllocError, Global};
-use std::test::Fail;
 
 /// Texts that are no number of the format.
-const NUMBERS: [&str; 9] = [
+static NUMBERS: [&str; 9] = [
     "4294967296",
     "-1",
     "-0",
@@ -19,7 +19,7 @@ const NUMBERS: [&str; 9] = [
 ];
 
 /// Texts that are no entry of a type table.
-const TYPES: [&str; 19] = [
+static TYPES: [&str; 19] = [
     r#""func""#,
     "{}",
     r#"{"list":"u32","own":0}"#,
@@ -42,7 +42,7 @@ const TYPES: [&str; 19] = [
 ];
 
 /// Texts that are no payload.
-const PAYLOADS: [&str; 25] = [
+static PAYLOADS: [&str; 25] = [
     r#""begin""#,
     "null",
     r#"{"types":"other"}"#,
@@ -71,7 +71,7 @@ const PAYLOADS: [&str; 25] = [
 ];
 
 /// Texts that are no input for the keys of an object, or for what stands under them.
-const OBJECTS: [&str; 9] = [
+static OBJECTS: [&str; 9] = [
     "{}",
     "[]",
     r#"{"limit":1,"intrinsics":null,"types":{"core":[],"types":[]}}"#,
@@ -84,7 +84,7 @@ const OBJECTS: [&str; 9] = [
 ];
 
 /// Bytes that are no JSON.
-const OTHER: [&[u8]; 6] = [
+static OTHER: [&[u8]; 6] = [
     b"",
     b"{",
     b"{} {}",
@@ -120,40 +120,40 @@ fn is_no_json(alloc: Global, bytes: &[u8]) -> bool {
 }
 
 #[test]
-fn other_numbers_are_bad_forms(rt: HostRuntime) -> Result<(), Fail> {
-    for limit in NUMBERS {
-        assert!(rt; makes_bad_form(rt.alloc(), limit, "", "")?, "{limit}");
+fn other_numbers_are_bad_forms(rt: HostRuntime) {
+    for limit in NUMBERS.iter() {
+        let is_so = makes_bad_form(rt.alloc(), limit, "", "");
+        holds(&rt, limit, is_so.unwrap_or(false));
     }
-    Ok(())
 }
 
 #[test]
-fn other_types_are_bad_forms(rt: HostRuntime) -> Result<(), Fail> {
-    for entry in TYPES {
-        assert!(rt; makes_bad_form(rt.alloc(), "1", entry, "")?, "{entry}");
+fn other_types_are_bad_forms(rt: HostRuntime) {
+    for entry in TYPES.iter() {
+        let is_so = makes_bad_form(rt.alloc(), "1", entry, "");
+        holds(&rt, entry, is_so.unwrap_or(false));
     }
-    Ok(())
 }
 
 #[test]
-fn other_payloads_are_bad_forms(rt: HostRuntime) -> Result<(), Fail> {
-    for payload in PAYLOADS {
-        assert!(rt; makes_bad_form(rt.alloc(), "1", "", payload)?, "{payload}");
+fn other_payloads_are_bad_forms(rt: HostRuntime) {
+    for payload in PAYLOADS.iter() {
+        let is_so = makes_bad_form(rt.alloc(), "1", "", payload);
+        holds(&rt, payload, is_so.unwrap_or(false));
     }
-    Ok(())
 }
 
 #[test]
 fn an_object_of_other_keys_is_a_bad_form(rt: HostRuntime) {
-    for text in OBJECTS {
-        assert!(rt; is_bad_form(rt.alloc(), text.as_bytes()), "{text}");
+    for text in OBJECTS.iter() {
+        holds(&rt, text, is_bad_form(rt.alloc(), text.as_bytes()));
     }
 }
 
 #[test]
 fn other_bytes_are_not_json(rt: HostRuntime) {
-    for bytes in OTHER {
-        assert!(rt; is_no_json(rt.alloc(), bytes), "{bytes:?}");
+    for bytes in OTHER.iter() {
+        holds(&rt, "other bytes", is_no_json(rt.alloc(), bytes));
     }
-    assert!(rt; is_no_json(rt.alloc(), DEEP.as_bytes()));
+    holds(&rt, "deep", is_no_json(rt.alloc(), DEEP.as_bytes()));
 }

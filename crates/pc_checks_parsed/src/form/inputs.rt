@@ -1,8 +1,9 @@
 //! Inputs that are read.
 
-use pc_form::{DecodeError, Input, decode_input};
+use crate::inputs::holds;
+use pc_form::{Input, decode_input};
 use std::alloc::{AllocError, Global};
-use std::test::Fail;
+use std::process::Abort;
 
 /// A whole input. `docs/FORMATS.md` shows it, and the payloads below.
 const INPUT: &str = r#"{
@@ -25,7 +26,7 @@ const INPUT: &str = r#"{
 }"#;
 
 /// A text of each kind of payload without content.
-const BARE: [&str; 7] = [
+static BARE: [&str; 7] = [
     r#""version""#,
     r#""version-module""#,
     r#""core-types""#,
@@ -36,7 +37,7 @@ const BARE: [&str; 7] = [
 ];
 
 /// A text of each kind of payload with content.
-const WITH_CONTENT: [&str; 8] = [
+static WITH_CONTENT: [&str; 8] = [
     r#"{"types":["other",{"resource":[3,"i32",null]},{"resource":[4,"i64",7]}]}"#,
     r#"{"imports":[["now",["func",0]],[["store","kv","id1"],["instance",5]]]}"#,
     r#"{"canon":[["lift",0,1,2,["utf8",["memory",3]]],["resource.drop",2,4]]}"#,
@@ -70,35 +71,50 @@ pub(crate) fn bytes_of(
     Ok(parts.join(alloc, "")?.into_bytes())
 }
 
+/// How many payloads an input has, or none where it isn't read.
+fn count(alloc: Global, bytes: &[u8]) -> usize {
+    match decode_input(alloc, bytes) {
+        Ok(input) => input.payloads.len(),
+        Err(_) => 0,
+    }
+}
+
 /// How many payloads the input with this one has: one, if it is read.
-fn payloads_of(alloc: Global, payload: &str) -> Result<usize, DecodeError> {
-    let Ok(bytes) = bytes_of(alloc, "1", "", payload) else {
-        return Err(DecodeError::NoMemory);
+fn payloads_of(alloc: Global, payload: &str) -> Result<usize, AllocError> {
+    let bytes = bytes_of(alloc, "1", "", payload)?;
+    Ok(count(alloc, &bytes))
+}
+
+/// Whether an input has what the whole one has.
+fn is_whole(input: &Input) -> bool {
+    input.tunables.max_component_instances == 100
+        && input.intrinsics.is_none()
+        && input.table.core_funcs.len() == 1
+        && input.table.types.len() == 2
+        && input.payloads.len() == 7
+}
+
+#[test]
+fn a_whole_input_is_read(rt: HostRuntime) {
+    let is_so = match decode_input(rt.alloc(), INPUT.as_bytes()) {
+        Ok(input) => is_whole(&input),
+        Err(_) => false,
     };
-    let input = decode_input(alloc, &bytes)?;
-    Ok(input.payloads.len())
+    holds(&rt, "whole", is_so);
+}
+
+/// Checks that each payload is read.
+fn are_read(rt: &impl Abort, alloc: Global, payloads: &[&str]) {
+    for payload in payloads {
+        let count = payloads_of(alloc, payload);
+        holds(rt, payload, count.unwrap_or(0) == 1);
+    }
 }
 
 #[test]
-fn a_whole_input_is_read(rt: HostRuntime) -> Result<(), Fail> {
-    let input = decode_input(rt.alloc(), INPUT.as_bytes())?;
-    assert_eq!(rt; input.tunables.max_component_instances, 100);
-    assert!(rt; input.intrinsics.is_none());
-    assert_eq!(rt; input.table.core_funcs.len(), 1);
-    assert_eq!(rt; input.table.types.len(), 2);
-    assert_eq!(rt; input.payloads.len(), 7);
-    Ok(())
-}
-
-#[test]
-fn every_kind_of_payload_is_read(rt: HostRuntime) -> Result<(), Fail> {
-    for payload in BARE {
-        assert_eq!(rt; payloads_of(rt.alloc(), payload)?, 1, "{payload}");
-    }
-    for payload in WITH_CONTENT {
-        assert_eq!(rt; payloads_of(rt.alloc(), payload)?, 1, "{payload}");
-    }
-    Ok(())
+fn every_kind_of_payload_is_read(rt: HostRuntime) {
+    are_read(&rt, rt.alloc(), &BARE);
+    are_read(&rt, rt.alloc(), &WITH_CONTENT);
 }
 
 /// Whether an input has the limit 3, and the name of the unsafe intrinsics.
@@ -107,10 +123,17 @@ fn has_limit_three(input: &Input) -> bool {
         && matches!(&input.intrinsics, Some(name) if name.as_str() == "unsafe")
 }
 
+/// Whether an input with two limits has the last one.
+fn has_last_limit(alloc: Global) -> Result<bool, AllocError> {
+    let bytes = bytes_of(alloc, r#"0.5,"limit":3"#, "", "")?;
+    match decode_input(alloc, &bytes) {
+        Ok(input) => Ok(has_limit_three(&input)),
+        Err(_) => Ok(false),
+    }
+}
+
 #[test]
-fn the_last_of_two_equal_keys_counts(rt: HostRuntime) -> Result<(), Fail> {
-    let bytes = bytes_of(rt.alloc(), r#"0.5,"limit":3"#, "", "")?;
-    let input = decode_input(rt.alloc(), &bytes)?;
-    assert!(rt; has_limit_three(&input));
-    Ok(())
+fn the_last_of_two_equal_keys_counts(rt: HostRuntime) {
+    let is_so = has_last_limit(rt.alloc()).unwrap_or(false);
+    holds(&rt, "limit", is_so);
 }

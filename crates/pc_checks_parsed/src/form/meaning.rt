@@ -1,8 +1,8 @@
 //! The definition, computed on the tables of `specs/Examples.antt`.
 
-ghost use Rattle.pc_form.specs.Rules.{plain};
-ghost use Rattle.pc_form.specs.Names.{extern_name};
-ghost use Rattle.pc_form.specs.Types.{core_sig, decl_type};
+ghost use Rattle.pc_json.specs.Rules.{plain};
+ghost use Rattle.pc_json.specs.Names.{extern_name};
+ghost use Rattle.pc_json.specs.Types.{core_sig, decl_type};
 ghost use Rattle.pc_form.specs.Canon.{canon_item};
 ghost use Rattle.pc_form.specs.Payload.{payload_of};
 ghost use Rattle.pc_form.specs.Input.{input_of};

@@ -5,7 +5,6 @@ use pc_local::{LocalProgram, translate_payloads};
 use pc_parsed::is_numbered;
 use pc_types::Error;
 use std::alloc::{AllocError, Global};
-use std::test::Fail;
 
 /// The program of an input, or why it has none.
 pub(crate) fn program(alloc: Global, input: &Input) -> Result<LocalProgram, Error> {
@@ -29,7 +28,9 @@ fn text_of(alloc: Global, payloads: &str) -> Result<String, AllocError> {
 }
 
 /// The input of these payloads.
-pub(crate) fn input_of(alloc: Global, payloads: &str) -> Result<Input, Fail> {
-    let text = text_of(alloc, payloads)?;
-    Ok(decode_input(alloc, text.as_bytes())?)
+pub(crate) fn input_of(alloc: Global, payloads: &str) -> Option<Input> {
+    match text_of(alloc, payloads) {
+        Ok(text) => decode_input(alloc, text.as_bytes()).ok(),
+        Err(_) => None,
+    }
 }

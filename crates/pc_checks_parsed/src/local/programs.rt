@@ -1,27 +1,33 @@
 //! Inputs and their programs.
 
+use crate::inputs::holds;
 use crate::local::inputs::{input_of, program};
-use crate::local::shown::shown;
+use crate::local::shown::is_shown;
+use pc_form::Input;
 use std::alloc::{AllocError, Global};
-use std::test::Fail;
 
 /// A core module of a list.
 const MODULE: &str =
     r#"{"module":{"ty":0,"imports":[],"funcs":[],"tables":0,"memories":[],"globals":0,"tags":0,"exports":[]}}"#;
 
-fn text_of_program(alloc: Global, payloads: &str) -> Result<String, Fail> {
-    let input = input_of(alloc, payloads)?;
-    let program = program(alloc, &input)?;
-    Ok(shown(alloc, &program)?)
+/// Whether the program of an input has this text.
+fn has_program(alloc: Global, input: &Input, wanted: &str) -> bool {
+    match program(alloc, input) {
+        Ok(program) => is_shown(alloc, &program, wanted).unwrap_or(false),
+        Err(_) => false,
+    }
 }
 
 /// Whether payloads have this program.
-fn is_program(alloc: Global, payloads: &str, wanted: &str) -> Result<bool, Fail> {
-    Ok(text_of_program(alloc, payloads)?.as_str() == wanted)
+fn is_program(alloc: Global, payloads: &str, wanted: &str) -> bool {
+    match input_of(alloc, payloads) {
+        Some(input) => has_program(alloc, &input, wanted),
+        None => false,
+    }
 }
 
 /// Payloads with each kind of item, and their programs.
-const ITEMS: [(&str, &str); 5] = [
+static ITEMS: [(&str, &str); 5] = [
     (r#""version","end""#, "0 exports"),
     (
         r#""version","custom",{"types":["other",{"resource":[2,"i32",null]}]},
@@ -50,15 +56,14 @@ const ITEMS: [(&str, &str); 5] = [
 ];
 
 #[test]
-fn each_row_is_an_item(rt: HostRuntime) -> Result<(), Fail> {
-    for (text, wanted) in ITEMS {
-        assert!(rt; is_program(rt.alloc(), text, wanted)?, "{text}");
+fn each_row_is_an_item(rt: HostRuntime) {
+    for (text, wanted) in ITEMS.iter() {
+        holds(&rt, text, is_program(rt.alloc(), text, wanted));
     }
-    Ok(())
 }
 
 /// Payloads with outer aliases, and their programs.
-const CAPTURES: [(&str, &str); 3] = [
+static CAPTURES: [(&str, &str); 3] = [
     // Count 0 names the body itself, what stands behind too.
     (
         r#""version",{"aliases":[{"outer":["core-module",0,5]},{"outer":["component",0,6]}]},"end""#,
@@ -86,11 +91,10 @@ const CAPTURES: [(&str, &str); 3] = [
 ];
 
 #[test]
-fn each_body_between_captures_once(rt: HostRuntime) -> Result<(), Fail> {
-    for (text, wanted) in CAPTURES {
-        assert!(rt; is_program(rt.alloc(), text, wanted)?, "{text}");
+fn each_body_between_captures_once(rt: HostRuntime) {
+    for (text, wanted) in CAPTURES.iter() {
+        holds(&rt, text, is_program(rt.alloc(), text, wanted));
     }
-    Ok(())
 }
 
 /// The program of the payloads below.
@@ -111,9 +115,14 @@ fn three_modules(alloc: Global) -> Result<String, AllocError> {
     parts.join(alloc, "")
 }
 
+/// Whether the modules have their numbers.
+fn are_numbered(alloc: Global) -> Result<bool, AllocError> {
+    let text = three_modules(alloc)?;
+    Ok(is_program(alloc, text.as_str(), NUMBERED))
+}
+
 #[test]
-fn modules_are_numbered_through_the_list(rt: HostRuntime) -> Result<(), Fail> {
-    let text = three_modules(rt.alloc())?;
-    assert!(rt; is_program(rt.alloc(), text.as_str(), NUMBERED)?);
-    Ok(())
+fn modules_are_numbered_through_the_list(rt: HostRuntime) {
+    let is_so = are_numbered(rt.alloc()).unwrap_or(false);
+    holds(&rt, "three modules", is_so);
 }

@@ -7,17 +7,23 @@ use pc_local::{
 };
 use std::alloc::{AllocError, Global};
 
+/// Adds a variable, of the body around or of what that captured.
+fn show_variable(out: &mut String, is_local: bool, number: u32) -> Result<(), AllocError> {
+    out.push_str(if is_local { " local " } else { " upvar " })?;
+    write!(out, "{number}")
+}
+
 fn show_module(out: &mut String, v: ClosedOverModule) -> Result<(), AllocError> {
     match v {
-        ClosedOverModule::Local(n) => write!(out, " local {}", n.0),
-        ClosedOverModule::Upvar(n) => write!(out, " upvar {}", n.0),
+        ClosedOverModule::Local(n) => show_variable(out, true, n.0),
+        ClosedOverModule::Upvar(n) => show_variable(out, false, n.0),
     }
 }
 
 fn show_component(out: &mut String, v: ClosedOverComponent) -> Result<(), AllocError> {
     match v {
-        ClosedOverComponent::Local(n) => write!(out, " local {}", n.0),
-        ClosedOverComponent::Upvar(n) => write!(out, " upvar {}", n.0),
+        ClosedOverComponent::Local(n) => show_variable(out, true, n.0),
+        ClosedOverComponent::Upvar(n) => show_variable(out, false, n.0),
     }
 }
 
@@ -84,13 +90,23 @@ fn show_body(out: &mut String, body: &Translation) -> Result<(), AllocError> {
     write!(out, "{} exports", body.exports.len())
 }
 
-/// The bodies of a program, the root first, then the others by number.
-pub(crate) fn shown(alloc: Global, program: &LocalProgram) -> Result<String, AllocError> {
-    let mut out = String::new(alloc);
-    show_body(&mut out, &program.root)?;
+/// Adds the bodies of a program, the root first, then the others by number.
+fn show(out: &mut String, program: &LocalProgram) -> Result<(), AllocError> {
+    show_body(out, &program.root)?;
     for body in program.components.as_slice() {
         out.push_str(" | ")?;
-        show_body(&mut out, body)?;
+        show_body(out, body)?;
     }
-    Ok(out)
+    Ok(())
+}
+
+/// Whether the bodies of a program have this text.
+pub(crate) fn is_shown(
+    alloc: Global,
+    program: &LocalProgram,
+    wanted: &str,
+) -> Result<bool, AllocError> {
+    let mut out = String::new(alloc);
+    show(&mut out, program)?;
+    Ok(out.as_str() == wanted)
 }

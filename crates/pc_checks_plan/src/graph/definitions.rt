@@ -1,9 +1,12 @@
 //! Items as definitions, and how they are mapped.
 
-use crate::items::items_are_definitions;
+use crate::items::{is_named, items_are_definitions};
+use crate::support::holds;
 use pc_dfg::{CoreDef, CoreExport, ExportItem, InstanceId};
-use pc_entity::{EntityIndex, FuncIndex, GlobalIndex, MemoryIndex, TableIndex, TagIndex, Text};
-use std::test::Fail;
+use pc_entity::{
+    EntityIndex, FuncIndex, GlobalIndex, MemoryIndex, NoMemory, TableIndex, TagIndex, Text,
+};
+use std::alloc::Global;
 
 /// An item of core instance 1.
 fn item_of<T>(item: T) -> CoreExport<T> {
@@ -14,23 +17,33 @@ fn item_of<T>(item: T) -> CoreExport<T> {
 }
 
 /// Whether a definition is this entity of core instance 1.
-fn is_entity(def: &CoreDef, entity: EntityIndex) -> bool {
-    *def == CoreDef::Export(item_of(entity))
+fn is_entity(def: CoreDef, entity: EntityIndex) -> bool {
+    def == CoreDef::Export(item_of(entity))
+}
+
+/// Whether a memory that is known by the name `m` is so where entities are mapped.
+fn stays(name: Text) -> bool {
+    let export: CoreExport<MemoryIndex> = CoreExport {
+        instance: InstanceId(1),
+        item: ExportItem::Name(name),
+    };
+    let mapped = export.map_index(|memory| memory.0);
+    (mapped.instance.0 == 1) & is_named(&mapped.item, "m")
+}
+
+/// Whether a name stays where entities are mapped.
+fn a_name_stays(alloc: Global) -> Result<bool, NoMemory> {
+    Ok(stays(Text::copy_of(alloc, "m")?))
+}
+
+/// Whether items of each kind are definitions.
+fn items_are_definitions() -> bool {
+    items_are_definitions!()
 }
 
 #[test]
 fn an_item_is_a_definition(rt: HostRuntime) {
-    items_are_definitions!(rt);
-}
-
-#[test]
-fn a_name_stays_where_entities_are_mapped(rt: HostRuntime) -> Result<(), Fail> {
-    let export: CoreExport<MemoryIndex> = CoreExport {
-        instance: InstanceId(1),
-        item: ExportItem::Name(Text::copy_of(rt.alloc(), "m")?),
-    };
-    let mapped = export.map_index(|memory| memory.0);
-    assert_eq!(rt; mapped.instance.0, 1);
-    assert!(rt; matches!(&mapped.item, ExportItem::Name(name) if name.as_str() == "m"));
-    Ok(())
+    holds(&rt, "an item of each kind", items_are_definitions());
+    let is_kept = a_name_stays(rt.alloc()).unwrap_or(false);
+    holds(&rt, "a name stays where entities are mapped", is_kept);
 }

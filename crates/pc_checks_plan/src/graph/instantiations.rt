@@ -1,29 +1,39 @@
 //! What is known of instantiations, from several places.
 
+use crate::support::holds;
 use pc_dfg::AbstractInstantiations;
 use pc_entity::TrampolineIndex;
 use pc_info::CoreDef;
 
-#[test]
-fn equal_arguments_are_one_way(rt: HostRuntime) {
-    let first = [CoreDef::Trampoline(TrampolineIndex(1))];
-    let equal = [CoreDef::Trampoline(TrampolineIndex(1))];
+const FIRST: CoreDef = CoreDef::Trampoline(TrampolineIndex(1));
+
+const OTHER: CoreDef = CoreDef::Trampoline(TrampolineIndex(2));
+
+/// Adds what is known from another place: in how many ways a module is instantiated then, where two stand for many.
+fn join<'a>(known: &mut AbstractInstantiations<'a>, other: AbstractInstantiations<'a>) -> u32 {
+    known.join(other);
+    match *known {
+        AbstractInstantiations::None => 0,
+        AbstractInstantiations::One(_) => 1,
+        AbstractInstantiations::Many => 2,
+    }
+}
+
+/// In how many ways, after each of four places: two with these arguments, one with none, and one with many.
+fn joined(one: &[CoreDef], other: &[CoreDef]) -> [u32; 4] {
     let mut known = AbstractInstantiations::None;
-    known.join(AbstractInstantiations::One(&first));
-    known.join(AbstractInstantiations::One(&equal));
-    known.join(AbstractInstantiations::None);
-    assert!(rt; matches!(known, AbstractInstantiations::One(_)));
-    known.join(AbstractInstantiations::Many);
-    assert!(rt; matches!(known, AbstractInstantiations::Many));
+    [
+        join(&mut known, AbstractInstantiations::One(one)),
+        join(&mut known, AbstractInstantiations::One(other)),
+        join(&mut known, AbstractInstantiations::None),
+        join(&mut known, AbstractInstantiations::Many),
+    ]
 }
 
 #[test]
-fn different_arguments_are_many_ways(rt: HostRuntime) {
-    let first = [CoreDef::Trampoline(TrampolineIndex(1))];
-    let other = [CoreDef::Trampoline(TrampolineIndex(2))];
-    let mut known = AbstractInstantiations::One(&first);
-    known.join(AbstractInstantiations::One(&other));
-    assert!(rt; matches!(known, AbstractInstantiations::Many));
-    known.join(AbstractInstantiations::None);
-    assert!(rt; matches!(known, AbstractInstantiations::Many));
+fn equal_arguments_are_one_way_and_different_ones_many(rt: HostRuntime) {
+    let ways = joined(&[FIRST], &[FIRST]);
+    holds(&rt, "equal arguments", ways == [1, 1, 1, 2]);
+    let ways = joined(&[FIRST], &[OTHER]);
+    holds(&rt, "different arguments", ways == [1, 2, 2, 2]);
 }

@@ -1,103 +1,121 @@
 //! Numbers that a graph hands out, and a graph that is let go.
 
+use crate::support::{holds, number};
 use pc_dfg::{
-    ComponentDfg, CoreDef, CoreExport, Export, ExportItem, Instance, InstanceId, PushError,
-    Resource, SideEffect,
+    ComponentDfg, CoreExport, Export, ExportItem, Instance, InstanceId, Resource, SideEffect,
 };
 use pc_entity::{
-    ExportIndex, MemoryIndex, RuntimeComponentInstanceIndex, RuntimeImportIndex, Seq,
+    DefinedResourceIndex, ExportIndex, MemoryIndex, NoMemory, RuntimeComponentInstanceIndex, Seq,
     StaticModuleIndex, Text, TextMap,
 };
 use pc_types::{
     ComponentExternData, InterfaceType, TypeComponentInstanceIndex, TypeDef, WasmValType,
 };
 use std::alloc::Global;
-use std::test::Fail;
 
 /// A memory of core instance 0.
-fn memory(number: u32) -> CoreExport<MemoryIndex> {
-    CoreExport {
-        instance: InstanceId(0),
-        item: ExportItem::Index(MemoryIndex(number)),
-    }
-}
+const SEVENTH: CoreExport<MemoryIndex> = CoreExport {
+    instance: InstanceId(0),
+    item: ExportItem::Index(MemoryIndex(7)),
+};
+
+/// Another one.
+const NINTH: CoreExport<MemoryIndex> = CoreExport {
+    instance: InstanceId(0),
+    item: ExportItem::Index(MemoryIndex(9)),
+};
 
 /// The numbers of three memories, of which two are equal.
-fn three_memories(graph: &mut ComponentDfg) -> Result<(u32, u32, u32), PushError> {
-    let first = graph.push_memory(memory(7))?;
-    let second = graph.push_memory(memory(9))?;
-    let third = graph.push_memory(memory(7))?;
-    Ok((first.0, second.0, third.0))
+fn three_memories(graph: &mut ComponentDfg) -> [u32; 3] {
+    [
+        number(graph.push_memory(SEVENTH)),
+        number(graph.push_memory(NINTH)),
+        number(graph.push_memory(SEVENTH)),
+    ]
 }
 
-#[test]
-fn equal_memories_share_a_number(rt: HostRuntime) {
-    let mut graph = ComponentDfg::new(rt.alloc());
-    assert!(rt; matches!(three_memories(&mut graph), Ok((0, 1, 0))));
-    assert_eq!(rt; graph.memories.len(), 2);
-}
+/// The first component instance.
+const OWNER: RuntimeComponentInstanceIndex = RuntimeComponentInstanceIndex(0);
 
-/// A resource without a destructor, of component instance 0.
-fn resource() -> Resource {
-    Resource {
-        rep: WasmValType::I32,
-        dtor: None,
-        instance: RuntimeComponentInstanceIndex(0),
-    }
+/// A resource without a destructor.
+const RESOURCE: Resource = Resource {
+    rep: WasmValType::I32,
+    dtor: None,
+    instance: OWNER,
+};
+
+/// A core instance without arguments.
+fn instance(alloc: Global) -> Instance {
+    Instance::Static(StaticModuleIndex(0), Seq::new(alloc))
 }
 
 /// A core instance, a resource and a core instance, in this order.
-fn three_effects(alloc: Global, graph: &mut ComponentDfg) -> Result<(), PushError> {
-    let owner = graph.push_component_instance()?;
-    graph.push_instance(
-        Instance::Static(StaticModuleIndex(0), Seq::new(alloc)),
-        owner,
-    )?;
-    graph.push_resource(resource())?;
-    graph.push_instance(
-        Instance::Static(StaticModuleIndex(0), Seq::new(alloc)),
-        owner,
-    )?;
-    Ok(())
+static EFFECTS: [SideEffect; 3] = [
+    SideEffect::Instance(InstanceId(0), OWNER),
+    SideEffect::Resource(DefinedResourceIndex(0)),
+    SideEffect::Instance(InstanceId(1), OWNER),
+];
+
+/// The numbers of a component instance, and of a core instance, a resource and a core instance of it.
+fn four_made(alloc: Global, graph: &mut ComponentDfg) -> [u32; 4] {
+    [
+        number(graph.push_component_instance()),
+        number(graph.push_instance(instance(alloc), OWNER)),
+        number(graph.push_resource(RESOURCE)),
+        number(graph.push_instance(instance(alloc), OWNER)),
+    ]
 }
 
-#[test]
-fn side_effects_come_in_order(rt: HostRuntime) {
-    let mut graph = ComponentDfg::new(rt.alloc());
-    assert!(rt; three_effects(rt.alloc(), &mut graph).is_ok());
-    let effects = graph.side_effects.as_slice();
-    assert_eq!(rt; effects.len(), 3);
-    assert!(rt; matches!(effects[0], SideEffect::Instance(i, _) if i.0 == 0));
-    assert!(rt; matches!(effects[1], SideEffect::Resource(n) if n.0 == 0));
-    assert!(rt; matches!(effects[2], SideEffect::Instance(i, _) if i.0 == 1));
+/// An exported type.
+const TYPE: Export = Export::Type_(TypeDef::Interface(InterfaceType::Bool));
+
+/// Data of an export that says nothing.
+const NO_DATA: ComponentExternData = ComponentExternData {
+    implements: None,
+    external_id: None,
+};
+
+/// One name, for the item of this number.
+fn one_name(
+    alloc: Global,
+    item: u32,
+) -> Result<TextMap<(ExportIndex, ComponentExternData)>, NoMemory> {
+    let name = Text::copy_of(alloc, "x")?;
+    let mut exports = TextMap::new(alloc);
+    exports.push(name, (ExportIndex(item), NO_DATA))?;
+    Ok(exports)
 }
 
 /// An instance with the item of this number in it.
-fn around(alloc: Global, below: u32) -> Result<Export, PushError> {
-    let mut exports = TextMap::new(alloc);
-    let data = ComponentExternData {
-        implements: None,
-        external_id: None,
-    };
-    exports.insert(Text::copy_of(alloc, "x")?, (ExportIndex(below), data))?;
+fn around(alloc: Global, below: u32) -> Result<Export, NoMemory> {
     Ok(Export::Instance {
         ty: TypeComponentInstanceIndex(0),
-        exports,
+        exports: one_name(alloc, below)?,
     })
 }
 
-/// A type, and so many instances around it, each in the next.
-fn nest(alloc: Global, graph: &mut ComponentDfg, levels: u32) -> Result<(), PushError> {
-    graph.push_export_item(Export::Type_(TypeDef::Interface(InterfaceType::Bool)))?;
+/// Adds a type, and so many instances, each around the item before it; those are left out that are refused. How many
+/// items there are.
+fn nest(alloc: Global, graph: &mut ComponentDfg, levels: u32) -> usize {
+    number(graph.push_export_item(TYPE));
     for below in 0..levels {
-        graph.push_export_item(around(alloc, below)?)?;
+        if let Ok(item) = around(alloc, below) {
+            number(graph.push_export_item(item));
+        }
     }
-    Ok(())
+    graph.export_items.len()
 }
 
 #[test]
-fn a_deep_tree_of_exports_is_let_go(rt: HostRuntime) {
+fn entries_come_in_order_and_a_deep_tree_of_exports_is_let_go(rt: HostRuntime) {
     let mut graph = ComponentDfg::new(rt.alloc());
-    assert!(rt; nest(rt.alloc(), &mut graph, 30000).is_ok());
-    assert_eq!(rt; graph.export_items.len(), 30001);
+    let numbers = three_memories(&mut graph);
+    holds(&rt, "equal memories", numbers == [0, 1, 0]);
+    holds(&rt, "two memories", graph.memories.len() == 2);
+    let numbers = four_made(rt.alloc(), &mut graph);
+    holds(&rt, "instances and a resource", numbers == [0, 0, 0, 1]);
+    let effects = graph.side_effects.as_slice();
+    holds(&rt, "effects in order", effects == EFFECTS.as_slice());
+    let items = nest(rt.alloc(), &mut graph, 30000);
+    holds(&rt, "a deep tree of exports", items == 30001);
 }

@@ -1,5 +1,6 @@
 //! Each way into a list, once: the first entry has number 0, and one that is interned has it again.
 
+use crate::support::{holds, number};
 use pc_dfg::{
     Adapter, AdapterModuleId, AdapterOptions, CanonicalOptions, CanonicalOptionsDataModel,
     ComponentDfg, CoreDef, CoreExport, DataModel, Export, ExportItem, InstanceId, PushError,
@@ -13,134 +14,156 @@ use pc_types::{
     ComponentExtern, ComponentExternData, InterfaceType, StringEncoding, TypeDef, TypeFuncIndex,
 };
 use std::alloc::Global;
-use std::test::Fail;
 
 /// Data of an import or an export that says nothing.
-fn no_data() -> ComponentExternData {
-    ComponentExternData {
-        implements: None,
-        external_id: None,
-    }
-}
+const NO_DATA: ComponentExternData = ComponentExternData {
+    implements: None,
+    external_id: None,
+};
+
+/// What an import of a type is.
+const TYPE_IMPORT: ComponentExtern = ComponentExtern {
+    ty: TypeDef::Interface(InterfaceType::Bool),
+    data_: NO_DATA,
+};
+
+/// An exported type.
+const TYPE: Export = Export::Type_(TypeDef::Interface(InterfaceType::Bool));
 
 /// A function of core instance 0.
-fn func(number: u32) -> CoreDef {
-    CoreDef::Export(CoreExport {
-        instance: InstanceId(0),
-        item: ExportItem::Index(EntityIndex::Function(FuncIndex(number))),
-    })
-}
+const FUNC: CoreDef = CoreDef::Export(CoreExport {
+    instance: InstanceId(0),
+    item: ExportItem::Index(EntityIndex::Function(FuncIndex(1))),
+});
+
+/// Another one.
+const OTHER: CoreDef = CoreDef::Export(CoreExport {
+    instance: InstanceId(0),
+    item: ExportItem::Index(EntityIndex::Function(FuncIndex(2))),
+});
 
 /// A table of core instance 0.
-fn table() -> CoreExport<TableIndex> {
-    CoreExport {
-        instance: InstanceId(0),
-        item: ExportItem::Index(TableIndex(3)),
-    }
-}
+const TABLE: CoreExport<TableIndex> = CoreExport {
+    instance: InstanceId(0),
+    item: ExportItem::Index(TableIndex(3)),
+};
+
+/// The core type of options and of a trampoline.
+const SIGNATURE: ModuleInternedTypeIndex = ModuleInternedTypeIndex(0);
 
 /// Options without functions, in linear memory.
-fn options() -> CanonicalOptions {
-    CanonicalOptions {
-        instance: RuntimeComponentInstanceIndex(0),
-        string_encoding: StringEncoding::Utf8,
-        callback: None,
-        post_return: None,
-        async_: false,
-        core_type: ModuleInternedTypeIndex(0),
-        data_model: CanonicalOptionsDataModel::LinearMemory {
-            memory: None,
-            realloc: None,
-        },
-    }
-}
+const OPTIONS: CanonicalOptions = CanonicalOptions {
+    instance: RuntimeComponentInstanceIndex(0),
+    string_encoding: StringEncoding::Utf8,
+    callback: None,
+    post_return: None,
+    async_: false,
+    core_type: SIGNATURE,
+    data_model: CanonicalOptionsDataModel::LinearMemory {
+        memory: None,
+        realloc: None,
+    },
+};
 
 /// The same options of a side of an adapter.
-fn side() -> AdapterOptions {
-    AdapterOptions {
-        instance: RuntimeComponentInstanceIndex(0),
-        string_encoding: StringEncoding::Utf8,
-        callback: None,
-        post_return: None,
-        async_: false,
-        core_type: ModuleInternedTypeIndex(0),
-        data_model: DataModel::LinearMemory {
-            memory: None,
-            realloc: None,
-        },
-    }
-}
+const SIDE: AdapterOptions = AdapterOptions {
+    instance: RuntimeComponentInstanceIndex(0),
+    string_encoding: StringEncoding::Utf8,
+    callback: None,
+    post_return: None,
+    async_: false,
+    core_type: SIGNATURE,
+    data_model: DataModel::LinearMemory {
+        memory: None,
+        realloc: None,
+    },
+};
 
 /// A function, lifted and lowered again.
-fn adapter() -> Adapter {
-    Adapter {
-        lift_ty: TypeFuncIndex(0),
-        lift_options: side(),
-        lower_ty: TypeFuncIndex(0),
-        lower_options: side(),
-        func: func(0),
-    }
-}
+const ADAPTER: Adapter = Adapter {
+    lift_ty: TypeFuncIndex(0),
+    lift_options: SIDE,
+    lower_ty: TypeFuncIndex(0),
+    lower_options: SIDE,
+    func: FUNC,
+};
 
-/// A named import of a type.
+/// The number of a named import of a type.
 fn push_import_type(alloc: Global, graph: &mut ComponentDfg) -> Result<ImportIndex, PushError> {
-    let ty = ComponentExtern {
-        ty: TypeDef::Interface(InterfaceType::Bool),
-        data_: no_data(),
-    };
-    graph.push_import_type(Text::copy_of(alloc, "i")?, ty)
+    graph.push_import_type(Text::copy_of(alloc, "i")?, TYPE_IMPORT)
 }
 
-#[test]
-fn imports_are_numbered(rt: HostRuntime) {
-    let mut graph = ComponentDfg::new(rt.alloc());
-    assert!(rt; matches!(push_import_type(rt.alloc(), &mut graph), Ok(n) if n.0 == 0));
-    let names = Seq::new(rt.alloc());
-    assert!(rt; matches!(graph.push_import(ImportIndex(0), names), Ok(n) if n.0 == 0));
-    let import = RuntimeImportIndex(0);
-    assert!(rt; matches!(graph.push_imported_resource(import), Ok(n) if n.0 == 0));
+/// The numbers of an import, a host item and an imported resource.
+fn imports(alloc: Global, graph: &mut ComponentDfg) -> [u32; 3] {
+    [
+        number(push_import_type(alloc, graph)),
+        number(graph.push_import(ImportIndex(0), Seq::new(alloc))),
+        number(graph.push_imported_resource(RuntimeImportIndex(0))),
+    ]
 }
 
-#[test]
-fn slots_are_numbered(rt: HostRuntime) {
-    let mut graph = ComponentDfg::new(rt.alloc());
-    assert!(rt; matches!(graph.push_table(table()), Ok(n) if n.0 == 0));
-    assert!(rt; matches!(graph.push_table(table()), Ok(n) if n.0 == 0));
-    assert!(rt; matches!(graph.push_realloc(func(1)), Ok(n) if n.0 == 0));
-    assert!(rt; matches!(graph.push_realloc(func(2)), Ok(n) if n.0 == 1));
-    assert!(rt; matches!(graph.push_callback(func(1)), Ok(n) if n.0 == 0));
-    assert!(rt; matches!(graph.push_post_return(func(1)), Ok(n) if n.0 == 0));
+/// The numbers of two equal tables and of two reallocs.
+fn tables_and_reallocs(graph: &mut ComponentDfg) -> [u32; 4] {
+    [
+        number(graph.push_table(TABLE)),
+        number(graph.push_table(TABLE)),
+        number(graph.push_realloc(FUNC)),
+        number(graph.push_realloc(OTHER)),
+    ]
 }
 
-#[test]
-fn options_and_trampolines_are_numbered(rt: HostRuntime) {
-    let mut graph = ComponentDfg::new(rt.alloc());
-    assert!(rt; matches!(graph.push_options(options()), Ok(n) if n.0 == 0));
-    assert!(rt; matches!(graph.push_options(options()), Ok(n) if n.0 == 0));
-    let signature = ModuleInternedTypeIndex(0);
-    let trampoline = Trampoline::EnterSyncCall;
-    assert!(rt; matches!(graph.push_trampoline(signature, trampoline), Ok(n) if n.0 == 0));
+/// The numbers of a callback, a function that is called after a return, equal options and a trampoline.
+fn options(graph: &mut ComponentDfg) -> [u32; 5] {
+    [
+        number(graph.push_callback(FUNC)),
+        number(graph.push_post_return(FUNC)),
+        number(graph.push_options(OPTIONS)),
+        number(graph.push_options(OPTIONS)),
+        number(graph.push_trampoline(SIGNATURE, Trampoline::EnterSyncCall)),
+    ]
 }
 
-#[test]
-fn adapters_are_numbered(rt: HostRuntime) {
-    let mut graph = ComponentDfg::new(rt.alloc());
-    assert!(rt; matches!(graph.push_adapter(adapter()), Ok(n) if n.0 == 0));
-    assert!(rt; matches!(graph.push_adapter(adapter()), Ok(n) if n.0 == 0));
-    let args = Seq::new(rt.alloc());
-    assert!(rt; matches!(graph.push_adapter_module(StaticModuleIndex(0), args), Ok(n) if n.0 == 0));
+/// The number of an adapter, which is always the same one.
+fn adapter(graph: &mut ComponentDfg) -> u32 {
+    number(graph.push_adapter(ADAPTER))
+}
+
+/// The numbers of a module of adapters, the place of an adapter, and an exported type.
+fn places(alloc: Global, graph: &mut ComponentDfg) -> [u32; 3] {
     let place = EntityIndex::Function(FuncIndex(0));
-    assert!(rt; matches!(graph.push_partitioning(AdapterModuleId(0), place), Ok(n) if n.0 == 0));
+    [
+        number(graph.push_adapter_module(StaticModuleIndex(0), Seq::new(alloc))),
+        number(graph.push_partitioning(AdapterModuleId(0), place)),
+        number(graph.push_export_item(TYPE)),
+    ]
 }
 
 #[test]
-fn an_export_has_a_name_and_an_item(rt: HostRuntime) -> Result<(), Fail> {
+fn entries_are_numbered(rt: HostRuntime) {
     let mut graph = ComponentDfg::new(rt.alloc());
-    let item = Export::Type_(TypeDef::Interface(InterfaceType::Bool));
-    assert!(rt; matches!(graph.push_export_item(item), Ok(n) if n.0 == 0));
-    let name = Text::copy_of(rt.alloc(), "e")?;
-    let named: Result<(), NoMemory> = graph.push_export(name, ExportIndex(0), no_data());
-    assert!(rt; named.is_ok());
-    assert_eq!(rt; graph.exports.len(), 1);
-    Ok(())
+    holds(&rt, "imports", imports(rt.alloc(), &mut graph) == [0, 0, 0]);
+    let numbers = tables_and_reallocs(&mut graph);
+    holds(&rt, "tables and reallocs", numbers == [0, 0, 0, 1]);
+    holds(&rt, "options", options(&mut graph) == [0, 0, 0, 0, 0]);
+    holds(&rt, "an adapter", adapter(&mut graph) == 0);
+    holds(&rt, "the same adapter", adapter(&mut graph) == 0);
+    holds(&rt, "places", places(rt.alloc(), &mut graph) == [0, 0, 0]);
+}
+
+/// Whether the export of this name is the only one of a graph.
+fn is_exported(alloc: Global, name: Text) -> bool {
+    let mut graph = ComponentDfg::new(alloc);
+    let is_pushed = graph.push_export(name, ExportIndex(0), NO_DATA).is_ok();
+    is_pushed & (graph.exports.len() == 1)
+}
+
+/// Whether an export has a name.
+fn an_export_has_a_name(alloc: Global) -> Result<bool, NoMemory> {
+    Ok(is_exported(alloc, Text::copy_of(alloc, "e")?))
+}
+
+#[test]
+fn exports_have_names(rt: HostRuntime) {
+    let has_name = an_export_has_a_name(rt.alloc()).unwrap_or(false);
+    holds(&rt, "one export", has_name);
 }

@@ -1,5 +1,6 @@
 //! Plans with types builders of their own.
 
+use crate::inputs::holds;
 use crate::translator::inputs::{FUNCTION, input_of, lifted, smallest, text_of};
 use pc_form::Input;
 use pc_info::ComponentTranslation;
@@ -7,7 +8,6 @@ use pc_names::NameMapNoIntern;
 use pc_translate::plan_payloads;
 use pc_types::Error;
 use std::alloc::{AllocError, Global};
-use std::test::*;
 
 /// A plan, without its modules.
 fn plan_of(alloc: Global, input: &Input) -> Result<ComponentTranslation, Error> {
@@ -25,15 +25,22 @@ fn has_one_export(alloc: Global, input: &Input, name: &str) -> Result<bool, Erro
     Ok(component.num_runtime_instances == 1 && is_found)
 }
 
+/// Whether an input is read whose plan has one core instance, and an export under this name.
+fn is_planned(alloc: Global, input: Option<Input>, name: &str) -> bool {
+    match input {
+        Some(input) => has_one_export(alloc, &input, name).unwrap_or(false),
+        None => false,
+    }
+}
+
 #[test]
-fn a_lifted_function_is_planned(rt: HostRuntime) -> Result<(), Fail> {
-    let input = smallest(rt.alloc())?;
-    assert!(rt; has_one_export(rt.alloc(), &input, "run")?);
-    Ok(())
+fn a_lifted_function_is_planned(rt: HostRuntime) {
+    let is_so = is_planned(rt.alloc(), smallest(rt.alloc()), "run");
+    holds(&rt, "run", is_so);
 }
 
 /// Three lifts of one core function, and how many options entries they have together.
-const LIFTS: [(&str, usize); 3] = [
+static LIFTS: [(&str, usize); 3] = [
     (
         r#"["lift",0,1,0,[]],["lift",0,1,0,[]],["lift",0,1,0,[]]"#,
         1,
@@ -48,48 +55,69 @@ const LIFTS: [(&str, usize); 3] = [
     ),
 ];
 
-/// How many options entries three lifts have.
-fn options_of(alloc: Global, lifts: &str) -> Result<usize, Fail> {
-    let input = lifted(
-        alloc,
-        lifts,
-        r#"["a","func",0],["b","func",1],["c","func",2]"#,
-    )?;
-    Ok(plan_of(alloc, &input)?.component.options.len())
+/// How many options entries a plan has.
+fn options_of(alloc: Global, input: &Input) -> Result<usize, Error> {
+    Ok(plan_of(alloc, input)?.component.options.len())
+}
+
+/// How many options entries three lifts have, or none where there is no plan.
+fn options_of_three(alloc: Global, lifts: &str) -> usize {
+    let names = r#"["a","func",0],["b","func",1],["c","func",2]"#;
+    match lifted(alloc, lifts, names) {
+        Some(input) => options_of(alloc, &input).unwrap_or(0),
+        None => 0,
+    }
 }
 
 #[test]
-fn two_lifts_under_two_signatures_have_two_options_entries(rt: HostRuntime) -> Result<(), Fail> {
-    for (lifts, entries) in LIFTS {
-        assert_eq!(rt; options_of(rt.alloc(), lifts)?, entries, "{lifts}");
+fn two_lifts_under_two_signatures_have_two_options_entries(rt: HostRuntime) {
+    for (lifts, entries) in LIFTS.iter() {
+        holds(&rt, lifts, options_of_three(rt.alloc(), lifts) == *entries);
     }
-    Ok(())
 }
 
 /// A lift of each of so many types.
 fn lifts_of(alloc: Global, count: usize) -> Result<String, AllocError> {
     let mut lifts = String::from_str(alloc, r#"["lift",0,1,0,[]]"#)?;
     for ty in 2..count {
-        lifts.push_str(&format!(in alloc; r#",["lift",0,{ty},0,[]]"#)?)?;
+        write!(lifts, r#",["lift",0,{ty},0,[]]"#)?;
     }
     Ok(lifts)
 }
 
+/// A signature of a million parameters.
+fn long_signature(alloc: Global) -> Result<String, AllocError> {
+    let parameters = r#""i32","#.repeat(alloc, 999_999)?;
+    ["[[", parameters.as_str(), r#""i32"],[]]"#].join(alloc, "")
+}
+
+/// A hundred thousand function types.
+fn many_functions(alloc: Global) -> Result<String, AllocError> {
+    let others = r#",{"func":{"params":[["x","u32"]],"result":null,"async":false}}"#.repeat(
+        alloc, 99_999,
+    )?;
+    [FUNCTION, others.as_str()].join(alloc, "")
+}
+
 /// A signature of a million parameters, and lifts of many types under it.
 fn many_types(alloc: Global) -> Result<String, AllocError> {
-    let parameters = r#""i32","#.repeat(alloc, 999_999)?;
-    let signature = format!(in alloc; r#"[[{parameters}"i32"],[]]"#)?;
-    let types = format!(in alloc; "{FUNCTION},")?.repeat(alloc, 99_999)?;
-    let types = format!(in alloc; "{types}{FUNCTION}")?;
+    let signature = long_signature(alloc)?;
+    let types = many_functions(alloc)?;
     let lifts = lifts_of(alloc, 100_000)?;
     text_of(alloc, &signature, &types, &lifts, r#"["run","func",0]"#)
 }
 
+/// The input of many types.
+fn input_of_many(alloc: Global) -> Option<Input> {
+    match many_types(alloc) {
+        Ok(text) => input_of(alloc, &text),
+        Err(_) => None,
+    }
+}
+
 /// A look through the table for each lift, or a look at its signature, would take minutes.
 #[test]
-fn many_types_are_each_met_once(rt: HostRuntime) -> Result<(), Fail> {
-    let text = many_types(rt.alloc())?;
-    let input = input_of(rt.alloc(), &text)?;
-    assert!(rt; has_one_export(rt.alloc(), &input, "run")?);
-    Ok(())
+fn many_types_are_each_met_once(rt: HostRuntime) {
+    let is_so = is_planned(rt.alloc(), input_of_many(rt.alloc()), "run");
+    holds(&rt, "many types", is_so);
 }

@@ -1,12 +1,12 @@
 //! Translations with a types builder that is handed in.
 
+use crate::inputs::holds;
 use crate::translator::inputs::{input_of, smallest};
 use pc_builder::ComponentTypesBuilder;
 use pc_form::Input;
 use pc_translate::{Translator, translate};
 use pc_types::{Error, Place, TypeKind};
 use std::alloc::Global;
-use std::test::*;
 
 /// How many options entries the plan has that goes into a builder.
 fn options_into(
@@ -42,12 +42,18 @@ fn gains_a_type_once(
     Ok((first, second, types.held(TypeKind::Func)) == (1, 1, 1))
 }
 
+/// Whether the types of the smallest plan are gained once.
+fn is_gained_once(alloc: Global) -> bool {
+    let mut types = ComponentTypesBuilder::new(alloc);
+    match smallest(alloc) {
+        Some(input) => gains_a_type_once(alloc, &mut types, &input).unwrap_or(false),
+        None => false,
+    }
+}
+
 #[test]
-fn a_builder_gains_the_types_of_a_plan_once(rt: HostRuntime) -> Result<(), Fail> {
-    let input = smallest(rt.alloc())?;
-    let mut types = ComponentTypesBuilder::new(rt.alloc());
-    assert!(rt; gains_a_type_once(rt.alloc(), &mut types, &input)?);
-    Ok(())
+fn a_builder_gains_the_types_of_a_plan_once(rt: HostRuntime) {
+    holds(&rt, "smallest", is_gained_once(rt.alloc()));
 }
 
 /// What a translator answers that exposes the unsafe intrinsics as `unsafe`: how many options entries the plan has.
@@ -62,16 +68,29 @@ fn options_beside_intrinsics(
     Ok(plan.0.component.options.len())
 }
 
+/// How many options entries the plan of an input has, and what a translator answers that exposes the name.
+fn both_ways(alloc: Global, input: &Input) -> (Result<usize, Error>, Result<usize, Error>) {
+    let mut types = ComponentTypesBuilder::new(alloc);
+    let plain = options_into(alloc, &mut types, input);
+    (plain, options_beside_intrinsics(alloc, &mut types, input))
+}
+
+/// Whether an input is read and has these answers.
+fn are_answers(
+    alloc: Global,
+    input: Option<Input>,
+    want: (Result<usize, Error>, Result<usize, Error>),
+) -> bool {
+    match input {
+        Some(input) => both_ways(alloc, &input) == want,
+        None => false,
+    }
+}
+
 #[test]
-fn a_name_that_nothing_imports_changes_nothing(rt: HostRuntime) -> Result<(), Fail> {
-    let input = smallest(rt.alloc())?;
-    let mut types = ComponentTypesBuilder::new(rt.alloc());
-    assert_eq!(rt; options_into(rt.alloc(), &mut types, &input)?, 1);
-    assert_eq!(rt;
-        options_beside_intrinsics(rt.alloc(), &mut types, &input)?,
-        1
-    );
-    Ok(())
+fn a_name_that_nothing_imports_changes_nothing(rt: HostRuntime) {
+    let is_so = are_answers(rt.alloc(), smallest(rt.alloc()), (Ok(1), Ok(1)));
+    holds(&rt, "smallest", is_so);
 }
 
 // An import of this name, of a function.
@@ -86,11 +105,9 @@ const AT: Place = Place::Payload {
 };
 
 #[test]
-fn an_import_of_the_name_has_to_be_an_instance(rt: HostRuntime) -> Result<(), Fail> {
-    let input = input_of(rt.alloc(), IMPORT)?;
-    let mut types = ComponentTypesBuilder::new(rt.alloc());
-    assert_eq!(rt; options_into(rt.alloc(), &mut types, &input)?, 0);
-    let refusal = options_beside_intrinsics(rt.alloc(), &mut types, &input).err();
-    assert!(rt; refusal == Some(Error::BadIntrinsics(AT)));
-    Ok(())
+fn an_import_of_the_name_has_to_be_an_instance(rt: HostRuntime) {
+    let input = input_of(rt.alloc(), IMPORT);
+    let refused = (Ok(0), Err(Error::BadIntrinsics(AT)));
+    let is_so = are_answers(rt.alloc(), input, refused);
+    holds(&rt, "a function", is_so);
 }
