@@ -42,7 +42,7 @@ const CHAIN: [(u32, u32); 8] = [
 ];
 
 /// How many nodes there are, the edges, and the components in their order.
-const WORKED: [(u32, &[(u32, u32)], &[Part<'_>]); 5] = [
+static WORKED: [(u32, &[(u32, u32)], &[Part<'_>]); 5] = [
     (
         6,
         &CHAIN,
@@ -159,10 +159,10 @@ fn components_stand_as_they_are_left(rt: HostRuntime) {
 }
 
 /// The nodes that are left in the chain without node 3, and behind them the successors of node 1.
-const NODES: [FuncIndex; 6] = [A, B, C, E, F, C];
+static NODES: [FuncIndex; 6] = [A, B, C, E, F, C];
 
 /// The components of the chain without node 3.
-const LEFT: [Part<'_>; 4] = [
+static LEFT: [Part<'_>; 4] = [
     (&[E], &[Scc(1)]),
     (&[F], &[]),
     (&[B, C], &[Scc(3)]),

@@ -150,7 +150,7 @@ pub fn lists<G: Graph<FuncIndex>>(alloc: Global, graph: &G, node: u32, nodes: &[
 }
 
 /// What a graph of four nodes and one of its nodes list: half of each given number follows it.
-const LISTED: [(u32, &[FuncIndex]); 6] = [
+static LISTED: [(u32, &[FuncIndex]); 6] = [
     (0, &[A, B, C, D]),
     (1, &[A, B, C, D, A]),
     (2, &[A, B, C, D]),

@@ -55,10 +55,10 @@ fn maps_to<K: Eq + Ord + Hash + TryClone + Drop, I: NameMapIntern<Key = K>>(
 }
 
 /// The names of wasmtime's own tests.
-const COMPATIBLE: [(&str, u32); 4] = [("a", 0), ("b", 1), ("a:b/c@1.0.0", 2), ("a:b/c@1.0.1", 3)];
+static COMPATIBLE: [(&str, u32); 4] = [("a", 0), ("b", 1), ("a:b/c@1.0.0", 2), ("a:b/c@1.0.1", 3)];
 
 /// What is found among them.
-const FOUND: [(&str, Option<u32>); 8] = [
+static FOUND: [(&str, Option<u32>); 8] = [
     ("a", Some(0)),
     ("b", Some(1)),
     ("a:b/c@1.0.0", Some(2)),
@@ -71,7 +71,7 @@ const FOUND: [(&str, Option<u32>); 8] = [
 
 /// Versions in no order: some on the tracks 1, 0.1 and 0.2 of `a`, some on none, and on `b` with and without build
 /// text.
-const VERSIONS: [(&str, u32); 10] = [
+static VERSIONS: [(&str, u32); 10] = [
     ("a@1.2.0", 1),
     ("a@1.10.0", 2),
     ("a@1.9.9", 3),
@@ -85,7 +85,7 @@ const VERSIONS: [(&str, u32); 10] = [
 ];
 
 /// What is found among them.
-const NEWEST: [(&str, Option<u32>); 15] = [
+static NEWEST: [(&str, Option<u32>); 15] = [
     ("a@1.9.9", Some(3)),
     ("a@1.0.0", Some(2)),
     ("a@1.99.0+x", Some(2)),
@@ -180,10 +180,10 @@ fn copy_lists(alloc: Global, map: &NameMap<Text, u32>, a: u32, b: u32) -> bool {
 }
 
 /// The definitions of two names.
-const TWO: [(&str, u32); 2] = [("a", 0), ("b", 1)];
+static TWO: [(&str, u32); 2] = [("a", 0), ("b", 1)];
 
 /// What is found where a third name was refused.
-const FIRST: [(&str, Option<u32>); 3] = [("a", Some(0)), ("b", Some(1)), ("c", None)];
+static FIRST: [(&str, Option<u32>); 3] = [("a", Some(0)), ("b", Some(1)), ("c", None)];
 
 #[test]
 fn a_name_is_defined_once_or_shadowed_in_its_place(rt: HostRuntime) {
@@ -204,7 +204,7 @@ fn a_name_is_defined_once_or_shadowed_in_its_place(rt: HostRuntime) {
 
 /// Names and their tracks: those of wasmtime's own tests, and names without a version or with an odd one. A name
 /// without a track has an empty text here, which is no track.
-const TRACKS: [(&str, &str); 27] = [
+static TRACKS: [(&str, &str); 27] = [
     ("x", ""),
     ("x:y/z", ""),
     ("x:y/z@1.0.0", "x:y/z@1"),

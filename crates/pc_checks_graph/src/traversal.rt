@@ -52,7 +52,7 @@ fn events_of(
 }
 
 /// The traversal of two nodes, of which one has two edges to the other.
-const TWICE: [DfsEvent<FuncIndex>; 6] = [
+static TWICE: [DfsEvent<FuncIndex>; 6] = [
     DfsEvent::Pre(A),
     DfsEvent::Pre(B),
     DfsEvent::Post(B),
@@ -73,7 +73,7 @@ fn visits_last(alloc: Global, graph: &EntityGraph<FuncIndex>) -> bool {
 }
 
 /// The visit of node 1 alone.
-const LAST: [DfsEvent<FuncIndex>; 2] = [DfsEvent::Pre(B), DfsEvent::Post(B)];
+static LAST: [DfsEvent<FuncIndex>; 2] = [DfsEvent::Pre(B), DfsEvent::Post(B)];
 
 #[test]
 fn the_last_root_is_visited_first(rt: HostRuntime) {

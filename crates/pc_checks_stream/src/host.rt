@@ -1,6 +1,6 @@
 //! Streams over std's readers and writers.
 
-use crate::reads::TEXT;
+use crate::reads::{TEXT, holds};
 use pc_stream::{ReadEnd, StdSink, StdSource, read_all, write_all};
 use std::alloc::Global;
 use std::io;
@@ -66,10 +66,11 @@ fn read_from(alloc: Global, stops: u64) -> (bool, bool, u64) {
 }
 
 #[test]
-fn a_reader_that_fails_is_a_fault(rt: HostRuntime) -> Result<(), Fail> {
-    assert!(rt; read_from(rt.alloc(), 100) == (true, false, 0));
-    assert!(rt; read_from(rt.alloc(), 2) == (false, true, 1));
-    Ok(())
+fn a_reader_that_fails_is_a_fault(rt: HostRuntime) {
+    let whole = read_from(rt.alloc(), 100);
+    holds(&rt, "whole", whole == (true, false, 0));
+    let stopped = read_from(rt.alloc(), 2);
+    holds(&rt, "stopped", stopped == (false, true, 1));
 }
 
 /// Writes the text to a writer that stops at this call: whether that succeeds, the faults, and whether the writer then
@@ -83,10 +84,11 @@ fn write_to(alloc: Global, stops: u64, fails: bool, kept: &[u8]) -> (bool, u64, 
 }
 
 #[test]
-fn a_writer_that_fails_or_takes_nothing_is_a_fault(rt: HostRuntime) -> Result<(), Fail> {
-    assert!(rt; write_to(rt.alloc(), 100, true, TEXT) == (true, 0, true));
-    for fails in [true, false] {
-        assert!(rt; write_to(rt.alloc(), 2, fails, b"sevent") == (false, 1, true));
-    }
-    Ok(())
+fn a_writer_that_fails_or_takes_nothing_is_a_fault(rt: HostRuntime) {
+    let whole = write_to(rt.alloc(), 100, true, TEXT);
+    holds(&rt, "whole", whole == (true, 0, true));
+    let failed = write_to(rt.alloc(), 2, true, b"sevent");
+    holds(&rt, "failed", failed == (false, 1, true));
+    let stopped = write_to(rt.alloc(), 2, false, b"sevent");
+    holds(&rt, "stopped", stopped == (false, 1, true));
 }

@@ -3,6 +3,7 @@
 ghost use Rattle.std.specs.Prelude.{◌≤◌, ◌≡◌, ◌++◌, length, IsTrue, IfOk};
 ghost use Rattle.pc_stream.specs.declared.whole.TheConstants.{MAX_INPUT};
 
+use crate::reads::holds;
 use pc_stream::{Failed, MAX_INPUT, MemSink, ReadEnd, SureSink, SureSource, read_all, write_all};
 use std::alloc::{AllocError, Global};
 use std::test::*;
@@ -53,10 +54,9 @@ fn is_too_long(alloc: Global) -> Result<bool, AllocError> {
 }
 
 #[test]
-fn one_byte_over_the_limit_is_too_long(rt: HostRuntime) -> Result<(), Fail> {
-    assert!(rt; longest(rt.alloc())? == 67108864);
-    assert!(rt; is_too_long(rt.alloc())?);
-    Ok(())
+fn one_byte_over_the_limit_is_too_long(rt: HostRuntime) {
+    holds(&rt, "longest", longest(rt.alloc()) == Ok(67108864));
+    holds(&rt, "longer", is_too_long(rt.alloc()) == Ok(true));
 }
 
 /// A room for this many bytes, four of which are taken.
@@ -67,7 +67,7 @@ fn room_for(alloc: Global, capacity: usize) -> Result<Vec<u8>, AllocError> {
 }
 
 /// Rooms, what they keep, and whether it is whole.
-const ROOMS: [(usize, &[u8], bool); 3] = [
+static ROOMS: [(usize, &[u8], bool); 3] = [
     (8, b"roomtext", true),
     (6, b"roomte", false),
     (4, b"room", false),
@@ -86,10 +86,10 @@ fn is_cut(alloc: Global) -> Result<bool, AllocError> {
 }
 
 #[test]
-fn a_sink_keeps_what_fits_its_room(rt: HostRuntime) -> Result<(), Fail> {
-    for (capacity, kept, is_whole) in ROOMS {
-        assert!(rt; keeps(rt.alloc(), capacity, kept, is_whole)?);
+fn a_sink_keeps_what_fits_its_room(rt: HostRuntime) {
+    for &(capacity, kept, is_whole) in ROOMS.iter() {
+        let is_kept = keeps(rt.alloc(), capacity, kept, is_whole);
+        holds(&rt, "room", is_kept == Ok(true));
     }
-    assert!(rt; is_cut(rt.alloc())?);
-    Ok(())
+    holds(&rt, "cut", is_cut(rt.alloc()) == Ok(true));
 }

@@ -2,7 +2,7 @@
 
 ghost use Rattle.std.specs.Prelude.{◌<◌};
 
-use crate::reads::TEXT;
+use crate::reads::{TEXT, holds};
 use pc_stream::{MemSink, write_all};
 use std::alloc::{AllocError, Global};
 use std::test::*;
@@ -39,12 +39,12 @@ fn each_write_fails(alloc: Global, most: usize, writes: u64) -> Result<bool, All
 }
 
 /// How many bytes a call moves, and how many calls a write of the text takes.
-const WRITES: [(usize, u64); 2] = [(1, 70), (7, 10)];
+static WRITES: [(usize, u64); 2] = [(1, 70), (7, 10)];
 
 #[test]
-fn each_write_may_fail(rt: HostRuntime) -> Result<(), Fail> {
-    for (most, writes) in WRITES {
-        assert!(rt; most > 0 && each_write_fails(rt.alloc(), most, writes)?);
+fn each_write_may_fail(rt: HostRuntime) {
+    for &(most, writes) in WRITES.iter() {
+        let fails = most > 0 && each_write_fails(rt.alloc(), most, writes) == Ok(true);
+        holds(&rt, "writes", fails);
     }
-    Ok(())
 }

@@ -157,6 +157,16 @@ pub(crate) const ENTRIES: Around = Around {
     after: r#"]},"payloads":["custom"]}"#,
 };
 
+/// A text between two others.
+pub(crate) fn between(
+    alloc: Global,
+    before: &str,
+    text: &str,
+    after: &str,
+) -> Result<String, AllocError> {
+    [before, text, after].join(alloc, "")
+}
+
 /// Whether the input that is made of a text is translated with this status, and this text is written.
 fn is_translated(
     alloc: Global,
@@ -165,7 +175,7 @@ fn is_translated(
     status: Status,
     written: &str,
 ) -> Result<bool, AllocError> {
-    let input = [around.before, text, around.after].join(alloc, "")?;
+    let input = between(alloc, around.before, text, around.after)?;
     is_answered(alloc, "translate", &input, status, written)
 }
 

@@ -1,6 +1,6 @@
 //! Inputs that are deep, and a long one, with their plans.
 
-use crate::inputs::{holds, is_answered};
+use crate::inputs::{Around, between, holds, is_answered};
 use crate::root::EMPTY_PLAN;
 use pc_form::decode_input;
 use pc_tool::Status;
@@ -57,19 +57,19 @@ fn lowered(alloc: Global, count: usize) -> Result<String, AllocError> {
 }
 
 /// What stands around 2000 lowerings, the last of which is given to a core instance.
-static CHAIN: [&str; 2] = [
-    r#"{"limit":100,"intrinsics":null,"types":{"core":[[["i32","i32"],[]],[["i32","i32","i32","i32"],["i32"]]],
+const CHAIN: Around = Around {
+    before: r#"{"limit":100,"intrinsics":null,"types":{"core":[[["i32","i32"],[]],[["i32","i32","i32","i32"],["i32"]]],
            "types":[{"func":{"params":[["s","string"]],"result":null,"async":false}},{"module":[[],[]]}]},
            "payloads":["version",{"imports":[["log",["func",0]]]},{"canon":["#,
-    r#"]},{"module":{"ty":1,"imports":[["env","log",["func",0]]],"funcs":[],"tables":0,"memories":[],"globals":0,
+    after: r#"]},{"module":{"ty":1,"imports":[["env","log",["func",0]]],"funcs":[],"tables":0,"memories":[],"globals":0,
            "tags":0,"exports":[]}},
            {"instances":[{"exports":[["log","func",1999]]},{"instantiate":[0,[["env",0]]]}]},"end"]}"#,
-];
+};
 
 /// An input with a chain of 2000 lowered functions.
 fn chain(alloc: Global) -> Result<String, AllocError> {
     let lowered = lowered(alloc, 1999)?;
-    [CHAIN[0], lowered.as_str(), CHAIN[1]].join(alloc, "")
+    between(alloc, CHAIN.before, lowered.as_str(), CHAIN.after)
 }
 
 /// The first lines of its plan.

@@ -99,7 +99,7 @@ fn converts_again(alloc: Global, types: &mut ComponentTypesBuilder, table: &Type
     }
 }
 
-const KINDS: [TypeKind; 17] = [
+static KINDS: [TypeKind; 17] = [
     TypeKind::Func,
     TypeKind::Tuple,
     TypeKind::Record,
