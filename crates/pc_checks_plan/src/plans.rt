@@ -3,7 +3,7 @@
 ghost use Rattle.std.specs.Prelude.{◌≡◌, length, IfOk};
 
 use crate::items::{is_named, items_are_definitions};
-use crate::support::holds;
+use crate::support::{NO_DATA, holds};
 use pc_entity::{
     DefinedResourceIndex, EntityIndex, ExportIndex, FuncIndex, GlobalIndex, MemoryIndex, NoMemory,
     PrimaryMap, ResourceIndex, RuntimeImportIndex, RuntimeInstanceIndex, TableIndex, TagIndex,
@@ -11,7 +11,7 @@ use pc_entity::{
 };
 use pc_info::{Component, CoreDef, CoreExport, Export, ExportItem};
 use pc_names::{NameMap, NameMapNoIntern};
-use pc_types::{ComponentExternData, InterfaceType, TypeComponentInstanceIndex, TypeDef};
+use pc_types::{InterfaceType, TypeComponentInstanceIndex, TypeDef};
 use std::alloc::Global;
 
 /// Two resources of the host.
@@ -81,12 +81,6 @@ fn an_item_is_a_definition(rt: HostRuntime) {
 
 /// An exported type.
 const TYPE: Export = Export::Type_(TypeDef::Interface(InterfaceType::Bool));
-
-/// Data of an export that says nothing.
-const NO_DATA: ComponentExternData = ComponentExternData {
-    implements: None,
-    external_id: None,
-};
 
 /// An instance with the item of this number in it.
 fn around(alloc: Global, below: u32) -> Result<Export, NoMemory> {

@@ -2,10 +2,17 @@
 
 use pc_dfg::PushError;
 use pc_entity::EntityRef;
+use pc_types::ComponentExternData;
 use std::process::Abort;
 
 /// A number that no entry has.
 pub(crate) const NONE: u32 = 4294967295;
+
+/// Data of an import or an export that says nothing.
+pub(crate) const NO_DATA: ComponentExternData = ComponentExternData {
+    implements: None,
+    external_id: None,
+};
 
 /// That something holds. All assertions stand here, since each is proved anew where it stands.
 pub(crate) fn holds(rt: &impl Abort, what: &str, holds: bool) {

@@ -1,6 +1,6 @@
 //! Functions that go from one component to another. The lowering of one that was lifted isn't built yet.
 
-use crate::inputs::{ALONE, are_refused, holds, is_answered};
+use crate::inputs::{ALONE, are_refused, between, holds, is_answered};
 use pc_tool::Status;
 use std::alloc::{AllocError, Global};
 
@@ -156,7 +156,7 @@ const TYPES: &str = r#"{"limit":100,"intrinsics":null,"types":{"core":[[["i32"],
 /// The first so many payloads of the input with two adapters, as an input.
 fn prefix(alloc: Global, count: usize) -> Result<String, AllocError> {
     let payloads = TWO_ADAPTERS[..count.min(20)].join(alloc, ",")?;
-    [TYPES, payloads.as_str(), "]}"].join(alloc, "")
+    between(alloc, TYPES, payloads.as_str(), "]}")
 }
 
 /// Whether the first so many payloads are refused with this text.

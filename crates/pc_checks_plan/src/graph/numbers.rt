@@ -1,6 +1,7 @@
 //! Numbers that a graph hands out, and a graph that is let go.
 
-use crate::support::{holds, number};
+use crate::graph::TYPE;
+use crate::support::{NO_DATA, holds, number};
 use pc_dfg::{
     ComponentDfg, CoreExport, Export, ExportItem, Instance, InstanceId, Resource, SideEffect,
 };
@@ -8,9 +9,7 @@ use pc_entity::{
     DefinedResourceIndex, ExportIndex, MemoryIndex, NoMemory, RuntimeComponentInstanceIndex, Seq,
     StaticModuleIndex, Text, TextMap,
 };
-use pc_types::{
-    ComponentExternData, InterfaceType, TypeComponentInstanceIndex, TypeDef, WasmValType,
-};
+use pc_types::{ComponentExternData, TypeComponentInstanceIndex, WasmValType};
 use std::alloc::Global;
 
 /// A memory of core instance 0.
@@ -65,15 +64,6 @@ fn four_made(alloc: Global, graph: &mut ComponentDfg) -> [u32; 4] {
         number(graph.push_instance(instance(alloc), OWNER)),
     ]
 }
-
-/// An exported type.
-const TYPE: Export = Export::Type_(TypeDef::Interface(InterfaceType::Bool));
-
-/// Data of an export that says nothing.
-const NO_DATA: ComponentExternData = ComponentExternData {
-    implements: None,
-    external_id: None,
-};
 
 /// One name, for the item of this number.
 fn one_name(

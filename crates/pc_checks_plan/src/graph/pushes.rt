@@ -1,34 +1,23 @@
 //! Each way into a list, once: the first entry has number 0, and one that is interned has it again.
 
-use crate::support::{holds, number};
+use crate::graph::TYPE;
+use crate::support::{NO_DATA, holds, number};
 use pc_dfg::{
     Adapter, AdapterModuleId, AdapterOptions, CanonicalOptions, CanonicalOptionsDataModel,
-    ComponentDfg, CoreDef, CoreExport, DataModel, Export, ExportItem, InstanceId, PushError,
-    Trampoline,
+    ComponentDfg, CoreDef, CoreExport, DataModel, ExportItem, InstanceId, PushError, Trampoline,
 };
 use pc_entity::{
     EntityIndex, ExportIndex, FuncIndex, ImportIndex, ModuleInternedTypeIndex, NoMemory,
     RuntimeComponentInstanceIndex, RuntimeImportIndex, Seq, StaticModuleIndex, TableIndex, Text,
 };
-use pc_types::{
-    ComponentExtern, ComponentExternData, InterfaceType, StringEncoding, TypeDef, TypeFuncIndex,
-};
+use pc_types::{ComponentExtern, InterfaceType, StringEncoding, TypeDef, TypeFuncIndex};
 use std::alloc::Global;
-
-/// Data of an import or an export that says nothing.
-const NO_DATA: ComponentExternData = ComponentExternData {
-    implements: None,
-    external_id: None,
-};
 
 /// What an import of a type is.
 const TYPE_IMPORT: ComponentExtern = ComponentExtern {
     ty: TypeDef::Interface(InterfaceType::Bool),
     data_: NO_DATA,
 };
-
-/// An exported type.
-const TYPE: Export = Export::Type_(TypeDef::Interface(InterfaceType::Bool));
 
 /// A function of core instance 0.
 const FUNC: CoreDef = CoreDef::Export(CoreExport {

@@ -1,6 +1,6 @@
 //! Plans with types builders of their own.
 
-use crate::inputs::holds;
+use crate::inputs::{between, holds};
 use crate::translator::inputs::{FUNCTION, input_of, lifted, smallest, text_of};
 use pc_form::Input;
 use pc_info::ComponentTranslation;
@@ -88,15 +88,13 @@ fn lifts_of(alloc: Global, count: usize) -> Result<String, AllocError> {
 /// A signature of a million parameters.
 fn long_signature(alloc: Global) -> Result<String, AllocError> {
     let parameters = r#""i32","#.repeat(alloc, 999_999)?;
-    ["[[", parameters.as_str(), r#""i32"],[]]"#].join(alloc, "")
+    between(alloc, "[[", parameters.as_str(), r#""i32"],[]]"#)
 }
 
 /// A hundred thousand function types.
 fn many_functions(alloc: Global) -> Result<String, AllocError> {
-    let others = r#",{"func":{"params":[["x","u32"]],"result":null,"async":false}}"#.repeat(
-        alloc, 99_999,
-    )?;
-    [FUNCTION, others.as_str()].join(alloc, "")
+    let others = between(alloc, ",", FUNCTION, "")?.repeat(alloc, 99_999)?;
+    between(alloc, FUNCTION, others.as_str(), "")
 }
 
 /// A signature of a million parameters, and lifts of many types under it.
