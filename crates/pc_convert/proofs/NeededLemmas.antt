@@ -21,6 +21,7 @@ pub record Opens (done : List (Option TypeDef)) (ns old new : List ℕ) : Type 0
   pub kept : (m : ℕ) → IsAmong m old → IsAmong m new
   pub met : Each (λ n. IsDone done n ⊎ IsAmong n new) ns
   pub only : (m : ℕ) → IsAmong m new → IsAmong m old ⊎ IsAmong m ns
+  pub fresh : (m : ℕ) → IsAmong m new → IsDone done m → IsAmong m old
 
 module _ (done : List (Option TypeDef)) where
   -- opening none
@@ -29,6 +30,7 @@ module _ (done : List (Option TypeDef)) where
     kept = λ m among. among;
     met = tt;
     only = λ m among. inl among;
+    fresh = λ m among is_done. among;
   }
 
   -- opening some, and then others
@@ -53,6 +55,7 @@ module _ (done : List (Option TypeDef)) where
       ]
       | inr named ↦ inr (among_back ns ms m named)
     ];
+    fresh = λ m among is_done. first.fresh m (second.fresh m among is_done) is_done;
   }
 
   -- a step of a loop that opens entries
@@ -65,14 +68,16 @@ module _ (done : List (Option TypeDef)) where
   -- opening one
   pub opens_of_one : (n : ℕ) (old new : List ℕ) → ((m : ℕ) → IsAmong m old → IsAmong m new) → IsDone done n
       ⊎ IsAmong n new
-      → ((m : ℕ) → IsAmong m new → IsAmong m old ⊎ (m ≡ n)) → Opens done (n ∷ []) old new
-  opens_of_one n old new kept met only = record {
+      → ((m : ℕ) → IsAmong m new → IsAmong m old ⊎ (m ≡ n))
+      → ((m : ℕ) → IsAmong m new → IsDone done m → IsAmong m old) → Opens done (n ∷ []) old new
+  opens_of_one n old new kept met only fresh = record {
     kept = kept;
     met = (met, tt);
     only = λ m among. elim (only m among) as (λ _. IsAmong m old ⊎ IsAmong m (n ∷ [])) [
       | inl before ↦ inl before
       | inr same ↦ inr (inl same)
     ];
+    fresh = fresh;
   }
 
 -- one past the greatest of some numbers
@@ -97,9 +102,10 @@ top_within (n ∷ ns) k h =
     omega (arith, here, there)
 
 -- Entries are open on the way, and others were met, the last one first: all that an entry names that was met is done,
--- met or open, and each of them is named by one that was met.
+-- met or open, and each of them is named by one that was met. None of them was done.
 pub record Going (t : TypeTable) (done : List (Option TypeDef)) (n : ℕ) (opened back : List ℕ) : Type 0 where
   pub asked : IsDone done n ⊎ (IsAmong n back ⊎ IsAmong n opened)
+  pub none_done : (k : ℕ) → IsAmong k back ⊎ IsAmong k opened → IsDone done k → ⊥
   pub ascend : Ascend back
   pub apart : (m : ℕ) → IsAmong m opened → Each (λ k. m < k) back
   pub within : Each (λ k. k < length t.types) back
@@ -116,6 +122,10 @@ module _ (t : TypeTable) (done : List (Option TypeDef)) (n : ℕ) where
     asked = elim opens.met.0 as (λ _. IsDone done n ⊎ (IsAmong n [] ⊎ IsAmong n opened)) [
       | inl is_done ↦ inl is_done
       | inr among ↦ inr (inr among)
+    ];
+    none_done = λ k h is_done. elim h as (λ _. ⊥) [
+      | inl none ↦ none
+      | inr among ↦ opens.fresh k among is_done
     ];
     ascend = tt;
     apart = λ m among. tt;
@@ -140,6 +150,7 @@ module _ (t : TypeTable) (done : List (Option TypeDef)) (n : ℕ) where
   pub going_end : (back : List ℕ) → Going t done n [] back → AreNeeded t done n back
   going_end back going = record {
     asked = met n going.asked;
+    none_done = λ k among. going.none_done k (inl among);
     ascend = going.ascend;
     within = going.within;
     closed = λ k e among at.
@@ -207,6 +218,14 @@ module _ (t : TypeTable) (done : List (Option TypeDef)) (n : ℕ) where
     pub going_step : Going t done n opened (k ∷ back)
     going_step = record {
       asked = held n going.asked;
+      none_done = λ m h is_done. elim h as (λ _. ⊥) [
+        | inl among ↦ elim among as (λ _. ⊥) [
+          | inl same ↦ going.none_done m (inr (subst (λ j. IsAmong j (rest ++ k ∷ [])) (sym same) was_open)) is_done
+          | inr before ↦ going.none_done m (inl before) is_done
+        ]
+        | inr among ↦
+            going.none_done m (inr (among_front rest (k ∷ []) m (opens.fresh m among is_done))) is_done
+      ];
       ascend = (going.apart k was_open, going.ascend);
       apart = λ m among. (
         opened_below m among,
@@ -288,10 +307,11 @@ module _ (t : TypeTable) (done : List (Option TypeDef)) (n : ℕ) (opened back r
       → slice_get t.types k ≡ Some e → named ≡ parts_of e → ((m : ℕ) → IsAmong m rest → IsAmong m new)
       → Each (λ p. IsDone done p ⊎ IsAmong p new) named
       → ((m : ℕ) → IsAmong m new → IsAmong m rest ⊎ IsAmong m named)
+      → ((m : ℕ) → IsAmong m new → IsDone done m → IsAmong m rest)
       → Going t done n new (k ∷ back) × (top new < top opened)
-  round_met sound e named new last at names kept met only =
+  round_met sound e named new last at names kept met only fresh =
       taken_met e named new last at (names_earlier t k sound e at) names
-      (record { kept = kept; met = met; only = only })
+      (record { kept = kept; met = met; only = only; fresh = fresh })
 
 -- nothing is open where nothing was taken
 pub none_open : (ks : List ℕ) → (0 < length ks → false ≡ true) → ks ≡ []

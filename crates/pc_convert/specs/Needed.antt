@@ -82,9 +82,10 @@ abbrev pub IsDone : List (Option TypeDef) → ℕ → Type 0
 IsDone done n = (d : TypeDef) × (slice_get done n ≡ Some (Some d))
 
 -- the entries that are to be converted for entry `n`, in ascending order, where some are done: it itself, and what
--- those name
+-- those name, none of which is done
 pub record AreNeeded (t : TypeTable) (done : List (Option TypeDef)) (n : ℕ) (order : List ℕ) : Type 0 where
   pub asked : IsDone done n ⊎ IsAmong n order
+  pub none_done : (k : ℕ) → IsAmong k order → IsDone done k → ⊥
   pub ascend : Ascend order
   pub within : Each (λ k. k < length t.types) order
   pub closed : (k : ℕ) (e : DeclType) → IsAmong k order → slice_get t.types k ≡ Some e

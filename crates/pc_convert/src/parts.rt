@@ -5,6 +5,7 @@
 //! they lead to is done too.
 
 ghost use Rattle.std.specs.Prelude.{◌≡◌, ℕ, ◌⊎◌, ◌<◌, ◌++◌, ◌∷◌, [], None, Some, length, slice_get, IfOk, OnOk};
+ghost use Rattle.std.specs.Prelude.{true, false};
 ghost use Rattle.std.specs.List.{flat_map};
 ghost use Rattle.pc_types.specs.Table.{table_fault};
 ghost use Rattle.pc_convert.specs.Needed.{AreNeeded, Each, IsAmong, IsDone, case_parts, entity_parts, extern_parts};
@@ -53,13 +54,22 @@ fn open_entry(opened: &mut BTreeSet<u32>, done: &[Option<TypeDef>], n: u32) -> R
     ensures kept { OnOk result ((m : ℕ) → IsAmong m opened.old.keys → IsAmong m opened.new.keys) }
     ensures met { OnOk result (IsDone done.now n ⊎ IsAmong n opened.new.keys) }
     ensures only { OnOk result ((m : ℕ) → IsAmong m opened.new.keys → IsAmong m opened.old.keys ⊎ (m ≡ n)) }
+    ensures fresh { OnOk result ((m : ℕ) → IsAmong m opened.new.keys → IsDone done.now m → IsAmong m opened.old.keys) }
+{
+    if !is_done(done, n) {
+        opened.insert(n)?;
+    }
+    Ok(())
+}
+
+/// Whether an entry has its type.
+fn is_done(done: &[Option<TypeDef>], n: u32) -> bool
+    ensures yes { result ≡ true → IsDone done.now n }
+    ensures no { result ≡ false → IsDone done.now n → ⊥ }
 {
     match done.get(n as usize) {
-        Some(Some(_)) => Ok(()),
-        _ => {
-            opened.insert(n)?;
-            Ok(())
-        }
+        Some(done) => done.is_some(),
+        None => false,
     }
 }
 
@@ -72,6 +82,7 @@ fn open_entries(
     ensures kept { OnOk result ((m : ℕ) → IsAmong m opened.old.keys → IsAmong m opened.new.keys) }
     ensures met { OnOk result (Each (λ n. IsDone done.now n ⊎ IsAmong n opened.new.keys) ns.now) }
     ensures only { OnOk result ((m : ℕ) → IsAmong m opened.new.keys → IsAmong m opened.old.keys ⊎ IsAmong m ns.now) }
+    ensures fresh { OnOk result ((m : ℕ) → IsAmong m opened.new.keys → IsDone done.now m → IsAmong m opened.old.keys) }
 {
     for n in ns {
         open_entry(opened, done, *n)?;

@@ -18,7 +18,7 @@ loop-k-init c =
     subst (λ items. Going t done n opened (reverse items)) (sym c.new-order.ensures.items)
     (going_start t done n opened c.requires.there
     (subst (λ ks. Opens done (n ∷ []) ks opened) c.new-opened.ensures.empty
-    (opens_of_one done n c.new-opened.result.keys opened first.kept first.met first.only)))
+    (opens_of_one done n c.new-opened.result.keys opened first.kept first.met first.only first.fresh)))
 
 pub loop-k-preserved : goal.loop-k-preserved
 loop-k-preserved c =
@@ -27,14 +27,14 @@ loop-k-preserved c =
     (sym (ap reverse c.in_ok-push.ensures.items ∙ reverse-append c.loop-k.order.items (c.in-Some.k ∷ [])))
     (round_met _ _ _ _ _ _ _ c.loop-k.invariant c.in-Some.ensures.removal c.requires.sound _ _ _
     c.in-Some.ensures.all_below c.entry_at.ensures (c.as_slice.ensures.value ∙ c.in_ok-named.ensures) now.kept now.met
-    now.only).0
+    now.only now.fresh).0
 
 pub loop-k-smaller : goal.loop-k-smaller
 loop-k-smaller c =
     let now = c.in_ok-open_entries.ensures in
     (round_met _ _ _ _ _ _ _ c.loop-k.invariant c.in-Some.ensures.removal c.requires.sound _ _ _
     c.in-Some.ensures.all_below c.entry_at.ensures (c.as_slice.ensures.value ∙ c.in_ok-named.ensures) now.kept now.met
-    now.only).1
+    now.only now.fresh).1
 
 pub returns : goal.returns
 returns c =

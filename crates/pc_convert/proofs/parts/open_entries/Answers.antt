@@ -12,7 +12,8 @@ loop-n-preserved c =
     let now = c.in_ok-open_entry.ensures in
     opens_next c.args.done.now c.args.ns.now l.n-index 0 c.args.opened.now.keys l.opened.keys
     c.open_entry.new.opened.keys (omega arith)
-    l.invariant (opens_of_one c.args.done.now _ l.opened.keys c.open_entry.new.opened.keys now.kept now.met now.only)
+    l.invariant (opens_of_one c.args.done.now _ l.opened.keys c.open_entry.new.opened.keys now.kept now.met now.only
+    now.fresh)
 
 pub returns-clause-only : goal.returns-clause-only
 returns-clause-only c =
@@ -20,3 +21,10 @@ returns-clause-only c =
     let ns = c.args.ns.now in
     (subst (λ z. Opens c.args.done.now z c.args.opened.now.keys l.opened.keys)
     (take_all l.n-index ns (omega arith)) l.invariant).only
+
+pub returns-clause-fresh : goal.returns-clause-fresh
+returns-clause-fresh c =
+    let l = c.loop-n in
+    let ns = c.args.ns.now in
+    (subst (λ z. Opens c.args.done.now z c.args.opened.now.keys l.opened.keys)
+    (take_all l.n-index ns (omega arith)) l.invariant).fresh
