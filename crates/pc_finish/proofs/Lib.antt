@@ -4,7 +4,6 @@ mod RefusedLemmas
 -- the order: what an id leads to is lower, and is ready where it is named
 mod ReadyLemmas
 -- the exports
-mod TypeLemmas
 mod NamingLemmas
 mod FurtherLemmas
 mod HereLemmas
@@ -42,5 +41,4 @@ mod AdapterOnceLemmas
 mod DistinctLemmas
 mod SlotApartLemmas
 mod WholeLemmas
-mod MadeLemmas
 mod OnlyLemmas

@@ -2,7 +2,6 @@
 pub mod Unnumbered
 pub mod Apart
 pub mod Finishes
-pub mod Finished
 pub mod ModuleTypes
 -- How the contracts within the crate say what is made.
 pub mod Exports

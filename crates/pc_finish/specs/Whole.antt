@@ -1,13 +1,11 @@
 -- The whole of a plan: with what it begins, how it is made, and how it is put together.
-use Rattle.std.specs.Prelude.{ℕ, ◌+◌, List, [], length, All, Option, None, replicate}
+use Rattle.std.specs.Prelude.{ℕ, ◌+◌, List, [], length, Option, None, replicate}
 use Rattle.pc_entity.specs.declared.packed_option.PackedOption.TheVariants as packed
 use Rattle.pc_names.specs.Contents.{Contents}
 use Rattle.pc_info.specs.declared.component.Component.{Component}
 use Rattle.pc_info.specs.declared.component.ComponentTranslation.{ComponentTranslation}
 use Rattle.pc_info.specs.declared.export.Export.{Export as PlanItem}
-use Rattle.pc_types.specs.declared.parsed.TypeTable.{TypeTable}
 use Rattle.pc_types.specs.declared.type_index.TypeModuleIndex.{TypeModuleIndex}
-use Rattle.pc_builder.specs.Types.{Types}
 use Rattle.pc_dfg.specs.declared.dfg.ComponentDfg.{ComponentDfg}
 use Rattle.pc_dfg.specs.Told.{AreInterned}
 use Rattle.pc_linearize.specs.declared.state.Finish.{Finish}
@@ -15,7 +13,6 @@ use Rattle.pc_linearize.specs.declared.state.Numbers.{Numbers}
 use Rattle.pc_linearize.specs.Arguments.{OnlyFromThese}
 use Rattle.pc_finish.specs.Exports.{Exports, GoesFurther, Target, in_exports}
 use Rattle.pc_linearize.specs.Made.{DoneBefore}
-use Rattle.pc_finish.specs.ModuleTypes.{AreModuleTypes, IsTyped}
 
 -- no entry has its number
 abbrev pub no_numbers : ComponentDfg → Numbers
@@ -53,19 +50,16 @@ empty_plan g = record {
   numbers = no_numbers g;
 }
 
--- a plan of a graph was made, with its exports, where the types of a table stand in this types builder
-pub record IsMade (b : Types) (t : TypeTable) (g : ComponentDfg) (f : Finish) (names : Contents (List ℕ) Target)
-    (items : List PlanItem) : Type 0 where
+-- a plan of a graph was made, with its exports, where module types of the table have these types
+pub record IsMade (g : ComponentDfg) (types : List (Option TypeModuleIndex)) (f : Finish)
+    (names : Contents (List ℕ) Target) (items : List PlanItem) : Type 0 where
   -- all side effects were done
   pub before : Finish
   pub done : DoneBefore g (length g.side_effects) before
   -- what the exports depend on was made
   pub further : GoesFurther g before f
   pub only : OnlyFromThese g before f (in_exports g g.export_items)
-  -- and so were the exports, over the types of the handed-in modules among them
-  pub types : List (Option TypeModuleIndex)
-  pub are : AreModuleTypes b t types
-  pub typed : All (IsTyped types) g.export_items
+  -- and so were the exports
   pub exports : Exports g types f names items
   -- no entry of an interned list of the graph stands twice
   pub interned : AreInterned g

@@ -1,28 +1,17 @@
-//! The types of the handed-in modules that a graph exports. They are the only types that the graph has by numbers of
-//! the table. Many exports may have one wide type, so each entry of the table is converted once.
+//! The types of the handed-in modules that a graph exports. They are the only types that a graph has by numbers of the
+//! type table; the caller, who has a types builder, converts them.
 
-ghost use Rattle.std.specs.Prelude.{◌≡◌, None, Err, All, Contains, IfOk, OnOk, IsSome, slice_get};
-ghost use Rattle.pc_types.specs.declared.type_index.TypeModuleIndex.{TypeModuleIndex};
-ghost use Rattle.pc_types.specs.declared.types.TypeDef.TheVariants as def;
-ghost use Rattle.pc_types.specs.Table.{table_fault};
-ghost use Rattle.pc_builder.specs.Types.{Grows, IsTooFullFor, Types};
-ghost use Rattle.pc_builder.specs.Trees.{IsEntry};
-ghost use Rattle.pc_dfg.specs.declared.export.Export.{Export};
-ghost use Rattle.pc_linearize.specs.declared.error.FinishError.TheVariants as refusal;
-ghost use Rattle.pc_finish.specs.ModuleTypes.{AreModuleTypes, HasModuleType, HasNoModule, HasNoPlace, IsModuleType};
-ghost use Rattle.pc_finish.specs.ModuleTypes.{IsTyped, KeepsTypes, module_type, static_type, type_at};
+ghost use Rattle.std.specs.Prelude.{◌≡◌, ◌<◌, None, Some, IfOk, IsSome, length, replicate, slice_set};
+ghost use Rattle.pc_finish.specs.ModuleTypes.{module_type, type_at};
 
-use pc_builder::ComponentTypesBuilder;
-use pc_dfg::Export;
 use pc_entity::NoMemory;
-use pc_linearize::FinishError;
-use pc_types::{TypeError, TypeModuleIndex, TypeTable};
+use pc_types::TypeModuleIndex;
 use std::alloc::Global;
 use std::marker::Model;
 
 /// The types of module types of a table, as far as they were converted. A contract sees the list of them, by number.
 #[derive(Drop)]
-pub(crate) struct ModuleTypes {
+pub struct ModuleTypes {
     types: Vec<Option<TypeModuleIndex>>,
 }
 
@@ -36,17 +25,25 @@ impl Model for ModuleTypes {
 }
 
 impl ModuleTypes {
-    /// The types of a table of which none was converted yet.
-    fn new(alloc: Global, table: &TypeTable) -> Result<ModuleTypes, NoMemory>
-        ensures { IfOk result (λ m. (b : Types) → AreModuleTypes b table.now m) }
+    /// The types of a table of so many entries, none of which was converted yet.
+    pub fn new(alloc: Global, entries: usize) -> Result<ModuleTypes, NoMemory>
+        ensures { IfOk result (λ m. m ≡ replicate entries None) }
     {
         Ok(ModuleTypes {
-            types: vec![in alloc; None; table.types.len()]?,
+            types: vec![in alloc; None; entries]?,
         })
     }
 
+    /// Puts the type of a module type that was converted.
+    pub fn put(&mut self, ty: u32, converted: TypeModuleIndex)
+        requires there { ty < length self.old }
+        ensures { self.new ≡ slice_set self.old ty (Some converted) }
+    {
+        self.types[ty as usize] = Some(converted);
+    }
+
     /// The type of a module type, if it was converted.
-    fn get(&self, ty: u32) -> Option<TypeModuleIndex>
+    pub fn get(&self, ty: u32) -> Option<TypeModuleIndex>
         ensures { result ≡ type_at self.now ty }
     {
         match self.types.get(ty as usize) {
@@ -56,7 +53,7 @@ impl ModuleTypes {
     }
 
     /// The type of a module type that was converted.
-    pub fn at(&self, ty: u32) -> TypeModuleIndex
+    pub(crate) fn at(&self, ty: u32) -> TypeModuleIndex
         requires typed { IsSome (type_at self.now ty) }
         ensures { result ≡ module_type self.now ty }
     {
@@ -65,105 +62,4 @@ impl ModuleTypes {
             None => unreachable!(),
         }
     }
-}
-
-/// The type of a module type of the table.
-fn converted(
-    types: &mut ComponentTypesBuilder,
-    table: &TypeTable,
-    ty: u32,
-) -> Result<TypeModuleIndex, FinishError>
-    requires sound { table_fault table.now ≡ None }
-    requires is_module { IsModuleType table.now ty }
-    ensures tree { IfOk result (λ i. IsEntry types.new table.now ty (def.Module i)) }
-    ensures grows { Grows types.old types.new }
-    ensures full { result ≡ Err refusal.TooMany
-        → IsTooFullFor types.new (λ b. (i : TypeModuleIndex) × IsEntry b table.now ty (def.Module i)) }
-{
-    match types.convert_module(table, ty) {
-        Ok(index) => Ok(index),
-        Err(TypeError::BadNumber) => unreachable!(),
-        Err(TypeError::TooMany) => Err(FinishError::TooMany),
-        Err(TypeError::NoMemory) => Err(FinishError::NoMemory),
-    }
-}
-
-/// Converts a module type of the table, unless that was done.
-fn convert(
-    types: &mut ComponentTypesBuilder,
-    table: &TypeTable,
-    done: &mut ModuleTypes,
-    ty: u32,
-) -> Result<(), FinishError>
-    requires sound { table_fault table.now ≡ None }
-    requires is_module { IsModuleType table.now ty }
-    requires done { AreModuleTypes types.old table.now done.old }
-    ensures grows { Grows types.old types.new }
-    ensures done { OnOk result (AreModuleTypes types.new table.now done.new) }
-    ensures keeps { OnOk result (KeepsTypes done.old done.new) }
-    ensures here { OnOk result (IsSome (type_at done.new ty)) }
-    ensures full { result ≡ Err refusal.TooMany
-        → IsTooFullFor types.new (λ b. (i : TypeModuleIndex) × IsEntry b table.now ty (def.Module i)) }
-{
-    if done.get(ty).is_none() {
-        let index = converted(types, table, ty)?;
-        done.types[ty as usize] = Some(index);
-    }
-    Ok(())
-}
-
-/// The number in the table that the type of a handed-in module has, where such a one is exported.
-fn static_type(item: &Export) -> Option<u32>
-    ensures { result ≡ static_type item.now }
-{
-    match item {
-        Export::ModuleStatic { ty, .. } => Some(*ty),
-        _ => None,
-    }
-}
-
-/// Converts the type of a handed-in module, where such a one is exported.
-fn convert_item(
-    types: &mut ComponentTypesBuilder,
-    table: &TypeTable,
-    done: &mut ModuleTypes,
-    item: &Export,
-) -> Result<(), FinishError>
-    requires sound { table_fault table.now ≡ None }
-    requires is_module { HasModuleType table.now item.now }
-    requires done { AreModuleTypes types.old table.now done.old }
-    ensures grows { Grows types.old types.new }
-    ensures done { OnOk result (AreModuleTypes types.new table.now done.new) }
-    ensures keeps { OnOk result (KeepsTypes done.old done.new) }
-    ensures here { OnOk result (IsTyped done.new item.now) }
-    ensures full { result ≡ Err refusal.TooMany → HasNoPlace types.new table.now item.now }
-    ensures unchanged { static_type item.now ≡ None → types.new ≡ types.old }
-{
-    match static_type(item) {
-        Some(ty) => convert(types, table, done, ty),
-        None => Ok(()),
-    }
-}
-
-/// Converts the types of the handed-in modules among these exports.
-pub(crate) fn module_types(
-    alloc: Global,
-    types: &mut ComponentTypesBuilder,
-    table: &TypeTable,
-    items: &[Export],
-) -> Result<ModuleTypes, FinishError>
-    requires sound { table_fault table.now ≡ None }
-    requires are_modules { All (HasModuleType table.now) items.now }
-    ensures grows { Grows types.old types.new }
-    ensures types { IfOk result (λ m. AreModuleTypes types.new table.now m) }
-    ensures typed { IfOk result (λ m. All (IsTyped m) items.now) }
-    ensures full { result ≡ Err refusal.TooMany
-        → (e : Export) × Contains items.now e × HasNoPlace types.new table.now e }
-    ensures unchanged { HasNoModule items.now → types.new ≡ types.old }
-{
-    let mut done = ModuleTypes::new(alloc, table)?;
-    for item in items {
-        convert_item(types, table, &mut done, item)?;
-    }
-    Ok(done)
 }

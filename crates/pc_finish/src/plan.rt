@@ -1,30 +1,24 @@
 //! The plan of a graph, from nothing to the whole.
 //!
-//! First come the types of exported modules, since they ask most of the types builder. Then the side effects become
-//! steps, each after what it needs, and last come the exports with what they need.
+//! The side effects become steps, each after what it needs, and last come the exports with what they need.
 
-ghost use Rattle.std.specs.Prelude.{◌≡◌, ◌⊎◌, [], None, All, Contains, Err, IfOk, OnOk, length, replicate};
-ghost use Rattle.pc_types.specs.Table.{table_fault};
-ghost use Rattle.pc_builder.specs.Types.{Grows};
-ghost use Rattle.pc_dfg.specs.declared.export.Export.{Export};
+ghost use Rattle.std.specs.Prelude.{◌≡◌, [], None, All, Err, IfOk, OnOk, length, replicate};
 ghost use Rattle.pc_dfg.specs.Ordered.{IsOrdered};
 ghost use Rattle.pc_linearize.specs.declared.error.FinishError.TheVariants as refusal;
-ghost use Rattle.pc_finish.specs.Finished.{IsFinished};
 ghost use Rattle.pc_linearize.specs.Full.{HasTooMany};
 ghost use Rattle.pc_linearize.specs.Grouped.{IsGrouped};
-ghost use Rattle.pc_finish.specs.ModuleTypes.{HasModuleType, HasNoModule, HasNoPlace};
+ghost use Rattle.pc_finish.specs.Finishes.{Finishes};
+ghost use Rattle.pc_finish.specs.ModuleTypes.{IsTyped, module_mark};
 ghost use Rattle.pc_finish.specs.Whole.{IsMade, empty_plan};
 
 use crate::effects::do_effects;
 use crate::exports::{Exported, exports};
-use crate::module_types::module_types;
+use crate::module_types::ModuleTypes;
 use crate::translation::into_translation;
-use pc_builder::ComponentTypesBuilder;
 use pc_dfg::ComponentDfg;
 use pc_entity::{NoMemory, PackedOption, PrimaryMap, Seq};
 use pc_info::ComponentTranslation;
 use pc_linearize::{Counts, Finish, FinishError, INTRINSICS, NumberMap, Numbers};
-use pc_types::TypeTable;
 use std::alloc::Global;
 
 /// No slot of the graph has its number yet.
@@ -37,11 +31,11 @@ fn no_slots(alloc: Global, graph: &ComponentDfg, numbers: &mut Numbers) -> Resul
       post_returns = replicate (length graph.now.post_returns) None;
     }) }
 {
-    numbers.memories = NumberMap::new(alloc, graph.memories.len())?;
-    numbers.tables = NumberMap::new(alloc, graph.tables.len())?;
-    numbers.reallocs = NumberMap::new(alloc, graph.reallocs.len())?;
-    numbers.callbacks = NumberMap::new(alloc, graph.callbacks.len())?;
-    numbers.post_returns = NumberMap::new(alloc, graph.post_returns.len())?;
+    numbers.memories.reset(alloc, graph.memories.len())?;
+    numbers.tables.reset(alloc, graph.tables.len())?;
+    numbers.reallocs.reset(alloc, graph.reallocs.len())?;
+    numbers.callbacks.reset(alloc, graph.callbacks.len())?;
+    numbers.post_returns.reset(alloc, graph.post_returns.len())?;
     Ok(())
 }
 
@@ -54,10 +48,12 @@ fn no_others(alloc: Global, graph: &ComponentDfg, numbers: &mut Numbers) -> Resu
       adapter_modules = replicate (length graph.now.adapter_modules) None;
     }) }
 {
-    numbers.options = NumberMap::new(alloc, graph.options.len())?;
-    numbers.lowerings = NumberMap::new(alloc, graph.trampolines.len())?;
-    numbers.trampolines = NumberMap::new(alloc, graph.trampolines.len())?;
-    numbers.adapter_modules = NumberMap::new(alloc, graph.adapter_modules.len())?;
+    numbers.options.reset(alloc, graph.options.len())?;
+    numbers.lowerings.reset(alloc, graph.trampolines.len())?;
+    numbers.trampolines.reset(alloc, graph.trampolines.len())?;
+    numbers
+        .adapter_modules
+        .reset(alloc, graph.adapter_modules.len())?;
     Ok(())
 }
 
@@ -76,15 +72,15 @@ fn empty_numbers(alloc: Global) -> Numbers
     } }
 {
     Numbers {
-        memories: NumberMap::empty(alloc),
-        tables: NumberMap::empty(alloc),
-        reallocs: NumberMap::empty(alloc),
-        callbacks: NumberMap::empty(alloc),
-        post_returns: NumberMap::empty(alloc),
-        options: NumberMap::empty(alloc),
-        lowerings: NumberMap::empty(alloc),
-        trampolines: NumberMap::empty(alloc),
-        adapter_modules: NumberMap::empty(alloc),
+        memories: NumberMap::new(alloc),
+        tables: NumberMap::new(alloc),
+        reallocs: NumberMap::new(alloc),
+        callbacks: NumberMap::new(alloc),
+        post_returns: NumberMap::new(alloc),
+        options: NumberMap::new(alloc),
+        lowerings: NumberMap::new(alloc),
+        trampolines: NumberMap::new(alloc),
+        adapter_modules: NumberMap::new(alloc),
     }
 }
 
@@ -121,44 +117,33 @@ fn start(alloc: Global, graph: &ComponentDfg) -> Result<Finish, NoMemory>
 fn make(
     alloc: Global,
     graph: &ComponentDfg,
-    table: &TypeTable,
-    types: &mut ComponentTypesBuilder,
+    types: &ModuleTypes,
 ) -> Result<(Finish, Exported), FinishError>
     requires ordered { IsOrdered graph.now }
     requires grouped { IsGrouped graph.now }
-    requires sound { table_fault table.now ≡ None }
-    requires are_modules { All (HasModuleType table.now) graph.now.export_items }
-    ensures grows { Grows types.old types.new }
-    ensures unchanged { HasNoModule graph.now.export_items → types.new ≡ types.old }
-    ensures full { result ≡ Err refusal.TooMany → HasTooMany graph.now
-        ⊎ ((e : Export) × Contains graph.now.export_items e × HasNoPlace types.new table.now e) }
-    ensures made { IfOk result (λ m. IsMade types.new table.now graph.now m.0 m.1.names m.1.items) }
+    requires typed { All (IsTyped types.now) graph.now.export_items }
+    ensures full { result ≡ Err refusal.TooMany → HasTooMany graph.now }
+    ensures made { IfOk result (λ m. IsMade graph.now types.now m.0 m.1.names m.1.items) }
 {
     graph.entries_are_distinct();
-    let module_types = module_types(alloc, types, table, graph.export_items.as_slice())?;
     let mut finish = start(alloc, graph)?;
     do_effects(alloc, graph, &mut finish)?;
-    let exported = exports(alloc, graph, &mut finish, &module_types)?;
+    let exported = exports(alloc, graph, &mut finish, types)?;
     Ok((finish, exported))
 }
 
-/// The plan of a graph whose adapters are grouped. Types of the table that it exports are put into the types builder.
+/// The plan of a graph whose adapters are grouped. The handed-in modules that it exports have these types.
 pub fn finish(
     alloc: Global,
     graph: ComponentDfg,
-    table: &TypeTable,
-    types: &mut ComponentTypesBuilder,
+    types: &ModuleTypes,
 ) -> Result<ComponentTranslation, FinishError>
     requires ordered { IsOrdered graph }
     requires grouped { IsGrouped graph }
-    requires sound { table_fault table.now ≡ None }
-    requires are_modules { All (HasModuleType table.now) graph.export_items }
-    ensures grows { Grows types.old types.new }
-    ensures unchanged { HasNoModule graph.export_items → types.new ≡ types.old }
-    ensures full { result ≡ Err refusal.TooMany → HasTooMany graph
-        ⊎ ((e : Export) × Contains graph.export_items e × HasNoPlace types.new table.now e) }
-    ensures plan { IfOk result (λ p. IsFinished types.new table.now graph p) }
+    requires typed { All (IsTyped types.now) graph.export_items }
+    ensures full { result ≡ Err refusal.TooMany → HasTooMany graph }
+    ensures plan { IfOk result (λ p. Finishes graph (module_mark types.now) p) }
 {
-    let (finish, exported) = make(alloc, &graph, table, types)?;
+    let (finish, exported) = make(alloc, &graph, types)?;
     into_translation(finish, alloc, graph, exported)
 }

@@ -1,6 +1,6 @@
 //! The numbers that entries of a list have in a plan, so far.
 
-ghost use Rattle.std.specs.Prelude.{◌≡◌, ℕ, ◌<◌, [], length, replicate, None, Some, IfOk};
+ghost use Rattle.std.specs.Prelude.{◌≡◌, ℕ, ◌<◌, [], length, replicate, None, Some, OnOk};
 ghost use Rattle.std.specs.Option.{option_map, is_some, IsSome, IfSome};
 ghost use Rattle.pc_linearize.specs.Numbers.{number_at, numbered, with_number};
 
@@ -24,8 +24,8 @@ impl<K, V> Model for NumberMap<K, V> {
 }
 
 impl<K: EntityRef, V: EntityRef> NumberMap<K, V> {
-    /// A map for no entries.
-    pub fn empty(alloc: Global) -> NumberMap<K, V>
+    /// A map for no entries, which takes no memory.
+    pub fn new(alloc: Global) -> NumberMap<K, V>
         ensures { result ≡ [] }
     {
         NumberMap {
@@ -34,14 +34,12 @@ impl<K: EntityRef, V: EntityRef> NumberMap<K, V> {
         }
     }
 
-    /// A map for so many entries, none of which has a number.
-    pub fn new(alloc: Global, entries: usize) -> Result<NumberMap<K, V>, NoMemory>
-        ensures { IfOk result (λ m. m ≡ replicate entries None) }
+    /// Makes this a map for so many entries, none of which has a number.
+    pub fn reset(&mut self, alloc: Global, entries: usize) -> Result<(), NoMemory>
+        ensures { OnOk result (self.new ≡ replicate entries None) }
     {
-        Ok(NumberMap {
-            numbers: vec![in alloc; None; entries]?,
-            types: PhantomData,
-        })
+        self.numbers = vec![in alloc; None; entries]?;
+        Ok(())
     }
 
     /// The number of an entry, if it has one, as it is kept.

@@ -82,7 +82,7 @@ paths_of [] = refl
 paths_of (x ∷ xs) = ap (λ ps. path_of (import_view x) ∷ ps) (paths_of xs)
 
 -- each path that a log needs stands once
-once_each : (log : List (Entry reading.Mark)) → AreDistinct (paths_needed log)
+pub once_each : (log : List (Entry reading.Mark)) → AreDistinct (paths_needed log)
 unfolding paths_needed
 once_each log = distinct_paths [] (filter_map needed_path log) (λ i j x at_i at_j. absurd (none-some x at_i))
 

@@ -1,11 +1,11 @@
 -- Why a translation is refused, from what its steps answer.
-use Rattle.std.proofs.Common.{arith, ◌≡◌, ℕ, ◌⊎◌, inl, inr, List, map, ◌∙◌, Option, None, Some, Result, Ok, Err, IfErr}
+use Rattle.std.proofs.Common.{arith, ◌≡◌, ℕ, ◌⊎◌, inl, inr, List, map, ◌∙◌, Option, Some, Result, Ok, Err, IfErr}
 use Rattle.std.proofs.Common.{true, false, refl, sym, ap, subst}
 use Rattle.std.specs.List.{list_all}
 use Rattle.std.specs.Result.{IsErrAnd}
 use Rattle.std.proofs.lemmas.Option.{same_Some}
 use Rattle.std.proofs.lemmas.Simd.{map-map}
-use Rattle.pc_interned.specs.Types.{Types}
+use Rattle.pc_interned.specs.Types.{IsBuilder, Types}
 use Rattle.pc_types.specs.declared.error.Error.{Error}
 use Rattle.pc_types.specs.declared.error.Error.TheVariants as error
 use Rattle.pc_types.specs.declared.error.Place.{Place}
@@ -182,14 +182,14 @@ names_distinct t exposed ps program stands can =
 -- the plan of a program is the translation of its payloads
 pub translates_program : (t : TypeTable) (exposed : Option (List ℕ)) (limit : ℕ) (ps : List Payload)
     (program : LocalProgram) → ProgramStands exposed ps program → CanBeRead t exposed ps → (types : Types)
-    (plan : ComponentTranslation) (modules : List ModuleTranslation)
+    → IsBuilder types → (plan : ComponentTranslation) (modules : List ModuleTranslation)
     → ((body : Items) → BodyStands program.components no_names program.root body
     → Plans t program.modules limit body types (Ok plan)) → modules ≡ map as_handed_in program.modules
     → Translates t exposed limit ps types plan modules
 unfolding Plans
-translates_program t exposed limit ps program stands can types plan modules planned same =
+translates_program t exposed limit ps program stands can types builder plan modules planned same =
     subst (λ (ms : List ModuleTranslation). Translates t exposed limit ps types plan ms)
     (sym (same ∙ ap (map as_handed_in) stands.modules))
-    (translates t exposed limit ps stands.body stands.nests types plan can
+    (translates t exposed limit ps stands.body stands.nests types plan can builder
     (subst (λ (ms : List ModuleRecord). IsPlanOfBody t ms limit stands.body types plan) stands.modules
     (planned stands.body stands.root)))

@@ -9,10 +9,13 @@ mod WiredLemmas
 mod AskedLemmas
 mod DeclaredLemmas
 mod HeldLemmas
+mod ToldLemmas
 -- so it is the translation of the payloads
 mod TranslatesLemmas
 -- what an answer says where the types builder is not asked for
 pub mod SomeTypesLemmas
+-- the types of handed-in modules
+mod ModuleTypeLemmas
 -- a body has a plan, or a cause for want of one
 mod PassingLemmas
 mod PlanningLemmas

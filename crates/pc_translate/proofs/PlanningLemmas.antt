@@ -22,13 +22,14 @@ use Rattle.pc_linearize.specs.declared.error.FinishError.{FinishError}
 use Rattle.pc_linearize.specs.declared.error.FinishError.TheVariants as finish_error
 use Rattle.pc_linearize.specs.Grouped.{IsGrouped}
 use Rattle.pc_linearize.specs.Full.{HasTooMany, of_slots, of_options, of_trampolines, of_instances, of_resources}
-use Rattle.pc_finish.specs.Finished.{IsFinished}
-use Rattle.pc_finish.specs.ModuleTypes.{HasModuleType, HasNoModule, HasNoPlace, static_type}
+use Rattle.pc_finish.specs.ModuleTypes.{static_type}
 use Rattle.pc_inline.specs.Inlines.{HasNoRoom, Inlines, IsFault, StandsForReading}
 use Rattle.pc_frames.specs.Plain.{is_plain_table}
 use Rattle.pc_driver.specs.Totals.{CountsGraph, GainsFew, IsCounted, IsPast}
 use Rattle.pc_frames.specs.Worlds.{IsLifted, IsPlain}
 use Rattle.pc_translate.proofs.WiredLemmas.{are_modules, grouped, no_static}
+use Rattle.pc_translate.specs.Finished.{IsFinished}
+use Rattle.pc_translate.specs.ModuleTypes.{HasModuleType, HasNoModule, HasNoPlace}
 use Rattle.pc_translate.specs.Planning.{Plans, error_of_finish}
 use Rattle.pc_translate.specs.Translation.{GainsCounted}
 

@@ -11,6 +11,8 @@ use Rattle.pc_reading.specs.Reading.{Reading}
 use Rattle.pc_dfg.specs.declared.dfg.ComponentDfg.{ComponentDfg}
 use Rattle.pc_dfg.specs.Effects.{EffectsMean}
 use Rattle.pc_dfg.specs.Nodes.{ExportsMean}
+use Rattle.pc_dfg.specs.Told.{IsTold, Unsaid}
+use Rattle.pc_finish.specs.Apart.{AreApart}
 use Rattle.pc_finish.specs.Finishes.{Finishes, StandsForOne}
 use Rattle.pc_inline.specs.Exports.{ExportsStand}
 use Rattle.pc_inline.specs.Inlines.{GraphStands}
@@ -26,11 +28,12 @@ module _ (types : Types) (ms : List ModuleRecord) (g : ComponentDfg) (r : Readin
   unfolding ExportsStand
   nodes_of h = all_nodes types g g.exports r.nodes h
 
-  -- what the plan does, types included, and with which trampolines
+  -- what the plan does, types included, and with which trampolines; and that no value stands twice
   pub record Runs : Type 0 where
     pub typed : TypedAs types (view plan (map as_handed_in ms)) r
     pub trampolines : (n : ℕ) → n < length plan.trampolines
         → StandsForOne g plan (map as_handed_in ms) typed.never_stuck.last n
+    pub values_apart : (u : Unsaid) → IsTold u g → AreApart (view plan (map as_handed_in ms)) typed.never_stuck.last
 
   -- so it does what the reading says, and where its run ends each trampoline is one of the graph
   pub runs : (converted : ℕ → Mark) → GraphStands ms types g r → Finishes g converted plan → Runs
@@ -58,4 +61,6 @@ module _ (types : Types) (ms : List ModuleRecord) (g : ComponentDfg) (r : Readin
         };
         trampolines =
             finishes.meanings (map as_handed_in ms) entries nodes is_wired es.mean (ns.mean converted);
+        values_apart =
+            finishes.values_apart (map as_handed_in ms) entries nodes is_wired es.mean (ns.mean converted);
       }

@@ -1,6 +1,6 @@
 -- The plan of a body is the translation of the payloads that have it as root.
 use Rattle.std.proofs.Common.{◌≡◌, ℕ, List, map, option_map, Option, None, Some, ap, ◌∙◌}
-use Rattle.pc_interned.specs.Types.{Types}
+use Rattle.pc_interned.specs.Types.{IsBuilder, Types}
 use Rattle.pc_types.specs.declared.module_record.ModuleRecord.{ModuleRecord}
 use Rattle.pc_types.specs.declared.parsed.TypeTable.{TypeTable}
 use Rattle.pc_trampoline.specs.declared.part.Mark.{Mark}
@@ -18,6 +18,7 @@ use Rattle.pc_translate.proofs.DeclaredLemmas.{declared_one, declares, signs}
 use Rattle.pc_translate.proofs.ErasureLemmas.{does_as}
 use Rattle.pc_translate.proofs.HeldLemmas.{counts, finds, holds, is_tidy, numbers_items}
 use Rattle.pc_translate.proofs.RunLemmas.{runs}
+use Rattle.pc_translate.proofs.ToldLemmas.{is_told}
 use Rattle.pc_translate.proofs.WiredLemmas.{all_handed_in}
 use Rattle.pc_translate.specs.Causes.{CanBeRead, EndsAs, built_meaning, meaning}
 use Rattle.pc_translate.specs.Planning.{IsPlanOfBody, as_handed_in}
@@ -42,9 +43,9 @@ module _ (t : TypeTable) (exposed : Option (List ℕ)) (limit : ℕ) (ps : List 
   root_end o ends = (root_meaning o ends.1, root_built o ends.0)
 
   pub translates : (types : Types) (plan : ComponentTranslation)
-      → CanBeRead t exposed ps → IsPlanOfBody t (modules_of ps) limit body types plan
+      → CanBeRead t exposed ps → IsBuilder types → IsPlanOfBody t (modules_of ps) limit body types plan
       → Translates t exposed limit ps types plan (map as_handed_in (modules_of ps))
-  translates types plan can p =
+  translates types plan can builder p =
       let ms : List ModuleRecord = modules_of ps in
       let g = p.graph in
       let r : Reading = p.stands.result in
@@ -70,4 +71,5 @@ module _ (t : TypeTable) (exposed : Option (List ℕ)) (limit : ℕ) (ps : List 
         items = numbers_items types ms g r c plan s f;
         held = f.held;
         finds = finds types ms g r c plan s f;
+        values_apart = run.values_apart _ (is_told types ms g r s builder);
       }

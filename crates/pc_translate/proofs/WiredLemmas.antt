@@ -30,7 +30,7 @@ use Rattle.pc_dfg.specs.declared.instance.SideEffect.TheVariants as effect
 use Rattle.pc_dfg.specs.Names.{each_of, in_effect, in_instance, in_resource}
 use Rattle.pc_dfg.specs.Numbers.{slots_of}
 use Rattle.pc_linearize.specs.Grouped.{IsGrouped}
-use Rattle.pc_finish.specs.ModuleTypes.{HasModuleType}
+use Rattle.pc_translate.specs.ModuleTypes.{HasModuleType}
 use Rattle.pc_linearize.specs.Wired.{IsWired, Occurs, OfFunctions, callbacks, in_a_module, in_a_slot, in_an_adapter}
 use Rattle.pc_linearize.specs.Wired.{in_an_effect, in_an_export, is_function, post_returns, reallocs}
 use Rattle.pc_frames.specs.Tables.{IsItem, is_entity, is_trampoline}

@@ -1,4 +1,6 @@
 -- What the public contracts rest on.
+pub mod ModuleTypes
+pub mod Finished
 pub mod Typed
 pub mod Asked
 pub mod Lists

@@ -13,7 +13,7 @@ use Rattle.pc_local.specs.declared.item.LocalInitializer.TheVariants as local
 use Rattle.pc_dfg.specs.declared.dfg.ComponentDfg.{ComponentDfg}
 use Rattle.pc_linearize.specs.declared.error.FinishError.{FinishError}
 use Rattle.pc_linearize.specs.declared.error.FinishError.TheVariants as finish_error
-use Rattle.pc_finish.specs.Finished.{IsFinished}
+use Rattle.pc_translate.specs.Finished.{IsFinished}
 use Rattle.pc_inline.specs.Inlines.{IsFault, StandsForReading}
 use Rattle.pc_frames.specs.Kinds.{import_kind}
 use Rattle.pc_frames.specs.Today.{is_built_kind}

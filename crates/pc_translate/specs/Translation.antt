@@ -17,6 +17,7 @@ use Rattle.pc_info.specs.declared.module.ModuleTranslation.{ModuleTranslation}
 use Rattle.pc_info.specs.Exports.{has_items}
 use Rattle.pc_info.specs.Modules.{handed_in_view}
 use Rattle.pc_info.specs.View.{view, counts_view}
+use Rattle.pc_finish.specs.Apart.{AreApart}
 use Rattle.pc_parsed.specs.declared.payload.Payload.{Payload}
 use Rattle.pc_parsed.specs.Program.{is_numbered}
 use Rattle.pc_reading.specs.Item.{Items}
@@ -76,6 +77,8 @@ pub record Translates (t : TypeTable) (exposed : Option (List ℕ)) (limit : ℕ
   pub held : has_items plan.component ≡ true
   -- and is found under its name
   pub finds : FindsExports plan.component
+  -- where the run ends no value stands twice: in the slots of a kind, as an options entry, as a trampoline
+  pub values_apart : AreApart (view plan modules) typed.never_stuck.last
 
 -- a builder gains the types of few functions over primitives, unless the total of the root's reading is too much
 unfoldable pub Gains : TypeTable → (exposed : Option (List ℕ)) → (limit : ℕ) → List Payload → (old new : Types) → Type 0

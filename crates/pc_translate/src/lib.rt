@@ -6,6 +6,9 @@
 #![tactic(auto)]
 
 mod built;
+mod module_types;
+mod plan;
 mod translator;
 
+pub use plan::finish;
 pub use translator::{PlanWithModules, Translator, plan_payloads, translate};

@@ -19,9 +19,10 @@ ghost use Rattle.pc_translate.specs.Translation.{CountsGained, Gains, GainsCount
 ghost use Rattle.pc_translate.specs.Translation.{Translates};
 
 use crate::built::is_built;
+use crate::plan::finish;
 use pc_builder::ComponentTypesBuilder;
 use pc_entity::{NoMemory, PrimaryMap, Seq, StaticModuleIndex};
-use pc_finish::{FinishError, finish};
+use pc_finish::FinishError;
 use pc_info::{ComponentTranslation, ModuleTranslation};
 use pc_inline::inline_run;
 use pc_local::{LocalProgram, translate_payloads};
@@ -148,6 +149,8 @@ pub fn translate(
 {
     let program = built_program(alloc, table, exposed, payloads)?;
     let plan = plan_of(alloc, tunables, table, types, &program)?;
+    // No two signatures are equal, so a lowering has the one of its options.
+    types.types_are_distinct();
     let modules = translations(alloc, program.modules)?;
     Ok((plan, modules))
 }

@@ -1,4 +1,4 @@
-use Rattle.std.proofs.Common.{rules, ◌≡◌, ◌&&◌, true, false}
+use Rattle.std.proofs.Common.{rules, ◌≡◌, true}
 use Rattle.pc_parsed.specs.Program.{is_numbered}
 use Rattle.pc_translate.proofs.BuiltLemmas.{can_be_read, is_unbuilt}
 use Rattle.pc_translate.proofs.CauseLemmas.{payload_cause, too_long}

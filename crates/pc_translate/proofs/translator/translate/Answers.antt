@@ -52,5 +52,6 @@ returns-clause-counts c =
 -- what is left out here is read off the clause; a `Translates` that is written out would be compared field by field
 pub returns-clause-translated : goal.returns-clause-translated
 returns-clause-translated c =
-    translates_program _ _ _ _ _ c.in_ok-program.ensures.program c.in_ok-program.ensures.can _ _ _
+    translates_program _ _ _ _ _ c.in_ok-program.ensures.program c.in_ok-program.ensures.can _
+    c.types_are_distinct.ensures _ _
     c.in_ok-plan.ensures.plan c.in_ok-modules.ensures

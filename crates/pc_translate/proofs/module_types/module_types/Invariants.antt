@@ -1,7 +1,8 @@
 use Rattle.std.proofs.Common.{◌≡◌, All, take}
 use Rattle.pc_builder.specs.Types.{Grows}
-use Rattle.pc_finish.specs.ModuleTypes.{AreModuleTypes, HasNoModule, IsTyped}
-use Rattle.pc_finish.proofs.module_types.module_types.Given as goal
+use Rattle.pc_finish.specs.ModuleTypes.{IsTyped}
+use Rattle.pc_translate.specs.ModuleTypes.{AreModuleTypes, HasNoModule}
+use Rattle.pc_translate.proofs.module_types.module_types.Given as goal
 
 abbrev pub invariant-loop-item : goal.invariant-loop-item
 invariant-loop-item l =

@@ -1,12 +1,12 @@
 -- The types of module types of a table, with one more.
 use Rattle.std.proofs.Common.{◌≡◌, ◌<◌, ◌+◌, ℕ, List, length, All, Option, None, Some, true, take, refl, sym, ap, subst}
-use Rattle.std.proofs.Common.{subst₂, ◌∙◌, ◌⊎◌, inl, inr, true≢false, rules}
-use Rattle.std.specs.Prelude.{slice_get, slice_set, option_and_then}
+use Rattle.std.proofs.Common.{subst₂, ◌∙◌, ◌⊎◌, inl, inr, true≢false, rules, get_or, Result, Ok, Err, IfOk}
+use Rattle.std.specs.Prelude.{slice_get, slice_set, option_and_then, unwrap_or}
 use Rattle.std.specs.Option.{IsSome, IfSome}
 use Rattle.std.proofs.lemmas.Bool.{cases_eq}
 use Rattle.std.proofs.lemmas.List.{length-set}
 use Rattle.std.proofs.lemmas.List.Elements.{All-push, All-weaker}
-use Rattle.std.proofs.lemmas.Option.{same_Some, slice_get_within}
+use Rattle.std.proofs.lemmas.Option.{same_Some, slice_get-get_or, slice_get_within}
 use Rattle.pc_entity.proofs.Growing.{slice_get-set_same, slice_get-set_other, take-next}
 use Rattle.pc_types.specs.declared.parsed.DeclType.{DeclType}
 use Rattle.pc_types.specs.declared.parsed.TypeTable.{TypeTable}
@@ -16,10 +16,17 @@ use Rattle.pc_types.specs.Table.{is_module, is_some_and}
 use Rattle.pc_builder.specs.Types.{Grows, Types}
 use Rattle.pc_builder.specs.Trees.{IsEntry}
 use Rattle.pc_builder.proofs.TreeLemmas.{entry_grows}
+use Rattle.pc_trampoline.specs.declared.part.Mark.TheVariants as mark
+use Rattle.pc_info.specs.declared.component.ComponentTranslation.{ComponentTranslation}
+use Rattle.pc_dfg.specs.declared.dfg.ComponentDfg.{ComponentDfg}
 use Rattle.pc_dfg.specs.declared.export.Export.{Export}
 use Rattle.pc_dfg.specs.declared.export.Export.TheVariants as export
-use Rattle.pc_finish.specs.ModuleTypes.{AreModuleTypes, HasNoModule, IsModuleType, IsTyped, KeepsTypes, static_type}
-use Rattle.pc_finish.specs.ModuleTypes.{type_at}
+use Rattle.pc_linearize.specs.declared.error.FinishError.{FinishError}
+use Rattle.pc_linearize.proofs.AllLemmas.{all_at}
+use Rattle.pc_finish.specs.Finishes.{Finishes}
+use Rattle.pc_finish.specs.ModuleTypes.{IsTyped, module_mark, static_type, type_at}
+use Rattle.pc_translate.specs.Finished.{IsFinished}
+use Rattle.pc_translate.specs.ModuleTypes.{AreModuleTypes, HasNoModule, IsModuleType, StayTyped}
 
 -- a module type is an entry of the table
 pub module_there : (t : TypeTable) (n : ℕ) → IsModuleType t n → n < length t.types
@@ -55,16 +62,13 @@ module _ (types : List (Option TypeModuleIndex)) (k : ℕ) (i : TypeModuleIndex)
   ]
 
   -- each type that was there stays
-  types_kept : KeepsTypes types (slice_set types k (Some i))
+  pub types_kept : StayTyped types (slice_set types k (Some i))
   types_kept n there = elim (cases_eq n k) as (λ _. IsSome (type_at (slice_set types k (Some i)) n)) [
     | inl same ↦ subst (λ m. IsSome (type_at (slice_set types k (Some i)) m)) (sym same)
         is_put
     | inr other ↦ subst (λ o. IsSome (option_and_then (λ (t : Option TypeModuleIndex). t) o))
         (sym (slice_get-set_other types k n (Some i) other)) there
   ]
-
-  pub kept_in : (was : List (Option TypeModuleIndex)) → types ≡ was → KeepsTypes was (slice_set types k (Some i))
-  kept_in was same = subst (λ w. KeepsTypes w (slice_set types k (Some i))) same types_kept
 
   -- the types are those of their entries, where this one is
   pub types_put : (old new : Types) (t : TypeTable) → Grows old new → IsEntry new t k (def.Module i)
@@ -84,7 +88,7 @@ none_static es n (export.ModuleStatic ty m) none at = absurd (none n ty m at)
 none_static es n e none at = refl
 
 -- an export whose type was converted has it still
-pub typed_still : (old new : List (Option TypeModuleIndex)) → KeepsTypes old new → (e : Export) → IsTyped old e
+pub typed_still : (old new : List (Option TypeModuleIndex)) → StayTyped old new → (e : Export) → IsTyped old e
     → IsTyped new e
 typed_still old new keeps e typed = by (static_type e) typed
   where
@@ -93,9 +97,50 @@ typed_still old new keeps e typed = by (static_type e) typed
     by (Some n) h = keeps n h
 
 -- exports so far whose types were converted, and one more
-pub typed_next : (old new : List (Option TypeModuleIndex)) → KeepsTypes old new → (es : List Export) (i : ℕ)
+pub typed_next : (old new : List (Option TypeModuleIndex)) → StayTyped old new → (es : List Export) (i : ℕ)
     (e : Export)
     → slice_get es i ≡ Some e → All (IsTyped old) (take i es) → IsTyped new e → All (IsTyped new) (take (i + 1) es)
 typed_next old new keeps es i e at all typed =
     let before = All-weaker (IsTyped old) (IsTyped new) (typed_still old new keeps) (take i es) all in
     subst (All (IsTyped new)) (sym (take-next es i e at)) (All-push (IsTyped new) (take i es) e before typed)
+
+-- the mark of a module type that was converted is its type
+mark_typed : (b : Types) (t : TypeTable) (types : List (Option TypeModuleIndex)) (ty : ℕ) → AreModuleTypes b t types
+    → IsSome (type_at types ty)
+    → (i : TypeModuleIndex) × (module_mark types ty ≡ mark.Type_ (def.Module i)) × IsEntry b t ty (def.Module i)
+mark_typed b t types ty are there = by (type_at types ty) refl there
+  where
+    by : (o : Option TypeModuleIndex) → type_at types ty ≡ o → IsSome o
+        → (i : TypeModuleIndex) × (module_mark types ty ≡ mark.Type_ (def.Module i)) × IsEntry b t ty (def.Module i)
+    by None is some = absurd (true≢false (sym some))
+    by (Some i) is some = (
+      i,
+      ap (λ (p : Option TypeModuleIndex). mark.Type_ (def.Module (unwrap_or p (record { 0 = 0 })))) is,
+      are.entries ty i is,
+    )
+
+-- a plan over the types of the modules is finished
+is_finished : (b : Types) (t : TypeTable) (g : ComponentDfg) (types : List (Option TypeModuleIndex))
+    (plan : ComponentTranslation) → AreModuleTypes b t types → All (IsTyped types) g.export_items
+    → Finishes g (module_mark types) plan → IsFinished b t g plan
+is_finished b t g types plan are typed finishes = record {
+  converted = module_mark types;
+  types = λ n ty m at. mark_typed b t types ty are
+      (all_at (IsTyped types) g.export_items n (export.ModuleStatic ty m) typed at);
+  finishes = finishes;
+}
+
+-- and so is each that is answered
+pub all_finished : (b : Types) (t : TypeTable) (g : ComponentDfg) (types : List (Option TypeModuleIndex))
+    → AreModuleTypes b t types → All (IsTyped types) g.export_items → (r : Result ComponentTranslation FinishError)
+    → IfOk r (λ p. Finishes g (module_mark types) p) → IfOk r (λ p. IsFinished b t g p)
+all_finished b t g types are typed (Ok plan) finishes = is_finished b t g types plan are typed finishes
+all_finished b t g types are typed (Err e) none = tt
+
+-- a list that is lent has no module where that has none
+pub none_lent : (xs ys : List Export) → ys ≡ xs → HasNoModule xs → HasNoModule ys
+none_lent xs ys same none = subst (λ es. HasNoModule es) (sym same) none
+
+-- the export that a loop comes to
+pub export_at : (es : List Export) (i : ℕ) (e : Export) → i < length es → e ≡ get_or es i e → slice_get es i ≡ Some e
+export_at es i e within is = slice_get-get_or es i e within ∙ ap Some (sym is)

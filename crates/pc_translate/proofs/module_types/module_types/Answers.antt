@@ -3,9 +3,8 @@ use Rattle.std.proofs.lemmas.List.{take_all}
 use Rattle.std.proofs.lemmas.List.Elements.{All-nil}
 use Rattle.pc_builder.proofs.Growth.{grows_trans}
 use Rattle.pc_finish.specs.ModuleTypes.{IsTyped}
-use Rattle.pc_finish.proofs.ArgumentLemmas.{item_at}
-use Rattle.pc_finish.proofs.TypeLemmas.{no_more, none_static, typed_next}
-use Rattle.pc_finish.proofs.module_types.module_types.Goals as goal
+use Rattle.pc_translate.proofs.ModuleTypeLemmas.{export_at, no_more, none_static, typed_next}
+use Rattle.pc_translate.proofs.module_types.module_types.Goals as goal
 
 pub loop-item-init : goal.loop-item-init
 loop-item-init c =
@@ -17,14 +16,14 @@ returns-in_err-convert_item-clause-grows c =
 
 pub returns-in_err-convert_item-clause-unchanged : goal.returns-in_err-convert_item-clause-unchanged
 returns-in_err-convert_item-clause-unchanged c none =
-    let at = item_at c.args.items.now c.loop-item.item-index c.item-item.result c.loop-item-test.true
+    let at = export_at c.args.items.now c.loop-item.item-index c.item-item.result c.loop-item-test.true
     c.item-item.is in
     c.convert_item.ensures.unchanged (none_static c.args.items.now c.loop-item.item-index _ none at)
     ∙ c.loop-item.invariant.3 none
 
 pub loop-item-preserved : goal.loop-item-preserved
 loop-item-preserved c =
-    let at = item_at c.args.items.now c.loop-item.item-index c.item-item.result c.loop-item-test.true
+    let at = export_at c.args.items.now c.loop-item.item-index c.item-item.result c.loop-item-test.true
     c.item-item.is in (
       grows_trans _ _ _ c.loop-item.invariant.0 c.in_ok-convert_item.ensures.grows,
       c.in_ok-convert_item.ensures.done,

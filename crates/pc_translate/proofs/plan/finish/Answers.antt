@@ -1,0 +1,29 @@
+use Rattle.std.proofs.Common.{All, Contains, inl, inr, subst}
+use Rattle.pc_dfg.specs.declared.export.Export.{Export}
+use Rattle.pc_finish.specs.ModuleTypes.{IsTyped}
+use Rattle.pc_translate.specs.ModuleTypes.{HasNoPlace}
+use Rattle.pc_translate.proofs.ModuleTypeLemmas.{all_finished, none_lent}
+use Rattle.pc_translate.proofs.plan.finish.Goals as goal
+
+pub returns-in_err-module_types-clause-unchanged : goal.returns-in_err-module_types-clause-unchanged
+returns-in_err-module_types-clause-unchanged c none =
+    c.in_err-module_types.ensures.unchanged (none_lent _ _ c.as_slice.ensures none)
+
+pub returns-in_err-module_types-clause-full : goal.returns-in_err-module_types-clause-full
+returns-in_err-module_types-clause-full c is =
+    let too_many = rw is at c.from_residual.ensures.1 in
+    let full = c.in_err-module_types.ensures.full (cc too_many) in
+    inr (subst (λ es. (e : Export) × Contains es e × HasNoPlace c.module_types.new.types c.args.table.now e)
+    c.as_slice.ensures full)
+
+pub returns-clause-unchanged : goal.returns-clause-unchanged
+returns-clause-unchanged c none = c.in_ok-module_types.ensures.unchanged (none_lent _ _ c.as_slice.ensures none)
+
+pub returns-clause-full : goal.returns-clause-full
+returns-clause-full c is = inl (c.finish.ensures.full is)
+
+pub returns-clause-plan : goal.returns-clause-plan
+returns-clause-plan c =
+    all_finished _ _ c.args.graph _ c.in_ok-module_types.ensures.types
+    (subst (All (IsTyped c.in_ok-module_types.module_types)) c.as_slice.ensures c.in_ok-module_types.ensures.typed)
+    c.finish.result c.finish.ensures.plan

@@ -1,0 +1,42 @@
+//! The plan of a graph, with the types of the handed-in modules that it exports.
+
+ghost use Rattle.std.specs.Prelude.{◌≡◌, ◌⊎◌, None, All, Contains, Err, IfOk};
+ghost use Rattle.pc_types.specs.Table.{table_fault};
+ghost use Rattle.pc_builder.specs.Types.{Grows};
+ghost use Rattle.pc_dfg.specs.declared.export.Export.{Export};
+ghost use Rattle.pc_dfg.specs.Ordered.{IsOrdered};
+ghost use Rattle.pc_linearize.specs.declared.error.FinishError.TheVariants as refusal;
+ghost use Rattle.pc_linearize.specs.Full.{HasTooMany};
+ghost use Rattle.pc_linearize.specs.Grouped.{IsGrouped};
+ghost use Rattle.pc_translate.specs.Finished.{IsFinished};
+ghost use Rattle.pc_translate.specs.ModuleTypes.{HasModuleType, HasNoModule, HasNoPlace};
+
+use crate::module_types::module_types;
+use pc_builder::ComponentTypesBuilder;
+use pc_dfg::ComponentDfg;
+use pc_finish::FinishError;
+use pc_info::ComponentTranslation;
+use pc_types::TypeTable;
+use std::alloc::Global;
+
+/// The plan of a graph whose adapters are grouped. Types of the table that it exports are put into the types builder
+/// first, since they ask most of it. It gains only modules and signatures.
+pub fn finish(
+    alloc: Global,
+    graph: ComponentDfg,
+    table: &TypeTable,
+    types: &mut ComponentTypesBuilder,
+) -> Result<ComponentTranslation, FinishError>
+    requires ordered { IsOrdered graph }
+    requires grouped { IsGrouped graph }
+    requires sound { table_fault table.now ≡ None }
+    requires are_modules { All (HasModuleType table.now) graph.export_items }
+    ensures grows { Grows types.old types.new }
+    ensures unchanged { HasNoModule graph.export_items → types.new ≡ types.old }
+    ensures full { result ≡ Err refusal.TooMany → HasTooMany graph
+        ⊎ ((e : Export) × Contains graph.export_items e × HasNoPlace types.new table.now e) }
+    ensures plan { IfOk result (λ p. IsFinished types.new table.now graph p) }
+{
+    let module_types = module_types(alloc, types, table, graph.export_items.as_slice())?;
+    pc_finish::finish(alloc, graph, &module_types)
+}
