@@ -1,5 +1,6 @@
 -- What the clauses rest on, in reading order.
 pub mod Means
+pub mod Forms
 pub mod Words
 pub mod Flat
 pub mod Functions

@@ -8,6 +8,7 @@ pub mod builtins;
 pub mod captures;
 pub mod exports;
 pub mod flat;
+pub mod forms;
 pub mod functions;
 pub mod host;
 pub mod imports;

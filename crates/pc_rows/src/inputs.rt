@@ -209,6 +209,20 @@ pub(crate) fn are_refused(rt: &impl Abort, alloc: Global, around: Around, rows: 
     are_translated(rt, alloc, around, Status::Refused, rows);
 }
 
+/// Checks that the input that is made of each of these texts is refused with one text.
+pub(crate) fn are_refused_with(
+    rt: &impl Abort,
+    alloc: Global,
+    around: Around,
+    texts: &[&str],
+    written: &str,
+) {
+    for text in texts {
+        let is_so = is_translated(alloc, around, text, Status::Refused, written);
+        holds(rt, text, is_so.unwrap_or(false));
+    }
+}
+
 /// Checks that each input is refused, since not all of it is built. Its name stands before it.
 pub(crate) fn are_not_built(rt: &impl Abort, alloc: Global, rows: &[(&str, &str)]) {
     for (name, input) in rows {

@@ -4,7 +4,11 @@
 #[cfg(test)]
 mod adapters;
 #[cfg(test)]
+mod captures;
+#[cfg(test)]
 mod contexts;
+#[cfg(test)]
+mod forms;
 #[cfg(test)]
 mod hosts;
 #[cfg(test)]

@@ -2,19 +2,11 @@
 
 use crate::inputs::{Around, between, holds, is_answered};
 use crate::root::EMPTY_PLAN;
-use pc_form::decode_input;
 use pc_tool::Status;
 use std::alloc::{AllocError, Global};
 
 /// The end of a component, and an instance of it in the component around it.
 const INSTANTIATED: &str = r#""end",{"component-instances":[{"instantiate":[0,[],0]}]},"#;
-
-/// A limit, what ends each of 2000 components that stand in each other, and how many payloads that makes.
-static DEPTHS: [(&str, &str, usize); 3] = [
-    ("2001", INSTANTIATED, 8002),
-    ("2000", INSTANTIATED, 8002),
-    ("1", r#""end","#, 6002),
-];
 
 /// The plan of 2001 component instances without content.
 const DEEP_PLAN: &str = "plan 1
@@ -122,28 +114,6 @@ fn chain_plan(alloc: Global) -> Result<String, AllocError> {
     add_options(&mut plan)?;
     add_trampolines(&mut plan)?;
     Ok(plan)
-}
-
-/// How many payloads an input has, or none where it isn't read.
-fn payloads_of(alloc: Global, input: &str) -> usize {
-    match decode_input(alloc, input.as_bytes()) {
-        Ok(input) => input.payloads.len(),
-        Err(_) => 0,
-    }
-}
-
-/// How many payloads 2000 components have that stand in each other and end with this text.
-fn deep_payloads(alloc: Global, limit: &str, end: &str) -> Result<usize, AllocError> {
-    let input = nested(alloc, limit, 2000, end)?;
-    Ok(payloads_of(alloc, &input))
-}
-
-#[test]
-fn deep_inputs_are_read(rt: HostRuntime) {
-    for (limit, end, payloads) in DEPTHS.iter() {
-        let found = deep_payloads(rt.alloc(), limit, end).unwrap_or(0);
-        holds(&rt, limit, found == *payloads);
-    }
 }
 
 /// Whether 2000 components that stand in each other and end with the first text have this answer under a limit.

@@ -1,4 +1,7 @@
-//! Streams that move little a call, and fail at each of their calls in turn.
+//! Streams that move little a call, and fail at each of their calls in turn; and the other sources and sinks.
+
+mod host;
+mod memory;
 
 use crate::inputs::{Ends, Ran, SMALLEST, SMALLEST_PLAN, WHOLE, comes_to, holds};
 use pc_tool::Status;

@@ -3,7 +3,7 @@
 ghost use Rattle.std.specs.Prelude.{◌≤◌, ◌≡◌, ◌++◌, length, IsTrue, IfOk};
 ghost use Rattle.pc_stream.specs.declared.whole.TheConstants.{MAX_INPUT};
 
-use crate::reads::holds;
+use crate::inputs::holds;
 use pc_stream::{Failed, MAX_INPUT, MemSink, ReadEnd, SureSink, SureSource, read_all, write_all};
 use std::alloc::{AllocError, Global};
 use std::test::*;

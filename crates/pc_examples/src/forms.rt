@@ -1,4 +1,4 @@
-//! The definition, computed on the tables of `specs/Examples.antt`.
+//! Words and shapes of the input form, each read as the value beside it.
 
 ghost use Rattle.pc_json.specs.Rules.{plain};
 ghost use Rattle.pc_json.specs.Names.{extern_name};
@@ -6,11 +6,11 @@ ghost use Rattle.pc_json.specs.Types.{core_sig, decl_type};
 ghost use Rattle.pc_form.specs.Canon.{canon_item};
 ghost use Rattle.pc_form.specs.Payload.{payload_of};
 ghost use Rattle.pc_form.specs.Input.{input_of};
-ghost use Rattle.pc_checks_parsed.specs.Examples.{AreRead, sig_examples, entry_examples, name_examples};
-ghost use Rattle.pc_checks_parsed.specs.Examples.{canon_examples, payload_examples, input_examples};
+ghost use Rattle.pc_examples.specs.Forms.{AreRead, sig_examples, entry_examples, name_examples};
+ghost use Rattle.pc_examples.specs.Forms.{canon_examples, payload_examples, input_examples};
 
-/// Each example is read as the value beside it.
-fn examples_are_read()
+/// Each text is read as the value beside it.
+pub fn are_read()
     ensures signatures { AreRead core_sig sig_examples }
     ensures entries { AreRead (decl_type plain) entry_examples }
     ensures names { AreRead (extern_name plain) name_examples }
@@ -18,8 +18,3 @@ fn examples_are_read()
     ensures payloads { AreRead (payload_of plain) payload_examples }
     ensures inputs { AreRead (input_of plain) input_examples }
 {}
-
-#[test]
-fn every_word_and_shape_has_its_meaning() {
-    examples_are_read();
-}

@@ -1,11 +1,14 @@
 //! Streams over std's readers and writers.
 
-use crate::reads::{TEXT, holds};
+use crate::inputs::holds;
 use pc_stream::{ReadEnd, StdSink, StdSource, read_all, write_all};
 use std::alloc::Global;
 use std::io;
 use std::io::{Read, Write};
 use std::test::*;
+
+/// Seventy bytes.
+const TEXT: &[u8] = b"seventy bytes of text, so that calls of 64 bytes are two, and not one.";
 
 /// Moves at most three bytes a call. The call that it comes to at `stops` fails, or moves nothing.
 #[derive(Drop)]

@@ -1,2 +1,0 @@
--- What the answers unfold.
-mod OnLiterals
