@@ -1,7 +1,7 @@
 //! Bytes that are no input, each kind of payload, and lists at the limits of numbers.
 
 use crate::inputs::{
-    ALONE, Around, ENTRIES, PAYLOADS, Ran, SMALLEST_PLAN, WHOLE, are_planned, are_refused,
+    ALONE, Around, ENTRIES, PAYLOADS, SMALLEST_PLAN, WHOLE, answer, are_planned, are_refused,
     are_refused_with, comes_to, holds,
 };
 use crate::root::EMPTY_PLAN;
@@ -115,13 +115,7 @@ fn other_shapes_are_bad_forms(rt: HostRuntime) {
 
 /// Whether bytes that are no UTF-8 are no JSON.
 fn is_no_text(alloc: Global) -> Result<bool, AllocError> {
-    let want = Ran {
-        status: Status::Refused,
-        written: b"fault not-json\n",
-        left: 0,
-        read_faults: 0,
-        write_faults: 0,
-    };
+    let want = answer(Status::Refused, "fault not-json\n");
     comes_to(alloc, "translate", b"\"\xff\"", &WHOLE, &want)
 }
 

@@ -114,6 +114,17 @@ pub(crate) fn comes_to(
     ends_in(alloc, words.as_slice(), bytes, ends, want)
 }
 
+/// What a run comes to that reads all, ends with this status and writes this text.
+pub(crate) fn answer(status: Status, text: &str) -> Ran<'_> {
+    Ran {
+        status,
+        written: text.as_bytes(),
+        left: 0,
+        read_faults: 0,
+        write_faults: 0,
+    }
+}
+
 /// Whether a command ends with this status for an input that is read whole, and writes this text.
 pub(crate) fn is_answered(
     alloc: Global,
@@ -122,13 +133,7 @@ pub(crate) fn is_answered(
     status: Status,
     text: &str,
 ) -> Result<bool, AllocError> {
-    let want = Ran {
-        status,
-        written: text.as_bytes(),
-        left: 0,
-        read_faults: 0,
-        write_faults: 0,
-    };
+    let want = answer(status, text);
     comes_to(alloc, command, input.as_bytes(), &WHOLE, &want)
 }
 

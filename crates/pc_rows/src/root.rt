@@ -1,6 +1,6 @@
 //! A root component alone: inputs that are translated, faults of their reading, and static faults.
 
-use crate::inputs::{ALONE, SMALLEST, SMALLEST_PLAN, are_planned, are_refused};
+use crate::inputs::{ALONE, Around, SMALLEST, SMALLEST_PLAN, are_planned, are_refused};
 
 /// A component without content.
 pub(crate) const EMPTY_ROOT: &str =
@@ -41,6 +41,58 @@ options 1 0 utf8 sync - - - -
 export \"f\" lifted export(0 func 0) options 0
 export \"g\" lifted export(0 func 1) options 1
 ";
+
+/// What stands around three lifts of one core function, under two core signatures. Each is exported.
+const LIFTS: Around = Around {
+    before: r#"{"limit":1,"intrinsics":null,"types":{"core":[[[],[]],[["i32"],[]]],
+       "types":[{"module":[[],[]]},{"func":{"params":[["x","u32"]],"result":null,"async":false}}]},
+       "payloads":["version",{"module":{"ty":0,"imports":[],"funcs":[0],"tables":0,"memories":[],"globals":0,
+       "tags":0,"exports":[["f","func",0]]}},{"instances":[{"instantiate":[0,[]]}]},
+       {"aliases":[{"core-export":["func",0,"f"]}]},{"canon":["#,
+    after: r#"]},{"exports":[["a","func",0],["b","func",1],["c","func",2]]},"end"]}"#,
+};
+
+/// Three lifts, and their plan: equal options are one entry, which stands where the first lift with them does.
+static THREE_LIFTS: [(&str, &str); 3] = [
+    (
+        r#"["lift",0,1,0,[]],["lift",0,1,0,[]],["lift",0,1,0,[]]"#,
+        "plan 1
+modules 1 0
+counts 1 1 0 0 0 0 0 0 0 0 0 0
+init static 0 0 []
+options 0 0 utf8 sync - - - -
+export \"a\" lifted export(0 func 0) options 0
+export \"b\" lifted export(0 func 0) options 0
+export \"c\" lifted export(0 func 0) options 0
+",
+    ),
+    (
+        r#"["lift",0,1,0,[]],["lift",0,1,1,[]],["lift",0,1,0,[]]"#,
+        "plan 1
+modules 1 0
+counts 1 1 0 0 0 0 0 0 0 0 0 0
+init static 0 0 []
+options 0 0 utf8 sync - - - -
+options 1 0 utf8 sync - - - -
+export \"a\" lifted export(0 func 0) options 0
+export \"b\" lifted export(0 func 0) options 1
+export \"c\" lifted export(0 func 0) options 0
+",
+    ),
+    (
+        r#"["lift",0,1,1,[]],["lift",0,1,1,[]],["lift",0,1,0,[]]"#,
+        "plan 1
+modules 1 0
+counts 1 1 0 0 0 0 0 0 0 0 0 0
+init static 0 0 []
+options 0 0 utf8 sync - - - -
+options 1 0 utf8 sync - - - -
+export \"a\" lifted export(0 func 0) options 0
+export \"b\" lifted export(0 func 0) options 0
+export \"c\" lifted export(0 func 0) options 1
+",
+    ),
+];
 
 /// A lift of a core function that isn't there.
 const CORE_FUNCTION_MISSING: &str =
@@ -142,6 +194,7 @@ static STATIC_FAULTS: [(&str, &str); 7] = [
 #[test]
 fn whole_inputs_are_answered(rt: HostRuntime) {
     are_planned(&rt, rt.alloc(), ALONE, &PLANS);
+    are_planned(&rt, rt.alloc(), LIFTS, &THREE_LIFTS);
     are_refused(&rt, rt.alloc(), ALONE, &FAULTS);
     are_refused(&rt, rt.alloc(), ALONE, &STATIC_FAULTS);
 }

@@ -3,20 +3,9 @@
 mod host;
 mod memory;
 
-use crate::inputs::{Ends, Ran, SMALLEST, SMALLEST_PLAN, WHOLE, comes_to, holds};
+use crate::inputs::{Ends, Ran, SMALLEST, SMALLEST_PLAN, WHOLE, answer, comes_to, holds};
 use pc_tool::Status;
 use std::alloc::{AllocError, Global};
-
-/// What a run comes to that reads all and writes this text.
-fn done(text: &str) -> Ran<'_> {
-    Ran {
-        status: Status::Done,
-        written: text.as_bytes(),
-        left: 0,
-        read_faults: 0,
-        write_faults: 0,
-    }
-}
 
 /// Whether a run on the smallest input comes to this.
 fn smallest_comes_to(alloc: Global, ends: &Ends, want: &Ran<'_>) -> Result<bool, AllocError> {
@@ -33,7 +22,7 @@ fn is_done(alloc: Global, read_most: usize, write_most: usize) -> Result<bool, A
         write_most,
         ..WHOLE
     };
-    smallest_comes_to(alloc, &ends, &done(SMALLEST_PLAN))
+    smallest_comes_to(alloc, &ends, &answer(Status::Done, SMALLEST_PLAN))
 }
 
 #[test]
@@ -127,10 +116,7 @@ fn a_failed_write_leaves_a_front(rt: HostRuntime) {
 /// What an input over the limit comes to: one byte more was read than may be.
 fn one_byte_over(alloc: Global) -> Result<bool, AllocError> {
     let bytes = vec![in alloc; 32u8; 67108865]?;
-    let want = Ran {
-        status: Status::TooLong,
-        ..done("fault too-long\n")
-    };
+    let want = answer(Status::TooLong, "fault too-long\n");
     comes_to(alloc, "translate", &bytes, &WHOLE, &want)
 }
 
