@@ -8,10 +8,10 @@ use Rattle.std.proofs.lemmas.List.Elements.{filter_map-append}
 use Rattle.std.proofs.lemmas.Option.{slice_get_within}
 use Rattle.std.proofs.Math.Seq.{take-append_seam}
 use Rattle.pc_entity.proofs.Growing.{slice_get-append_seam}
-use Rattle.pc_intern.specs.declared.ids.InstanceId.{InstanceId}
+use Rattle.pc_dfg.specs.declared.ids.InstanceId.{InstanceId}
 use Rattle.pc_numbers.specs.declared.runtime.DefinedResourceIndex.{DefinedResourceIndex}
 use Rattle.pc_numbers.specs.declared.runtime.RuntimeComponentInstanceIndex.{RuntimeComponentInstanceIndex}
-use Rattle.pc_semantics.specs.PlanView as plan
+use Rattle.pc_spec_plan.specs.PlanView as plan
 use Rattle.pc_dfg.specs.declared.dfg.ComponentDfg.{ComponentDfg}
 use Rattle.pc_dfg.specs.declared.instance.Instance.{Instance}
 use Rattle.pc_dfg.specs.declared.instance.Resource.{Resource}

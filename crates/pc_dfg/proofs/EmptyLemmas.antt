@@ -1,7 +1,7 @@
 -- A graph with nothing in it is ordered.
 use Rattle.std.proofs.Common.{[], refl}
 use Rattle.std.proofs.lemmas.Option.{none-some}
-use Rattle.pc_semantics.specs.PlanView as plan
+use Rattle.pc_spec_plan.specs.PlanView as plan
 use Rattle.pc_dfg.specs.Empty.{empty_graph}
 use Rattle.pc_dfg.specs.Held.{AreHeld}
 use Rattle.pc_dfg.specs.Lists as list

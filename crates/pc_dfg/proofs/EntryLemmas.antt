@@ -2,16 +2,16 @@
 use Rattle.std.proofs.Common.{◌≡◌, Bool, List, [], ◌∷◌, Option, None, Some, refl, ap, subst, sym, ◌∙◌}
 use Rattle.std.proofs.lemmas.Option.{same_Some}
 use Rattle.std.specs.Prelude.{map, option_map, slice_get, true, false}
-use Rattle.pc_intern.specs.declared.ids.CallbackId.{CallbackId}
-use Rattle.pc_intern.specs.declared.ids.MemoryId.{MemoryId}
-use Rattle.pc_intern.specs.declared.ids.OptionsId.{OptionsId}
-use Rattle.pc_intern.specs.declared.ids.PostReturnId.{PostReturnId}
-use Rattle.pc_intern.specs.declared.ids.TableId.{TableId}
+use Rattle.pc_dfg.specs.declared.ids.CallbackId.{CallbackId}
+use Rattle.pc_dfg.specs.declared.ids.MemoryId.{MemoryId}
+use Rattle.pc_dfg.specs.declared.ids.OptionsId.{OptionsId}
+use Rattle.pc_dfg.specs.declared.ids.PostReturnId.{PostReturnId}
+use Rattle.pc_dfg.specs.declared.ids.TableId.{TableId}
 use Rattle.pc_numbers.specs.declared.module_entity.ModuleInternedTypeIndex.{ModuleInternedTypeIndex}
 use Rattle.pc_numbers.specs.declared.runtime.RuntimeImportIndex.{RuntimeImportIndex}
 use Rattle.pc_types.specs.declared.trampoline.TrampolineKind.{TrampolineKind}
 use Rattle.pc_types.specs.declared.trampoline.TrampolineKind.TheVariants as kind
-use Rattle.pc_semantics.specs.PlanView as plan
+use Rattle.pc_spec_plan.specs.PlanView as plan
 use Rattle.pc_trampoline.specs.declared.part.Head.{Head}
 use Rattle.pc_trampoline.specs.declared.part.Head.TheVariants as head
 use Rattle.pc_trampoline.specs.declared.part.Mark.{Mark}

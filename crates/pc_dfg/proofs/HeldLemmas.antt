@@ -1,6 +1,6 @@
 -- What is held stays held as the graph grows.
 use Rattle.std.proofs.Common.{ℕ, List, All, Option, None, Some, arith}
-use Rattle.pc_semantics.specs.PlanView as plan
+use Rattle.pc_spec_plan.specs.PlanView as plan
 use Rattle.pc_trampoline.specs.declared.part.Mark.{Mark}
 use Rattle.pc_dfg.specs.declared.adapter.Adapter.{Adapter}
 use Rattle.pc_dfg.specs.declared.core_def.CoreDef.{CoreDef}

@@ -1,7 +1,7 @@
 -- A definition keeps its value as the graph grows.
 use Rattle.std.proofs.Common.{ℕ, List, Option}
-use Rattle.pc_semantics.specs.CoreValue.{CoreValue, Options, DataModel, MaybeValue, Parts, Part}
-use Rattle.pc_semantics.specs.PlanView as plan
+use Rattle.pc_spec_plan.specs.CoreValue.{CoreValue, Options, DataModel, MaybeValue, Parts, Part}
+use Rattle.pc_spec_plan.specs.PlanView as plan
 use Rattle.pc_trampoline.specs.declared.part.Mark.{Mark}
 use Rattle.pc_dfg.specs.declared.adapter.AdapterOptions.{AdapterOptions}
 use Rattle.pc_dfg.specs.declared.adapter.DataModel.{DataModel as SideModel}

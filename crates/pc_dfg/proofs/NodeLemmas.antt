@@ -2,8 +2,8 @@
 use Rattle.std.proofs.Common.{◌≡◌, ℕ, List, refl, ap, subst, sym, ◌∙◌}
 use Rattle.std.proofs.lemmas.Option.{same_Some}
 use Rattle.pc_types.specs.declared.types.TypeDef.TheVariants as type
-use Rattle.pc_semantics.specs.ExportNode as node
-use Rattle.pc_semantics.specs.ExportNode.{ExportNode, ExportNodes, NamedNode}
+use Rattle.pc_spec_plan.specs.ExportNode as node
+use Rattle.pc_spec_plan.specs.ExportNode.{ExportNode, ExportNodes, NamedNode}
 use Rattle.pc_trampoline.specs.declared.part.Mark.{Mark}
 use Rattle.pc_trampoline.specs.declared.part.Mark.TheVariants as mark
 use Rattle.pc_info.specs.Modules.{function_mark}

@@ -3,10 +3,10 @@ use Rattle.std.proofs.Common.{◌≡◌, ℕ, List, [], ◌∷◌, Option, None,
 use Rattle.std.proofs.lemmas.Option.{none-some, same_Some}
 use Rattle.std.specs.Prelude.{map, option_map, slice_get}
 use Rattle.pc_entity.specs.Lists.{AreDistinct}
-use Rattle.pc_intern.specs.declared.ids.CallbackId.{CallbackId}
-use Rattle.pc_intern.specs.declared.ids.MemoryId.{MemoryId}
-use Rattle.pc_intern.specs.declared.ids.PostReturnId.{PostReturnId}
-use Rattle.pc_intern.specs.declared.ids.ReallocId.{ReallocId}
+use Rattle.pc_dfg.specs.declared.ids.CallbackId.{CallbackId}
+use Rattle.pc_dfg.specs.declared.ids.MemoryId.{MemoryId}
+use Rattle.pc_dfg.specs.declared.ids.PostReturnId.{PostReturnId}
+use Rattle.pc_dfg.specs.declared.ids.ReallocId.{ReallocId}
 use Rattle.pc_numbers.specs.declared.entity_index.EntityIndex.{EntityIndex}
 use Rattle.pc_numbers.specs.declared.entity_index.EntityIndex.TheVariants as entity
 use Rattle.pc_numbers.specs.declared.module_entity.MemoryIndex.{MemoryIndex}
@@ -15,10 +15,10 @@ use Rattle.pc_numbers.specs.declared.module_entity.TableIndex.{TableIndex}
 use Rattle.pc_types.specs.declared.intrinsic.UnsafeIntrinsic.{UnsafeIntrinsic}
 use Rattle.pc_types.specs.declared.intrinsic.UnsafeIntrinsic.TheVariants as intrinsic
 use Rattle.pc_types.specs.IntrinsicType.{intrinsic_place}
-use Rattle.pc_semantics.specs.CoreValue as value
-use Rattle.pc_semantics.specs.CoreValue.{Parts}
-use Rattle.pc_semantics.specs.Machine.{with_numbers}
-use Rattle.pc_semantics.specs.PlanView as plan
+use Rattle.pc_spec_plan.specs.CoreValue as value
+use Rattle.pc_spec_plan.specs.CoreValue.{Parts}
+use Rattle.pc_spec_plan.specs.Machine.{with_numbers}
+use Rattle.pc_spec_plan.specs.PlanView as plan
 use Rattle.pc_trampoline.specs.declared.part.Mark.{Mark}
 use Rattle.pc_info.specs.declared.core_def.ExportItem.{ExportItem}
 use Rattle.pc_info.specs.declared.core_def.ExportItem.TheVariants as item

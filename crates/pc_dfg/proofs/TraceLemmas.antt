@@ -1,7 +1,7 @@
 -- What side effects do stays as the graph grows, and is one thing.
 use Rattle.std.proofs.Common.{◌≡◌, List, ap, subst, sym, ◌∙◌}
 use Rattle.std.proofs.lemmas.Option.{same_Some}
-use Rattle.pc_semantics.specs.Log as log
+use Rattle.pc_spec_plan.specs.Log as log
 use Rattle.pc_trampoline.specs.declared.part.Mark.{Mark}
 use Rattle.pc_dfg.specs.declared.dfg.ComponentDfg.{ComponentDfg}
 use Rattle.pc_dfg.specs.declared.instance.Instance.{Instance}

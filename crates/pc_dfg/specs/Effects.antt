@@ -1,14 +1,14 @@
 -- What the side effects of a graph stand for: the core instances and resources of a log.
 use Rattle.std.specs.Prelude.{◌≡◌, ℕ, List, map, Some, slice_get}
 use Rattle.std.specs.List.{flat_map, AllZip}
-use Rattle.pc_intern.specs.declared.ids.InstanceId.{InstanceId}
+use Rattle.pc_dfg.specs.declared.ids.InstanceId.{InstanceId}
 use Rattle.pc_numbers.specs.declared.component_entity.StaticModuleIndex.{StaticModuleIndex}
 use Rattle.pc_numbers.specs.declared.runtime.DefinedResourceIndex.{DefinedResourceIndex}
 use Rattle.pc_numbers.specs.declared.runtime.RuntimeComponentInstanceIndex.{RuntimeComponentInstanceIndex}
 use Rattle.pc_numbers.specs.declared.runtime.RuntimeImportIndex.{RuntimeImportIndex}
 use Rattle.pc_types.specs.TypeTree.{Path}
-use Rattle.pc_semantics.specs.CoreValue.{CoreValue, MaybeValue}
-use Rattle.pc_semantics.specs.Log as log
+use Rattle.pc_spec_plan.specs.CoreValue.{CoreValue, MaybeValue}
+use Rattle.pc_spec_plan.specs.Log as log
 use Rattle.pc_trampoline.specs.declared.part.Mark.{Mark}
 use Rattle.pc_dfg.specs.declared.core_def.CoreDef.{CoreDef}
 use Rattle.pc_dfg.specs.declared.dfg.ComponentDfg.{ComponentDfg}

@@ -8,7 +8,7 @@ use Rattle.std.proofs.lemmas.Bool.Decides.{Decides-eqb}
 use mathlib.Core.Bool.{beq}
 use Rattle.pc_entity.specs.Exact.{same_options, same_texts}
 use Rattle.pc_entity.proofs.Elements.{and_true}
-use Rattle.pc_intern.specs.declared.ids.InstanceId.{InstanceId}
+use Rattle.pc_dfg.specs.declared.ids.InstanceId.{InstanceId}
 use Rattle.pc_numbers.specs.contracts.entity_index.EntityIndexPartialEq.TheImpl as eq_EntityIndex
 use Rattle.pc_numbers.specs.declared.entity_index.EntityIndex.{EntityIndex}
 use Rattle.pc_numbers.specs.declared.entity_index.EntityIndex.TheVariants as entity

@@ -6,14 +6,14 @@ use Rattle.std.proofs.Common.{ap, sym, true≢false}
 use mathlib.Core.Bool.{beq}
 use Rattle.pc_entity.specs.Exact.{same_options}
 use Rattle.pc_entity.proofs.Elements.{and_true}
-use Rattle.pc_intern.specs.contracts.ids.CallbackIdPartialEq.TheImpl as eq_CallbackId
-use Rattle.pc_intern.specs.contracts.ids.MemoryIdPartialEq.TheImpl as eq_MemoryId
-use Rattle.pc_intern.specs.contracts.ids.PostReturnIdPartialEq.TheImpl as eq_PostReturnId
-use Rattle.pc_intern.specs.contracts.ids.ReallocIdPartialEq.TheImpl as eq_ReallocId
-use Rattle.pc_intern.specs.declared.ids.CallbackId.{CallbackId}
-use Rattle.pc_intern.specs.declared.ids.MemoryId.{MemoryId}
-use Rattle.pc_intern.specs.declared.ids.PostReturnId.{PostReturnId}
-use Rattle.pc_intern.specs.declared.ids.ReallocId.{ReallocId}
+use Rattle.pc_dfg.specs.contracts.ids.CallbackIdPartialEq.TheImpl as eq_CallbackId
+use Rattle.pc_dfg.specs.contracts.ids.MemoryIdPartialEq.TheImpl as eq_MemoryId
+use Rattle.pc_dfg.specs.contracts.ids.PostReturnIdPartialEq.TheImpl as eq_PostReturnId
+use Rattle.pc_dfg.specs.contracts.ids.ReallocIdPartialEq.TheImpl as eq_ReallocId
+use Rattle.pc_dfg.specs.declared.ids.CallbackId.{CallbackId}
+use Rattle.pc_dfg.specs.declared.ids.MemoryId.{MemoryId}
+use Rattle.pc_dfg.specs.declared.ids.PostReturnId.{PostReturnId}
+use Rattle.pc_dfg.specs.declared.ids.ReallocId.{ReallocId}
 use Rattle.pc_types.specs.contracts.encoding.StringEncodingPartialEq.TheImpl as eq_StringEncoding
 use Rattle.pc_types.specs.EqualWords.{encoding_exact}
 use Rattle.pc_dfg.specs.contracts.adapter.AdapterOptionsPartialEq.TheImpl as eq_AdapterOptions

@@ -1,6 +1,6 @@
 -- Each number in a graph is that of an entry.
 use Rattle.std.specs.Prelude.{◌≡◌, ℕ, ◌<◌, List, length, All, Option, None, Some, slice_get}
-use Rattle.pc_semantics.specs.PlanView as plan
+use Rattle.pc_spec_plan.specs.PlanView as plan
 use Rattle.pc_trampoline.specs.declared.part.Mark.{Mark}
 use Rattle.pc_dfg.specs.declared.adapter.Adapter.{Adapter}
 use Rattle.pc_dfg.specs.declared.core_def.CoreDef.{CoreDef}

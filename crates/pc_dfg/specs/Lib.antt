@@ -2,6 +2,7 @@
 pub mod Mapped
 pub mod Empty
 pub mod Pushed
+pub mod Numbered
 pub mod Numbers
 pub mod Lists
 pub mod Means

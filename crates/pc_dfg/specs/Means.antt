@@ -1,7 +1,7 @@
 -- What the definitions of a graph stand for: core values, in which the numbers of types and core signatures stand as
 -- marks. A graph stands for what follows from its entries by finitely many look-ups, so no order is presumed.
 use Rattle.std.specs.Prelude.{◌≡◌, ℕ, List, [], ◌∷◌, Bool, Option, None, Some, option_map, slice_get}
-use Rattle.pc_intern.specs.declared.ids.AdapterId.{AdapterId}
+use Rattle.pc_dfg.specs.declared.ids.AdapterId.{AdapterId}
 use Rattle.pc_numbers.specs.declared.entity_index.EntityIndex.{EntityIndex}
 use Rattle.pc_numbers.specs.declared.module_entity.MemoryIndex.{MemoryIndex}
 use Rattle.pc_numbers.specs.declared.module_entity.ModuleInternedTypeIndex.{ModuleInternedTypeIndex}
@@ -11,10 +11,10 @@ use Rattle.pc_types.specs.declared.intrinsic.UnsafeIntrinsic.{UnsafeIntrinsic}
 use Rattle.pc_types.specs.declared.trampoline.TrampolineKind.{TrampolineKind}
 use Rattle.pc_types.specs.IntrinsicType.{intrinsic_place}
 use Rattle.pc_types.specs.TypeTree.{Path}
-use Rattle.pc_semantics.specs.CoreValue as value
-use Rattle.pc_semantics.specs.CoreValue.{CoreValue, Options, DataModel, MaybeValue, Parts, Part}
-use Rattle.pc_semantics.specs.Machine.{with_numbers}
-use Rattle.pc_semantics.specs.PlanView as plan
+use Rattle.pc_spec_plan.specs.CoreValue as value
+use Rattle.pc_spec_plan.specs.CoreValue.{CoreValue, Options, DataModel, MaybeValue, Parts, Part}
+use Rattle.pc_spec_plan.specs.Machine.{with_numbers}
+use Rattle.pc_spec_plan.specs.PlanView as plan
 use Rattle.pc_trampoline.specs.declared.part.Mark.{Mark}
 use Rattle.pc_trampoline.specs.declared.part.Mark.TheVariants as mark
 use Rattle.pc_info.specs.Definitions.{item_view}

@@ -1,10 +1,10 @@
 -- Which definitions stand in the entries of a graph, and which core instances and adapters a definition names.
 use Rattle.std.specs.Prelude.{◌≡◌, ℕ, List, [], ◌∷◌, ◌++◌, map, Contains, Option, None, Some, option_map, slice_get}
 use Rattle.std.specs.List.{flat_map}
-use Rattle.pc_intern.specs.declared.ids.AdapterId.{AdapterId}
+use Rattle.pc_dfg.specs.declared.ids.AdapterId.{AdapterId}
 use Rattle.pc_numbers.specs.declared.entity_index.EntityIndex.{EntityIndex}
 use Rattle.pc_numbers.specs.declared.runtime.TrampolineIndex.{TrampolineIndex}
-use Rattle.pc_semantics.specs.PlanView as plan
+use Rattle.pc_spec_plan.specs.PlanView as plan
 use Rattle.pc_trampoline.specs.declared.part.Mark.{Mark}
 use Rattle.pc_dfg.specs.declared.adapter.Adapter.{Adapter}
 use Rattle.pc_dfg.specs.declared.adapter.AdapterOptions.{AdapterOptions}

@@ -1,7 +1,7 @@
 -- What the exports of a graph stand for: export nodes.
 use Rattle.std.specs.Prelude.{◌≡◌, ℕ, List, [], ◌∷◌, Some, slice_get}
 use Rattle.std.specs.List.{AllZip}
-use Rattle.pc_intern.specs.declared.ids.OptionsId.{OptionsId}
+use Rattle.pc_dfg.specs.declared.ids.OptionsId.{OptionsId}
 use Rattle.pc_numbers.specs.declared.component_entity.StaticModuleIndex.{StaticModuleIndex}
 use Rattle.pc_numbers.specs.declared.runtime.ExportIndex.{ExportIndex}
 use Rattle.pc_numbers.specs.declared.runtime.RuntimeImportIndex.{RuntimeImportIndex}
@@ -12,9 +12,9 @@ use Rattle.pc_types.specs.declared.types.ComponentExternData.{ComponentExternDat
 use Rattle.pc_types.specs.declared.types.TypeDef.{TypeDef}
 use Rattle.pc_types.specs.declared.types.TypeDef.TheVariants as type
 use Rattle.pc_types.specs.TypeTree.{Path}
-use Rattle.pc_semantics.specs.CoreValue.{CoreValue, Options}
-use Rattle.pc_semantics.specs.ExportNode as node
-use Rattle.pc_semantics.specs.ExportNode.{ExportNode, ExportNodes, NamedNode}
+use Rattle.pc_spec_plan.specs.CoreValue.{CoreValue, Options}
+use Rattle.pc_spec_plan.specs.ExportNode as node
+use Rattle.pc_spec_plan.specs.ExportNode.{ExportNode, ExportNodes, NamedNode}
 use Rattle.pc_trampoline.specs.declared.part.Mark.{Mark}
 use Rattle.pc_trampoline.specs.declared.part.Mark.TheVariants as mark
 use Rattle.pc_info.specs.Modules.{function_mark}

@@ -5,13 +5,13 @@ use Rattle.pc_numbers.specs.declared.module_entity.MemoryIndex.{MemoryIndex}
 use Rattle.pc_numbers.specs.declared.module_entity.ModuleInternedTypeIndex.{ModuleInternedTypeIndex}
 use Rattle.pc_numbers.specs.declared.module_entity.TableIndex.{TableIndex}
 use Rattle.pc_numbers.specs.declared.runtime.RuntimeImportIndex.{RuntimeImportIndex}
-use Rattle.pc_intern.specs.declared.ids.CallbackId.{CallbackId}
-use Rattle.pc_intern.specs.declared.ids.MemoryId.{MemoryId}
-use Rattle.pc_intern.specs.declared.ids.OptionsId.{OptionsId}
-use Rattle.pc_intern.specs.declared.ids.PostReturnId.{PostReturnId}
-use Rattle.pc_intern.specs.declared.ids.ReallocId.{ReallocId}
-use Rattle.pc_intern.specs.declared.ids.TableId.{TableId}
-use Rattle.pc_semantics.specs.PlanView as plan
+use Rattle.pc_dfg.specs.declared.ids.CallbackId.{CallbackId}
+use Rattle.pc_dfg.specs.declared.ids.MemoryId.{MemoryId}
+use Rattle.pc_dfg.specs.declared.ids.OptionsId.{OptionsId}
+use Rattle.pc_dfg.specs.declared.ids.PostReturnId.{PostReturnId}
+use Rattle.pc_dfg.specs.declared.ids.ReallocId.{ReallocId}
+use Rattle.pc_dfg.specs.declared.ids.TableId.{TableId}
+use Rattle.pc_spec_plan.specs.PlanView as plan
 use Rattle.pc_trampoline.specs.declared.part.Mark.{Mark}
 use Rattle.pc_trampoline.specs.declared.part.Mark.TheVariants as mark
 use Rattle.pc_trampoline.specs.declared.trampoline.Trampoline.{Trampoline}

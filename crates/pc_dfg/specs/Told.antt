@@ -2,16 +2,16 @@
 -- Where these follow from what has them, what means one value is one.
 use Rattle.std.specs.Prelude.{◌≡◌, ℕ, Bool, Option, None, Some, slice_get}
 use Rattle.pc_entity.specs.Lists.{AreDistinct}
-use Rattle.pc_intern.specs.declared.ids.CallbackId.{CallbackId}
-use Rattle.pc_intern.specs.declared.ids.MemoryId.{MemoryId}
-use Rattle.pc_intern.specs.declared.ids.OptionsId.{OptionsId}
-use Rattle.pc_intern.specs.declared.ids.PostReturnId.{PostReturnId}
-use Rattle.pc_intern.specs.declared.ids.TableId.{TableId}
+use Rattle.pc_dfg.specs.declared.ids.CallbackId.{CallbackId}
+use Rattle.pc_dfg.specs.declared.ids.MemoryId.{MemoryId}
+use Rattle.pc_dfg.specs.declared.ids.OptionsId.{OptionsId}
+use Rattle.pc_dfg.specs.declared.ids.PostReturnId.{PostReturnId}
+use Rattle.pc_dfg.specs.declared.ids.TableId.{TableId}
 use Rattle.pc_numbers.specs.declared.module_entity.MemoryIndex.{MemoryIndex}
 use Rattle.pc_numbers.specs.declared.module_entity.ModuleInternedTypeIndex.{ModuleInternedTypeIndex}
 use Rattle.pc_numbers.specs.declared.runtime.RuntimeImportIndex.{RuntimeImportIndex}
 use Rattle.pc_types.specs.declared.intrinsic.UnsafeIntrinsic.{UnsafeIntrinsic}
-use Rattle.pc_semantics.specs.PlanView as plan
+use Rattle.pc_spec_plan.specs.PlanView as plan
 use Rattle.pc_trampoline.specs.declared.trampoline.Trampoline.{Trampoline}
 use Rattle.pc_trampoline.specs.Parts.{parts_of}
 use Rattle.pc_trampoline.specs.Shape as shape

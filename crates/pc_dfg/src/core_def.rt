@@ -7,12 +7,12 @@ ghost use Rattle.pc_info.specs.Mapped.{ForIndex, IsMapped};
 ghost use Rattle.pc_dfg.specs.declared.core_def.CoreDef.TheVariants as def;
 ghost use Rattle.pc_dfg.specs.Mapped.{map_export};
 
+use crate::{AdapterId, InstanceId};
 use pc_entity::{
     EntityIndex, ExactEq, FuncIndex, GlobalIndex, MemoryIndex, ModuleInternedTypeIndex, NoMemory,
     RuntimeComponentInstanceIndex, TableIndex, TagIndex, TrampolineIndex, TryClone,
 };
 use pc_info::ExportItem;
-use pc_intern::{AdapterId, InstanceId};
 use pc_types::UnsafeIntrinsic;
 use std::alloc::Global;
 

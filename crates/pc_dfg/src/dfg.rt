@@ -6,16 +6,14 @@ ghost use Rattle.pc_dfg.specs.Empty.{empty_graph};
 
 use crate::trampoline::Trampoline;
 use crate::{
-    Adapter, CanonicalOptions, CoreDef, CoreExport, Export, Instance, Resource, SideEffect,
+    Adapter, AdapterId, AdapterModuleId, CallbackId, CanonicalOptions, CoreDef, CoreExport, Export,
+    Instance, InstanceId, Intern, MemoryId, OptionsId, PostReturnId, ReallocId, Resource,
+    SideEffect, TableId,
 };
 use pc_entity::{
     DefinedResourceIndex, EntityIndex, EntityRef, ExportIndex, ImportIndex, MemoryIndex,
     ModuleInternedTypeIndex, PackedOption, PrimaryMap, ResourceIndex, RuntimeImportIndex, Seq,
     StaticModuleIndex, TableIndex, Text, TextMap, TrampolineIndex,
-};
-use pc_intern::{
-    AdapterId, AdapterModuleId, CallbackId, InstanceId, Intern, MemoryId, OptionsId, PostReturnId,
-    ReallocId, TableId,
 };
 use pc_types::{ComponentExtern, ComponentExternData};
 use std::alloc::Global;

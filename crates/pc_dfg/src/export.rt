@@ -1,8 +1,7 @@
 //! What a component exports.
 
-use crate::CoreDef;
+use crate::{CoreDef, OptionsId};
 use pc_entity::{ExportIndex, RuntimeImportIndex, StaticModuleIndex, TextMap};
-use pc_intern::OptionsId;
 use pc_types::{
     ComponentExternData, TypeComponentInstanceIndex, TypeDef, TypeFuncIndex, TypeModuleIndex,
 };

@@ -1,11 +1,10 @@
 //! Core instances and resources, and the side effects that make them.
 
-use crate::CoreDef;
+use crate::{CoreDef, InstanceId};
 use pc_entity::{
     DefinedResourceIndex, RuntimeComponentInstanceIndex, RuntimeImportIndex, Seq,
     StaticModuleIndex, TextMap,
 };
-use pc_intern::InstanceId;
 use pc_types::WasmValType;
 
 /// A core module with its arguments.

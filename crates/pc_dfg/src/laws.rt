@@ -1,12 +1,12 @@
 //! Laws of graphs. Each function does nothing: its contract is the law.
 
 ghost use Rattle.std.specs.Prelude.{◌≡◌, ℕ, List, Some};
-ghost use Rattle.pc_intern.specs.declared.ids.AdapterId.{AdapterId};
+ghost use Rattle.pc_dfg.specs.declared.ids.AdapterId.{AdapterId};
 ghost use Rattle.pc_numbers.specs.declared.runtime.TrampolineIndex.{TrampolineIndex};
-ghost use Rattle.pc_semantics.specs.CoreValue.{CoreValue, MaybeValue, Options};
-ghost use Rattle.pc_semantics.specs.ExportNode.{ExportNode, NamedNode};
-ghost use Rattle.pc_semantics.specs.Log as log;
-ghost use Rattle.pc_semantics.specs.PlanView.{SlotKind};
+ghost use Rattle.pc_spec_plan.specs.CoreValue.{CoreValue, MaybeValue, Options};
+ghost use Rattle.pc_spec_plan.specs.ExportNode.{ExportNode, NamedNode};
+ghost use Rattle.pc_spec_plan.specs.Log as log;
+ghost use Rattle.pc_spec_plan.specs.PlanView.{SlotKind};
 ghost use Rattle.pc_trampoline.specs.declared.part.Mark.{Mark};
 ghost use Rattle.pc_info.specs.declared.core_def.CoreDef as info;
 ghost use Rattle.pc_dfg.specs.declared.core_def.CoreDef.{CoreDef};

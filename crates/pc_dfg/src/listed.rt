@@ -4,9 +4,8 @@ ghost use Rattle.std.specs.Prelude.{◌≡◌, ◌++◌, ◌∷◌, ◌≤◌, �
 ghost use Rattle.std.specs.Prelude.{Err, IfOk, OnOk, OnErr};
 ghost use Rattle.pc_dfg.specs.Pushed.{Changes, IsPut};
 
-use crate::PushError;
+use crate::{Intern, PushError};
 use pc_entity::{EntityRef, ExactEq, PrimaryMap};
-use pc_intern::Intern;
 
 /// The most entries of one list.
 const MAX_ENTRIES: usize = 4294967295;

@@ -2,8 +2,8 @@
 
 ghost use Rattle.std.proofs.Common.{rules};
 
+use crate::{CallbackId, MemoryId, PostReturnId, ReallocId};
 use pc_entity::{ExactEq, ModuleInternedTypeIndex, RuntimeComponentInstanceIndex};
-use pc_intern::{CallbackId, MemoryId, PostReturnId, ReallocId};
 use pc_types::{InterfaceType, StringEncoding};
 
 /// The options of a lifted or lowered function.

@@ -19,17 +19,14 @@ ghost use Rattle.pc_dfg.specs.Pushed.{IsPut, with_component_instance, with_insta
 use crate::listed::{append, intern};
 use crate::trampoline::Trampoline;
 use crate::{
-    Adapter, CanonicalOptions, ComponentDfg, CoreDef, CoreExport, Export, Instance, PushError,
-    Resource, SideEffect,
+    Adapter, AdapterId, AdapterModuleId, CallbackId, CanonicalOptions, ComponentDfg, CoreDef,
+    CoreExport, Export, Instance, InstanceId, MemoryId, OptionsId, PostReturnId, PushError,
+    ReallocId, Resource, SideEffect, TableId,
 };
 use pc_entity::{
     DefinedResourceIndex, EntityIndex, ExportIndex, ImportIndex, MemoryIndex,
     ModuleInternedTypeIndex, NoMemory, ResourceIndex, RuntimeComponentInstanceIndex,
     RuntimeImportIndex, Seq, StaticModuleIndex, TableIndex, Text, TrampolineIndex,
-};
-use pc_intern::{
-    AdapterId, AdapterModuleId, CallbackId, InstanceId, MemoryId, OptionsId, PostReturnId,
-    ReallocId, TableId,
 };
 use pc_types::{ComponentExtern, ComponentExternData};
 

@@ -1,7 +1,7 @@
 //! The trampolines of a graph.
 
+use crate::{CallbackId, MemoryId, OptionsId, PostReturnId, TableId};
 use pc_entity::RuntimeImportIndex;
-use pc_intern::{CallbackId, MemoryId, OptionsId, PostReturnId, TableId};
 
 /// What a trampoline does, with the numbers of a graph. What is lowered is a host item.
 pub type Trampoline = pc_trampoline::Trampoline<

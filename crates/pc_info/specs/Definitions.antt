@@ -4,8 +4,8 @@ use Rattle.std.specs.List.{flat_map}
 use Rattle.pc_numbers.specs.declared.entity_index.EntityIndex.{EntityIndex}
 use Rattle.pc_numbers.specs.declared.entity_index.EntityIndex.TheVariants as entity
 use Rattle.pc_numbers.specs.declared.runtime.RuntimeComponentInstanceIndex.{RuntimeComponentInstanceIndex}
-use Rattle.pc_semantics.specs.CoreValue.{ExportedItem, by_index, by_name}
-use Rattle.pc_semantics.specs.PlanView as plan
+use Rattle.pc_spec_plan.specs.CoreValue.{ExportedItem, by_index, by_name}
+use Rattle.pc_spec_plan.specs.PlanView as plan
 use Rattle.pc_types.specs.IntrinsicType.{intrinsic_place}
 use Rattle.pc_info.specs.declared.core_def.CoreDef.{CoreDef}
 use Rattle.pc_info.specs.declared.core_def.CoreDef.TheVariants as def

@@ -5,7 +5,7 @@ use Rattle.std.specs.List.{filter_map, list_all}
 use Rattle.pc_numbers.specs.declared.runtime.ExportIndex.{ExportIndex}
 use Rattle.pc_types.specs.declared.types.ComponentExternData.{ComponentExternData}
 use Rattle.pc_types.specs.declared.types.TypeDef.TheVariants as type
-use Rattle.pc_semantics.specs.PlanView as plan
+use Rattle.pc_spec_plan.specs.PlanView as plan
 use Rattle.pc_trampoline.specs.declared.part.Mark.{Mark}
 use Rattle.pc_trampoline.specs.declared.part.Mark.TheVariants as mark
 use Rattle.pc_info.specs.declared.component.Component.{Component}

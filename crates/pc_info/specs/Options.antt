@@ -1,7 +1,7 @@
 -- How the plan machine sees options.
 use Rattle.std.specs.Prelude.{ℕ, Bool, Option, None, option_map, if◌then◌else◌}
 use Rattle.pc_numbers.specs.declared.runtime.RuntimeMemoryIndex.{RuntimeMemoryIndex}
-use Rattle.pc_semantics.specs.PlanView as plan
+use Rattle.pc_spec_plan.specs.PlanView as plan
 use Rattle.pc_trampoline.specs.declared.part.Mark.{Mark}
 use Rattle.pc_trampoline.specs.declared.part.Mark.TheVariants as mark
 use Rattle.pc_info.specs.declared.module.SideRecord.{SideRecord}

@@ -5,7 +5,7 @@ use Rattle.pc_entity.specs.declared.packed_option.PackedOption.{PackedOption}
 use Rattle.pc_numbers.specs.declared.module_entity.ModuleInternedTypeIndex.{ModuleInternedTypeIndex}
 use Rattle.pc_numbers.specs.declared.runtime.ImportIndex.{ImportIndex}
 use Rattle.pc_numbers.specs.declared.runtime.RuntimeImportIndex.{RuntimeImportIndex}
-use Rattle.pc_semantics.specs.PlanView as plan
+use Rattle.pc_spec_plan.specs.PlanView as plan
 use Rattle.pc_types.specs.declared.types.ComponentExtern.{ComponentExtern}
 use Rattle.pc_types.specs.declared.types.TypeDef.{TypeDef}
 use Rattle.pc_types.specs.declared.types.TypeDef.TheVariants as type

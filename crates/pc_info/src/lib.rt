@@ -1,8 +1,8 @@
 //! The plan: a flat list of initializers that instantiate core modules, with all that they refer to.
 //!
 //! A runtime runs the initializers from front to back and then has the exports. `specs/View.antt` says how a plan is
-//! seen by the machine of `pc_semantics`, which gives it its meaning.
-//! It stands on `pc_types`, on `pc_names` for the names of exports, and on `pc_semantics` for the words of the view.
+//! seen by the machine of `pc_spec_plan`, which gives it its meaning.
+//! It stands on `pc_types`, on `pc_names` for the names of exports, and on `pc_spec_plan` for the words of the view.
 #![tactic(auto)]
 
 pub mod component;

@@ -3,11 +3,11 @@ use Rattle.std.proofs.Common.{◌≡◌, ℕ, List, Some, refl, arith}
 use Rattle.std.specs.Prelude.{slice_get}
 use Rattle.pc_types.specs.declared.module_record.ModuleRecord.{ModuleRecord}
 use Rattle.pc_types.specs.declared.parsed.CoreKind.{CoreKind}
-use Rattle.pc_interned.specs.Types.{Types}
-use Rattle.pc_semantics.specs.ExportNode.{NamedNode}
-use Rattle.pc_semantics.specs.PlanView as plan
+use Rattle.pc_types_lists.specs.Types.{Types}
+use Rattle.pc_spec_plan.specs.ExportNode.{NamedNode}
+use Rattle.pc_spec_plan.specs.PlanView as plan
 use Rattle.pc_parsed.specs.Mark.{Mark}
-use Rattle.pc_reading.specs.World.{World}
+use Rattle.pc_spec_reading.specs.World.{World}
 use Rattle.pc_dfg.specs.declared.core_def.CoreDef.{CoreDef}
 use Rattle.pc_dfg.specs.declared.dfg.ComponentDfg.{ComponentDfg}
 use Rattle.pc_dfg.specs.Grows as graph
@@ -20,12 +20,12 @@ use Rattle.pc_dfg.proofs.AllLemmas.{all_more}
 use Rattle.pc_dfg.proofs.NodeLemmas.{item_kept}
 use Rattle.pc_dfg.proofs.PushLemmas.{quiet}
 use Rattle.pc_inline.specs.Exports.{ExportsStand, NameStands}
-use Rattle.pc_frames.specs.Tables.{IsItem}
-use Rattle.pc_frames.specs.Worlds.{HasItems, HoldsTypes, IsPlain, WorldStands}
-use Rattle.pc_canon.proofs.KeptLemmas.{is_item_kept}
-use Rattle.pc_frames.proofs.StateLemmas.{types_refl}
-use Rattle.pc_canon.proofs.WorldLemmas.{world_still}
-use Rattle.pc_frames.proofs.ZipLemmas.{zip_more}
+use Rattle.pc_inline_state.specs.Tables.{IsItem}
+use Rattle.pc_inline_state.specs.Worlds.{HasItems, HoldsTypes, IsPlain, WorldStands}
+use Rattle.pc_inline_canon.proofs.KeptLemmas.{is_item_kept}
+use Rattle.pc_inline_state.proofs.StateLemmas.{types_refl}
+use Rattle.pc_inline_canon.proofs.WorldLemmas.{world_still}
+use Rattle.pc_inline_state.proofs.ZipLemmas.{zip_more}
 
 module _ (g : ComponentDfg) (futures streams errors : ℕ) where
   -- the graph with these counts

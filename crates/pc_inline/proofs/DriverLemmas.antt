@@ -8,26 +8,26 @@ use Rattle.pc_types.specs.declared.module_record.ModuleRecord.{ModuleRecord}
 use Rattle.pc_types.specs.declared.parsed.Entity.{Entity}
 use Rattle.pc_types.specs.declared.parsed.TypeTable.{TypeTable}
 use Rattle.pc_parsed.specs.declared.payload.ExternName.{ExternName}
-use Rattle.pc_reading.specs.Item.{Item, import_item}
+use Rattle.pc_spec_reading.specs.Item.{Item, import_item}
 use Rattle.pc_local.specs.declared.item.LocalInitializer.{LocalInitializer}
 use Rattle.pc_local.specs.declared.item.LocalInitializer.TheVariants as local
 use Rattle.pc_local.specs.Plain.{plain_item}
 use Rattle.pc_local.specs.Standing.{ItemStands, no_names}
-use Rattle.pc_frames.specs.declared.error.ItemError.{ItemError}
-use Rattle.pc_frames.specs.declared.frame.Frame.{Frame}
-use Rattle.pc_frames.specs.declared.state.State.{State}
-use Rattle.pc_frames.specs.Adds.{imports_in}
-use Rattle.pc_frames.specs.Faults.{error_of}
-use Rattle.pc_frames.specs.Points.{Follows, IsPoint, Steps}
-use Rattle.pc_driver.specs.Reads.{AreItems, Prepared, SoFar}
-use Rattle.pc_steps.specs.StepsLocal.{PreparesLocal, prepare_row}
-use Rattle.pc_frames.specs.Tables.{Keeps, tables_of}
-use Rattle.pc_frames.specs.Today.{built_prepare, built_prepare_all}
-use Rattle.pc_steps.proofs.LocalLemmas.{plain_is}
-use Rattle.pc_driver.proofs.LoopAddsLemmas.{AddedSoFar}
+use Rattle.pc_inline_state.specs.declared.error.ItemError.{ItemError}
+use Rattle.pc_inline_state.specs.declared.frame.Frame.{Frame}
+use Rattle.pc_inline_state.specs.declared.state.State.{State}
+use Rattle.pc_inline_state.specs.Adds.{imports_in}
+use Rattle.pc_inline_state.specs.Faults.{error_of}
+use Rattle.pc_inline_state.specs.Points.{Follows, IsPoint, Steps}
+use Rattle.pc_inline_stack.specs.Reads.{AreItems, Prepared, SoFar}
+use Rattle.pc_inline_items.specs.StepsLocal.{PreparesLocal, prepare_row}
+use Rattle.pc_inline_state.specs.Tables.{Keeps, tables_of}
+use Rattle.pc_inline_state.specs.Today.{built_prepare, built_prepare_all}
+use Rattle.pc_inline_items.proofs.LocalLemmas.{plain_is}
+use Rattle.pc_inline_stack.proofs.LoopAddsLemmas.{AddedSoFar}
 use Rattle.pc_inline.proofs.PrepareAllLemmas.{prepare_first, prepares_end}
-use Rattle.pc_frames.proofs.AddsLemmas.{adds_refl}
-use Rattle.pc_driver.proofs.ReadLemmas.{read_all, read_fails, read_more, read_none}
+use Rattle.pc_inline_state.proofs.AddsLemmas.{adds_refl}
+use Rattle.pc_inline_stack.proofs.ReadLemmas.{read_all, read_fails, read_more, read_none}
 use Rattle.pc_inline.proofs.SkipLemmas.{skips_other}
 
 -- the error of an item at its place

@@ -6,16 +6,16 @@ use Rattle.pc_types.specs.declared.error.Place.{Place}
 use Rattle.pc_types.specs.declared.error.Unsupported.TheVariants as unsupported_
 use Rattle.pc_types.specs.declared.module_record.ModuleRecord.{ModuleRecord}
 use Rattle.pc_types.specs.declared.parsed.TypeTable.{TypeTable}
-use Rattle.pc_reading.specs.Item.{Items}
-use Rattle.pc_reading.specs.Outcome.{Outcome, bad_type, done, fault, invalid, over, unsupported}
-use Rattle.pc_reading.specs.Reading.{Reading, reading_of}
-use Rattle.pc_frames.specs.declared.state.State.{State}
+use Rattle.pc_spec_reading.specs.Item.{Items}
+use Rattle.pc_spec_reading.specs.Outcome.{Outcome, bad_type, done, fault, invalid, over, unsupported}
+use Rattle.pc_spec_reading.specs.Reading.{Reading, reading_of}
+use Rattle.pc_inline_state.specs.declared.state.State.{State}
 use Rattle.pc_inline.specs.Roots.{IsBuiltEnd}
 use Rattle.pc_inline.specs.Inlines.{EndsAs, HasNoRoom, IsFault}
-use Rattle.pc_frames.specs.Points.{IsFullSomewhere}
-use Rattle.pc_frames.specs.Tables.{tables_of}
-use Rattle.pc_frames.specs.Today.{built_reading}
-use Rattle.pc_driver.proofs.TodayLemmas.{reading_today}
+use Rattle.pc_inline_state.specs.Points.{IsFullSomewhere}
+use Rattle.pc_inline_state.specs.Tables.{tables_of}
+use Rattle.pc_inline_state.specs.Today.{built_reading}
+use Rattle.pc_inline_stack.proofs.TodayLemmas.{reading_today}
 
 -- the fault of an outcome that isn't what isn't built
 abbrev not_unbuilt : {A : Type 0} → Outcome A → Type 0

@@ -3,17 +3,17 @@ use Rattle.std.proofs.Common.{◌≡◌, ℕ, ◌+◌, ◌*◌, ◌≤◌, List,
 use Rattle.std.specs.Prelude.{OnErr, OnOk}
 use Rattle.std.proofs.lemmas.List.{length-append}
 use Rattle.pc_types.specs.declared.parsed.TypeTable.{TypeTable}
-use Rattle.pc_semantics.specs.PlanView as plan
+use Rattle.pc_spec_plan.specs.PlanView as plan
 use Rattle.pc_dfg.specs.declared.dfg.ComponentDfg.{ComponentDfg}
 use Rattle.pc_dfg.specs.declared.export.Export.{Export}
 use Rattle.pc_dfg.specs.Lists as list
 use Rattle.pc_dfg.specs.Lists.{ListName, NamedExport}
 use Rattle.pc_dfg.specs.Numbers.{slots_of}
-use Rattle.pc_frames.specs.Adds.{Adds}
-use Rattle.pc_frames.specs.AddsEach.{AddsEach, in_export_items, in_exports, in_options, in_reached}
-use Rattle.pc_frames.specs.Tables.{Tables}
-use Rattle.pc_frames.proofs.AddsLemmas.{adds_each, adds_trans, adds_weaken, each_trans, each_weaken}
-use Rattle.pc_frames.proofs.AddsPushLemmas.{Lists, from_rest}
+use Rattle.pc_inline_state.specs.Adds.{Adds}
+use Rattle.pc_inline_state.specs.AddsEach.{AddsEach, in_export_items, in_exports, in_options, in_reached}
+use Rattle.pc_inline_state.specs.Tables.{Tables}
+use Rattle.pc_inline_state.proofs.AddsLemmas.{adds_each, adds_trans, adds_weaken, each_trans, each_weaken}
+use Rattle.pc_inline_state.proofs.AddsPushLemmas.{Lists, from_rest}
 
 -- a list with one entry more
 one_longer : {V : Type 0} (xs ys : List V) (x : V) → ys ≡ xs ++ x ∷ [] → length ys ≤ length xs + 1

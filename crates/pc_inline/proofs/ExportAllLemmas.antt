@@ -18,37 +18,37 @@ use Rattle.pc_types.specs.declared.module_record.ModuleRecord.{ModuleRecord}
 use Rattle.pc_types.specs.declared.parsed.TypeTable.{TypeTable}
 use Rattle.pc_types.specs.Names.{distinct_names, has_name}
 use Rattle.pc_types.proofs.NameLemmas.{are_distinct-again, bytes_eq-sym, map-take_next}
-use Rattle.pc_semantics.specs.ExportNode.{ExportNode, NamedNode}
+use Rattle.pc_spec_plan.specs.ExportNode.{ExportNode, NamedNode}
 use Rattle.pc_parsed.specs.declared.payload.ExternName.{ExternName}
 use Rattle.pc_parsed.specs.declared.payload.ItemKind.{ItemKind}
 use Rattle.pc_parsed.specs.declared.payload.ItemKind.TheVariants as kind
 use Rattle.pc_parsed.specs.Mark.{Mark}
-use Rattle.pc_reading.specs.Item.{ExportOf}
-use Rattle.pc_reading.specs.Items.{exported_value, value_at}
-use Rattle.pc_reading.specs.Nodes.{Finish, at_export, function_node, in_front, reached, value_node}
-use Rattle.pc_reading.specs.Outcome.{Outcome, and_then, done, fault, over, past, unsupported}
-use Rattle.pc_reading.specs.Scope.{Scope}
-use Rattle.pc_reading.specs.Section.{named_item}
-use Rattle.pc_reading.specs.Value.{Function}
-use Rattle.pc_reading.specs.World.{World}
+use Rattle.pc_spec_reading.specs.Item.{ExportOf}
+use Rattle.pc_spec_reading.specs.Items.{exported_value, value_at}
+use Rattle.pc_spec_reading.specs.Nodes.{Finish, at_export, function_node, in_front, reached, value_node}
+use Rattle.pc_spec_reading.specs.Outcome.{Outcome, and_then, done, fault, over, past, unsupported}
+use Rattle.pc_spec_reading.specs.Scope.{Scope}
+use Rattle.pc_spec_reading.specs.Section.{named_item}
+use Rattle.pc_spec_reading.specs.Value.{Function}
+use Rattle.pc_spec_reading.specs.World.{World}
 use Rattle.pc_dfg.specs.Lists.{NamedExport}
 use Rattle.pc_dfg.specs.declared.dfg.ComponentDfg.{ComponentDfg}
-use Rattle.pc_frames.specs.declared.definition.DefinitionId.{DefinitionId}
-use Rattle.pc_frames.specs.declared.frame.Frame.{Frame}
-use Rattle.pc_frames.specs.declared.state.State.{State}
-use Rattle.pc_frames.specs.Adds.{Adds}
+use Rattle.pc_inline_state.specs.declared.definition.DefinitionId.{DefinitionId}
+use Rattle.pc_inline_state.specs.declared.frame.Frame.{Frame}
+use Rattle.pc_inline_state.specs.declared.state.State.{State}
+use Rattle.pc_inline_state.specs.Adds.{Adds}
 use Rattle.pc_inline.specs.Exporting.{ExportedSoFar, Exports, ExportsEnd, ExportsFunc, MakesExports, RootStands, behind}
 use Rattle.pc_inline.specs.Exporting.{node_named}
 use Rattle.pc_inline.specs.Exports.{NumbersExports}
-use Rattle.pc_frames.specs.Frames.{FuncStands}
+use Rattle.pc_inline_state.specs.Frames.{FuncStands}
 use Rattle.pc_inline.specs.Inlines.{export_name}
-use Rattle.pc_frames.specs.Tables.{Keeps, tables_of}
-use Rattle.pc_frames.specs.Today.{built_exports, is_root_kind}
-use Rattle.pc_frames.specs.Worlds.{HasNoExports}
-use Rattle.pc_frames.proofs.AddsLemmas.{adds_refl, adds_weaken}
+use Rattle.pc_inline_state.specs.Tables.{Keeps, tables_of}
+use Rattle.pc_inline_state.specs.Today.{built_exports, is_root_kind}
+use Rattle.pc_inline_state.specs.Worlds.{HasNoExports}
+use Rattle.pc_inline_state.proofs.AddsLemmas.{adds_refl, adds_weaken}
 use Rattle.pc_inline.proofs.ExportAddsLemmas.{adds_all, adds_export}
-use Rattle.pc_frames.proofs.StateLemmas.{keeps_refl, keeps_trans}
-use Rattle.pc_frames.proofs.ZipLemmas.{both_missing, both_there, zip_at}
+use Rattle.pc_inline_state.proofs.StateLemmas.{keeps_refl, keeps_trans}
+use Rattle.pc_inline_state.proofs.ZipLemmas.{both_missing, both_there, zip_at}
 
 -- a name that none of the entries has isn't found
 name_absent : {V : Type 0} (name : List ℕ) (es : List (List ℕ × V)) → has_name (names_of es) name ≡ false

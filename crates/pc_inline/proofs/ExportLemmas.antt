@@ -7,46 +7,46 @@ use Rattle.pc_types.specs.declared.error.Error.TheVariants as error
 use Rattle.pc_types.specs.declared.error.Place.TheVariants as place
 use Rattle.pc_types.specs.declared.module_record.ModuleRecord.{ModuleRecord}
 use Rattle.pc_types.specs.declared.parsed.TypeTable.{TypeTable}
-use Rattle.pc_semantics.specs.ExportNode.{ExportNode, NamedNode}
+use Rattle.pc_spec_plan.specs.ExportNode.{ExportNode, NamedNode}
 use Rattle.pc_parsed.specs.declared.payload.ExternName.{ExternName}
 use Rattle.pc_parsed.specs.Mark.{Mark}
-use Rattle.pc_reading.specs.Scope.{Scope}
-use Rattle.pc_reading.specs.Value.{Function}
-use Rattle.pc_reading.specs.World.{World}
-use Rattle.pc_frames.specs.declared.error.ItemError.{ItemError}
-use Rattle.pc_frames.specs.declared.error.ItemError.TheVariants as item_error
-use Rattle.pc_frames.specs.declared.error.ItemFault.TheVariants as item_fault
-use Rattle.pc_frames.specs.declared.frame.Frame.{Frame}
-use Rattle.pc_frames.specs.declared.state.State.{State}
+use Rattle.pc_spec_reading.specs.Scope.{Scope}
+use Rattle.pc_spec_reading.specs.Value.{Function}
+use Rattle.pc_spec_reading.specs.World.{World}
+use Rattle.pc_inline_state.specs.declared.error.ItemError.{ItemError}
+use Rattle.pc_inline_state.specs.declared.error.ItemError.TheVariants as item_error
+use Rattle.pc_inline_state.specs.declared.error.ItemFault.TheVariants as item_fault
+use Rattle.pc_inline_state.specs.declared.frame.Frame.{Frame}
+use Rattle.pc_inline_state.specs.declared.state.State.{State}
 use Rattle.pc_inline.specs.Exporting.{ExportsFunc, ReachesNode, RootStands, node_named}
-use Rattle.pc_frames.specs.Faults.{error_of}
-use Rattle.pc_frames.specs.Frames.{FuncStands}
-use Rattle.pc_frames.specs.declared.definition.DefinitionId.{DefinitionId}
+use Rattle.pc_inline_state.specs.Faults.{error_of}
+use Rattle.pc_inline_state.specs.Frames.{FuncStands}
+use Rattle.pc_inline_state.specs.declared.definition.DefinitionId.{DefinitionId}
 use Rattle.pc_types.specs.declared.parsed.CoreKind.{CoreKind}
 use Rattle.pc_types.specs.declared.parsed.CoreKind.TheVariants as core
-use Rattle.pc_semantics.specs.PlanView as plan
+use Rattle.pc_spec_plan.specs.PlanView as plan
 use Rattle.pc_dfg.specs.declared.dfg.ComponentDfg.{ComponentDfg}
 use Rattle.pc_dfg.specs.Grows as graph
 use Rattle.pc_dfg.specs.Numbers.{slots_of}
 use Rattle.pc_dfg.specs.Ordered.{IsOrdered}
 use Rattle.pc_dfg.proofs.AllLemmas.{all_more}
-use Rattle.pc_frames.specs.Worlds.{HasItems}
-use Rattle.pc_frames.proofs.GrowthLemmas.{graph_grown}
-use Rattle.pc_frames.proofs.StateLemmas.{types_refl}
-use Rattle.pc_canon.proofs.WorldLemmas.{world_still}
+use Rattle.pc_inline_state.specs.Worlds.{HasItems}
+use Rattle.pc_inline_state.proofs.GrowthLemmas.{graph_grown}
+use Rattle.pc_inline_state.proofs.StateLemmas.{types_refl}
+use Rattle.pc_inline_canon.proofs.WorldLemmas.{world_still}
 use Rattle.pc_types.specs.declared.types.ComponentExternData.{ComponentExternData}
 use Rattle.pc_dfg.specs.Lists.{NamedExport}
 use Rattle.pc_dfg.specs.Nodes.{MeansItem, means_item}
 use Rattle.pc_info.specs.Modules.{function_mark}
 use Rattle.pc_trampoline.specs.declared.part.Mark.{Mark as Number}
-use Rattle.pc_reading.specs.Nodes.{extern_data}
+use Rattle.pc_spec_reading.specs.Nodes.{extern_data}
 use Rattle.std.proofs.lemmas.Option.{slice_get_within}
 use Rattle.pc_numbers.specs.declared.runtime.ExportIndex.{ExportIndex}
-use Rattle.pc_canon.proofs.KeptLemmas.{frame_kept, is_item_kept}
+use Rattle.pc_inline_canon.proofs.KeptLemmas.{frame_kept, is_item_kept}
 use Rattle.pc_inline.proofs.RootKeptLemmas.{name_still}
-use Rattle.pc_frames.proofs.ZipLemmas.{zip_more, zip_push}
+use Rattle.pc_inline_state.proofs.ZipLemmas.{zip_more, zip_push}
 use Rattle.pc_inline.specs.Exports.{NameStands}
-use Rattle.pc_frames.specs.Tables.{IsItem, tables_of}
+use Rattle.pc_inline_state.specs.Tables.{IsItem, tables_of}
 
 module _ (t : TypeTable) (ms : List ModuleRecord) (st : State) (f : Frame) (s : Scope) (w : World)
     (nodes : List (NamedNode Mark)) (name : ExternName) (n : ℕ) (x : Function) where

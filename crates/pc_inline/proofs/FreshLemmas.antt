@@ -2,11 +2,11 @@
 use Rattle.std.proofs.Common.{◌≡◌, ◌<◌, ℕ, List, [], Some, inl, refl, sym, ap, subst, arith}
 use Rattle.std.specs.Prelude.{slice_get}
 use Rattle.std.proofs.lemmas.Option.{none-some}
-use Rattle.pc_interned.specs.Types.{Types}
+use Rattle.pc_types_lists.specs.Types.{Types}
 use Rattle.pc_numbers.specs.declared.runtime.RuntimeComponentInstanceIndex.{RuntimeComponentInstanceIndex}
 use Rattle.pc_types.specs.declared.module_record.ModuleRecord.{ModuleRecord}
 use Rattle.pc_types.specs.declared.parsed.TypeTable.{TypeTable}
-use Rattle.pc_semantics.specs.PlanView as plan
+use Rattle.pc_spec_plan.specs.PlanView as plan
 use Rattle.pc_dfg.specs.declared.core_def.CoreDef.{CoreDef}
 use Rattle.pc_dfg.specs.declared.dfg.ComponentDfg.{ComponentDfg}
 use Rattle.pc_dfg.specs.Empty.{empty_graph}
@@ -14,12 +14,12 @@ use Rattle.pc_dfg.specs.Held.{HasBegun}
 use Rattle.pc_dfg.specs.Numbers.{slots_of}
 use Rattle.pc_dfg.specs.Ordered.{IsOrdered}
 use Rattle.pc_dfg.specs.Pushed.{with_component_instance}
-use Rattle.pc_frames.specs.declared.frame.Frame.{Frame}
-use Rattle.pc_frames.specs.declared.state.State.{State}
-use Rattle.pc_frames.specs.Frames.{neither}
-use Rattle.pc_frames.specs.Points.{PointStands}
-use Rattle.pc_frames.specs.Typed.{AreNumbers}
-use Rattle.pc_frames.specs.Worlds.{AreUsed, HasItems, HoldsTypes, IsPlain, WorldStands, paths_needed}
+use Rattle.pc_inline_state.specs.declared.frame.Frame.{Frame}
+use Rattle.pc_inline_state.specs.declared.state.State.{State}
+use Rattle.pc_inline_state.specs.Frames.{neither}
+use Rattle.pc_inline_state.specs.Points.{PointStands}
+use Rattle.pc_inline_state.specs.Typed.{AreNumbers}
+use Rattle.pc_inline_state.specs.Worlds.{AreUsed, HasItems, HoldsTypes, IsPlain, WorldStands, paths_needed}
 use Rattle.pc_inline.proofs.RootLemmas.{first_moment, first_world}
 
 -- the graph of a root that has begun

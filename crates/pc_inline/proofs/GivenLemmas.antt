@@ -19,31 +19,31 @@ use Rattle.pc_types.specs.declared.types.ComponentExtern.{ComponentExtern}
 use Rattle.pc_types.specs.Table.{is_func}
 use Rattle.pc_types.specs.TypeTree.{Path, TypeTree}
 use Rattle.pc_parsed.specs.declared.payload.ExternName.{ExternName}
-use Rattle.pc_reading.specs.Imports.{import_resources, prepare, with_given}
-use Rattle.pc_reading.specs.Outcome.{bad_type}
-use Rattle.pc_reading.specs.Resource.{resource_paths}
-use Rattle.pc_reading.specs.SameTypes.{same_path}
-use Rattle.pc_reading.specs.Scope.{Moment}
-use Rattle.pc_reading.specs.Types.{has_entry, type_tree}
-use Rattle.pc_reading.specs.Value.{Value, func_value, host_function}
+use Rattle.pc_spec_reading.specs.Imports.{import_resources, prepare, with_given}
+use Rattle.pc_spec_reading.specs.Outcome.{bad_type}
+use Rattle.pc_spec_reading.specs.Resource.{resource_paths}
+use Rattle.pc_spec_reading.specs.SameTypes.{same_path}
+use Rattle.pc_spec_reading.specs.Scope.{Moment}
+use Rattle.pc_spec_reading.specs.Types.{has_entry, type_tree}
+use Rattle.pc_spec_reading.specs.Value.{Value, func_value, host_function}
 use Rattle.pc_dfg.specs.declared.dfg.ComponentDfg.{ComponentDfg}
 use Rattle.pc_dfg.specs.Held.{HoldsEntry}
 use Rattle.pc_dfg.specs.Lists as list
 use Rattle.pc_dfg.specs.Ordered.{IsOrdered}
-use Rattle.pc_frames.specs.declared.definition.DefinitionId.{DefinitionId}
-use Rattle.pc_frames.specs.declared.error.ItemError.TheVariants as item_error
-use Rattle.pc_frames.specs.declared.error.ItemFault.TheVariants as item_fault
-use Rattle.pc_frames.specs.declared.frame.Frame.{Frame}
-use Rattle.pc_frames.specs.declared.state.State.{State}
-use Rattle.pc_frames.specs.Frames.{SameNames}
-use Rattle.pc_frames.specs.Points.{Steps}
-use Rattle.pc_frames.specs.Stands.{Stands}
-use Rattle.pc_frames.specs.Tables.{Tables}
-use Rattle.pc_frames.specs.Today.{built_prepare, is_built_entity}
-use Rattle.pc_frames.specs.Worlds.{AreUsed, import_path, path_of}
-use Rattle.pc_steps.proofs.BagLemmas.{names_again, names_push}
-use Rattle.pc_canon.proofs.CoreInstanceLemmas.{found_in_push}
-use Rattle.pc_canon.proofs.StepLemmas.{steps_stuck}
+use Rattle.pc_inline_state.specs.declared.definition.DefinitionId.{DefinitionId}
+use Rattle.pc_inline_state.specs.declared.error.ItemError.TheVariants as item_error
+use Rattle.pc_inline_state.specs.declared.error.ItemFault.TheVariants as item_fault
+use Rattle.pc_inline_state.specs.declared.frame.Frame.{Frame}
+use Rattle.pc_inline_state.specs.declared.state.State.{State}
+use Rattle.pc_inline_state.specs.Frames.{SameNames}
+use Rattle.pc_inline_state.specs.Points.{Steps}
+use Rattle.pc_inline_state.specs.Stands.{Stands}
+use Rattle.pc_inline_state.specs.Tables.{Tables}
+use Rattle.pc_inline_state.specs.Today.{built_prepare, is_built_entity}
+use Rattle.pc_inline_state.specs.Worlds.{AreUsed, import_path, path_of}
+use Rattle.pc_inline_items.proofs.BagLemmas.{names_again, names_push}
+use Rattle.pc_inline_canon.proofs.CoreInstanceLemmas.{found_in_push}
+use Rattle.pc_inline_canon.proofs.StepLemmas.{steps_stuck}
 
 -- arguments with one more, of which the first of a name counts on both sides
 pub argument_given : (ms : List ModuleRecord) (b : Tables) (xs : List (List ℕ × DefinitionId))

@@ -10,11 +10,11 @@ use Rattle.pc_types.specs.declared.module_record.ModuleRecord.{ModuleRecord}
 use Rattle.pc_types.specs.declared.parsed.TypeTable.{TypeTable}
 use Rattle.pc_parsed.specs.declared.payload.ExternName.{ExternName}
 use Rattle.pc_parsed.specs.declared.payload.ItemKind.{ItemKind}
-use Rattle.pc_reading.specs.Item.{Items, exports_in}
-use Rattle.pc_reading.specs.Outcome.{and_then, done}
-use Rattle.pc_reading.specs.Scope.{Moment, Scope}
-use Rattle.pc_reading.specs.Section.{named_item}
-use Rattle.pc_reading.specs.World.{World, full}
+use Rattle.pc_spec_reading.specs.Item.{Items, exports_in}
+use Rattle.pc_spec_reading.specs.Outcome.{and_then, done}
+use Rattle.pc_spec_reading.specs.Scope.{Moment, Scope}
+use Rattle.pc_spec_reading.specs.Section.{named_item}
+use Rattle.pc_spec_reading.specs.World.{World, full}
 use Rattle.pc_local.specs.declared.item.LocalInitializer.{LocalInitializer}
 use Rattle.pc_local.specs.declared.item.Translation.{Translation}
 use Rattle.pc_local.specs.Standing.{BodyStands, ItemsStand, no_names}
@@ -23,22 +23,22 @@ use Rattle.pc_dfg.specs.Grows as graph
 use Rattle.pc_dfg.specs.Pushed.{with_component_instance}
 use Rattle.pc_dfg.proofs.EmptyLemmas.{empty_ordered}
 use Rattle.pc_dfg.specs.Ordered.{IsOrdered}
-use Rattle.pc_frames.specs.declared.definition.DefinitionId.{DefinitionId}
-use Rattle.pc_frames.specs.declared.frame.Frame.{Frame}
-use Rattle.pc_frames.specs.declared.state.State.{State}
-use Rattle.pc_driver.specs.Begins.{Begins}
+use Rattle.pc_inline_state.specs.declared.definition.DefinitionId.{DefinitionId}
+use Rattle.pc_inline_state.specs.declared.frame.Frame.{Frame}
+use Rattle.pc_inline_state.specs.declared.state.State.{State}
+use Rattle.pc_inline_stack.specs.Begins.{Begins}
 use Rattle.pc_inline.specs.Roots.{BeginsBody, InlinesBody, InlinesRoot, IsBuiltEnd}
-use Rattle.pc_frames.specs.Fresh.{IsFresh}
+use Rattle.pc_inline_state.specs.Fresh.{IsFresh}
 use Rattle.pc_inline.specs.Roots.{IsLong, RootBegun, RootStarts, first_total}
-use Rattle.pc_driver.specs.Driving.{EndsRun, Runs, reading_from}
+use Rattle.pc_inline_stack.specs.Driving.{EndsRun, Runs, reading_from}
 use Rattle.pc_inline.specs.Exporting.{Exports, ExportsEnd, RootStands}
 use Rattle.pc_inline.specs.Exports.{NumbersExports}
-use Rattle.pc_frames.specs.Points.{IsPoint, PointStands, full_instances}
-use Rattle.pc_driver.specs.Reads.{AreItems, Ends, Passes, Prepared}
-use Rattle.pc_frames.specs.Tables.{Keeps, tables_of}
-use Rattle.pc_frames.specs.Today.{built_enter, built_exports, built_prepare_all, built_root}
-use Rattle.pc_frames.specs.Worlds.{HasNoExports}
-use Rattle.pc_frames.proofs.StateLemmas.{keeps_refl}
+use Rattle.pc_inline_state.specs.Points.{IsPoint, PointStands, full_instances}
+use Rattle.pc_inline_stack.specs.Reads.{AreItems, Ends, Passes, Prepared}
+use Rattle.pc_inline_state.specs.Tables.{Keeps, tables_of}
+use Rattle.pc_inline_state.specs.Today.{built_enter, built_exports, built_prepare_all, built_root}
+use Rattle.pc_inline_state.specs.Worlds.{HasNoExports}
+use Rattle.pc_inline_state.proofs.StateLemmas.{keeps_refl}
 use Rattle.pc_inline.proofs.FreshLemmas.{first_frame, first_point}
 use Rattle.pc_inline.proofs.RootLemmas.{counted_begins, ends_then, exports_fail, first_moment, from_start, moment_with}
 use Rattle.pc_inline.proofs.RootLemmas.{point_counted, reading_is, reading_over, root_begins, root_fails, root_read}

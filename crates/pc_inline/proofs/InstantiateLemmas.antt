@@ -10,28 +10,28 @@ use Rattle.pc_types.specs.declared.parsed.TypeTable.{TypeTable}
 use Rattle.pc_types.specs.Names.{distinct_names}
 use Rattle.pc_parsed.specs.declared.payload.ExternName.{ExternName}
 use Rattle.pc_parsed.specs.declared.payload.ItemKind.{ItemKind}
-use Rattle.pc_reading.specs.Item.{Items}
-use Rattle.pc_reading.specs.Scope.{Scope}
-use Rattle.pc_reading.specs.World.{World}
+use Rattle.pc_spec_reading.specs.Item.{Items}
+use Rattle.pc_spec_reading.specs.Scope.{Scope}
+use Rattle.pc_spec_reading.specs.World.{World}
 use Rattle.pc_local.specs.declared.item.LocalInitializer.{LocalInitializer}
 use Rattle.pc_local.specs.declared.item.Translation.{Translation}
 use Rattle.pc_local.specs.Standing.{BodyStands, no_names}
 use Rattle.pc_dfg.specs.declared.dfg.ComponentDfg.{ComponentDfg}
 use Rattle.pc_dfg.specs.Grows as graph
-use Rattle.pc_frames.specs.declared.definition.DefinitionId.{DefinitionId}
-use Rattle.pc_frames.specs.declared.frame.Frame.{Frame}
-use Rattle.pc_frames.specs.declared.state.State.{State}
-use Rattle.pc_frames.specs.Adds.{Adds, imports_in}
-use Rattle.pc_driver.specs.Begins.{Begins}
+use Rattle.pc_inline_state.specs.declared.definition.DefinitionId.{DefinitionId}
+use Rattle.pc_inline_state.specs.declared.frame.Frame.{Frame}
+use Rattle.pc_inline_state.specs.declared.state.State.{State}
+use Rattle.pc_inline_state.specs.Adds.{Adds, imports_in}
+use Rattle.pc_inline_stack.specs.Begins.{Begins}
 use Rattle.pc_inline.specs.Roots.{BeginsBody, BeginsRoot, EndsRoot, RootBegun}
-use Rattle.pc_frames.specs.Fresh.{IsFresh}
-use Rattle.pc_driver.specs.Driving.{Counts, Runs}
+use Rattle.pc_inline_state.specs.Fresh.{IsFresh}
+use Rattle.pc_inline_stack.specs.Driving.{Counts, Runs}
 use Rattle.pc_inline.specs.Exporting.{MakesExports, RootStands}
 use Rattle.pc_inline.specs.Inlines.{export_name}
-use Rattle.pc_frames.specs.Points.{IsPoint, PointStands}
-use Rattle.pc_driver.specs.Reads.{AreItems, Prepared}
-use Rattle.pc_frames.specs.Tables.{Keeps, tables_of}
-use Rattle.pc_frames.specs.Worlds.{HasNoExports}
+use Rattle.pc_inline_state.specs.Points.{IsPoint, PointStands}
+use Rattle.pc_inline_stack.specs.Reads.{AreItems, Prepared}
+use Rattle.pc_inline_state.specs.Tables.{Keeps, tables_of}
+use Rattle.pc_inline_state.specs.Worlds.{HasNoExports}
 use Rattle.pc_inline.proofs.FreshLemmas.{first_frame}
 use Rattle.pc_inline.proofs.InlineLemmas.{Each, IsRead, begins_end, begins_fail, begun_below, begun_point, each_ends}
 use Rattle.pc_inline.proofs.InlineLemmas.{export_point, graph_keeps, has_begun, root_begun, root_exports, root_is_read}
@@ -39,7 +39,7 @@ use Rattle.pc_inline.proofs.InlineLemmas.{root_items, root_unprepared, root_unre
 use Rattle.pc_inline.proofs.RootFewLemmas.{begun_graph, begun_none, begun_prepared, few_begun, few_exported, few_failed}
 use Rattle.pc_inline.proofs.RootFewLemmas.{few_unbegun, few_unread, most_more}
 use Rattle.pc_inline.proofs.RootLemmas.{first_moment}
-use Rattle.pc_frames.proofs.StateLemmas.{keeps_trans}
+use Rattle.pc_inline_state.proofs.StateLemmas.{keeps_trans}
 
 -- what a root exports has distinct names
 pub names_distinct : (root : Translation) (es : List (ExternName × ItemKind × ℕ)) → es ≡ root.exports

@@ -2,11 +2,11 @@
 use Rattle.std.proofs.Common.{◌≡◌, ◌+◌, ℕ, List, refl}
 use Rattle.pc_types.specs.declared.module_record.ModuleRecord.{ModuleRecord}
 use Rattle.pc_types.specs.declared.parsed.TypeTable.{TypeTable}
-use Rattle.pc_reading.specs.Item.{Item, Items, and_item, no_items}
-use Rattle.pc_reading.specs.Outcome.{and_then, at_item, done}
-use Rattle.pc_reading.specs.Scope.{Moment}
-use Rattle.pc_steps.specs.StepsLocal.{prepare_row}
-use Rattle.pc_frames.specs.Today.{built_prepare_all}
+use Rattle.pc_spec_reading.specs.Item.{Item, Items, and_item, no_items}
+use Rattle.pc_spec_reading.specs.Outcome.{and_then, at_item, done}
+use Rattle.pc_spec_reading.specs.Scope.{Moment}
+use Rattle.pc_inline_items.specs.StepsLocal.{prepare_row}
+use Rattle.pc_inline_state.specs.Today.{built_prepare_all}
 
 module _ (t : TypeTable) (ms : List ModuleRecord) where
   -- an item of the root, and the rest

@@ -11,27 +11,27 @@ use Rattle.pc_types.specs.declared.parsed.TypeTable.{TypeTable}
 use Rattle.pc_types.specs.declared.types.ComponentExtern.{ComponentExtern}
 use Rattle.pc_types.specs.Table.{is_func}
 use Rattle.pc_parsed.specs.declared.payload.ExternName.{ExternName}
-use Rattle.pc_reading.specs.Types.{has_entry}
+use Rattle.pc_spec_reading.specs.Types.{has_entry}
 use Rattle.pc_dfg.specs.declared.dfg.ComponentDfg.{ComponentDfg}
 use Rattle.pc_dfg.specs.Ordered.{IsOrdered}
-use Rattle.pc_frames.specs.declared.definition.Definition.TheVariants as definition
-use Rattle.pc_frames.specs.declared.definition.DefinitionId.{DefinitionId}
-use Rattle.pc_frames.specs.declared.error.ItemError.{ItemError}
-use Rattle.pc_frames.specs.declared.error.ItemFault.TheVariants as item_fault
-use Rattle.pc_frames.specs.declared.frame.Frame.{Frame}
-use Rattle.pc_frames.specs.declared.state.State.{State}
-use Rattle.pc_builder.specs.Few.{AddsFuncs}
-use Rattle.pc_frames.specs.Adds.{Adds}
-use Rattle.pc_frames.specs.AddsEach.{AddsEach, everywhere, nowhere}
-use Rattle.pc_frames.specs.Plain.{is_plain_table}
-use Rattle.pc_frames.specs.Points.{Steps}
-use Rattle.pc_frames.specs.Prepares.{Converts}
-use Rattle.pc_frames.specs.Refused.{LacksRoomOr}
-use Rattle.pc_frames.specs.Tables.{Tables, tables_of}
-use Rattle.pc_frames.specs.Today.{built_prepare}
-use Rattle.pc_frames.proofs.AddsLemmas.{adds_each, adds_func, adds_refl, adds_then, each_same, each_trans, each_weaken}
-use Rattle.pc_frames.proofs.AddsPushLemmas.{import_type_adds}
-use Rattle.pc_canon.proofs.PassedLemmas.{steps_lacking, steps_passed}
+use Rattle.pc_inline_state.specs.declared.definition.Definition.TheVariants as definition
+use Rattle.pc_inline_state.specs.declared.definition.DefinitionId.{DefinitionId}
+use Rattle.pc_inline_state.specs.declared.error.ItemError.{ItemError}
+use Rattle.pc_inline_state.specs.declared.error.ItemFault.TheVariants as item_fault
+use Rattle.pc_inline_state.specs.declared.frame.Frame.{Frame}
+use Rattle.pc_inline_state.specs.declared.state.State.{State}
+use Rattle.pc_types_builder.specs.Few.{AddsFuncs}
+use Rattle.pc_inline_state.specs.Adds.{Adds}
+use Rattle.pc_inline_state.specs.AddsEach.{AddsEach, everywhere, nowhere}
+use Rattle.pc_inline_state.specs.Plain.{is_plain_table}
+use Rattle.pc_inline_state.specs.Points.{Steps}
+use Rattle.pc_inline_state.specs.Prepares.{Converts}
+use Rattle.pc_inline_state.specs.Refused.{LacksRoomOr}
+use Rattle.pc_inline_state.specs.Tables.{Tables, tables_of}
+use Rattle.pc_inline_state.specs.Today.{built_prepare}
+use Rattle.pc_inline_state.proofs.AddsLemmas.{adds_each, adds_func, adds_refl, adds_then, each_same, each_trans, each_weaken}
+use Rattle.pc_inline_state.proofs.AddsPushLemmas.{import_type_adds}
+use Rattle.pc_inline_canon.proofs.PassedLemmas.{steps_lacking, steps_passed}
 use Rattle.pc_inline.proofs.GivenLemmas.{prepare_untyped}
 use Rattle.pc_inline.specs.Given.{GivesImport}
 

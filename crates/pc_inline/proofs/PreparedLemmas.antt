@@ -4,7 +4,7 @@ use Rattle.std.proofs.Common.{refl, sym, ap, subst, ◌∙◌, arith}
 use Rattle.std.specs.Prelude.{slice_get}
 use Rattle.std.proofs.lemmas.List.{length-append}
 use Rattle.pc_entity.specs.FirstValues.{with_first}
-use Rattle.pc_interned.specs.Trees.{HasTree}
+use Rattle.pc_types_lists.specs.Trees.{HasTree}
 use Rattle.pc_numbers.specs.declared.runtime.ImportIndex.{ImportIndex}
 use Rattle.pc_numbers.specs.declared.runtime.ResourceIndex.{ResourceIndex}
 use Rattle.pc_numbers.specs.declared.runtime.RuntimeImportIndex.{RuntimeImportIndex}
@@ -18,44 +18,44 @@ use Rattle.pc_types.specs.declared.types.TypeDef.TheVariants as type
 use Rattle.pc_types.specs.Table.{is_func}
 use Rattle.pc_types.specs.TypeTree.{Identity, TypeTree}
 use Rattle.pc_parsed.specs.declared.payload.ExternName.{ExternName}
-use Rattle.pc_reading.specs.Imports.{with_given}
-use Rattle.pc_reading.specs.Scope.{Moment}
-use Rattle.pc_reading.specs.Types.{has_entry}
-use Rattle.pc_reading.specs.Value.{func_value, host_function}
-use Rattle.pc_reading.specs.World.{World}
+use Rattle.pc_spec_reading.specs.Imports.{with_given}
+use Rattle.pc_spec_reading.specs.Scope.{Moment}
+use Rattle.pc_spec_reading.specs.Types.{has_entry}
+use Rattle.pc_spec_reading.specs.Value.{func_value, host_function}
+use Rattle.pc_spec_reading.specs.World.{World}
 use Rattle.pc_dfg.specs.declared.dfg.ComponentDfg.{ComponentDfg}
 use Rattle.pc_dfg.specs.Ordered.{IsOrdered}
-use Rattle.pc_frames.specs.declared.definition.DefinitionId.{DefinitionId}
-use Rattle.pc_frames.specs.declared.frame.Frame.{Frame}
-use Rattle.pc_frames.specs.declared.state.State.{State}
-use Rattle.pc_frames.specs.Points.{PointStands, Steps}
-use Rattle.pc_frames.specs.Prepares.{Converts}
-use Rattle.pc_frames.specs.Stands.{Stands}
-use Rattle.pc_frames.specs.Today.{built_prepare}
-use Rattle.pc_frames.specs.Worlds.{AreUsed, import_path}
-use Rattle.pc_canon.proofs.StepLemmas.{steps_on}
+use Rattle.pc_inline_state.specs.declared.definition.DefinitionId.{DefinitionId}
+use Rattle.pc_inline_state.specs.declared.frame.Frame.{Frame}
+use Rattle.pc_inline_state.specs.declared.state.State.{State}
+use Rattle.pc_inline_state.specs.Points.{PointStands, Steps}
+use Rattle.pc_inline_state.specs.Prepares.{Converts}
+use Rattle.pc_inline_state.specs.Stands.{Stands}
+use Rattle.pc_inline_state.specs.Today.{built_prepare}
+use Rattle.pc_inline_state.specs.Worlds.{AreUsed, import_path}
+use Rattle.pc_inline_canon.proofs.StepLemmas.{steps_on}
 use Rattle.std.specs.Prelude.{⊤}
 use Rattle.pc_entity.proofs.Growing.{append_kept, kept_refl, slice_get-append_seam}
 use Rattle.pc_types.specs.declared.parsed.CoreKind.{CoreKind}
-use Rattle.pc_semantics.specs.PlanView as plan
-use Rattle.pc_semantics.specs.Log.{trace}
-use Rattle.pc_reading.specs.Nodes.{extern_data}
-use Rattle.pc_builder.specs.Trees.{IsEntry}
+use Rattle.pc_spec_plan.specs.PlanView as plan
+use Rattle.pc_spec_plan.specs.Log.{trace}
+use Rattle.pc_spec_reading.specs.Nodes.{extern_data}
+use Rattle.pc_types_builder.specs.Trees.{IsEntry}
 use Rattle.pc_dfg.specs.Grows as graph
 use Rattle.pc_dfg.specs.Numbers.{slots_of}
 use Rattle.pc_dfg.proofs.AllLemmas.{all_more}
-use Rattle.pc_frames.specs.declared.definition.Definition.TheVariants as definition
-use Rattle.pc_frames.specs.Stands.{stands, stands_host}
-use Rattle.pc_frames.specs.Tables.{IsItem, Keeps, tables_of}
-use Rattle.pc_frames.specs.Typed.{Holds}
-use Rattle.pc_frames.specs.Worlds.{EffectStands, ImportStands, WorldStands, slot_kind}
+use Rattle.pc_inline_state.specs.declared.definition.Definition.TheVariants as definition
+use Rattle.pc_inline_state.specs.Stands.{stands, stands_host}
+use Rattle.pc_inline_state.specs.Tables.{IsItem, Keeps, tables_of}
+use Rattle.pc_inline_state.specs.Typed.{Holds}
+use Rattle.pc_inline_state.specs.Worlds.{EffectStands, ImportStands, WorldStands, slot_kind}
 use Rattle.pc_inline.specs.Given.{GivesImport, function_import}
 use Rattle.pc_inline.proofs.GivenLemmas.{argument_given, prepare_given, used_given}
-use Rattle.pc_canon.proofs.KeptLemmas.{frame_kept, is_item_kept}
-use Rattle.pc_frames.proofs.StateLemmas.{converts_prepares, types_refl}
-use Rattle.pc_canon.proofs.TypeLemmas.{entry_tree, scope_tree}
-use Rattle.pc_canon.proofs.WorldLemmas.{declared_still, effect_still, import_still, point_kept, trampoline_still}
-use Rattle.pc_frames.proofs.ZipLemmas.{zip_length, zip_more, zip_push}
+use Rattle.pc_inline_canon.proofs.KeptLemmas.{frame_kept, is_item_kept}
+use Rattle.pc_inline_state.proofs.StateLemmas.{converts_prepares, types_refl}
+use Rattle.pc_inline_canon.proofs.TypeLemmas.{entry_tree, scope_tree}
+use Rattle.pc_inline_canon.proofs.WorldLemmas.{declared_still, effect_still, import_still, point_kept, trampoline_still}
+use Rattle.pc_inline_state.proofs.ZipLemmas.{zip_length, zip_more, zip_push}
 
 -- the slots of a graph with other imports
 given_slots : (g : ComponentDfg) (is : List (List ℕ × ComponentExtern)) (k : plan.SlotKind)

@@ -5,7 +5,7 @@ use Rattle.std.specs.Prelude.{IfErr, slice_get}
 use Rattle.std.specs.Result.{IsErr}
 use Rattle.std.proofs.lemmas.Option.{same_Some, slice_get_within}
 use Rattle.pc_entity.proofs.Growing.{slice_get-append_seam}
-use Rattle.pc_intern.specs.declared.ids.OptionsId.{OptionsId}
+use Rattle.pc_dfg.specs.declared.ids.OptionsId.{OptionsId}
 use Rattle.pc_numbers.specs.declared.runtime.ExportIndex.{ExportIndex}
 use Rattle.pc_numbers.specs.declared.runtime.ImportIndex.{ImportIndex}
 use Rattle.pc_types.specs.declared.error.Unsupported.TheVariants.{ReexportedFunction}
@@ -15,20 +15,20 @@ use Rattle.pc_types.specs.declared.parsed.CoreKind.TheVariants as core
 use Rattle.pc_types.specs.declared.parsed.TypeTable.{TypeTable}
 use Rattle.pc_types.specs.declared.types.TypeDef.TheVariants as type
 use Rattle.pc_numbers.specs.declared.runtime.ResourceIndex.{ResourceIndex}
-use Rattle.pc_builder.specs.Trees.{HasTree}
-use Rattle.pc_interned.specs.Types.{Types}
+use Rattle.pc_types_builder.specs.Trees.{HasTree}
+use Rattle.pc_types_lists.specs.Types.{Types}
 use Rattle.pc_types.specs.declared.type_index.TypeFuncIndex.{TypeFuncIndex}
 use Rattle.pc_types.specs.TypeTree.{Identity, TypeTree}
-use Rattle.pc_semantics.specs.CoreValue as value
-use Rattle.pc_semantics.specs.CoreValue.{CoreValue, map_options, map_value}
-use Rattle.pc_semantics.specs.ExportNode as node
-use Rattle.pc_semantics.specs.ExportNode.{ExportNode, NamedNode}
-use Rattle.pc_semantics.specs.PlanView as plan
+use Rattle.pc_spec_plan.specs.CoreValue as value
+use Rattle.pc_spec_plan.specs.CoreValue.{CoreValue, map_options, map_value}
+use Rattle.pc_spec_plan.specs.ExportNode as node
+use Rattle.pc_spec_plan.specs.ExportNode.{ExportNode, NamedNode}
+use Rattle.pc_spec_plan.specs.PlanView as plan
 use Rattle.pc_parsed.specs.Mark.{Mark, of_type}
-use Rattle.pc_reading.specs.Nodes.{function_node, leaf, reached}
-use Rattle.pc_reading.specs.Scope.{Scope}
-use Rattle.pc_reading.specs.Value.{Function, host_function, lifted_function}
-use Rattle.pc_reading.specs.World.{World}
+use Rattle.pc_spec_reading.specs.Nodes.{function_node, leaf, reached}
+use Rattle.pc_spec_reading.specs.Scope.{Scope}
+use Rattle.pc_spec_reading.specs.Value.{Function, host_function, lifted_function}
+use Rattle.pc_spec_reading.specs.World.{World}
 use Rattle.pc_info.specs.Modules.{function_mark}
 use Rattle.pc_dfg.specs.declared.core_def.CoreDef.{CoreDef}
 use Rattle.pc_dfg.specs.declared.dfg.ComponentDfg.{ComponentDfg}
@@ -41,35 +41,35 @@ use Rattle.pc_dfg.specs.Numbers.{slots_of}
 use Rattle.pc_dfg.specs.Ordered.{IsOrdered}
 use Rattle.pc_dfg.proofs.AllLemmas.{all_more}
 use Rattle.pc_dfg.proofs.KeptLemmas.{options_kept}
-use Rattle.pc_builder.proofs.TreeLemmas.{tree_grows}
-use Rattle.pc_frames.specs.declared.definition.CoreId.{CoreId}
-use Rattle.pc_frames.specs.declared.definition.Definition.TheVariants as definition
-use Rattle.pc_frames.specs.declared.definition.DefinitionId.{DefinitionId}
-use Rattle.pc_frames.specs.declared.definition.Options.{Options}
-use Rattle.pc_frames.specs.declared.error.ItemError.{ItemError}
-use Rattle.pc_frames.specs.declared.error.ItemError.TheVariants as item_error
-use Rattle.pc_frames.specs.declared.error.ItemFault.TheVariants as item_fault
-use Rattle.pc_frames.specs.declared.frame.Frame.{Frame}
-use Rattle.pc_frames.specs.declared.state.State.{State}
+use Rattle.pc_types_builder.proofs.TreeLemmas.{tree_grows}
+use Rattle.pc_inline_state.specs.declared.definition.CoreId.{CoreId}
+use Rattle.pc_inline_state.specs.declared.definition.Definition.TheVariants as definition
+use Rattle.pc_inline_state.specs.declared.definition.DefinitionId.{DefinitionId}
+use Rattle.pc_inline_state.specs.declared.definition.Options.{Options}
+use Rattle.pc_inline_state.specs.declared.error.ItemError.{ItemError}
+use Rattle.pc_inline_state.specs.declared.error.ItemError.TheVariants as item_error
+use Rattle.pc_inline_state.specs.declared.error.ItemFault.TheVariants as item_fault
+use Rattle.pc_inline_state.specs.declared.frame.Frame.{Frame}
+use Rattle.pc_inline_state.specs.declared.state.State.{State}
 use Rattle.pc_inline.specs.Exporting.{ReachesNode, RootStands}
 use Rattle.pc_inline.specs.Exports.{NameStands, NodeStands}
-use Rattle.pc_frames.specs.Frames.{FuncStands}
-use Rattle.pc_frames.specs.Prepares.{Prepares}
-use Rattle.pc_frames.specs.Refused.{LacksRoom}
-use Rattle.pc_frames.specs.Slots.{EntryStands}
-use Rattle.pc_frames.specs.Stands.{CoreStands, IsFunc, ItemStands, OptionsStand}
-use Rattle.pc_frames.specs.Tables.{IsItem, Keeps, tables_of}
-use Rattle.pc_frames.specs.Typed.{Holds, Numbered}
-use Rattle.pc_frames.specs.Worlds.{HasItems}
-use Rattle.pc_canon.proofs.CoreInstanceLemmas.{found_in_push, item_held}
-use Rattle.pc_frames.proofs.GrowthLemmas.{graph_grown}
-use Rattle.pc_canon.proofs.HoldsLemmas.{func_below, functions_push, lifted_push}
-use Rattle.pc_canon.proofs.KeptLemmas.{core_kept, frame_kept, is_item_kept, item_kept}
+use Rattle.pc_inline_state.specs.Frames.{FuncStands}
+use Rattle.pc_inline_state.specs.Prepares.{Prepares}
+use Rattle.pc_inline_state.specs.Refused.{LacksRoom}
+use Rattle.pc_inline_state.specs.Slots.{EntryStands}
+use Rattle.pc_inline_state.specs.Stands.{CoreStands, IsFunc, ItemStands, OptionsStand}
+use Rattle.pc_inline_state.specs.Tables.{IsItem, Keeps, tables_of}
+use Rattle.pc_inline_state.specs.Typed.{Holds, Numbered}
+use Rattle.pc_inline_state.specs.Worlds.{HasItems}
+use Rattle.pc_inline_canon.proofs.CoreInstanceLemmas.{found_in_push, item_held}
+use Rattle.pc_inline_state.proofs.GrowthLemmas.{graph_grown}
+use Rattle.pc_inline_canon.proofs.HoldsLemmas.{func_below, functions_push, lifted_push}
+use Rattle.pc_inline_canon.proofs.KeptLemmas.{core_kept, frame_kept, is_item_kept, item_kept}
 use Rattle.pc_inline.proofs.RootKeptLemmas.{name_still, root_kept}
-use Rattle.pc_frames.proofs.StateLemmas.{types_refl}
-use Rattle.pc_canon.proofs.ThereLemmas.{LiftedAs, lifted_there}
-use Rattle.pc_canon.proofs.WorldLemmas.{world_still}
-use Rattle.pc_frames.proofs.ZipLemmas.{zip_more}
+use Rattle.pc_inline_state.proofs.StateLemmas.{types_refl}
+use Rattle.pc_inline_canon.proofs.ThereLemmas.{LiftedAs, lifted_there}
+use Rattle.pc_inline_canon.proofs.WorldLemmas.{world_still}
+use Rattle.pc_inline_state.proofs.ZipLemmas.{zip_more}
 
 -- a leaf is reached, where no total is counted
 leaf_reached : (n : ExportNode Mark) (w : World) → w.total ≡ None → leaf n w ≡ reached n w

@@ -9,41 +9,41 @@ use Rattle.pc_types.specs.declared.error.Unsupported.TheVariants.{ReexportedFunc
 use Rattle.pc_types.specs.declared.module_record.ModuleRecord.{ModuleRecord}
 use Rattle.pc_types.specs.declared.parsed.TypeTable.{TypeTable}
 use Rattle.pc_types.specs.declared.type_index.TypeFuncIndex.{TypeFuncIndex}
-use Rattle.pc_semantics.specs.ExportNode.{NamedNode}
+use Rattle.pc_spec_plan.specs.ExportNode.{NamedNode}
 use Rattle.pc_parsed.specs.Mark.{Mark}
-use Rattle.pc_reading.specs.Scope.{Scope}
-use Rattle.pc_reading.specs.Value.{Function, Value, func_value, host_function}
-use Rattle.pc_reading.specs.World.{World}
+use Rattle.pc_spec_reading.specs.Scope.{Scope}
+use Rattle.pc_spec_reading.specs.Value.{Function, Value, func_value, host_function}
+use Rattle.pc_spec_reading.specs.World.{World}
 use Rattle.pc_dfg.specs.declared.dfg.ComponentDfg.{ComponentDfg}
 use Rattle.pc_dfg.specs.declared.export.Export.{Export}
 use Rattle.pc_dfg.specs.declared.push_error.PushError.{PushError}
 use Rattle.pc_dfg.specs.declared.push_error.PushError.TheVariants as push_error
 use Rattle.pc_dfg.specs.Grows as graph
 use Rattle.pc_dfg.specs.Lists as list
-use Rattle.pc_frames.specs.declared.definition.CoreId.{CoreId}
-use Rattle.pc_frames.specs.declared.definition.Definition.{Definition}
-use Rattle.pc_frames.specs.declared.definition.Definition.TheVariants as definition
-use Rattle.pc_frames.specs.declared.definition.DefinitionId.{DefinitionId}
-use Rattle.pc_frames.specs.declared.definition.Options.{Options}
-use Rattle.pc_frames.specs.declared.error.ItemError.{ItemError}
-use Rattle.pc_frames.specs.declared.error.ItemError.TheVariants as item_error
-use Rattle.pc_frames.specs.declared.error.ItemFault.TheVariants as item_fault
-use Rattle.pc_frames.specs.declared.frame.Frame.{Frame}
-use Rattle.pc_frames.specs.declared.state.State.{State}
-use Rattle.pc_frames.specs.AddsEach.{AddsEach, in_options, in_reached}
+use Rattle.pc_inline_state.specs.declared.definition.CoreId.{CoreId}
+use Rattle.pc_inline_state.specs.declared.definition.Definition.{Definition}
+use Rattle.pc_inline_state.specs.declared.definition.Definition.TheVariants as definition
+use Rattle.pc_inline_state.specs.declared.definition.DefinitionId.{DefinitionId}
+use Rattle.pc_inline_state.specs.declared.definition.Options.{Options}
+use Rattle.pc_inline_state.specs.declared.error.ItemError.{ItemError}
+use Rattle.pc_inline_state.specs.declared.error.ItemError.TheVariants as item_error
+use Rattle.pc_inline_state.specs.declared.error.ItemFault.TheVariants as item_fault
+use Rattle.pc_inline_state.specs.declared.frame.Frame.{Frame}
+use Rattle.pc_inline_state.specs.declared.state.State.{State}
+use Rattle.pc_inline_state.specs.AddsEach.{AddsEach, in_options, in_reached}
 use Rattle.pc_inline.specs.Exporting.{ReachesNode, RootStands}
-use Rattle.pc_frames.specs.Faults.{of_push_error}
-use Rattle.pc_frames.specs.Frames.{FuncStands}
-use Rattle.pc_frames.specs.Refused.{LacksRoom}
-use Rattle.pc_frames.specs.Slots.{OptionsThere}
-use Rattle.pc_frames.specs.Stands.{DefinitionStands, stands, stands_component, stands_host, stands_instance}
-use Rattle.pc_frames.specs.Stands.{stands_lifted, stands_static}
-use Rattle.pc_frames.specs.Tables.{Tables, tables_of}
+use Rattle.pc_inline_state.specs.Faults.{of_push_error}
+use Rattle.pc_inline_state.specs.Frames.{FuncStands}
+use Rattle.pc_inline_state.specs.Refused.{LacksRoom}
+use Rattle.pc_inline_state.specs.Slots.{OptionsThere}
+use Rattle.pc_inline_state.specs.Stands.{DefinitionStands, stands, stands_component, stands_host, stands_instance}
+use Rattle.pc_inline_state.specs.Stands.{stands_lifted, stands_static}
+use Rattle.pc_inline_state.specs.Tables.{Tables, tables_of}
 use Rattle.pc_inline.proofs.ExportAddsLemmas.{item_adds, item_reached}
 use Rattle.pc_inline.proofs.ReachLemmas.{reaches_host, reaches_lacking}
-use Rattle.pc_frames.proofs.RefusedLemmas.{memory_lacks, same_lacks}
-use Rattle.pc_canon.proofs.RoomLemmas.{list_lacks}
-use Rattle.pc_canon.proofs.ThereLemmas.{lifted_there, options_there}
+use Rattle.pc_inline_state.proofs.RefusedLemmas.{memory_lacks, same_lacks}
+use Rattle.pc_inline_canon.proofs.RoomLemmas.{list_lacks}
+use Rattle.pc_inline_canon.proofs.ThereLemmas.{lifted_there, options_there}
 
 -- the options of a function that was lifted
 pub lifted_options : {ms : List ModuleRecord} {b : Tables} {n : DefinitionId} {x : Function} {ty : TypeFuncIndex}

@@ -10,45 +10,45 @@ use Rattle.pc_types.specs.declared.error.Error.{Error}
 use Rattle.pc_types.specs.declared.error.Error.TheVariants as error
 use Rattle.pc_types.specs.declared.module_record.ModuleRecord.{ModuleRecord}
 use Rattle.pc_types.specs.declared.parsed.TypeTable.{TypeTable}
-use Rattle.pc_interned.specs.Types.{Types}
+use Rattle.pc_types_lists.specs.Types.{Types}
 use Rattle.pc_parsed.specs.declared.payload.ExternName.{ExternName}
 use Rattle.pc_parsed.specs.declared.payload.ItemKind.{ItemKind}
-use Rattle.pc_reading.specs.Item.{Items, exports_in}
-use Rattle.pc_reading.specs.Outcome.{done}
-use Rattle.pc_reading.specs.Scope.{Moment}
-use Rattle.pc_reading.specs.Section.{named_item}
-use Rattle.pc_reading.specs.World.{full}
+use Rattle.pc_spec_reading.specs.Item.{Items, exports_in}
+use Rattle.pc_spec_reading.specs.Outcome.{done}
+use Rattle.pc_spec_reading.specs.Scope.{Moment}
+use Rattle.pc_spec_reading.specs.Section.{named_item}
+use Rattle.pc_spec_reading.specs.World.{full}
 use Rattle.pc_local.specs.declared.item.LocalInitializer.{LocalInitializer}
 use Rattle.pc_local.specs.declared.item.Translation.{Translation}
 use Rattle.pc_local.specs.Standing.{BodyStands, ItemsStand, no_names}
-use Rattle.pc_semantics.specs.PlanView as plan
+use Rattle.pc_spec_plan.specs.PlanView as plan
 use Rattle.pc_dfg.specs.declared.dfg.ComponentDfg.{ComponentDfg}
 use Rattle.pc_dfg.specs.Empty.{empty_graph}
 use Rattle.pc_dfg.specs.Lists as list
 use Rattle.pc_dfg.specs.Lists.{ListName, entries_of}
 use Rattle.pc_dfg.specs.Numbers.{slots_of}
 use Rattle.pc_dfg.specs.Pushed.{with_component_instance}
-use Rattle.pc_frames.specs.declared.frame.Frame.{Frame}
-use Rattle.pc_frames.specs.declared.state.State.{State}
-use Rattle.pc_frames.specs.Adds.{Adds, AddsTypes, imports_in, item_count}
-use Rattle.pc_driver.specs.Begins.{Begins}
+use Rattle.pc_inline_state.specs.declared.frame.Frame.{Frame}
+use Rattle.pc_inline_state.specs.declared.state.State.{State}
+use Rattle.pc_inline_state.specs.Adds.{Adds, AddsTypes, imports_in, item_count}
+use Rattle.pc_inline_stack.specs.Begins.{Begins}
 use Rattle.pc_inline.specs.Roots.{BegunHasFew, EndsWith, HasAtMost, HasFew, IsLong, IsLongOrHasFew}
-use Rattle.pc_frames.specs.Fresh.{IsFresh}
+use Rattle.pc_inline_state.specs.Fresh.{IsFresh}
 use Rattle.pc_inline.specs.Roots.{RootBegun, RootHasFew, first_total}
-use Rattle.pc_frames.specs.Fresh.{counted_tables}
-use Rattle.pc_driver.specs.Driving.{Counts, EndsIn, reading_from}
+use Rattle.pc_inline_state.specs.Fresh.{counted_tables}
+use Rattle.pc_inline_stack.specs.Driving.{Counts, EndsIn, reading_from}
 use Rattle.pc_inline.specs.Inlines.{HasNoRoom}
-use Rattle.pc_frames.specs.Points.{IsFullSomewhere, full_closures, full_cores, full_definitions, full_exports}
-use Rattle.pc_frames.specs.Points.{full_graph, full_instances, full_types}
-use Rattle.pc_frames.specs.Tables.{Tables, tables_of}
-use Rattle.pc_frames.specs.Today.{built_enter, built_root}
-use Rattle.pc_frames.specs.Typed.{no_resources}
-use Rattle.pc_frames.proofs.AddsLemmas.{adds_refl, types_trans}
-use Rattle.pc_driver.proofs.LoopAddsLemmas.{few_exports}
+use Rattle.pc_inline_state.specs.Points.{IsFullSomewhere, full_closures, full_cores, full_definitions, full_exports}
+use Rattle.pc_inline_state.specs.Points.{full_graph, full_instances, full_types}
+use Rattle.pc_inline_state.specs.Tables.{Tables, tables_of}
+use Rattle.pc_inline_state.specs.Today.{built_enter, built_root}
+use Rattle.pc_inline_state.specs.Typed.{no_resources}
+use Rattle.pc_inline_state.proofs.AddsLemmas.{adds_refl, types_trans}
+use Rattle.pc_inline_stack.proofs.LoopAddsLemmas.{few_exports}
 use Rattle.pc_inline.proofs.RootLemmas.{counted_begins}
-use Rattle.pc_driver.proofs.TodayLemmas.{past_read}
+use Rattle.pc_inline_stack.proofs.TodayLemmas.{past_read}
 use Rattle.pc_inline.proofs.TotalLemmas.{HasGrown, child_grows, items_grow}
-use Rattle.pc_driver.proofs.WeightLemmas.{weight_of_imports, weight_of_items}
+use Rattle.pc_inline_stack.proofs.WeightLemmas.{weight_of_imports, weight_of_items}
 
 -- a graph with nothing in any list
 abbrev pub HasNone : ComponentDfg → Type 0

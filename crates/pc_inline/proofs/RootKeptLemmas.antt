@@ -1,30 +1,30 @@
 -- The root keeps its exports as the graph grows.
 use Rattle.std.proofs.Common.{ℕ, List, sym, subst, ◌∙◌}
 use Rattle.std.specs.List.{AllZip}
-use Rattle.pc_interned.specs.Types.{Types}
-use Rattle.pc_interned.specs.Types as builder
+use Rattle.pc_types_lists.specs.Types.{Types}
+use Rattle.pc_types_lists.specs.Types as builder
 use Rattle.pc_types.specs.declared.module_record.ModuleRecord.{ModuleRecord}
 use Rattle.pc_types.specs.declared.parsed.TypeTable.{TypeTable}
-use Rattle.pc_semantics.specs.ExportNode.{ExportNode, NamedNode, map_node}
+use Rattle.pc_spec_plan.specs.ExportNode.{ExportNode, NamedNode, map_node}
 use Rattle.pc_parsed.specs.Mark.{Mark}
-use Rattle.pc_reading.specs.Scope.{Scope}
-use Rattle.pc_reading.specs.World.{World}
+use Rattle.pc_spec_reading.specs.Scope.{Scope}
+use Rattle.pc_spec_reading.specs.World.{World}
 use Rattle.pc_dfg.specs.declared.dfg.ComponentDfg.{ComponentDfg}
 use Rattle.pc_dfg.specs.Grows as graph
 use Rattle.pc_dfg.specs.Lists.{NamedExport}
 use Rattle.pc_dfg.specs.Nodes.{MeansItem}
 use Rattle.pc_dfg.proofs.NodeLemmas.{item_kept}
-use Rattle.pc_frames.specs.declared.frame.Frame.{Frame}
-use Rattle.pc_frames.specs.declared.state.State.{State}
+use Rattle.pc_inline_state.specs.declared.frame.Frame.{Frame}
+use Rattle.pc_inline_state.specs.declared.state.State.{State}
 use Rattle.pc_inline.specs.Exporting.{RootStands}
 use Rattle.pc_inline.specs.Exports.{NameStands, NodeStands}
-use Rattle.pc_frames.specs.Prepares.{Prepares}
-use Rattle.pc_frames.specs.Tables.{tables_of}
-use Rattle.pc_frames.specs.Typed.{number_of, whole_of}
-use Rattle.pc_canon.proofs.KeptLemmas.{frame_kept}
-use Rattle.pc_canon.proofs.MarkLemmas.{node_twice, still}
-use Rattle.pc_canon.proofs.WorldLemmas.{world_still}
-use Rattle.pc_frames.proofs.ZipLemmas.{zip_more}
+use Rattle.pc_inline_state.specs.Prepares.{Prepares}
+use Rattle.pc_inline_state.specs.Tables.{tables_of}
+use Rattle.pc_inline_state.specs.Typed.{number_of, whole_of}
+use Rattle.pc_inline_canon.proofs.KeptLemmas.{frame_kept}
+use Rattle.pc_inline_canon.proofs.MarkLemmas.{node_twice, still}
+use Rattle.pc_inline_canon.proofs.WorldLemmas.{world_still}
+use Rattle.pc_inline_state.proofs.ZipLemmas.{zip_more}
 
 module _ (old new : Types) (g h : ComponentDfg) (types : builder.Grows old new) (grows : graph.Grows g h) where
   -- an export by number

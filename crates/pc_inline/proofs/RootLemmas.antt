@@ -4,29 +4,29 @@ use Rattle.std.proofs.Common.{inr, refl, sym, ap, subst, ◌∙◌, arith}
 use Rattle.std.proofs.lemmas.Bool.{lt-ltb, ltb-true}
 use Rattle.std.specs.Prelude.{nat_lt}
 use Rattle.std.specs.List.{AllZip}
-use Rattle.pc_interned.specs.Types.{Types}
+use Rattle.pc_types_lists.specs.Types.{Types}
 use Rattle.pc_types.specs.declared.error.Error.{Error}
 use Rattle.pc_types.specs.declared.error.Error.TheVariants as error
 use Rattle.pc_types.specs.declared.module_record.ModuleRecord.{ModuleRecord}
 use Rattle.pc_types.specs.declared.parsed.TypeTable.{TypeTable}
-use Rattle.pc_reading.specs.Item.{Items, exports_in}
-use Rattle.pc_reading.specs.Nodes.{Finish}
-use Rattle.pc_reading.specs.Outcome.{Outcome, and_then, done, over}
-use Rattle.pc_reading.specs.Reading.{begun_in, result_of}
-use Rattle.pc_reading.specs.Scope.{Moment}
-use Rattle.pc_reading.specs.Value.{outermost}
-use Rattle.pc_reading.specs.World.{World, full, new_world}
+use Rattle.pc_spec_reading.specs.Item.{Items, exports_in}
+use Rattle.pc_spec_reading.specs.Nodes.{Finish}
+use Rattle.pc_spec_reading.specs.Outcome.{Outcome, and_then, done, over}
+use Rattle.pc_spec_reading.specs.Reading.{begun_in, result_of}
+use Rattle.pc_spec_reading.specs.Scope.{Moment}
+use Rattle.pc_spec_reading.specs.Value.{outermost}
+use Rattle.pc_spec_reading.specs.World.{World, full, new_world}
 use Rattle.pc_dfg.specs.declared.dfg.ComponentDfg.{ComponentDfg}
-use Rattle.pc_frames.specs.declared.frame.Frame.{Frame}
-use Rattle.pc_frames.specs.declared.state.State.{State}
+use Rattle.pc_inline_state.specs.declared.frame.Frame.{Frame}
+use Rattle.pc_inline_state.specs.declared.state.State.{State}
 use Rattle.pc_inline.specs.Roots.{IsBuiltEnd, IsLong, RootRead, first_total}
-use Rattle.pc_driver.specs.Driving.{reading_from}
+use Rattle.pc_inline_stack.specs.Driving.{reading_from}
 use Rattle.pc_inline.specs.Exporting.{ExportsEnd, RootStands}
 use Rattle.pc_inline.specs.Exports.{ExportsStand, NameStands, NumbersExports}
-use Rattle.pc_frames.specs.Points.{PointStands}
-use Rattle.pc_driver.specs.Reads.{Ends}
-use Rattle.pc_frames.specs.Today.{built_exports, built_prepare_all, built_reading, built_result, built_root}
-use Rattle.pc_frames.specs.Worlds.{WorldStands}
+use Rattle.pc_inline_state.specs.Points.{PointStands}
+use Rattle.pc_inline_stack.specs.Reads.{Ends}
+use Rattle.pc_inline_state.specs.Today.{built_exports, built_prepare_all, built_reading, built_result, built_root}
+use Rattle.pc_inline_state.specs.Worlds.{WorldStands}
 
 -- the world in which the root begins, with this total
 abbrev world_with : Option ℕ → World

@@ -3,32 +3,32 @@ use Rattle.std.proofs.Common.{◌≡◌, ◌<◌, ◌⊎◌, ℕ, true, List, le
 use Rattle.std.proofs.Common.{◌∙◌, arith}
 use Rattle.std.specs.Prelude.{⊤, IfOk, OnOk}
 use Rattle.std.specs.Result.{IsErrAnd, result_and}
-use Rattle.pc_interned.specs.Types.{Grows, KeepsTypes, Resources, Types}
+use Rattle.pc_types_lists.specs.Types.{Grows, KeepsTypes, Resources, Types}
 use Rattle.pc_types.specs.declared.error.Error.{Error}
 use Rattle.pc_types.specs.declared.error.Error.TheVariants as error
 use Rattle.pc_types.specs.declared.module_record.ModuleRecord.{ModuleRecord}
 use Rattle.pc_types.specs.declared.parsed.TypeTable.{TypeTable}
-use Rattle.pc_reading.specs.Item.{Items}
+use Rattle.pc_spec_reading.specs.Item.{Items}
 use Rattle.pc_local.specs.declared.item.Translation.{Translation}
 use Rattle.pc_local.specs.Standing.{BodyStands, no_names}
 use Rattle.pc_dfg.specs.declared.dfg.ComponentDfg.{ComponentDfg}
 use Rattle.pc_dfg.specs.Lists.{ListName, entries_of}
-use Rattle.pc_frames.specs.declared.state.State.{State}
-use Rattle.pc_frames.specs.Adds.{AddsTypes}
+use Rattle.pc_inline_state.specs.declared.state.State.{State}
+use Rattle.pc_inline_state.specs.Adds.{AddsTypes}
 use Rattle.pc_inline.specs.Roots.{EndsWith, HasAtMost, HasFew, InlinesBody, InlinesRoot, IsBuiltEnd, IsLong}
 use Rattle.pc_inline.specs.Roots.{IsLongOrHasFew, RootHasFew, RootRead}
-use Rattle.pc_frames.specs.Fresh.{counted_tables}
-use Rattle.pc_frames.specs.Plain.{is_plain_table}
-use Rattle.pc_frames.specs.Tables.{Keeps, tables_of}
-use Rattle.pc_driver.specs.Totals.{CountsGraph, GainsFew}
-use Rattle.pc_frames.specs.Typed.{no_resources}
+use Rattle.pc_inline_state.specs.Fresh.{counted_tables}
+use Rattle.pc_inline_state.specs.Plain.{is_plain_table}
+use Rattle.pc_inline_state.specs.Tables.{Keeps, tables_of}
+use Rattle.pc_inline_stack.specs.Totals.{CountsGraph, GainsFew}
+use Rattle.pc_inline_state.specs.Typed.{no_resources}
 use Rattle.pc_inline.specs.Inlines.{Inlines, IsFault, StandsForReading}
-use Rattle.pc_frames.proofs.AddsLemmas.{types_same}
+use Rattle.pc_inline_state.proofs.AddsLemmas.{types_same}
 use Rattle.pc_inline.proofs.CountLemmas.{counted_exports, counted_holds, counted_items, counted_ordered, counted_plain}
 use Rattle.pc_inline.proofs.CountLemmas.{counted_world}
 use Rattle.pc_inline.proofs.EndLemmas.{done_today, end_today}
 use Rattle.pc_inline.proofs.RootFewLemmas.{counted_few, no_room, run_adds}
-use Rattle.pc_driver.proofs.TodayLemmas.{past_read, total_read}
+use Rattle.pc_inline_stack.proofs.TodayLemmas.{past_read, total_read}
 
 -- types keep their numbers, whichever resources were known before
 resources_aside : (old new : Types) (r : Resources) → Grows (record old { resources = r }) new → KeepsTypes old new

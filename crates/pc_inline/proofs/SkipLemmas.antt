@@ -8,15 +8,15 @@ use Rattle.pc_types.specs.declared.parsed.WasmValType.TheVariants.{I32}
 use Rattle.pc_parsed.specs.declared.canon.CanonItem.{CanonItem}
 use Rattle.pc_parsed.specs.declared.canon.CanonItem.TheVariants as canon
 use Rattle.pc_parsed.specs.declared.payload.ExternName.{ExternName}
-use Rattle.pc_reading.specs.Canonical.{canonical_item}
-use Rattle.pc_reading.specs.Item
-use Rattle.pc_reading.specs.Scope.{Moment}
+use Rattle.pc_spec_reading.specs.Canonical.{canonical_item}
+use Rattle.pc_spec_reading.specs.Item
+use Rattle.pc_spec_reading.specs.Scope.{Moment}
 use Rattle.pc_local.specs.declared.item.LocalInitializer.{LocalInitializer}
 use Rattle.pc_local.specs.declared.item.LocalInitializer.TheVariants as local
 use Rattle.pc_local.specs.declared.item.Translation.{Translation}
 use Rattle.pc_local.specs.Plain.{context_of, if_builtin, if_error_context, if_waitable, plain_item}
 use Rattle.pc_local.specs.Standing.{ItemStands, Names, stands_component, stands_module, stands_nested, stands_plain}
-use Rattle.pc_steps.specs.StepsLocal.{prepare_row}
+use Rattle.pc_inline_items.specs.StepsLocal.{prepare_row}
 
 module _ (t : TypeTable) (ms : List ModuleRecord) where
   -- an item that is passed over

@@ -10,23 +10,23 @@ use Rattle.pc_types.specs.declared.parsed.Entity.TheVariants as entity
 use Rattle.pc_types.specs.declared.parsed.TypeTable.{TypeTable}
 use Rattle.pc_types.specs.TypeTree.{Identity}
 use Rattle.pc_parsed.specs.declared.payload.ExternName.{ExternName}
-use Rattle.pc_reading.specs.Components.{Call, read_call, read_return}
-use Rattle.pc_reading.specs.Imports.{import_resources, importing, prepare}
-use Rattle.pc_reading.specs.Item.{ArgumentOf, Item, Items, and_item, exports_in, import_item}
-use Rattle.pc_reading.specs.Item.{instantiate_component_item, no_items}
-use Rattle.pc_reading.specs.Items.{exports_at}
-use Rattle.pc_reading.specs.Outcome.{Fault, Outcome, and_then, at_item, bad_type, done, fault, found, held, over, past}
-use Rattle.pc_reading.specs.Outcome.{unsupported}
-use Rattle.pc_reading.specs.Reading.{Enter, Return, beginning, begun_in, instantiate, returning}
-use Rattle.pc_reading.specs.Resource.{ResourcePath, is_known, resource_paths}
-use Rattle.pc_reading.specs.Scope.{Moment}
-use Rattle.pc_reading.specs.Total.{body_weight}
-use Rattle.pc_reading.specs.Types.{declared_tree, names_entry}
-use Rattle.pc_reading.specs.Value.{Component, Value, closed}
-use Rattle.pc_reading.specs.World.{World, grown, has_room}
-use Rattle.pc_frames.specs.Today.{built_body, built_child, built_enter, built_item, built_items, built_prepare}
-use Rattle.pc_frames.specs.Today.{built_prepare_all, built_row, is_built_call}
-use Rattle.pc_driver.proofs.RowLemmas.{return_keeps, row_keeps}
+use Rattle.pc_spec_reading.specs.Components.{Call, read_call, read_return}
+use Rattle.pc_spec_reading.specs.Imports.{import_resources, importing, prepare}
+use Rattle.pc_spec_reading.specs.Item.{ArgumentOf, Item, Items, and_item, exports_in, import_item}
+use Rattle.pc_spec_reading.specs.Item.{instantiate_component_item, no_items}
+use Rattle.pc_spec_reading.specs.Items.{exports_at}
+use Rattle.pc_spec_reading.specs.Outcome.{Fault, Outcome, and_then, at_item, bad_type, done, fault, found, held, over, past}
+use Rattle.pc_spec_reading.specs.Outcome.{unsupported}
+use Rattle.pc_spec_reading.specs.Reading.{Enter, Return, beginning, begun_in, instantiate, returning}
+use Rattle.pc_spec_reading.specs.Resource.{ResourcePath, is_known, resource_paths}
+use Rattle.pc_spec_reading.specs.Scope.{Moment}
+use Rattle.pc_spec_reading.specs.Total.{body_weight}
+use Rattle.pc_spec_reading.specs.Types.{declared_tree, names_entry}
+use Rattle.pc_spec_reading.specs.Value.{Component, Value, closed}
+use Rattle.pc_spec_reading.specs.World.{World, grown, has_room}
+use Rattle.pc_inline_state.specs.Today.{built_body, built_child, built_enter, built_item, built_items, built_prepare}
+use Rattle.pc_inline_state.specs.Today.{built_prepare_all, built_row, is_built_call}
+use Rattle.pc_inline_stack.proofs.RowLemmas.{return_keeps, row_keeps}
 
 -- what goes on and is done was done before
 then_done : {A B : Type 0} (o : Outcome A) (go : A → Outcome B) (y : B) → and_then o go ≡ done y

@@ -13,26 +13,26 @@ use Rattle.pc_entity.specs.Lists.{names_of}
 use Rattle.pc_parsed.specs.declared.payload.ExternName.{ExternName}
 use Rattle.pc_parsed.specs.declared.payload.ItemKind.{ItemKind}
 use Rattle.pc_parsed.specs.Mark.{Mark}
-use Rattle.pc_semantics.specs.ExportNode.{ExportNode, NamedNode}
-use Rattle.pc_reading.specs.Nodes.{Finish, extern_data, function_node, reached, refused}
-use Rattle.pc_reading.specs.Outcome.{Outcome, and_then, done, fault, unsupported}
-use Rattle.pc_reading.specs.Scope.{Scope}
-use Rattle.pc_reading.specs.Section.{named_item}
-use Rattle.pc_reading.specs.Value.{Function}
-use Rattle.pc_reading.specs.World.{World}
-use Rattle.pc_frames.specs.declared.error.ItemError.{ItemError}
-use Rattle.pc_frames.specs.declared.error.ItemError.TheVariants as item_error
-use Rattle.pc_frames.specs.declared.error.ItemFault.TheVariants as item_fault
-use Rattle.pc_frames.specs.declared.frame.Frame.{Frame}
-use Rattle.pc_frames.specs.declared.state.State.{State}
-use Rattle.pc_frames.specs.Adds.{Adds}
+use Rattle.pc_spec_plan.specs.ExportNode.{ExportNode, NamedNode}
+use Rattle.pc_spec_reading.specs.Nodes.{Finish, extern_data, function_node, reached, refused}
+use Rattle.pc_spec_reading.specs.Outcome.{Outcome, and_then, done, fault, unsupported}
+use Rattle.pc_spec_reading.specs.Scope.{Scope}
+use Rattle.pc_spec_reading.specs.Section.{named_item}
+use Rattle.pc_spec_reading.specs.Value.{Function}
+use Rattle.pc_spec_reading.specs.World.{World}
+use Rattle.pc_inline_state.specs.declared.error.ItemError.{ItemError}
+use Rattle.pc_inline_state.specs.declared.error.ItemError.TheVariants as item_error
+use Rattle.pc_inline_state.specs.declared.error.ItemFault.TheVariants as item_fault
+use Rattle.pc_inline_state.specs.declared.frame.Frame.{Frame}
+use Rattle.pc_inline_state.specs.declared.state.State.{State}
+use Rattle.pc_inline_state.specs.Adds.{Adds}
 use Rattle.pc_inline.specs.Exports.{NameStands, NodeStands, NumbersExports}
-use Rattle.pc_frames.specs.Frames.{FrameStands}
+use Rattle.pc_inline_state.specs.Frames.{FrameStands}
 use Rattle.pc_inline.specs.Inlines.{export_name}
-use Rattle.pc_frames.specs.Points.{IsFullSomewhere, IsSoundState}
-use Rattle.pc_frames.specs.Tables.{Keeps, tables_of}
-use Rattle.pc_frames.specs.Today.{built_exports}
-use Rattle.pc_frames.specs.Worlds.{WorldStands}
+use Rattle.pc_inline_state.specs.Points.{IsFullSomewhere, IsSoundState}
+use Rattle.pc_inline_state.specs.Tables.{Keeps, tables_of}
+use Rattle.pc_inline_state.specs.Today.{built_exports}
+use Rattle.pc_inline_state.specs.Worlds.{WorldStands}
 
 module _ (t : TypeTable) (ms : List ModuleRecord) where
   -- the root after its items, in a world in which no total is counted, with the nodes of its exports so far

@@ -1,14 +1,14 @@
 -- What the root exports, against the nodes of the reading.
 use Rattle.std.specs.Prelude.{◌≡◌, ℕ, List, Some, length, slice_get}
 use Rattle.std.specs.List.{AllZip}
-use Rattle.pc_interned.specs.Types.{Types}
-use Rattle.pc_semantics.specs.ExportNode.{ExportNode, NamedNode, map_node}
+use Rattle.pc_types_lists.specs.Types.{Types}
+use Rattle.pc_spec_plan.specs.ExportNode.{ExportNode, NamedNode, map_node}
 use Rattle.pc_trampoline.specs.declared.part.Mark.{Mark as Number}
 use Rattle.pc_parsed.specs.Mark.{Mark}
 use Rattle.pc_dfg.specs.declared.dfg.ComponentDfg.{ComponentDfg}
 use Rattle.pc_dfg.specs.Lists.{NamedExport}
 use Rattle.pc_dfg.specs.Nodes.{MeansItem}
-use Rattle.pc_frames.specs.Typed.{Numbered, number_of, whole_of}
+use Rattle.pc_inline_state.specs.Typed.{Numbered, number_of, whole_of}
 
 module _ (types : Types) (g : ComponentDfg) where
   -- an export by number, whatever mark the types of modules have

@@ -5,11 +5,11 @@ use Rattle.pc_types.specs.declared.type_index.TypeFuncIndex.{TypeFuncIndex}
 use Rattle.pc_types.specs.declared.types.ComponentExtern.{ComponentExtern}
 use Rattle.pc_types.specs.declared.types.TypeDef.TheVariants as type
 use Rattle.pc_parsed.specs.declared.payload.ExternName.{ExternName}
-use Rattle.pc_reading.specs.Nodes.{extern_data}
+use Rattle.pc_spec_reading.specs.Nodes.{extern_data}
 use Rattle.pc_dfg.specs.Ordered.{IsOrdered}
-use Rattle.pc_frames.specs.declared.definition.Definition.TheVariants as definition
-use Rattle.pc_frames.specs.declared.definition.DefinitionId.{DefinitionId}
-use Rattle.pc_frames.specs.declared.state.State.{State}
+use Rattle.pc_inline_state.specs.declared.definition.Definition.TheVariants as definition
+use Rattle.pc_inline_state.specs.declared.definition.DefinitionId.{DefinitionId}
+use Rattle.pc_inline_state.specs.declared.state.State.{State}
 
 -- the import of a function, under its name
 abbrev pub function_import : ExternName → TypeFuncIndex → List ℕ × ComponentExtern

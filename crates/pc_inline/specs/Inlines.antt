@@ -1,6 +1,6 @@
 -- What an instantiation answers: the graph that stands for the reading, or why there is none.
 use Rattle.std.specs.Prelude.{◌≡◌, ◌⊎◌, ℕ, List, length, None, Result, Ok, Err}
-use Rattle.pc_interned.specs.Types.{IsFull, Types}
+use Rattle.pc_types_lists.specs.Types.{IsFull, Types}
 use Rattle.pc_types.specs.declared.error.Error.{Error}
 use Rattle.pc_types.specs.declared.error.Error.TheVariants as error
 use Rattle.pc_types.specs.declared.error.Unsupported.TheVariants.{NotBuilt}
@@ -8,16 +8,16 @@ use Rattle.pc_types.specs.declared.module_record.ModuleRecord.{ModuleRecord}
 use Rattle.pc_types.specs.declared.parsed.TypeTable.{TypeTable}
 use Rattle.pc_parsed.specs.declared.payload.ExternName.{ExternName}
 use Rattle.pc_parsed.specs.declared.payload.ItemKind.{ItemKind}
-use Rattle.pc_reading.specs.Item.{Items}
-use Rattle.pc_reading.specs.Outcome.{Outcome, bad_type, done, fault, invalid, over, unsupported}
-use Rattle.pc_reading.specs.Reading.{Reading, reading_of}
-use Rattle.pc_reading.specs.World.{World}
+use Rattle.pc_spec_reading.specs.Item.{Items}
+use Rattle.pc_spec_reading.specs.Outcome.{Outcome, bad_type, done, fault, invalid, over, unsupported}
+use Rattle.pc_spec_reading.specs.Reading.{Reading, reading_of}
+use Rattle.pc_spec_reading.specs.World.{World}
 use Rattle.pc_dfg.specs.declared.dfg.ComponentDfg.{ComponentDfg}
 use Rattle.pc_dfg.specs.Ordered.{IsOrdered}
 use Rattle.pc_inline.specs.Exports.{ExportsStand, NumbersExports}
-use Rattle.pc_frames.specs.Today.{built_reading}
-use Rattle.pc_driver.specs.Totals.{IsPast}
-use Rattle.pc_frames.specs.Worlds.{HasItems, HoldsTypes, IsPlain, WorldStands}
+use Rattle.pc_inline_state.specs.Today.{built_reading}
+use Rattle.pc_inline_stack.specs.Totals.{IsPast}
+use Rattle.pc_inline_state.specs.Worlds.{HasItems, HoldsTypes, IsPlain, WorldStands}
 
 -- the name of an export
 abbrev pub export_name : ExternName × ItemKind × ℕ → List ℕ

@@ -1,31 +1,31 @@
 -- How the instantiation of a root begins and ends.
 use Rattle.std.specs.Prelude.{◌≡◌, ◌<◌, ◌≤◌, ◌+◌, ◌*◌, ◌⊎◌, ⊤, ℕ, true, List, length, Option, None, Some, Result}
 use Rattle.std.specs.Prelude.{Ok, Err, OnOk, sum_by}
-use Rattle.pc_interned.specs.Types.{Types}
+use Rattle.pc_types_lists.specs.Types.{Types}
 use Rattle.pc_types.specs.declared.error.Error.{Error}
 use Rattle.pc_types.specs.declared.error.Error.TheVariants as error
 use Rattle.pc_types.specs.declared.module_record.ModuleRecord.{ModuleRecord}
 use Rattle.pc_types.specs.declared.parsed.TypeTable.{TypeTable}
-use Rattle.pc_reading.specs.Item.{Items}
-use Rattle.pc_reading.specs.Outcome.{bad_type, done, fault, invalid, over, past, unsupported}
-use Rattle.pc_reading.specs.Reading.{Reading}
-use Rattle.pc_reading.specs.Scope.{Moment}
-use Rattle.pc_reading.specs.Total.{body_weight, prepared_weight}
-use Rattle.pc_reading.specs.World.{full}
+use Rattle.pc_spec_reading.specs.Item.{Items}
+use Rattle.pc_spec_reading.specs.Outcome.{bad_type, done, fault, invalid, over, past, unsupported}
+use Rattle.pc_spec_reading.specs.Reading.{Reading}
+use Rattle.pc_spec_reading.specs.Scope.{Moment}
+use Rattle.pc_spec_reading.specs.Total.{body_weight, prepared_weight}
+use Rattle.pc_spec_reading.specs.World.{full}
 use Rattle.pc_local.specs.declared.item.Translation.{Translation}
 use Rattle.pc_local.specs.Standing.{BodyStands, no_names}
 use Rattle.pc_dfg.specs.Lists.{ListName, entries_of}
-use Rattle.pc_frames.specs.declared.frame.Frame.{Frame}
-use Rattle.pc_frames.specs.declared.state.State.{State}
-use Rattle.pc_frames.specs.Adds.{AddsTypes, imports_in}
-use Rattle.pc_driver.specs.Driving.{reading_from}
+use Rattle.pc_inline_state.specs.declared.frame.Frame.{Frame}
+use Rattle.pc_inline_state.specs.declared.state.State.{State}
+use Rattle.pc_inline_state.specs.Adds.{AddsTypes, imports_in}
+use Rattle.pc_inline_stack.specs.Driving.{reading_from}
 use Rattle.pc_inline.specs.Exports.{ExportsStand, NumbersExports}
 use Rattle.pc_inline.specs.Inlines.{last_world}
-use Rattle.pc_frames.specs.Plain.{is_plain_table}
-use Rattle.pc_frames.specs.Points.{IsFullSomewhere, IsSoundState, PointStands}
-use Rattle.pc_frames.specs.Tables.{Keeps, Tables, tables_of}
-use Rattle.pc_frames.specs.Today.{built_reading, built_root}
-use Rattle.pc_frames.specs.Worlds.{WorldStands}
+use Rattle.pc_inline_state.specs.Plain.{is_plain_table}
+use Rattle.pc_inline_state.specs.Points.{IsFullSomewhere, IsSoundState, PointStands}
+use Rattle.pc_inline_state.specs.Tables.{Keeps, Tables, tables_of}
+use Rattle.pc_inline_state.specs.Today.{built_reading, built_root}
+use Rattle.pc_inline_state.specs.Worlds.{WorldStands}
 
 -- a state stands for the reading of a root
 pub record RootRead (t : TypeTable) (ms : List ModuleRecord) (limit : ℕ) (body : Items) (st : State) : Type 0 where

@@ -2,27 +2,27 @@
 
 ghost use Rattle.std.specs.Prelude.{◌≡◌, ◌+◌, ◌++◌, ◌∷◌, [], List, None, length, map, true, IfOk, OnOk};
 ghost use Rattle.pc_entity.specs.Lists.{names_of, value_of};
-ghost use Rattle.pc_semantics.specs.ExportNode.{NamedNode};
+ghost use Rattle.pc_spec_plan.specs.ExportNode.{NamedNode};
 ghost use Rattle.pc_parsed.specs.Mark.{Mark};
 ghost use Rattle.pc_types.specs.Names.{distinct_names};
-ghost use Rattle.pc_reading.specs.Scope.{Scope};
-ghost use Rattle.pc_reading.specs.Value.{Function};
-ghost use Rattle.pc_reading.specs.World.{World};
-ghost use Rattle.pc_frames.specs.declared.frame.Frame.{Frame};
-ghost use Rattle.pc_frames.specs.Adds.{Adds};
-ghost use Rattle.pc_frames.specs.AddsEach.{AddsEach, in_reached};
+ghost use Rattle.pc_spec_reading.specs.Scope.{Scope};
+ghost use Rattle.pc_spec_reading.specs.Value.{Function};
+ghost use Rattle.pc_spec_reading.specs.World.{World};
+ghost use Rattle.pc_inline_state.specs.declared.frame.Frame.{Frame};
+ghost use Rattle.pc_inline_state.specs.Adds.{Adds};
+ghost use Rattle.pc_inline_state.specs.AddsEach.{AddsEach, in_reached};
 ghost use Rattle.pc_inline.specs.Exporting.{ExportsFunc, MakesExports, ReachesNode, RootStands};
 ghost use Rattle.pc_inline.specs.Exports.{NumbersExports};
-ghost use Rattle.pc_frames.specs.Frames.{FuncStands};
+ghost use Rattle.pc_inline_state.specs.Frames.{FuncStands};
 ghost use Rattle.pc_inline.specs.Inlines.{export_name};
-ghost use Rattle.pc_frames.specs.Tables.{Keeps, tables_of};
-ghost use Rattle.pc_frames.specs.Worlds.{HasNoExports};
+ghost use Rattle.pc_inline_state.specs.Tables.{Keeps, tables_of};
+ghost use Rattle.pc_inline_state.specs.Worlds.{HasNoExports};
 
 use crate::prepare::extern_data;
-use pc_canon::options_entry;
 use pc_dfg::Export;
 use pc_entity::{ExportIndex, TryClone};
-use pc_frames::{
+use pc_inline_canon::options_entry;
+use pc_inline_state::{
     Context, Definition, DefinitionId, Frame, ItemError, ItemFault, State, at, error_at,
 };
 use pc_parsed::{ExternName, ItemKind};

@@ -1,17 +1,17 @@
 //! The imports of a root are prepared before its items.
 
 ghost use Rattle.std.specs.Prelude.{◌≡◌, IfErr, IfOk};
-ghost use Rattle.pc_reading.specs.Nodes.{extern_data};
-ghost use Rattle.pc_frames.specs.Adds.{Adds};
-ghost use Rattle.pc_frames.specs.AddsEach.{AddsEach, everywhere};
-ghost use Rattle.pc_frames.specs.Points.{IsInput, IsPoint, Steps};
-ghost use Rattle.pc_frames.specs.Refused.{LacksRoom};
-ghost use Rattle.pc_frames.specs.Tables.{Keeps, tables_of};
-ghost use Rattle.pc_frames.specs.Today.{built_prepare};
+ghost use Rattle.pc_spec_reading.specs.Nodes.{extern_data};
+ghost use Rattle.pc_inline_state.specs.Adds.{Adds};
+ghost use Rattle.pc_inline_state.specs.AddsEach.{AddsEach, everywhere};
+ghost use Rattle.pc_inline_state.specs.Points.{IsInput, IsPoint, Steps};
+ghost use Rattle.pc_inline_state.specs.Refused.{LacksRoom};
+ghost use Rattle.pc_inline_state.specs.Tables.{Keeps, tables_of};
+ghost use Rattle.pc_inline_state.specs.Today.{built_prepare};
 ghost use Rattle.pc_inline.specs.Given.{GivesImport, function_import};
 
 use pc_entity::{NoMemory, Text, TryClone};
-use pc_frames::{Context, Definition, DefinitionId, Frame, ItemError, ItemFault, State};
+use pc_inline_state::{Context, Definition, DefinitionId, Frame, ItemError, ItemFault, State};
 use pc_parsed::ExternName;
 use pc_types::{ComponentExtern, ComponentExternData, Entity, TypeDef, TypeFuncIndex, Unsupported};
 use std::alloc::Global;

@@ -7,7 +7,7 @@ use Rattle.std.proofs.lemmas.Option.{slice_get_read}
 use Rattle.std.proofs.lemmas.Slice.Zip.{all_zipped_more}
 use Rattle.pc_entity.specs.Lists.{Kept}
 use Rattle.pc_entity.proofs.Growing.{slice_get-append}
-use Rattle.pc_reading.specs.Item.{Item, Lent}
+use Rattle.pc_spec_reading.specs.Item.{Item, Lent}
 use Rattle.pc_local.specs.declared.captured.Captured.{Captured}
 use Rattle.pc_local.specs.declared.captured.Variable.{Variable}
 use Rattle.pc_local.specs.declared.captured.Variable.TheVariants as variable

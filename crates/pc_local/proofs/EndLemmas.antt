@@ -6,9 +6,9 @@ use Rattle.std.specs.List.{AllZip}
 use Rattle.std.proofs.lemmas.List.{append-nil, same_from_push}
 use Rattle.pc_entity.specs.Lists.{Kept}
 use Rattle.pc_entity.proofs.Growing.{slice_get-append, slice_get-append_seam}
-use Rattle.pc_reading.specs.Item.{Item, Items, a_module, a_component, bodies_in, component_item, exports_in}
-use Rattle.pc_reading.specs.Nest.{counts_in}
-use Rattle.pc_reading.specs.Section.{named_item}
+use Rattle.pc_spec_reading.specs.Item.{Item, Items, a_module, a_component, bodies_in, component_item, exports_in}
+use Rattle.pc_spec_reading.specs.Nest.{counts_in}
+use Rattle.pc_spec_reading.specs.Section.{named_item}
 use Rattle.pc_local.specs.declared.captured.Captured.{Captured}
 use Rattle.pc_local.specs.declared.captured.Variable.{Variable}
 use Rattle.pc_local.specs.declared.item.LocalInitializer.TheVariants as local

@@ -18,11 +18,11 @@ use Rattle.pc_parsed.specs.declared.payload.InstanceItem.TheVariants as instance
 use Rattle.pc_parsed.specs.declared.payload.TypeItem.{TypeItem}
 use Rattle.pc_parsed.specs.declared.payload.TypeItem.TheVariants as type_
 use Rattle.pc_parsed.specs.ItemFaults.{canon_fault}
-use Rattle.pc_reading.specs.Canonical.{canonical_item}
-use Rattle.pc_reading.specs.Item.{Item, ExportOf, bodies_in, bodies_of, exports_in}
-use Rattle.pc_reading.specs.Nest.{counts_in, counts_of, is_exposed}
-use Rattle.pc_reading.specs.Section as Section
-use Rattle.pc_reading.specs.Section.{named_item}
+use Rattle.pc_spec_reading.specs.Canonical.{canonical_item}
+use Rattle.pc_spec_reading.specs.Item.{Item, ExportOf, bodies_in, bodies_of, exports_in}
+use Rattle.pc_spec_reading.specs.Nest.{counts_in, counts_of, is_exposed}
+use Rattle.pc_spec_reading.specs.Section as Section
+use Rattle.pc_spec_reading.specs.Section.{named_item}
 use Rattle.pc_local.specs.declared.item.LocalInitializer.{LocalInitializer}
 use Rattle.pc_local.specs.declared.item.LocalInitializer.TheVariants as local
 use Rattle.pc_local.specs.declared.item.Translation.{Translation}

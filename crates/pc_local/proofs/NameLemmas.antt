@@ -41,13 +41,13 @@ use Rattle.pc_parsed.specs.Names.{HaveSame}
 use Rattle.pc_parsed.specs.StaticFault.{Around, around, content_fault, exported_names, payload_fault, payloads_error}
 use Rattle.pc_parsed.specs.StaticFault.{static_fault}
 use Rattle.pc_parsed.specs.Structure.{is_due, open_bodies, own_from, own_payloads, structure_fault}
-use Rattle.pc_reading.specs.Canonical.{canonical_item}
-use Rattle.pc_reading.specs.Item.{ExportOf, Item, Items, and_item, before, exports_in, no_items}
-use Rattle.pc_reading.specs.Nest.{Rest, after_component, after_end, after_items, after_payload, after_version, at_end}
-use Rattle.pc_reading.specs.Nest.{broken, counts_in, exposing, is_exposed, nested, opening, rest_of, root_of, whole}
-use Rattle.pc_reading.specs.Nest.{within}
-use Rattle.pc_reading.specs.Section as Section
-use Rattle.pc_reading.specs.Section.{items_of, module_of, modules_after, modules_of}
+use Rattle.pc_spec_reading.specs.Canonical.{canonical_item}
+use Rattle.pc_spec_reading.specs.Item.{ExportOf, Item, Items, and_item, before, exports_in, no_items}
+use Rattle.pc_spec_reading.specs.Nest.{Rest, after_component, after_end, after_items, after_payload, after_version, at_end}
+use Rattle.pc_spec_reading.specs.Nest.{broken, counts_in, exposing, is_exposed, nested, opening, rest_of, root_of, whole}
+use Rattle.pc_spec_reading.specs.Nest.{within}
+use Rattle.pc_spec_reading.specs.Section as Section
+use Rattle.pc_spec_reading.specs.Section.{items_of, module_of, modules_after, modules_of}
 use Rattle.pc_local.specs.declared.item.LocalInitializer.{LocalInitializer}
 use Rattle.pc_local.specs.Entries.{canon_local}
 use Rattle.pc_local.proofs.EntryLemmas.{Agree, agree_none, agree_some, canon_agrees}

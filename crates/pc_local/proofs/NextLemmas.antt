@@ -27,12 +27,12 @@ use Rattle.pc_parsed.specs.declared.payload.Payload.TheVariants as payload
 use Rattle.pc_parsed.specs.ItemFaults.{alias_fault, canon_fault, first_item}
 use Rattle.pc_parsed.specs.StaticFault.{around, content_fault, end_error, payload_fault, payloads_error, static_fault}
 use Rattle.pc_parsed.specs.Structure.{is_due, open_bodies, structure_fault, version_fault, version_of}
-use Rattle.pc_reading.specs.Canonical.{canonical_item}
-use Rattle.pc_reading.specs.Item as Item
-use Rattle.pc_reading.specs.Item.{Item, Items}
-use Rattle.pc_reading.specs.Nest.{counts_in, exposing, nested, rest_of, root_of, whole}
-use Rattle.pc_reading.specs.Section as Section
-use Rattle.pc_reading.specs.Section.{items_of, modules_of, named_item}
+use Rattle.pc_spec_reading.specs.Canonical.{canonical_item}
+use Rattle.pc_spec_reading.specs.Item as Item
+use Rattle.pc_spec_reading.specs.Item.{Item, Items}
+use Rattle.pc_spec_reading.specs.Nest.{counts_in, exposing, nested, rest_of, root_of, whole}
+use Rattle.pc_spec_reading.specs.Section as Section
+use Rattle.pc_spec_reading.specs.Section.{items_of, modules_of, named_item}
 use Rattle.pc_local.specs.declared.item.LocalInitializer.TheVariants as local
 use Rattle.pc_local.specs.declared.item.Translation.{Translation}
 use Rattle.pc_local.specs.Captured as cap

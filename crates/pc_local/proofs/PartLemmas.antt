@@ -14,9 +14,9 @@ use Rattle.pc_parsed.specs.declared.payload.ItemKind.{ItemKind}
 use Rattle.pc_parsed.specs.declared.payload.OuterKind.TheVariants as outer
 use Rattle.pc_types.specs.declared.parsed.CoreKind.{CoreKind}
 use Rattle.pc_parsed.specs.ItemFaults.{alias_fault, fault_or, first_item, unless}
-use Rattle.pc_reading.specs.Item.{Item, Lent, a_module, a_component, outer_item}
-use Rattle.pc_reading.specs.Nest.{counts_in, counts_of}
-use Rattle.pc_reading.specs.Section.{alias_item}
+use Rattle.pc_spec_reading.specs.Item.{Item, Lent, a_module, a_component, outer_item}
+use Rattle.pc_spec_reading.specs.Nest.{counts_in, counts_of}
+use Rattle.pc_spec_reading.specs.Section.{alias_item}
 use Rattle.pc_local.specs.declared.captured.Captured.{Captured}
 use Rattle.pc_local.specs.declared.captured.Variable.{Variable}
 use Rattle.pc_local.specs.declared.item.ClosedOverComponent.{ClosedOverComponent}

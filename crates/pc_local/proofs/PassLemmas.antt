@@ -20,12 +20,12 @@ use Rattle.pc_parsed.specs.declared.payload.Payload.TheVariants as payload
 use Rattle.pc_parsed.specs.ItemFaults.{fault_or}
 use Rattle.pc_parsed.specs.StaticFault.{around, error_or, fault_error, payloads_error}
 use Rattle.pc_parsed.specs.Structure.{is_due, is_opening, nesting, open_behind, open_bodies, stays}
-use Rattle.pc_reading.specs.Item.{Item, Items, bodies_in, component_item}
-use Rattle.pc_reading.specs.Item as Item
-use Rattle.pc_reading.specs.Nest as Nest
-use Rattle.pc_reading.specs.Nest.{Rest, after_items, after_payload, counts_in, exposing, rest_of, whole}
-use Rattle.pc_reading.specs.Section as Section
-use Rattle.pc_reading.specs.Section.{modules_after, modules_of}
+use Rattle.pc_spec_reading.specs.Item.{Item, Items, bodies_in, component_item}
+use Rattle.pc_spec_reading.specs.Item as Item
+use Rattle.pc_spec_reading.specs.Nest as Nest
+use Rattle.pc_spec_reading.specs.Nest.{Rest, after_items, after_payload, counts_in, exposing, rest_of, whole}
+use Rattle.pc_spec_reading.specs.Section as Section
+use Rattle.pc_spec_reading.specs.Section.{modules_after, modules_of}
 use Rattle.pc_local.specs.declared.captured.Captured.{Captured}
 use Rattle.pc_local.specs.declared.item.LocalInitializer.{LocalInitializer}
 use Rattle.pc_local.specs.declared.item.LocalInitializer.TheVariants as local

@@ -2,10 +2,10 @@
 use Rattle.std.proofs.Common.{◌≡◌, ℕ, Bool, true, false, ◌&&◌, List, [], ◌∷◌, ◌++◌, map, Option, Some, None, refl, sym}
 use Rattle.std.proofs.Common.{ap, ◌∙◌, if◌then◌else◌}
 use Rattle.pc_parsed.specs.declared.payload.Encoding.TheVariants as encoding
-use Rattle.pc_reading.specs.Item.{Item, Items, and_item, before, bodies_in, bodies_of, component_item, no_items}
-use Rattle.pc_reading.specs.Nest as Nest
-use Rattle.pc_reading.specs.Nest.{Rest, after_component, after_end, after_items, after_version, counts_in, counts_of}
-use Rattle.pc_reading.specs.Nest.{exposing, is_exposed}
+use Rattle.pc_spec_reading.specs.Item.{Item, Items, and_item, before, bodies_in, bodies_of, component_item, no_items}
+use Rattle.pc_spec_reading.specs.Nest as Nest
+use Rattle.pc_spec_reading.specs.Nest.{Rest, after_component, after_end, after_items, after_version, counts_in, counts_of}
+use Rattle.pc_spec_reading.specs.Nest.{exposing, is_exposed}
 use Rattle.pc_local.proofs.EntryLemmas.{expose}
 use Rattle.pc_local.proofs.StandLemmas.{before_append}
 

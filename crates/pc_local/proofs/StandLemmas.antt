@@ -3,8 +3,8 @@ use Rattle.std.proofs.Common.{◌≡◌, ℕ, Bool, true, false, ◌&&◌, Optio
 use Rattle.std.proofs.Common.{◌∙◌, append_assoc}
 use Rattle.std.specs.List.{AllZip, cons_option}
 use Rattle.pc_entity.specs.Lists.{Kept}
-use Rattle.pc_reading.specs.Item.{Item, Items, ExportOf, and_item, before, bodies_in, bodies_of, exports_in}
-use Rattle.pc_reading.specs.Nest.{counts_in, counts_of}
+use Rattle.pc_spec_reading.specs.Item.{Item, Items, ExportOf, and_item, before, bodies_in, bodies_of, exports_in}
+use Rattle.pc_spec_reading.specs.Nest.{counts_in, counts_of}
 use Rattle.pc_local.specs.declared.item.ClosedOverVars.{ClosedOverVars}
 use Rattle.pc_local.specs.declared.item.LocalInitializer.{LocalInitializer}
 use Rattle.pc_local.specs.declared.item.Translation.{Translation}

@@ -8,10 +8,10 @@ use Rattle.std.proofs.lemmas.Option.{none-some}
 use Rattle.pc_entity.specs.Lists.{Kept}
 use Rattle.pc_parsed.specs.declared.payload.ExternName.{ExternName}
 use Rattle.pc_parsed.specs.declared.payload.ItemKind.{ItemKind}
-use Rattle.pc_reading.specs.Item.{Item, Items, ExportOf, Lent, a_module, a_component, bodies_in, component_item}
-use Rattle.pc_reading.specs.Item.{exports_in}
-use Rattle.pc_reading.specs.Nest.{counts_in}
-use Rattle.pc_reading.specs.Section.{named_item}
+use Rattle.pc_spec_reading.specs.Item.{Item, Items, ExportOf, Lent, a_module, a_component, bodies_in, component_item}
+use Rattle.pc_spec_reading.specs.Item.{exports_in}
+use Rattle.pc_spec_reading.specs.Nest.{counts_in}
+use Rattle.pc_spec_reading.specs.Section.{named_item}
 use Rattle.pc_local.specs.declared.captured.Captured.{Captured}
 use Rattle.pc_local.specs.declared.item.LocalInitializer.{LocalInitializer}
 use Rattle.pc_local.specs.declared.item.Translation.{Translation}

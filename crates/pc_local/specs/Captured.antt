@@ -4,9 +4,9 @@ use Rattle.std.specs.List.{cons_option, filter_map}
 use Rattle.pc_entity.specs.Lists.{Kept}
 use Rattle.pc_parsed.specs.declared.payload.AliasItem.{AliasItem}
 use Rattle.pc_parsed.specs.ItemFaults.{alias_fault, first_item}
-use Rattle.pc_reading.specs.Item.{Item, Items, Lent, a_module, a_component, no_items, before}
-use Rattle.pc_reading.specs.Nest.{counts_in}
-use Rattle.pc_reading.specs.Section.{alias_item}
+use Rattle.pc_spec_reading.specs.Item.{Item, Items, Lent, a_module, a_component, no_items, before}
+use Rattle.pc_spec_reading.specs.Nest.{counts_in}
+use Rattle.pc_spec_reading.specs.Section.{alias_item}
 use Rattle.pc_local.specs.declared.captured.Captured.{Captured}
 use Rattle.pc_local.specs.declared.captured.Variable.{Variable}
 use Rattle.pc_local.specs.declared.item.LocalInitializer.{LocalInitializer}

@@ -12,7 +12,7 @@ use Rattle.pc_parsed.specs.declared.payload.InstanceItem.TheVariants as instance
 use Rattle.pc_parsed.specs.declared.payload.ItemKind.{ItemKind}
 use Rattle.pc_parsed.specs.declared.payload.TypeItem.{TypeItem}
 use Rattle.pc_parsed.specs.declared.payload.TypeItem.TheVariants as type_
-use Rattle.pc_reading.specs.Nest.{is_exposed}
+use Rattle.pc_spec_reading.specs.Nest.{is_exposed}
 use Rattle.pc_local.specs.declared.item.LocalInitializer.{LocalInitializer}
 use Rattle.pc_local.specs.declared.item.LocalInitializer.TheVariants as local
 

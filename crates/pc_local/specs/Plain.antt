@@ -3,9 +3,9 @@ use Rattle.std.specs.Prelude.{Option, Some, None, map}
 use Rattle.pc_types.specs.declared.parsed.WasmValType.TheVariants.{I32}
 use Rattle.pc_parsed.specs.declared.canon.CanonItem.{CanonItem}
 use Rattle.pc_parsed.specs.declared.canon.CanonItem.TheVariants as canon
-use Rattle.pc_reading.specs.Canonical.{canonical_item}
-use Rattle.pc_reading.specs.Item
-use Rattle.pc_reading.specs.Section.{argument_of, named_item}
+use Rattle.pc_spec_reading.specs.Canonical.{canonical_item}
+use Rattle.pc_spec_reading.specs.Item
+use Rattle.pc_spec_reading.specs.Section.{argument_of, named_item}
 use Rattle.pc_local.specs.declared.item.LocalInitializer.{LocalInitializer}
 use Rattle.pc_local.specs.declared.item.LocalInitializer.TheVariants as local
 

@@ -3,9 +3,9 @@
 use Rattle.std.specs.Prelude.{◌≡◌, ℕ, List, Option, Some}
 use Rattle.std.specs.List.{AllZip}
 use Rattle.pc_parsed.specs.declared.payload.Payload.{Payload}
-use Rattle.pc_reading.specs.Item.{Items, bodies_in}
-use Rattle.pc_reading.specs.Nest.{root_of}
-use Rattle.pc_reading.specs.Section.{modules_of}
+use Rattle.pc_spec_reading.specs.Item.{Items, bodies_in}
+use Rattle.pc_spec_reading.specs.Nest.{root_of}
+use Rattle.pc_spec_reading.specs.Section.{modules_of}
 use Rattle.pc_local.specs.declared.item.LocalProgram.{LocalProgram}
 use Rattle.pc_local.specs.Standing.{BodyStands, ComponentStands, no_names}
 

@@ -4,9 +4,9 @@
 -- of the chain, from the innermost out, has under n.
 use Rattle.std.specs.Prelude.{◌≡◌, ℕ, zero, suc, List, [], ◌∷◌, Some, slice_get, map}
 use Rattle.std.specs.List.{AllZip}
-use Rattle.pc_reading.specs.Item.{Item, Items, Lent, a_module, a_component, no_items, and_item, component_item}
-use Rattle.pc_reading.specs.Item.{outer_item, exports_in}
-use Rattle.pc_reading.specs.Section.{named_item}
+use Rattle.pc_spec_reading.specs.Item.{Item, Items, Lent, a_module, a_component, no_items, and_item, component_item}
+use Rattle.pc_spec_reading.specs.Item.{outer_item, exports_in}
+use Rattle.pc_spec_reading.specs.Section.{named_item}
 use Rattle.pc_local.specs.declared.captured.Variable.{Variable}
 use Rattle.pc_local.specs.declared.captured.Variable.TheVariants as variable
 use Rattle.pc_local.specs.declared.item.ClosedOverComponent.{ClosedOverComponent}

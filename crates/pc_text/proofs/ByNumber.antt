@@ -3,8 +3,8 @@ use Rattle.std.proofs.Common.{◌≡◌, ℕ, List, [], ◌∷◌, map, nat_cmp,
 use Rattle.std.proofs.lemmas.Bool.{cond-true, cond-false, cases_Bool}
 use Rattle.std.specs.Prelude.{nat_le}
 use Rattle.std.specs.List.Sorted.{IsNonDecreasingBy, IsStableByKey}
-use Rattle.pc_semantics.specs.PlanView.{AdapterRecord}
-use Rattle.pc_semantics.specs.Text.{by_number, insert_adapter}
+use Rattle.pc_spec_plan.specs.PlanView.{AdapterRecord}
+use Rattle.pc_spec_plan.specs.Text.{by_number, insert_adapter}
 use Rattle.pc_trampoline.specs.declared.part.Mark.{Mark}
 use Rattle.pc_text.proofs.Sorting.{insert_by, insert_by-here, insert_by-past, sort_by, sort_by-from_sort}
 

@@ -2,8 +2,8 @@
 use Rattle.std.proofs.Common.{◌≡◌, ℕ, List, [], ◌∷◌, ◌++◌, append_assoc}
 use Rattle.std.specs.Prelude.{codes}
 use Rattle.std.specs.List.{flat_map}
-use Rattle.pc_semantics.specs.PlanView.{Counts}
-use Rattle.pc_semantics.specs.Text.{counts_line, line_end, number}
+use Rattle.pc_spec_plan.specs.PlanView.{Counts}
+use Rattle.pc_spec_plan.specs.Text.{counts_line, line_end, number}
 
 -- the counts in the order of the line
 abbrev pub numbers : Counts → List ℕ

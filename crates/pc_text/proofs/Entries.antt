@@ -2,7 +2,7 @@
 use Rattle.std.proofs.Common.{◌≡◌, ℕ, ◌+◌, ◌<◌, List, ◌∷◌, ◌++◌, length, map, drop, get_or, ◌∙◌, append_assoc, add-one}
 use Rattle.std.proofs.Math.Seq.{drop-cons}
 use Rattle.std.specs.List.{flat_map}
-use Rattle.pc_semantics.specs.Text.{numbered}
+use Rattle.pc_spec_plan.specs.Text.{numbered}
 
 -- the line of one item was appended, and those after it are left
 pub numbered_done : {A B : Type 0} (line : ℕ → B → List ℕ) (f : A → B) (start before after : List ℕ) (xs : List A)

@@ -9,9 +9,9 @@ use Rattle.std.proofs.lemmas.List.{append-nil, length-append, length-take-le, re
 use Rattle.std.proofs.lemmas.Option.{none-some, same_Some, slice_get_within}
 use Rattle.pc_entity.proofs.Elements.{and_true, true_and}
 use Rattle.pc_types.specs.declared.types.ComponentExternData.{ComponentExternData}
-use Rattle.pc_semantics.specs.PlanView as plan
-use Rattle.pc_semantics.specs.Text.{definition, export_lines, extern_data, line_end, named_lines, nested_lines, number}
-use Rattle.pc_semantics.specs.Text.{quoted}
+use Rattle.pc_spec_plan.specs.PlanView as plan
+use Rattle.pc_spec_plan.specs.Text.{definition, export_lines, extern_data, line_end, named_lines, nested_lines, number}
+use Rattle.pc_spec_plan.specs.Text.{quoted}
 use Rattle.pc_trampoline.specs.declared.part.Mark.{Mark}
 use Rattle.pc_info.specs.declared.component.Component.{Component}
 use Rattle.pc_info.specs.declared.export.Export.{Export}

@@ -14,8 +14,8 @@ use Rattle.pc_numbers.specs.declared.runtime.RuntimePostReturnIndex.{RuntimePost
 use Rattle.pc_numbers.specs.declared.runtime.RuntimeTableIndex.{RuntimeTableIndex}
 use Rattle.pc_types.specs.declared.trampoline.TrampolineKind.{TrampolineKind}
 use Rattle.pc_types.specs.declared.trampoline.TrampolineKind.TheVariants as kind
-use Rattle.pc_semantics.specs.Text.{in_brackets, line_end, number, numbered, part, stem, symbol_end, trampoline_end}
-use Rattle.pc_semantics.specs.Text.{trampoline_line}
+use Rattle.pc_spec_plan.specs.Text.{in_brackets, line_end, number, numbered, part, stem, symbol_end, trampoline_end}
+use Rattle.pc_spec_plan.specs.Text.{trampoline_line}
 use Rattle.pc_trampoline.specs.declared.part.Head.{Head}
 use Rattle.pc_trampoline.specs.declared.part.Head.TheVariants as head
 use Rattle.pc_trampoline.specs.declared.part.Part.{Part}

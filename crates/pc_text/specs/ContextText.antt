@@ -1,6 +1,6 @@
 -- The text of how many bytes the context of a plan takes.
 use Rattle.std.specs.Prelude.{ℕ, List, ◌++◌, Option, codes}
-use Rattle.pc_semantics.specs.Text.{line_end, maybe_number}
+use Rattle.pc_spec_plan.specs.Text.{line_end, maybe_number}
 
 -- a line that begins with this head and ends with a size
 abbrev pub size_line : (head : List ℕ) → (size : Option ℕ) → List ℕ

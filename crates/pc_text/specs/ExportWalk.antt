@@ -1,8 +1,8 @@
 -- The walk through a plan's exports: which instances are open, and what is left to print.
 use Rattle.std.specs.Prelude.{◌≡◌, ℕ, ◌+◌, ◌<◌, ◌≤◌, true, List, [], ◌∷◌, ◌++◌, length, take, codes}
 use Rattle.pc_types.specs.declared.types.ComponentExternData.{ComponentExternData}
-use Rattle.pc_semantics.specs.PlanView as plan
-use Rattle.pc_semantics.specs.Text.{definition, extern_data, line_end, nested_lines, number}
+use Rattle.pc_spec_plan.specs.PlanView as plan
+use Rattle.pc_spec_plan.specs.Text.{definition, extern_data, line_end, nested_lines, number}
 use Rattle.pc_trampoline.specs.declared.part.Mark.{Mark}
 use Rattle.pc_info.specs.declared.export.Export.{Export}
 use Rattle.pc_info.specs.declared.export.Export.TheVariants as export

@@ -6,7 +6,7 @@ use Rattle.pc_types.specs.declared.error.Place.{Place}
 use Rattle.pc_types.specs.declared.error.Place.TheVariants as at
 use Rattle.pc_types.specs.declared.error.Unsupported.{Unsupported}
 use Rattle.pc_types.specs.declared.error.Unsupported.TheVariants as kind
-use Rattle.pc_semantics.specs.Text.{line_end, number}
+use Rattle.pc_spec_plan.specs.Text.{line_end, number}
 
 -- where a fault arose, after a space
 abbrev pub place : Place → List ℕ

@@ -1,4 +1,4 @@
--- What the public contracts rest on, beside the text of a plan in `pc_semantics`.
+-- What the public contracts rest on, beside the text of a plan in `pc_spec_plan`.
 pub mod FaultText
 pub mod UsageText
 pub mod ContextText

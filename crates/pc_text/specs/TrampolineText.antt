@@ -3,7 +3,7 @@ use Rattle.std.specs.Prelude.{ℕ, List, ◌++◌, map}
 use Rattle.std.specs.List.{flat_map}
 use Rattle.pc_numbers.specs.declared.runtime.LoweredIndex.{LoweredIndex}
 use Rattle.pc_numbers.specs.declared.runtime.OptionsIndex.{OptionsIndex}
-use Rattle.pc_semantics.specs.Text.{number, part}
+use Rattle.pc_spec_plan.specs.Text.{number, part}
 use Rattle.pc_trampoline.specs.declared.part.Head.{Head}
 use Rattle.pc_trampoline.specs.declared.part.Head.TheVariants as head
 use Rattle.pc_trampoline.specs.Parts.{list_of}

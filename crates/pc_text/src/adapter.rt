@@ -5,14 +5,14 @@
 
 ghost use Rattle.std.specs.Prelude.{◌≡◌, ◌++◌, codes, map, IfOk, OnOk};
 ghost use Rattle.std.specs.List.{flat_map};
-ghost use Rattle.pc_semantics.specs.Text.{adapter_line, by_number, model, number, plan_options};
+ghost use Rattle.pc_spec_plan.specs.Text.{adapter_line, by_number, model, number, plan_options};
 ghost use Rattle.pc_info.specs.Modules.{adapter_view, adapters_view};
 ghost use Rattle.pc_info.specs.Options.{side_model, side_view};
 ghost use Rattle.pc_text.specs.Placed.{placed_view};
 
 use pc_entity::NoMemory;
 use pc_info::{AdapterRecord, ModuleTranslation, SideRecord};
-use pc_pieces::{async_word, encoding_word, put, put_key, put_maybe_number, put_number};
+use pc_text_pieces::{async_word, encoding_word, put, put_key, put_maybe_number, put_number};
 use std::alloc::Global;
 
 /// Where the values of one side lie.

@@ -4,7 +4,7 @@ ghost use Rattle.std.specs.Prelude.{◌≡◌, ◌++◌, IfOk, OnOk};
 ghost use Rattle.pc_text.specs.ContextText.{context_text, size_line};
 
 use pc_entity::NoMemory;
-use pc_pieces::{put, put_maybe_number};
+use pc_text_pieces::{put, put_maybe_number};
 use std::alloc::Global;
 
 /// A line that begins with this head and ends with a size.

@@ -5,7 +5,7 @@
 
 ghost use Rattle.std.specs.Prelude.{◌≡◌, ◌++◌, ◌∷◌, true, length, codes, reverse, OnOk};
 ghost use Rattle.std.specs.List.{flat_map};
-ghost use Rattle.pc_semantics.specs.Text.{definition, named_lines, number, quoted};
+ghost use Rattle.pc_spec_plan.specs.Text.{definition, named_lines, number, quoted};
 ghost use Rattle.pc_info.specs.Definitions.{def_view};
 ghost use Rattle.pc_info.specs.Exports.{are_behind_their_parts, exports_view, has_items};
 ghost use Rattle.pc_text.specs.ExportWalk.{IsOpen, Steps, item_text, node_line, opened};
@@ -13,7 +13,7 @@ ghost use Rattle.pc_text.specs.ExportWalk.{IsOpen, Steps, item_text, node_line, 
 use pc_entity::{ExportIndex, NoMemory, OptionsIndex, PrimaryMap, Text};
 use pc_info::{Component, CoreDef, Export};
 use pc_names::RawIter;
-use pc_pieces::{put, put_definition, put_extern_data, put_key, put_quoted};
+use pc_text_pieces::{put, put_definition, put_extern_data, put_key, put_quoted};
 use pc_types::ComponentExternData;
 use std::alloc::Global;
 

@@ -1,11 +1,11 @@
 //! The texts of refusals with an `Error`.
 
 ghost use Rattle.std.specs.Prelude.{◌≡◌, ◌≢◌, ◌++◌, codes, IfOk, OnOk};
-ghost use Rattle.pc_semantics.specs.Text.{number};
+ghost use Rattle.pc_spec_plan.specs.Text.{number};
 ghost use Rattle.pc_text.specs.FaultText.{fault_line, fault_text, place, unsupported_word};
 
 use pc_entity::NoMemory;
-use pc_pieces::{put, put_number};
+use pc_text_pieces::{put, put_number};
 use pc_types::{Error, Place, Unsupported};
 use std::alloc::Global;
 

@@ -2,13 +2,13 @@
 
 ghost use Rattle.std.specs.Prelude.{◌≡◌, ◌++◌, codes, map, OnOk};
 ghost use Rattle.pc_numbers.specs.declared.runtime.RuntimeImportIndex.{RuntimeImportIndex};
-ghost use Rattle.pc_semantics.specs.Text.{import_kind, import_line, import_type_line, imported_resource_line};
-ghost use Rattle.pc_semantics.specs.Text.{number, numbered, quoted, spaced_names};
+ghost use Rattle.pc_spec_plan.specs.Text.{import_kind, import_line, import_type_line, imported_resource_line};
+ghost use Rattle.pc_spec_plan.specs.Text.{number, numbered, quoted, spaced_names};
 ghost use Rattle.pc_info.specs.View as seen;
 ghost use Rattle.pc_info.specs.View.{import_type_view, import_view};
 
 use pc_entity::{ImportIndex, NoMemory, RuntimeImportIndex, Seq, Text};
-use pc_pieces::{put, put_extern_data, put_key, put_number, put_quoted};
+use pc_text_pieces::{put, put_extern_data, put_key, put_number, put_quoted};
 use pc_types::{ComponentExtern, TypeDef};
 
 /// The word for a kind of import.

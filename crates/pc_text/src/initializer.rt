@@ -3,8 +3,8 @@
 ghost use Rattle.std.specs.Prelude.{◌≡◌, ◌++◌, codes, map, OnOk};
 ghost use Rattle.std.specs.List.{flat_map};
 ghost use Rattle.pc_info.specs.declared.initializer.GlobalInitializer.TheVariants as init;
-ghost use Rattle.pc_semantics.specs.PlanView as plan;
-ghost use Rattle.pc_semantics.specs.Text.{core_type, definition, initializer_line, line_end, number};
+ghost use Rattle.pc_spec_plan.specs.PlanView as plan;
+ghost use Rattle.pc_spec_plan.specs.Text.{core_type, definition, initializer_line, line_end, number};
 ghost use Rattle.pc_info.specs.Definitions.{arguments_view, def_view, initializer_view, owner_view};
 ghost use Rattle.pc_info.specs.Definitions.{resource_view, source_view};
 
@@ -15,7 +15,7 @@ use pc_entity::{
 use pc_info::{
     CoreDef, ExtractMemory, ExtractTable, GlobalInitializer, InstantiateModule, Resource,
 };
-use pc_pieces::{
+use pc_text_pieces::{
     put, put_arguments, put_definition, put_definitions, put_key, put_maybe_definition,
     put_maybe_key, put_memory, put_number, put_table,
 };

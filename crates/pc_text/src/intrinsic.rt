@@ -1,12 +1,12 @@
 //! The unsafe intrinsics that a plan uses, a line each.
 
 ghost use Rattle.std.specs.Prelude.{◌≡◌, ◌++◌, ◌<◌, map, codes, length, OnOk};
-ghost use Rattle.pc_semantics.specs.Text.{intrinsic_line, intrinsic_name, line_end, numbered};
+ghost use Rattle.pc_spec_plan.specs.Text.{intrinsic_line, intrinsic_name, line_end, numbered};
 ghost use Rattle.pc_types.specs.Intrinsic.{intrinsic_names};
 ghost use Rattle.pc_info.specs.View.{intrinsic_view};
 
 use pc_entity::{ModuleInternedTypeIndex, NoMemory, PackedOption};
-use pc_pieces::put;
+use pc_text_pieces::put;
 use pc_types::UnsafeIntrinsic;
 
 /// How many unsafe intrinsics there are.

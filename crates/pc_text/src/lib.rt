@@ -1,6 +1,6 @@
 //! The printed texts: of a plan, of a refusal, and of the usage.
 //!
-//! A plan or an `Error` goes in, and its text comes out as bytes. `pc_semantics` defines the text of a plan, over the
+//! A plan or an `Error` goes in, and its text comes out as bytes. `pc_spec_plan` defines the text of a plan, over the
 //! view that `pc_info` gives of one; the other texts are defined here.
 #![tactic(auto)]
 

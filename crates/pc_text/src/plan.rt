@@ -3,8 +3,8 @@
 ghost use Rattle.std.specs.Prelude.{◌≡◌, ◌++◌, true, codes, length, map, filter, IfOk, OnOk};
 ghost use Rattle.std.specs.List.{flat_map};
 ghost use Rattle.pc_numbers.specs.declared.runtime.RuntimeImportIndex.{RuntimeImportIndex};
-ghost use Rattle.pc_semantics.specs.Text.{counts_line, import_line, import_type_line, imported_resource_line};
-ghost use Rattle.pc_semantics.specs.Text.{line_end, number, numbered, plan_text};
+ghost use Rattle.pc_spec_plan.specs.Text.{counts_line, import_line, import_type_line, imported_resource_line};
+ghost use Rattle.pc_spec_plan.specs.Text.{line_end, number, numbered, plan_text};
 ghost use Rattle.pc_info.specs.Exports.{has_items};
 ghost use Rattle.pc_info.specs.Modules.{handed_in_view, is_adapter_module};
 ghost use Rattle.pc_info.specs.View.{counts_view, import_type_view, import_view, view};
@@ -17,7 +17,7 @@ use crate::intrinsic::put_intrinsics;
 use crate::trampoline::put_trampolines;
 use pc_entity::{NoMemory, PrimaryMap, StaticModuleIndex};
 use pc_info::{Component, ComponentTranslation, ModuleTranslation};
-use pc_pieces::{put, put_all_options, put_numbers};
+use pc_text_pieces::{put, put_all_options, put_numbers};
 use std::alloc::Global;
 
 /// Whether a module is one of adapters.

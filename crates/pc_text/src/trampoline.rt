@@ -6,8 +6,8 @@
 ghost use Rattle.std.specs.Prelude.{◌≡◌, ◌++◌, List, map, OnOk};
 ghost use Rattle.std.specs.List.{flat_map};
 ghost use Rattle.pc_numbers.specs.declared.module_entity.ModuleInternedTypeIndex.{ModuleInternedTypeIndex};
-ghost use Rattle.pc_semantics.specs.Text.{number, numbered, trampoline_line};
-ghost use Rattle.pc_semantics.specs.Text.{part as part_text};
+ghost use Rattle.pc_spec_plan.specs.Text.{number, numbered, trampoline_line};
+ghost use Rattle.pc_spec_plan.specs.Text.{part as part_text};
 ghost use Rattle.pc_trampoline.specs.Parts.{list_of};
 ghost use Rattle.pc_trampoline.specs.View.{entry_view, part_by, plan_numbers};
 ghost use Rattle.pc_info.specs.View.{trampolines_view};
@@ -17,7 +17,7 @@ use pc_entity::{
     LoweredIndex, ModuleInternedTypeIndex, NoMemory, OptionsIndex, RuntimeComponentInstanceIndex,
 };
 use pc_info::Trampoline;
-use pc_pieces::{async_word, put, put_key, put_maybe_key, put_number};
+use pc_text_pieces::{async_word, put, put_key, put_maybe_key, put_number};
 use pc_trampoline::{Head, Part, PartList, PlanPart, PlanParts};
 use std::alloc::Global;
 

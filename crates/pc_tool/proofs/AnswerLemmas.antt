@@ -8,11 +8,11 @@ use Rattle.pc_info.specs.declared.component.ComponentTranslation.{ComponentTrans
 use Rattle.pc_info.specs.declared.module.ModuleTranslation.{ModuleTranslation}
 use Rattle.pc_info.specs.Exports.{has_items}
 use Rattle.pc_info.specs.View.{view}
-use Rattle.pc_semantics.specs.Text.{plan_text}
+use Rattle.pc_spec_plan.specs.Text.{plan_text}
 use Rattle.pc_offsets.specs.Context.{context_size}
 use Rattle.pc_text.specs.ContextText.{context_text}
 use Rattle.pc_parsed.specs.declared.payload.Payload.{Payload}
-use Rattle.pc_form.specs.declared.input.Input.{Input}
+use Rattle.pc_input.specs.declared.input.Input.{Input}
 use Rattle.pc_translate.specs.Translation.{IsPlanOf, IsRefusalOf}
 use Rattle.pc_tool.specs.declared.words.Command.{Command}
 use Rattle.pc_tool.specs.declared.words.Command.TheVariants as command

@@ -2,15 +2,15 @@
 use Rattle.std.proofs.Common.{◌≡◌, inl, inr, ℕ, Bool, true, false, List, Option, Some, None, ap, subst, sym, ◌∙◌}
 use Rattle.std.proofs.lemmas.Option.{same_Some}
 use Rattle.serde_json.specs.Data.{Data}
-use Rattle.pc_reading.specs.Item.{Items}
-use Rattle.pc_reading.specs.Outcome.{Outcome, Fault, done, fault, over}
-use Rattle.pc_reading.specs.Reading.{Reading}
+use Rattle.pc_spec_reading.specs.Item.{Items}
+use Rattle.pc_spec_reading.specs.Outcome.{Outcome, Fault, done, fault, over}
+use Rattle.pc_spec_reading.specs.Reading.{Reading}
 use Rattle.pc_types.specs.declared.error.Error.{Error}
 use Rattle.pc_types.specs.declared.error.Place.{Place}
-use Rattle.pc_form.specs.declared.input.Input.{Input}
-use Rattle.pc_form.specs.Input.{input_of, tree_of}
-use Rattle.pc_json.specs.Rules.{plain}
-use Rattle.pc_json.specs.Tree.{◌>>=◌}
+use Rattle.pc_input.specs.declared.input.Input.{Input}
+use Rattle.pc_input.specs.Input.{input_of, tree_of}
+use Rattle.pc_input_values.specs.Rules.{plain}
+use Rattle.pc_input_values.specs.Tree.{◌>>=◌}
 use Rattle.pc_tool.specs.Headline.{Decodes, IsNotJson, IsBadForm, IsPlanFor, IsTextOf, HasFault, too_long, static}
 use Rattle.pc_tool.specs.Headline.{compound, faulty, endless, later, unbuilt, IsRefused}
 use Rattle.pc_info.specs.declared.component.ComponentTranslation.{ComponentTranslation}

@@ -6,7 +6,7 @@ use Rattle.pc_types.specs.declared.error.Error.{Error}
 use Rattle.pc_types.specs.declared.error.Error.TheVariants as error
 use Rattle.pc_info.specs.declared.component.ComponentTranslation.{ComponentTranslation}
 use Rattle.pc_info.specs.declared.module.ModuleTranslation.{ModuleTranslation}
-use Rattle.pc_form.specs.declared.input.Input.{Input}
+use Rattle.pc_input.specs.declared.input.Input.{Input}
 use Rattle.pc_tool.specs.declared.answer.Answer.{Answer}
 use Rattle.pc_tool.specs.declared.answer.Answer.TheVariants as answer
 use Rattle.pc_tool.specs.declared.words.Command.{Command}

@@ -5,7 +5,7 @@ use Rattle.serde_json.specs.Data.{Data}
 use Rattle.pc_types.specs.declared.error.Error.{Error}
 use Rattle.pc_types.specs.declared.error.Error.TheVariants as error
 use Rattle.pc_types.specs.declared.error.Place.{Place}
-use Rattle.pc_semantics.specs.Text.{plan_text}
+use Rattle.pc_spec_plan.specs.Text.{plan_text}
 use Rattle.pc_info.specs.declared.component.ComponentTranslation.{ComponentTranslation}
 use Rattle.pc_info.specs.declared.module.ModuleTranslation.{ModuleTranslation}
 use Rattle.pc_info.specs.View.{view}
@@ -14,12 +14,12 @@ use Rattle.pc_text.specs.ContextText.{context_text}
 use Rattle.pc_text.specs.FaultText.{fault_text, not_json, bad_form}
 use Rattle.pc_parsed.specs.Program.{is_numbered}
 use Rattle.pc_parsed.specs.StaticFault.{static_fault}
-use Rattle.pc_reading.specs.Outcome.{Fault, Outcome, fault, over}
-use Rattle.pc_reading.specs.Reading.{Reading}
-use Rattle.pc_form.specs.declared.input.Input.{Input}
-use Rattle.pc_form.specs.Input.{input_in, input_of, tree_of}
-use Rattle.pc_json.specs.Rules.{plain}
-use Rattle.pc_frames.specs.Plain.{is_plain_table}
+use Rattle.pc_spec_reading.specs.Outcome.{Fault, Outcome, fault, over}
+use Rattle.pc_spec_reading.specs.Reading.{Reading}
+use Rattle.pc_input.specs.declared.input.Input.{Input}
+use Rattle.pc_input.specs.Input.{input_in, input_of, tree_of}
+use Rattle.pc_input_values.specs.Rules.{plain}
+use Rattle.pc_inline_state.specs.Plain.{is_plain_table}
 use Rattle.pc_translate.specs.Causes.{HasRoot, are_built, built_meaning, meaning}
 use Rattle.pc_translate.specs.Translation.{IsPlanOf, IsRefusalOf}
 use Rattle.pc_tool.specs.declared.words.Command.{Command}

@@ -13,8 +13,8 @@ ghost use Rattle.pc_tool.specs.declared.answer.Unanswered.TheVariants as unanswe
 use crate::Status;
 use crate::words::Command;
 use pc_entity::{NoMemory, PrimaryMap, StaticModuleIndex};
-use pc_form::{DecodeError, Input, decode_input};
 use pc_info::{ComponentTranslation, ModuleTranslation};
+use pc_input::{DecodeError, Input, decode_input};
 use pc_offsets::{PtrWidth, VMComponentOffsets};
 use pc_stream::{ReadEnd, Source, read_all};
 use pc_text::{bad_form_text, context_text, fault_text, not_json_text, plan_text, too_long_text};

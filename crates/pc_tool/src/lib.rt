@@ -11,7 +11,7 @@ mod status;
 mod words;
 
 pub use command::run;
-pub use pc_form::{DecodeError, Input, decode_input};
+pub use pc_input::{DecodeError, Input, decode_input};
 pub use pc_stream::{
     Failed, MemSink, MemSource, Sink, Source, StdSink, StdSource, SureSink, SureSource,
 };

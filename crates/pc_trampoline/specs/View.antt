@@ -9,8 +9,8 @@ use Rattle.pc_numbers.specs.declared.runtime.RuntimePostReturnIndex.{RuntimePost
 use Rattle.pc_numbers.specs.declared.runtime.RuntimeTableIndex.{RuntimeTableIndex}
 use Rattle.pc_types.specs.declared.trampoline.TrampolineKind.{TrampolineKind}
 use Rattle.pc_types.specs.declared.types.TypeDef.TheVariants as def
-use Rattle.pc_semantics.specs.PlanView as plan
-use Rattle.pc_semantics.specs.Text.{stem, symbol_end}
+use Rattle.pc_spec_plan.specs.PlanView as plan
+use Rattle.pc_spec_plan.specs.Text.{stem, symbol_end}
 use Rattle.pc_trampoline.specs.declared.part.Head.{Head}
 use Rattle.pc_trampoline.specs.declared.part.Head.TheVariants as head
 use Rattle.pc_trampoline.specs.declared.part.Mark.{Mark}

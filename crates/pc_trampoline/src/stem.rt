@@ -1,7 +1,7 @@
 //! The first part of a symbol.
 
 ghost use Rattle.std.specs.Prelude.{◌≡◌};
-ghost use Rattle.pc_semantics.specs.Text.{stem};
+ghost use Rattle.pc_spec_plan.specs.Text.{stem};
 
 use pc_types::TrampolineKind as Kind;
 

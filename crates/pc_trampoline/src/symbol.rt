@@ -2,7 +2,7 @@
 
 ghost use Rattle.std.specs.Prelude.{◌≡◌, ◌++◌, ◌∷◌, [], codes, flat_map, string_bytes, IfOk, OnOk};
 ghost use Rattle.std.specs.Fmt.{decimal};
-ghost use Rattle.pc_semantics.specs.Text.{in_brackets, symbol_end};
+ghost use Rattle.pc_spec_plan.specs.Text.{in_brackets, symbol_end};
 ghost use Rattle.pc_types.specs.declared.trampoline.TrampolineKind.TheVariants as kind;
 ghost use Rattle.pc_trampoline.specs.Parts.{list_of, parts_of};
 ghost use Rattle.pc_trampoline.specs.Shape.{IsShaped};

@@ -1,7 +1,7 @@
 //! How a string is copied from one memory into another, and why an adapter may trap.
 
 ghost use Rattle.std.specs.Prelude.{◌≡◌, Some, slice_get};
-ghost use Rattle.pc_semantics.specs.Text.{transcodings};
+ghost use Rattle.pc_spec_plan.specs.Text.{transcodings};
 ghost use Rattle.pc_trampoline.specs.Transcoding.{alignment_of, descriptions, place_of, width_of};
 
 /// An encoding of strings that is known when an adapter is compiled.

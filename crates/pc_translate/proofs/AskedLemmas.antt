@@ -8,24 +8,24 @@ use Rattle.std.proofs.lemmas.Option.{none-some, same_Some, slice_get-map}
 use Rattle.pc_entity.specs.Lists.{AreDistinct}
 use Rattle.pc_entity.proofs.Elements.{true_and}
 use Rattle.pc_entity.proofs.Naming.{bytes_eq-refl}
-use Rattle.pc_interned.specs.Types.{Types}
+use Rattle.pc_types_lists.specs.Types.{Types}
 use Rattle.pc_numbers.specs.declared.runtime.ImportIndex.{ImportIndex}
 use Rattle.pc_numbers.specs.declared.runtime.RuntimeImportIndex.{RuntimeImportIndex}
 use Rattle.pc_types.specs.declared.module_record.ModuleRecord.{ModuleRecord}
 use Rattle.pc_types.specs.TypeTree.{Path}
-use Rattle.pc_semantics.specs.Log.{Entry}
-use Rattle.pc_semantics.specs.PlanView.{RuntimeImport}
+use Rattle.pc_spec_plan.specs.Log.{Entry}
+use Rattle.pc_spec_plan.specs.PlanView.{RuntimeImport}
 use Rattle.pc_info.specs.declared.component.ComponentTranslation.{ComponentTranslation}
 use Rattle.pc_info.specs.View.{import_type_view, import_view, view}
 use Rattle.pc_trampoline.specs.declared.part.Mark.{Mark}
 use Rattle.pc_parsed.specs.Mark as reading
-use Rattle.pc_reading.specs.Reading.{Reading}
-use Rattle.pc_reading.specs.SameTypes.{same_names, same_path}
+use Rattle.pc_spec_reading.specs.Reading.{Reading}
+use Rattle.pc_spec_reading.specs.SameTypes.{same_names, same_path}
 use Rattle.pc_dfg.specs.declared.dfg.ComponentDfg.{ComponentDfg}
-use Rattle.pc_finish.specs.Finishes.{Finishes}
+use Rattle.pc_dfg_finish.specs.Finishes.{Finishes}
 use Rattle.pc_inline.specs.Inlines.{GraphStands}
-use Rattle.pc_frames.specs.Worlds as world
-use Rattle.pc_frames.specs.Worlds.{ImportStands, needed_path, paths_needed, with_path}
+use Rattle.pc_inline_state.specs.Worlds as world
+use Rattle.pc_inline_state.specs.Worlds.{ImportStands, needed_path, paths_needed, with_path}
 use Rattle.pc_translate.proofs.ListLemmas.{push_place, zip_mapped}
 use Rattle.pc_translate.specs.Asked.{AsksHost, IsImport, path_of}
 use Rattle.pc_translate.specs.Planning.{as_handed_in}

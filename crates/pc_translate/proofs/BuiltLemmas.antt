@@ -15,9 +15,9 @@ use Rattle.pc_parsed.specs.declared.payload.Payload.{Payload}
 use Rattle.pc_types.specs.declared.parsed.WasmValType.TheVariants as val
 use Rattle.pc_parsed.specs.Program.{is_numbered, not_built}
 use Rattle.pc_parsed.specs.StaticFault.{static_fault}
-use Rattle.pc_reading.specs.Canonical.{canonical_item}
-use Rattle.pc_reading.specs.Item
-use Rattle.pc_reading.specs.Item.{ArgumentOf, ExportOf, Item, Items}
+use Rattle.pc_spec_reading.specs.Canonical.{canonical_item}
+use Rattle.pc_spec_reading.specs.Item
+use Rattle.pc_spec_reading.specs.Item.{ArgumentOf, ExportOf, Item, Items}
 use Rattle.pc_local.specs.declared.item.LocalInitializer.{LocalInitializer}
 use Rattle.pc_local.specs.declared.item.LocalInitializer.TheVariants as local
 use Rattle.pc_local.specs.declared.item.LocalProgram.{LocalProgram}
@@ -26,11 +26,11 @@ use Rattle.pc_local.specs.Plain.{context_of, if_builtin, if_error_context, if_wa
 use Rattle.pc_local.specs.Program.{ProgramStands}
 use Rattle.pc_local.specs.Standing.{ItemStands, ItemsStand, Names, stand_more, stand_none, stands_component}
 use Rattle.pc_local.specs.Standing.{stands_module, stands_nested, stands_plain}
-use Rattle.pc_reading.specs.Section.{argument_of, named_item}
-use Rattle.pc_frames.specs.Plain.{is_plain_table}
-use Rattle.pc_frames.specs.Today.{can_instantiate, has_no_resource, is_built_import, is_built_item, is_built_kind}
+use Rattle.pc_spec_reading.specs.Section.{argument_of, named_item}
+use Rattle.pc_inline_state.specs.Plain.{is_plain_table}
+use Rattle.pc_inline_state.specs.Today.{can_instantiate, has_no_resource, is_built_import, is_built_item, is_built_kind}
 use Rattle.pc_translate.specs.Causes.{CanBeRead, HasCause, HasOwnCause, HasRoot, are_built}
-use Rattle.pc_frames.specs.Kinds.{import_kind, kinds_of}
+use Rattle.pc_inline_state.specs.Kinds.{import_kind, kinds_of}
 use Rattle.pc_translate.specs.Planning.{is_built_local}
 
 -- a test of each of mapped values is one of each value

@@ -5,7 +5,7 @@ use Rattle.std.specs.List.{list_all}
 use Rattle.std.specs.Result.{IsErrAnd}
 use Rattle.std.proofs.lemmas.Option.{same_Some}
 use Rattle.std.proofs.lemmas.Simd.{map-map}
-use Rattle.pc_interned.specs.Types.{IsBuilder, Types}
+use Rattle.pc_types_lists.specs.Types.{IsBuilder, Types}
 use Rattle.pc_types.specs.declared.error.Error.{Error}
 use Rattle.pc_types.specs.declared.error.Error.TheVariants as error
 use Rattle.pc_types.specs.declared.error.Place.{Place}
@@ -21,18 +21,18 @@ use Rattle.pc_parsed.specs.declared.payload.Payload.{Payload}
 use Rattle.pc_parsed.specs.Program.{is_numbered}
 use Rattle.pc_parsed.specs.StaticFault.{static_fault}
 use Rattle.pc_parsed.proofs.KindLemmas.{IsStatic, static_kind}
-use Rattle.pc_reading.specs.Item.{ExportOf, Items, exports_in}
-use Rattle.pc_reading.specs.Nest.{root_of}
-use Rattle.pc_reading.specs.Outcome.{bad_type, fault, invalid, over}
-use Rattle.pc_reading.specs.Outcome as outcome
-use Rattle.pc_reading.specs.Section.{modules_of, named_item}
+use Rattle.pc_spec_reading.specs.Item.{ExportOf, Items, exports_in}
+use Rattle.pc_spec_reading.specs.Nest.{root_of}
+use Rattle.pc_spec_reading.specs.Outcome.{bad_type, fault, invalid, over}
+use Rattle.pc_spec_reading.specs.Outcome as outcome
+use Rattle.pc_spec_reading.specs.Section.{modules_of, named_item}
 use Rattle.pc_local.proofs.NameLemmas.{modules_sound, root_names}
 use Rattle.pc_local.specs.declared.item.LocalProgram.{LocalProgram}
 use Rattle.pc_local.specs.Program.{ProgramStands}
 use Rattle.pc_local.specs.Standing.{BodyStands, no_names}
 use Rattle.pc_inline.specs.Inlines.{IsFault, export_name}
-use Rattle.pc_driver.specs.Totals.{GainsFew}
-use Rattle.pc_frames.specs.Plain.{is_plain_table}
+use Rattle.pc_inline_stack.specs.Totals.{GainsFew}
+use Rattle.pc_inline_state.specs.Plain.{is_plain_table}
 use Rattle.pc_translate.proofs.PassingLemmas.{passed_err}
 use Rattle.pc_translate.proofs.FlawLemmas.{IsFlawError, static_flaw}
 use Rattle.pc_translate.proofs.TranslatesLemmas.{root_built, root_end, translates}

@@ -5,32 +5,32 @@ use Rattle.std.specs.List.{AllZip, cons_option, filter_map}
 use Rattle.std.proofs.lemmas.Option.{none-some, same_Some}
 use Rattle.pc_entity.specs.declared.packed_option.PackedOption.{PackedOption}
 use Rattle.pc_entity.specs.declared.packed_option.PackedOption.TheVariants as packed
-use Rattle.pc_interned.specs.Types.{Types}
+use Rattle.pc_types_lists.specs.Types.{Types}
 use Rattle.pc_numbers.specs.declared.module_entity.ModuleInternedTypeIndex.{ModuleInternedTypeIndex}
 use Rattle.pc_numbers.specs.declared.runtime.RuntimeComponentInstanceIndex.{RuntimeComponentInstanceIndex}
 use Rattle.pc_types.specs.declared.intrinsic.UnsafeIntrinsic.{UnsafeIntrinsic}
 use Rattle.pc_types.specs.declared.module_record.ModuleRecord.{ModuleRecord}
 use Rattle.pc_types.specs.declared.parsed.CoreKind.{CoreKind}
-use Rattle.pc_semantics.specs.Machine.{State}
-use Rattle.pc_semantics.specs.Log.{Entry, declared, declared_resource, instantiated, made, map_entry, needed, trace}
+use Rattle.pc_spec_plan.specs.Machine.{State}
+use Rattle.pc_spec_plan.specs.Log.{Entry, declared, declared_resource, instantiated, made, map_entry, needed, trace}
 use Rattle.pc_trampoline.specs.declared.part.Mark.{Mark}
 use Rattle.pc_info.specs.declared.component.ComponentTranslation.{ComponentTranslation}
 use Rattle.pc_info.specs.declared.module.ModuleTranslation.{ModuleTranslation}
 use Rattle.pc_info.specs.View.{intrinsic_view, view}
 use Rattle.pc_parsed.specs.Mark as reading
-use Rattle.pc_reading.specs.Reading.{Reading}
+use Rattle.pc_spec_reading.specs.Reading.{Reading}
 use Rattle.pc_dfg.specs.declared.core_def.CoreDef.TheVariants as def
 use Rattle.pc_dfg.specs.declared.dfg.ComponentDfg.{ComponentDfg}
 use Rattle.pc_dfg.specs.declared.instance.Resource.{Resource}
 use Rattle.pc_dfg.specs.declared.instance.SideEffect.{SideEffect}
 use Rattle.pc_dfg.specs.Effects.{MeansEffect, means_declared, means_made}
 use Rattle.pc_dfg.proofs.UniqueLemmas.{means_unique}
-use Rattle.pc_finish.specs.Finishes.{Finishes, StandsForOne}
+use Rattle.pc_dfg_finish.specs.Finishes.{Finishes, StandsForOne}
 use Rattle.pc_inline.specs.Inlines.{GraphStands}
-use Rattle.pc_frames.specs.Tables.{IsItem}
-use Rattle.pc_frames.specs.Today.{is_made}
-use Rattle.pc_frames.specs.Typed.{number_of, whole_of}
-use Rattle.pc_frames.specs.Worlds.{EffectStands}
+use Rattle.pc_inline_state.specs.Tables.{IsItem}
+use Rattle.pc_inline_state.specs.Today.{is_made}
+use Rattle.pc_inline_state.specs.Typed.{number_of, whole_of}
+use Rattle.pc_inline_state.specs.Worlds.{EffectStands}
 use Rattle.pc_translate.proofs.ListLemmas.{none_counted}
 use Rattle.pc_translate.proofs.WiredLemmas.{no_adapters, none_at, occurring_item}
 use Rattle.pc_translate.specs.Asked.{AreSigned, Declares, HasDeclared, resource_owner}

@@ -1,20 +1,20 @@
 -- What is the same with types is the same without them.
 use Rattle.std.proofs.Common.{◌≡◌, List, [], ◌∷◌, map, Some, refl, sym, ap, ◌∙◌}
 use Rattle.std.specs.Prelude.{option_map}
-use Rattle.pc_builder.specs.Types.{Types}
+use Rattle.pc_types_builder.specs.Types.{Types}
 use Rattle.pc_trampoline.specs.declared.part.Mark.{Mark}
-use Rattle.pc_reading.specs.Reading.{Reading}
-use Rattle.pc_semantics.specs.CoreValue as value
-use Rattle.pc_semantics.specs.CoreValue.{CoreValue, Options, DataModel, MaybeValue, Parts, Part, map_value, map_options}
-use Rattle.pc_semantics.specs.CoreValue.{map_model, map_maybe, map_parts, map_part, erased}
-use Rattle.pc_semantics.specs.ExportNode as node
-use Rattle.pc_semantics.specs.ExportNode.{ExportNode, ExportNodes, NamedNode, map_node, map_nodes, map_named}
-use Rattle.pc_semantics.specs.ExportNode.{erase_named}
-use Rattle.pc_semantics.specs.Log.{Entry, Instantiation, NamedArgument, Owned, declared, declared_resource, erase_entry}
-use Rattle.pc_semantics.specs.Log.{erase_owned, instantiated, made, map_argument, map_entry, map_instantiation}
-use Rattle.pc_semantics.specs.Log.{map_owned, needed, of_host, of_static}
-use Rattle.pc_semantics.specs.PlanView.{PlanView}
-use Rattle.pc_frames.specs.Typed.{number_of, whole_of}
+use Rattle.pc_spec_reading.specs.Reading.{Reading}
+use Rattle.pc_spec_plan.specs.CoreValue as value
+use Rattle.pc_spec_plan.specs.CoreValue.{CoreValue, Options, DataModel, MaybeValue, Parts, Part, map_value, map_options}
+use Rattle.pc_spec_plan.specs.CoreValue.{map_model, map_maybe, map_parts, map_part, erased}
+use Rattle.pc_spec_plan.specs.ExportNode as node
+use Rattle.pc_spec_plan.specs.ExportNode.{ExportNode, ExportNodes, NamedNode, map_node, map_nodes, map_named}
+use Rattle.pc_spec_plan.specs.ExportNode.{erase_named}
+use Rattle.pc_spec_plan.specs.Log.{Entry, Instantiation, NamedArgument, Owned, declared, declared_resource, erase_entry}
+use Rattle.pc_spec_plan.specs.Log.{erase_owned, instantiated, made, map_argument, map_entry, map_instantiation}
+use Rattle.pc_spec_plan.specs.Log.{map_owned, needed, of_host, of_static}
+use Rattle.pc_spec_plan.specs.PlanView.{PlanView}
+use Rattle.pc_inline_state.specs.Typed.{number_of, whole_of}
 use Rattle.pc_translate.specs.Translation.{DoesAs}
 use Rattle.pc_translate.specs.Typed.{TypedAs}
 

@@ -1,10 +1,10 @@
 -- What a plan names is held, its exports have their items, and it counts what it has.
 use Rattle.std.proofs.Common.{◌≡◌, ◌<◌, ℕ, List, length, map, Some, sym, ap, subst, ◌∙◌}
 use Rattle.std.specs.Prelude.{slice_get}
-use Rattle.pc_interned.specs.Types.{Types}
+use Rattle.pc_types_lists.specs.Types.{Types}
 use Rattle.pc_types.specs.declared.module_record.ModuleRecord.{ModuleRecord}
 use Rattle.pc_types.specs.declared.type_index.TypeFuncIndex.{TypeFuncIndex}
-use Rattle.pc_semantics.specs.Counts.{own_counts}
+use Rattle.pc_spec_plan.specs.Counts.{own_counts}
 use Rattle.pc_names.specs.Stands.{StandsFor}
 use Rattle.pc_trampoline.specs.declared.part.Mark.{Mark}
 use Rattle.pc_info.specs.declared.component.ComponentTranslation.{ComponentTranslation}
@@ -12,16 +12,16 @@ use Rattle.pc_info.specs.declared.export.Export.{Export as PlanItem}
 use Rattle.pc_info.specs.declared.export.Export.TheVariants as item
 use Rattle.pc_info.specs.declared.options.CanonicalOptions.{CanonicalOptions as PlanOptions}
 use Rattle.pc_info.specs.View.{counts_view, view}
-use Rattle.pc_reading.specs.Reading.{Reading}
+use Rattle.pc_spec_reading.specs.Reading.{Reading}
 use Rattle.pc_dfg.specs.declared.dfg.ComponentDfg.{ComponentDfg}
 use Rattle.pc_dfg.specs.declared.export.Export.{Export}
 use Rattle.pc_dfg.specs.declared.export.Export.TheVariants as export
 use Rattle.pc_dfg.specs.Lists.{NamedExport}
 use Rattle.pc_entity.specs.Lists.{AreDistinct}
-use Rattle.pc_finish.specs.Apart.{TellsSlots, module_of}
-use Rattle.pc_finish.specs.Finishes.{Finishes, IsItem, IsOptionsOf}
+use Rattle.pc_dfg_finish.specs.Apart.{TellsSlots, module_of}
+use Rattle.pc_dfg_finish.specs.Finishes.{Finishes, IsItem, IsOptionsOf}
 use Rattle.pc_inline.specs.Inlines.{GraphStands}
-use Rattle.pc_frames.specs.Worlds.{IsLifted}
+use Rattle.pc_inline_state.specs.Worlds.{IsLifted}
 use Rattle.pc_translate.proofs.DeclaredLemmas.{no_intrinsic}
 use Rattle.pc_translate.proofs.ListLemmas.{zip_behind, zip_length}
 use Rattle.pc_translate.proofs.WiredLemmas.{none_at}

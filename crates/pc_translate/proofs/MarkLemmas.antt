@@ -2,20 +2,20 @@
 -- as a number and whole.
 use Rattle.std.proofs.Common.{◌≡◌, ℕ, List, [], ◌∷◌, map, refl}
 use Rattle.std.specs.List.{AllZip}
-use Rattle.pc_interned.specs.Types.{Types}
+use Rattle.pc_types_lists.specs.Types.{Types}
 use Rattle.pc_trampoline.specs.declared.part.Mark.{Mark}
 use Rattle.pc_parsed.specs.Mark as reading
-use Rattle.pc_semantics.specs.ExportNode.{NamedNode, map_named}
-use Rattle.pc_semantics.specs.Log.{Entry, declared, declared_resource, instances_of, instantiated, made, map_entry}
-use Rattle.pc_semantics.specs.Log.{map_instantiation, map_owned, needed, trace}
+use Rattle.pc_spec_plan.specs.ExportNode.{NamedNode, map_named}
+use Rattle.pc_spec_plan.specs.Log.{Entry, declared, declared_resource, instances_of, instantiated, made, map_entry}
+use Rattle.pc_spec_plan.specs.Log.{map_instantiation, map_owned, needed, trace}
 use Rattle.pc_dfg.specs.declared.dfg.ComponentDfg.{ComponentDfg}
 use Rattle.pc_dfg.specs.declared.instance.SideEffect.{SideEffect}
 use Rattle.pc_dfg.specs.Effects.{MeansEffect}
 use Rattle.pc_dfg.specs.Lists.{NamedExport}
 use Rattle.pc_dfg.specs.Nodes.{MeansName}
 use Rattle.pc_inline.specs.Exports.{NameStands}
-use Rattle.pc_frames.specs.Typed.{Numbered, number_of, whole_of}
-use Rattle.pc_frames.specs.Worlds.{EffectStands}
+use Rattle.pc_inline_state.specs.Typed.{Numbered, number_of, whole_of}
+use Rattle.pc_inline_state.specs.Worlds.{EffectStands}
 
 -- the core instances of entries whose marks are mapped
 pub instances_mapped : {τ υ : Type 0} (f : τ → υ) (es : List (Entry τ))

@@ -13,18 +13,18 @@ use Rattle.pc_types.specs.declared.parsed.TypeTable.{TypeTable}
 use Rattle.pc_types.specs.declared.type_index.TypeModuleIndex.{TypeModuleIndex}
 use Rattle.pc_types.specs.declared.types.TypeDef.TheVariants as def
 use Rattle.pc_types.specs.Table.{is_module, is_some_and}
-use Rattle.pc_builder.specs.Types.{Grows, Types}
-use Rattle.pc_builder.specs.Trees.{IsEntry}
-use Rattle.pc_builder.proofs.TreeLemmas.{entry_grows}
+use Rattle.pc_types_builder.specs.Types.{Grows, Types}
+use Rattle.pc_types_builder.specs.Trees.{IsEntry}
+use Rattle.pc_types_builder.proofs.TreeLemmas.{entry_grows}
 use Rattle.pc_trampoline.specs.declared.part.Mark.TheVariants as mark
 use Rattle.pc_info.specs.declared.component.ComponentTranslation.{ComponentTranslation}
 use Rattle.pc_dfg.specs.declared.dfg.ComponentDfg.{ComponentDfg}
 use Rattle.pc_dfg.specs.declared.export.Export.{Export}
 use Rattle.pc_dfg.specs.declared.export.Export.TheVariants as export
-use Rattle.pc_linearize.specs.declared.error.FinishError.{FinishError}
-use Rattle.pc_linearize.proofs.AllLemmas.{all_at}
-use Rattle.pc_finish.specs.Finishes.{Finishes}
-use Rattle.pc_finish.specs.ModuleTypes.{IsTyped, module_mark, static_type, type_at}
+use Rattle.pc_dfg_linearize.specs.declared.error.FinishError.{FinishError}
+use Rattle.pc_dfg_linearize.proofs.AllLemmas.{all_at}
+use Rattle.pc_dfg_finish.specs.Finishes.{Finishes}
+use Rattle.pc_dfg_finish.specs.ModuleTypes.{IsTyped, module_mark, static_type, type_at}
 use Rattle.pc_translate.specs.Finished.{IsFinished}
 use Rattle.pc_translate.specs.ModuleTypes.{AreModuleTypes, HasNoModule, IsModuleType, StayTyped}
 

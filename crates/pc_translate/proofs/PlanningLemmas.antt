@@ -4,29 +4,29 @@ use Rattle.std.proofs.Common.{All, Contains, arith, refl, sym, ap, subst, ◌∙
 use Rattle.std.specs.Prelude.{IsSomeAnd, MatchResult}
 use Rattle.std.specs.Result.{IsErrAnd}
 use Rattle.std.proofs.lemmas.Option.{slice_get-get_or}
-use Rattle.pc_interned.specs.Types.{IsTooFullFor, KeepsTypes, Types}
-use Rattle.pc_builder.specs.Trees.{IsEntry}
+use Rattle.pc_types_lists.specs.Types.{IsTooFullFor, KeepsTypes, Types}
+use Rattle.pc_types_builder.specs.Trees.{IsEntry}
 use Rattle.pc_types.specs.declared.error.Error.{Error}
 use Rattle.pc_types.specs.declared.module_record.ModuleRecord.{ModuleRecord}
 use Rattle.pc_types.specs.declared.parsed.TypeTable.{TypeTable}
 use Rattle.pc_types.specs.declared.type_index.TypeModuleIndex.{TypeModuleIndex}
 use Rattle.pc_types.specs.declared.types.TypeDef.TheVariants as def
 use Rattle.pc_info.specs.declared.component.ComponentTranslation.{ComponentTranslation}
-use Rattle.pc_reading.specs.Item.{Items}
+use Rattle.pc_spec_reading.specs.Item.{Items}
 use Rattle.pc_dfg.specs.declared.dfg.ComponentDfg.{ComponentDfg}
 use Rattle.pc_dfg.specs.declared.export.Export.{Export}
 use Rattle.pc_dfg.specs.declared.export.Export.TheVariants as export
 use Rattle.pc_dfg.specs.Lists.{slots, options, trampolines, instances, resources}
 use Rattle.pc_dfg.specs.Ordered.{IsOrdered}
-use Rattle.pc_linearize.specs.declared.error.FinishError.{FinishError}
-use Rattle.pc_linearize.specs.declared.error.FinishError.TheVariants as finish_error
-use Rattle.pc_linearize.specs.Grouped.{IsGrouped}
-use Rattle.pc_linearize.specs.Full.{HasTooMany, of_slots, of_options, of_trampolines, of_instances, of_resources}
-use Rattle.pc_finish.specs.ModuleTypes.{static_type}
+use Rattle.pc_dfg_linearize.specs.declared.error.FinishError.{FinishError}
+use Rattle.pc_dfg_linearize.specs.declared.error.FinishError.TheVariants as finish_error
+use Rattle.pc_dfg_linearize.specs.Grouped.{IsGrouped}
+use Rattle.pc_dfg_linearize.specs.Full.{HasTooMany, of_slots, of_options, of_trampolines, of_instances, of_resources}
+use Rattle.pc_dfg_finish.specs.ModuleTypes.{static_type}
 use Rattle.pc_inline.specs.Inlines.{HasNoRoom, Inlines, IsFault, StandsForReading}
-use Rattle.pc_frames.specs.Plain.{is_plain_table}
-use Rattle.pc_driver.specs.Totals.{CountsGraph, GainsFew, IsCounted, IsPast}
-use Rattle.pc_frames.specs.Worlds.{IsLifted, IsPlain}
+use Rattle.pc_inline_state.specs.Plain.{is_plain_table}
+use Rattle.pc_inline_stack.specs.Totals.{CountsGraph, GainsFew, IsCounted, IsPast}
+use Rattle.pc_inline_state.specs.Worlds.{IsLifted, IsPlain}
 use Rattle.pc_translate.proofs.WiredLemmas.{are_modules, grouped, no_static}
 use Rattle.pc_translate.specs.Finished.{IsFinished}
 use Rattle.pc_translate.specs.ModuleTypes.{HasModuleType, HasNoModule, HasNoPlace}

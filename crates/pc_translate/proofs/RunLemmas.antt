@@ -1,22 +1,22 @@
 -- The plan of a graph that stands for a reading does what the reading says.
 use Rattle.std.proofs.Common.{◌<◌, ℕ, List, length, map, sym, ap, ◌∙◌}
-use Rattle.pc_interned.specs.Types.{Types}
+use Rattle.pc_types_lists.specs.Types.{Types}
 use Rattle.pc_types.specs.declared.module_record.ModuleRecord.{ModuleRecord}
 use Rattle.pc_trampoline.specs.declared.part.Mark.{Mark}
-use Rattle.pc_semantics.specs.ExportNode.{map_named}
-use Rattle.pc_semantics.specs.Log.{instances_of, map_entry, trace}
+use Rattle.pc_spec_plan.specs.ExportNode.{map_named}
+use Rattle.pc_spec_plan.specs.Log.{instances_of, map_entry, trace}
 use Rattle.pc_info.specs.declared.component.ComponentTranslation.{ComponentTranslation}
 use Rattle.pc_info.specs.View.{view}
-use Rattle.pc_reading.specs.Reading.{Reading}
+use Rattle.pc_spec_reading.specs.Reading.{Reading}
 use Rattle.pc_dfg.specs.declared.dfg.ComponentDfg.{ComponentDfg}
 use Rattle.pc_dfg.specs.Effects.{EffectsMean}
 use Rattle.pc_dfg.specs.Nodes.{ExportsMean}
 use Rattle.pc_dfg.specs.Told.{IsTold, Unsaid}
-use Rattle.pc_finish.specs.Apart.{AreApart}
-use Rattle.pc_finish.specs.Finishes.{Finishes, StandsForOne}
+use Rattle.pc_dfg_finish.specs.Apart.{AreApart}
+use Rattle.pc_dfg_finish.specs.Finishes.{Finishes, StandsForOne}
 use Rattle.pc_inline.specs.Exports.{ExportsStand}
 use Rattle.pc_inline.specs.Inlines.{GraphStands}
-use Rattle.pc_frames.specs.Typed.{number_of, whole_of}
+use Rattle.pc_inline_state.specs.Typed.{number_of, whole_of}
 use Rattle.pc_translate.specs.Planning.{as_handed_in}
 use Rattle.pc_translate.specs.Typed.{TypedAs}
 use Rattle.pc_translate.proofs.MarkLemmas.{Nodes, all_entries, all_nodes, instances_mapped, instances_traced}

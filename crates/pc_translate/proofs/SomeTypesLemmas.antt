@@ -3,7 +3,7 @@ use Rattle.std.proofs.Common.{◌≡◌, ◌<◌, ◌*◌, ◌⊎◌, inl, inr, 
 use Rattle.std.proofs.Common.{IfErr, refl, sym, ap, subst, ◌∙◌, arith}
 use Rattle.std.specs.Prelude.{option_map}
 use Rattle.std.proofs.lemmas.Option.{none-some}
-use Rattle.pc_interned.specs.Types.{IsBuilder, IsFull, Types, held, no_types}
+use Rattle.pc_types_lists.specs.Types.{IsBuilder, IsFull, Types, held, no_types}
 use Rattle.pc_types.specs.declared.error.Error.{Error}
 use Rattle.pc_types.specs.declared.error.Error.TheVariants as error
 use Rattle.pc_types.specs.declared.error.Place.{Place}
@@ -15,14 +15,14 @@ use Rattle.pc_types.specs.declared.types.TypeKind.TheVariants as kind
 use Rattle.pc_info.specs.declared.component.ComponentTranslation.{ComponentTranslation}
 use Rattle.pc_info.specs.declared.module.ModuleTranslation.{ModuleTranslation}
 use Rattle.pc_parsed.specs.declared.payload.Payload.{Payload}
-use Rattle.pc_reading.specs.Item.{Items}
-use Rattle.pc_reading.specs.Nest.{root_of}
-use Rattle.pc_reading.specs.Outcome.{Outcome}
-use Rattle.pc_reading.specs.Reading.{Reading, reading, reading_of}
-use Rattle.pc_reading.specs.Section.{modules_of}
-use Rattle.pc_reading.specs.World.{full}
-use Rattle.pc_frames.specs.Adds.{AddsTypes}
-use Rattle.pc_driver.specs.Totals.{GainsFew, IsPast}
+use Rattle.pc_spec_reading.specs.Item.{Items}
+use Rattle.pc_spec_reading.specs.Nest.{root_of}
+use Rattle.pc_spec_reading.specs.Outcome.{Outcome}
+use Rattle.pc_spec_reading.specs.Reading.{Reading, reading, reading_of}
+use Rattle.pc_spec_reading.specs.Section.{modules_of}
+use Rattle.pc_spec_reading.specs.World.{full}
+use Rattle.pc_inline_state.specs.Adds.{AddsTypes}
+use Rattle.pc_inline_stack.specs.Totals.{GainsFew, IsPast}
 use Rattle.pc_translate.specs.Causes.{HasCause, meaning}
 use Rattle.pc_translate.specs.Translation.{CountsGained, Gains, GainsCounted, HasTooMuch, IsPlanOf}
 use Rattle.pc_translate.specs.Translation.{IsRefusalOf, Translates}

@@ -2,8 +2,8 @@
 use Rattle.std.proofs.Common.{◌≡◌, ℕ, List, Option, Some, false, refl, sym, ap, subst, ◌∙◌}
 use Rattle.std.specs.Prelude.{slice_get, option_map, unwrap_or}
 use Rattle.std.proofs.lemmas.Option.{none-some, same_Some, slice_get-map}
-use Rattle.pc_interned.specs.Types.{IsBuilder, Types}
-use Rattle.pc_intern.specs.declared.ids.OptionsId.{OptionsId}
+use Rattle.pc_types_lists.specs.Types.{IsBuilder, Types}
+use Rattle.pc_dfg.specs.declared.ids.OptionsId.{OptionsId}
 use Rattle.pc_numbers.specs.declared.module_entity.ModuleInternedTypeIndex.{ModuleInternedTypeIndex}
 use Rattle.pc_numbers.specs.declared.runtime.ImportIndex.{ImportIndex}
 use Rattle.pc_numbers.specs.declared.runtime.RuntimeImportIndex.{RuntimeImportIndex}
@@ -11,9 +11,9 @@ use Rattle.pc_numbers.specs.declared.runtime.TrampolineIndex.{TrampolineIndex}
 use Rattle.pc_types.specs.declared.module_record.ModuleRecord.{ModuleRecord}
 use Rattle.pc_types.specs.declared.parsed.CoreFuncSig.{CoreFuncSig}
 use Rattle.pc_types.specs.declared.types.TypeKind.TheVariants as kind
-use Rattle.pc_semantics.specs.CoreValue as value
-use Rattle.pc_semantics.specs.CoreValue.{CoreValue, map_value}
-use Rattle.pc_semantics.specs.PlanView as plan
+use Rattle.pc_spec_plan.specs.CoreValue as value
+use Rattle.pc_spec_plan.specs.CoreValue.{CoreValue, map_value}
+use Rattle.pc_spec_plan.specs.PlanView as plan
 use Rattle.pc_trampoline.specs.declared.part.Head.{Head}
 use Rattle.pc_trampoline.specs.declared.part.Head.TheVariants as head
 use Rattle.pc_trampoline.specs.declared.part.Mark.{Mark}
@@ -23,7 +23,7 @@ use Rattle.pc_trampoline.specs.Shape as shape
 use Rattle.pc_trampoline.specs.Shape.{head_shape}
 use Rattle.pc_trampoline.specs.View.{entry_of}
 use Rattle.pc_parsed.specs.Mark as reading
-use Rattle.pc_reading.specs.Reading.{Reading}
+use Rattle.pc_spec_reading.specs.Reading.{Reading}
 use Rattle.pc_dfg.specs.declared.core_def.CoreDef.{CoreDef}
 use Rattle.pc_dfg.specs.declared.core_def.CoreDef.TheVariants as def
 use Rattle.pc_dfg.specs.declared.dfg.ComponentDfg.{ComponentDfg}
@@ -33,9 +33,9 @@ use Rattle.pc_dfg.specs.Means.{means_lowered, means_options, means_trampoline}
 use Rattle.pc_dfg.specs.Numbers.{SignedTrampoline, graph_numbers, trampoline_entry}
 use Rattle.pc_dfg.specs.Told.{IsLowering, IsSigned, IsTold, Unsaid}
 use Rattle.pc_inline.specs.Inlines.{GraphStands}
-use Rattle.pc_frames.specs.Tables.{IsItem}
-use Rattle.pc_frames.specs.Typed.{Holds, Numbered, number_of, whole_of}
-use Rattle.pc_frames.specs.Worlds.{path_of, paths_needed, signature_of, slot_kind}
+use Rattle.pc_inline_state.specs.Tables.{IsItem}
+use Rattle.pc_inline_state.specs.Typed.{Holds, Numbered, number_of, whole_of}
+use Rattle.pc_inline_state.specs.Worlds.{path_of, paths_needed, signature_of, slot_kind}
 use Rattle.pc_translate.proofs.AskedLemmas.{once_each}
 use Rattle.pc_translate.proofs.DeclaredLemmas.{no_intrinsic}
 use Rattle.pc_translate.proofs.WiredLemmas.{none_at}

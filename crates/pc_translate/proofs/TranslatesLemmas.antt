@@ -1,18 +1,18 @@
 -- The plan of a body is the translation of the payloads that have it as root.
 use Rattle.std.proofs.Common.{◌≡◌, ℕ, List, map, option_map, Option, None, Some, ap, ◌∙◌}
-use Rattle.pc_interned.specs.Types.{IsBuilder, Types}
+use Rattle.pc_types_lists.specs.Types.{IsBuilder, Types}
 use Rattle.pc_types.specs.declared.module_record.ModuleRecord.{ModuleRecord}
 use Rattle.pc_types.specs.declared.parsed.TypeTable.{TypeTable}
 use Rattle.pc_trampoline.specs.declared.part.Mark.{Mark}
 use Rattle.pc_info.specs.declared.component.ComponentTranslation.{ComponentTranslation}
 use Rattle.pc_parsed.specs.declared.payload.Payload.{Payload}
-use Rattle.pc_reading.specs.Item.{Items}
-use Rattle.pc_reading.specs.Nest.{root_of}
-use Rattle.pc_reading.specs.Outcome.{Outcome}
-use Rattle.pc_reading.specs.Reading.{Reading, reading, reading_of}
-use Rattle.pc_reading.specs.Section.{modules_of}
+use Rattle.pc_spec_reading.specs.Item.{Items}
+use Rattle.pc_spec_reading.specs.Nest.{root_of}
+use Rattle.pc_spec_reading.specs.Outcome.{Outcome}
+use Rattle.pc_spec_reading.specs.Reading.{Reading, reading, reading_of}
+use Rattle.pc_spec_reading.specs.Section.{modules_of}
 use Rattle.pc_inline.specs.Inlines.{EndsAs as IsEnd}
-use Rattle.pc_frames.specs.Today.{built_reading}
+use Rattle.pc_inline_state.specs.Today.{built_reading}
 use Rattle.pc_translate.proofs.AskedLemmas.{asks_host}
 use Rattle.pc_translate.proofs.DeclaredLemmas.{declared_one, declares, signs}
 use Rattle.pc_translate.proofs.ErasureLemmas.{does_as}

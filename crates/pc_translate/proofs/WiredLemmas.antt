@@ -12,8 +12,8 @@ use Rattle.pc_types.specs.declared.parsed.CoreKind.{CoreKind}
 use Rattle.pc_types.specs.declared.parsed.CoreKind.TheVariants as kind
 use Rattle.pc_types.specs.declared.parsed.TypeTable.{TypeTable}
 use Rattle.pc_types.specs.Record.{has_entity, same_kind}
-use Rattle.pc_semantics.specs.Machine.{has_item}
-use Rattle.pc_semantics.specs.PlanView as plan
+use Rattle.pc_spec_plan.specs.Machine.{has_item}
+use Rattle.pc_spec_plan.specs.PlanView as plan
 use Rattle.pc_info.specs.Definitions.{item_view}
 use Rattle.pc_info.specs.Modules.{adapters_view, handed_in_view}
 use Rattle.pc_dfg.specs.declared.core_def.CoreDef.{CoreDef}
@@ -29,12 +29,12 @@ use Rattle.pc_dfg.specs.declared.instance.SideEffect.{SideEffect}
 use Rattle.pc_dfg.specs.declared.instance.SideEffect.TheVariants as effect
 use Rattle.pc_dfg.specs.Names.{each_of, in_effect, in_instance, in_resource}
 use Rattle.pc_dfg.specs.Numbers.{slots_of}
-use Rattle.pc_linearize.specs.Grouped.{IsGrouped}
+use Rattle.pc_dfg_linearize.specs.Grouped.{IsGrouped}
 use Rattle.pc_translate.specs.ModuleTypes.{HasModuleType}
-use Rattle.pc_linearize.specs.Wired.{IsWired, Occurs, OfFunctions, callbacks, in_a_module, in_a_slot, in_an_adapter}
-use Rattle.pc_linearize.specs.Wired.{in_an_effect, in_an_export, is_function, post_returns, reallocs}
-use Rattle.pc_frames.specs.Tables.{IsItem, is_entity, is_trampoline}
-use Rattle.pc_frames.specs.Worlds.{HasItems, IsLifted, IsPlain, slot_kind}
+use Rattle.pc_dfg_linearize.specs.Wired.{IsWired, Occurs, OfFunctions, callbacks, in_a_module, in_a_slot, in_an_adapter}
+use Rattle.pc_dfg_linearize.specs.Wired.{in_an_effect, in_an_export, is_function, post_returns, reallocs}
+use Rattle.pc_inline_state.specs.Tables.{IsItem, is_entity, is_trampoline}
+use Rattle.pc_inline_state.specs.Worlds.{HasItems, IsLifted, IsPlain, slot_kind}
 use Rattle.pc_translate.specs.Planning.{as_handed_in}
 
 -- modules as they were handed in are the handed-in ones, and have no adapters

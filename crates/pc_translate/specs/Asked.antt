@@ -1,7 +1,7 @@
 -- What a plan has beside its steps, options and exports: no more than the reading asked for.
 use Rattle.std.specs.Prelude.{◌≡◌, ◌<◌, ◌≤◌, ℕ, List, map, length, count_by, Option, Some, None, option_map, slice_get}
 use Rattle.std.specs.List.{AllZip, Contains, filter_map}
-use Rattle.pc_interned.specs.Types.{Types}
+use Rattle.pc_types_lists.specs.Types.{Types}
 use Rattle.pc_entity.specs.Lists.{AreDistinct}
 use Rattle.pc_info.specs.declared.component.ComponentTranslation.{ComponentTranslation}
 use Rattle.pc_info.specs.declared.module.ModuleTranslation.{ModuleTranslation}
@@ -10,17 +10,17 @@ use Rattle.pc_info.specs.View.{view}
 use Rattle.pc_numbers.specs.declared.module_entity.ModuleInternedTypeIndex.{ModuleInternedTypeIndex}
 use Rattle.pc_numbers.specs.declared.runtime.RuntimeComponentInstanceIndex.{RuntimeComponentInstanceIndex}
 use Rattle.pc_parsed.specs.Mark as reading
-use Rattle.pc_reading.specs.Nodes.{extern_data}
-use Rattle.pc_reading.specs.Reading.{Reading}
-use Rattle.pc_reading.specs.World.{AddedIntrinsic, HostImport}
-use Rattle.pc_semantics.specs.CoreValue.{CoreValue, map_value}
-use Rattle.pc_semantics.specs.Log.{Entry, declared, declared_resource}
-use Rattle.pc_semantics.specs.Machine.{State, resolve}
-use Rattle.pc_semantics.specs.PlanView.{ImportType, PlanView, RuntimeImport, trampoline}
+use Rattle.pc_spec_reading.specs.Nodes.{extern_data}
+use Rattle.pc_spec_reading.specs.Reading.{Reading}
+use Rattle.pc_spec_reading.specs.World.{AddedIntrinsic, HostImport}
+use Rattle.pc_spec_plan.specs.CoreValue.{CoreValue, map_value}
+use Rattle.pc_spec_plan.specs.Log.{Entry, declared, declared_resource}
+use Rattle.pc_spec_plan.specs.Machine.{State, resolve}
+use Rattle.pc_spec_plan.specs.PlanView.{ImportType, PlanView, RuntimeImport, trampoline}
 use Rattle.pc_trampoline.specs.declared.part.Mark.{Mark}
-use Rattle.pc_frames.specs.Today.{is_made}
-use Rattle.pc_frames.specs.Typed.{Holds, Numbered, number_of, whole_of}
-use Rattle.pc_frames.specs.Worlds.{is_declared, paths_needed, signature_of}
+use Rattle.pc_inline_state.specs.Today.{is_made}
+use Rattle.pc_inline_state.specs.Typed.{Holds, Numbered, number_of, whole_of}
+use Rattle.pc_inline_state.specs.Worlds.{is_declared, paths_needed, signature_of}
 use Rattle.pc_types.specs.declared.parsed.CoreFuncSig.{CoreFuncSig}
 use Rattle.pc_types.specs.TypeTree.{Path}
 

@@ -1,6 +1,6 @@
 -- Why a translation is refused.
 use Rattle.std.specs.Prelude.{◌≡◌, ◌⊎◌, ◌&&◌, ℕ, Bool, true, false, List, Option, None, Some, option_map}
-use Rattle.pc_interned.specs.Types.{IsFull, Types}
+use Rattle.pc_types_lists.specs.Types.{IsFull, Types}
 use Rattle.pc_types.specs.declared.error.Error.{Error}
 use Rattle.pc_types.specs.declared.error.Error.TheVariants as error
 use Rattle.pc_types.specs.declared.error.Place.{Place}
@@ -10,14 +10,14 @@ use Rattle.pc_types.specs.declared.parsed.TypeTable.{TypeTable}
 use Rattle.pc_parsed.specs.declared.payload.Payload.{Payload}
 use Rattle.pc_parsed.specs.Program.{is_numbered}
 use Rattle.pc_parsed.specs.StaticFault.{static_fault}
-use Rattle.pc_reading.specs.Item.{Items, no_items, and_item}
-use Rattle.pc_reading.specs.Nest.{root_of}
-use Rattle.pc_reading.specs.Outcome.{Outcome, bad_type, fault, invalid, over, unsupported}
-use Rattle.pc_reading.specs.Reading.{Reading, reading}
-use Rattle.pc_reading.specs.Section.{modules_of}
-use Rattle.pc_frames.specs.Plain.{is_plain_table}
-use Rattle.pc_frames.specs.Today.{built_reading, is_built_item}
-use Rattle.pc_driver.specs.Totals.{IsPast}
+use Rattle.pc_spec_reading.specs.Item.{Items, no_items, and_item}
+use Rattle.pc_spec_reading.specs.Nest.{root_of}
+use Rattle.pc_spec_reading.specs.Outcome.{Outcome, bad_type, fault, invalid, over, unsupported}
+use Rattle.pc_spec_reading.specs.Reading.{Reading, reading}
+use Rattle.pc_spec_reading.specs.Section.{modules_of}
+use Rattle.pc_inline_state.specs.Plain.{is_plain_table}
+use Rattle.pc_inline_state.specs.Today.{built_reading, is_built_item}
+use Rattle.pc_inline_stack.specs.Totals.{IsPast}
 
 -- what payloads mean; no total is counted yet
 unfoldable pub meaning : TypeTable → (exposed : Option (List ℕ)) → (limit : ℕ) → List Payload → Option (Outcome Reading)

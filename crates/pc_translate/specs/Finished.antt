@@ -4,14 +4,14 @@ use Rattle.pc_numbers.specs.declared.component_entity.StaticModuleIndex.{StaticM
 use Rattle.pc_types.specs.declared.parsed.TypeTable.{TypeTable}
 use Rattle.pc_types.specs.declared.type_index.TypeModuleIndex.{TypeModuleIndex}
 use Rattle.pc_types.specs.declared.types.TypeDef.TheVariants as type
-use Rattle.pc_builder.specs.Types.{Types}
-use Rattle.pc_builder.specs.Trees.{IsEntry}
+use Rattle.pc_types_builder.specs.Types.{Types}
+use Rattle.pc_types_builder.specs.Trees.{IsEntry}
 use Rattle.pc_trampoline.specs.declared.part.Mark.{Mark}
 use Rattle.pc_trampoline.specs.declared.part.Mark.TheVariants as mark
 use Rattle.pc_info.specs.declared.component.ComponentTranslation.{ComponentTranslation}
 use Rattle.pc_dfg.specs.declared.dfg.ComponentDfg.{ComponentDfg}
 use Rattle.pc_dfg.specs.declared.export.Export.TheVariants as export
-use Rattle.pc_finish.specs.Finishes.{Finishes}
+use Rattle.pc_dfg_finish.specs.Finishes.{Finishes}
 
 -- a plan is that of a graph, where the types of a table stand in this types builder
 pub record IsFinished (b : Types) (t : TypeTable) (g : ComponentDfg) (plan : ComponentTranslation) : Type 0 where

@@ -1,7 +1,7 @@
 -- Whether the lists of a plan fit each other and the types builder.
 use Rattle.std.specs.Prelude.{◌≡◌, ◌<◌, ℕ, List, length, take, slice_get, Some, false}
-use Rattle.pc_interned.specs.Types.{Types}
-use Rattle.pc_builder.specs.Held.{IsHeld}
+use Rattle.pc_types_lists.specs.Types.{Types}
+use Rattle.pc_types_builder.specs.Held.{IsHeld}
 use Rattle.pc_info.specs.declared.component.Component.{Component}
 use Rattle.pc_info.specs.declared.component.ComponentTranslation.{ComponentTranslation}
 use Rattle.pc_info.specs.declared.export.Export.{Export}
@@ -10,13 +10,13 @@ use Rattle.pc_info.specs.declared.options.CanonicalOptions.{CanonicalOptions}
 use Rattle.pc_info.specs.Exports.{Entry, number_of}
 use Rattle.pc_names.specs.Stands.{StandsFor}
 use Rattle.pc_entity.specs.Lists.{AreDistinct}
-use Rattle.pc_semantics.specs.PlanView.{Definition, Initializer, SlotKind}
+use Rattle.pc_spec_plan.specs.PlanView.{Definition, Initializer, SlotKind}
 use Rattle.pc_trampoline.specs.View.{PlanTrampoline}
 use Rattle.pc_info.specs.View.{counts_view, trampolines_view}
-use Rattle.pc_finish.specs.Apart.{FillsWith, MakesAdapters}
-use Rattle.pc_finish.specs.Finishes.{IsUsed, StandsAt}
-use Rattle.pc_linearize.specs.Slots.{AtMostOne, TakesLowering, UsesLowering, UsesSlot, UsesTrampoline, slots_in}
-use Rattle.pc_linearize.specs.Standing.{CarriesNext, IsMadeLate, Makes, Piece, is_side_effect, steps_in}
+use Rattle.pc_dfg_finish.specs.Apart.{FillsWith, MakesAdapters}
+use Rattle.pc_dfg_finish.specs.Finishes.{IsUsed, StandsAt}
+use Rattle.pc_dfg_linearize.specs.Slots.{AtMostOne, TakesLowering, UsesLowering, UsesSlot, UsesTrampoline, slots_in}
+use Rattle.pc_dfg_linearize.specs.Standing.{CarriesNext, IsMadeLate, Makes, Piece, is_side_effect, steps_in}
 use Rattle.pc_numbers.specs.declared.module_entity.ModuleInternedTypeIndex.{ModuleInternedTypeIndex}
 use Rattle.pc_types.specs.declared.types.TypeDef.{TypeDef}
 use Rattle.pc_types.specs.declared.types.TypeDef.TheVariants as type

@@ -5,11 +5,11 @@ use Rattle.pc_types.specs.declared.parsed.TypeTable.{TypeTable}
 use Rattle.pc_types.specs.declared.type_index.TypeModuleIndex.{TypeModuleIndex}
 use Rattle.pc_types.specs.declared.types.TypeDef.TheVariants as def
 use Rattle.pc_types.specs.Table.{is_module, is_some_and}
-use Rattle.pc_builder.specs.Types.{IsTooFullFor, Types}
-use Rattle.pc_builder.specs.Trees.{IsEntry}
+use Rattle.pc_types_builder.specs.Types.{IsTooFullFor, Types}
+use Rattle.pc_types_builder.specs.Trees.{IsEntry}
 use Rattle.pc_dfg.specs.declared.export.Export.{Export}
 use Rattle.pc_dfg.specs.declared.export.Export.TheVariants as export
-use Rattle.pc_finish.specs.ModuleTypes.{static_type, type_at}
+use Rattle.pc_dfg_finish.specs.ModuleTypes.{static_type, type_at}
 
 -- an entry of the table is a module type
 abbrev pub IsModuleType : TypeTable → ℕ → Type 0

@@ -1,24 +1,24 @@
 -- What comes of a local program: a plan that stands for the reading of its root, or why there is none.
 use Rattle.std.specs.Prelude.{◌&&◌, ℕ, Bool, true, false, [], List, Result, Ok, Err, is_some}
-use Rattle.pc_interned.specs.Types.{Types}
+use Rattle.pc_types_lists.specs.Types.{Types}
 use Rattle.pc_types.specs.declared.error.Error.{Error}
 use Rattle.pc_types.specs.declared.error.Error.TheVariants as error
 use Rattle.pc_types.specs.declared.module_record.ModuleRecord.{ModuleRecord}
 use Rattle.pc_types.specs.declared.parsed.TypeTable.{TypeTable}
 use Rattle.pc_info.specs.declared.component.ComponentTranslation.{ComponentTranslation}
 use Rattle.pc_info.specs.declared.module.ModuleTranslation.{ModuleTranslation}
-use Rattle.pc_reading.specs.Item.{Items}
+use Rattle.pc_spec_reading.specs.Item.{Items}
 use Rattle.pc_local.specs.declared.item.LocalInitializer.{LocalInitializer}
 use Rattle.pc_local.specs.declared.item.LocalInitializer.TheVariants as local
 use Rattle.pc_dfg.specs.declared.dfg.ComponentDfg.{ComponentDfg}
-use Rattle.pc_linearize.specs.declared.error.FinishError.{FinishError}
-use Rattle.pc_linearize.specs.declared.error.FinishError.TheVariants as finish_error
+use Rattle.pc_dfg_linearize.specs.declared.error.FinishError.{FinishError}
+use Rattle.pc_dfg_linearize.specs.declared.error.FinishError.TheVariants as finish_error
 use Rattle.pc_translate.specs.Finished.{IsFinished}
 use Rattle.pc_inline.specs.Inlines.{IsFault, StandsForReading}
-use Rattle.pc_frames.specs.Kinds.{import_kind}
-use Rattle.pc_frames.specs.Today.{is_built_kind}
-use Rattle.pc_steps.specs.Members.{are_built}
-use Rattle.pc_frames.specs.declared.kinds.TableKinds.{TableKinds}
+use Rattle.pc_inline_state.specs.Kinds.{import_kind}
+use Rattle.pc_inline_state.specs.Today.{is_built_kind}
+use Rattle.pc_inline_items.specs.Members.{are_built}
+use Rattle.pc_inline_state.specs.declared.kinds.TableKinds.{TableKinds}
 
 -- why a graph has no plan, as an error of the translation
 abbrev pub error_of_finish : FinishError → Error

@@ -1,33 +1,33 @@
 -- The theorem: the plan that a translation answers does what the nested reading of the payloads says.
 use Rattle.std.specs.Prelude.{◌≡◌, ◌≤◌, ◌<◌, ◌*◌, ◌⊎◌, ℕ, true, false, List, map, length, option_map, Option, Some}
-use Rattle.pc_builder.specs.Types.{IsBuilder, no_types}
-use Rattle.pc_interned.specs.Types.{Types}
+use Rattle.pc_types_builder.specs.Types.{IsBuilder, no_types}
+use Rattle.pc_types_lists.specs.Types.{Types}
 use Rattle.pc_types.specs.declared.error.Error.{Error}
 use Rattle.pc_types.specs.declared.error.Error.TheVariants as error
 use Rattle.pc_types.specs.declared.module_record.ModuleRecord.{ModuleRecord}
 use Rattle.pc_types.specs.declared.parsed.TypeTable.{TypeTable}
-use Rattle.pc_semantics.specs.Counts.{own_counts}
-use Rattle.pc_semantics.specs.ExportNode.{erase_named}
-use Rattle.pc_semantics.specs.Log.{instances_of, erase_entry, erase_owned, trace}
-use Rattle.pc_semantics.specs.Machine.{NeverStuck, owned_instances}
-use Rattle.pc_semantics.specs.PlanView.{PlanView, Counts}
-use Rattle.pc_semantics.specs.Trace.{run_trace}
+use Rattle.pc_spec_plan.specs.Counts.{own_counts}
+use Rattle.pc_spec_plan.specs.ExportNode.{erase_named}
+use Rattle.pc_spec_plan.specs.Log.{instances_of, erase_entry, erase_owned, trace}
+use Rattle.pc_spec_plan.specs.Machine.{NeverStuck, owned_instances}
+use Rattle.pc_spec_plan.specs.PlanView.{PlanView, Counts}
+use Rattle.pc_spec_plan.specs.Trace.{run_trace}
 use Rattle.pc_info.specs.declared.component.ComponentTranslation.{ComponentTranslation}
 use Rattle.pc_info.specs.declared.module.ModuleTranslation.{ModuleTranslation}
 use Rattle.pc_info.specs.Exports.{has_items}
 use Rattle.pc_info.specs.Modules.{handed_in_view}
 use Rattle.pc_info.specs.View.{view, counts_view}
-use Rattle.pc_finish.specs.Apart.{AreApart}
+use Rattle.pc_dfg_finish.specs.Apart.{AreApart}
 use Rattle.pc_parsed.specs.declared.payload.Payload.{Payload}
 use Rattle.pc_parsed.specs.Program.{is_numbered}
-use Rattle.pc_reading.specs.Item.{Items}
-use Rattle.pc_reading.specs.Nest.{root_of}
-use Rattle.pc_reading.specs.Outcome.{done}
-use Rattle.pc_reading.specs.Reading.{Reading}
-use Rattle.pc_reading.specs.Section.{modules_of}
-use Rattle.pc_reading.specs.World.{full}
-use Rattle.pc_frames.specs.Adds.{AddsTypes}
-use Rattle.pc_driver.specs.Totals.{GainsFew, HasTotal, IsPast}
+use Rattle.pc_spec_reading.specs.Item.{Items}
+use Rattle.pc_spec_reading.specs.Nest.{root_of}
+use Rattle.pc_spec_reading.specs.Outcome.{done}
+use Rattle.pc_spec_reading.specs.Reading.{Reading}
+use Rattle.pc_spec_reading.specs.Section.{modules_of}
+use Rattle.pc_spec_reading.specs.World.{full}
+use Rattle.pc_inline_state.specs.Adds.{AddsTypes}
+use Rattle.pc_inline_stack.specs.Totals.{GainsFew, HasTotal, IsPast}
 use Rattle.pc_translate.specs.Asked.{AreSigned, AsksHost, Declares}
 use Rattle.pc_translate.specs.Causes.{CanBeRead, HasCause, HasRoot, built_meaning, meaning}
 use Rattle.pc_translate.specs.Lists.{FindsExports, IsTidy, NamesHeld, NumbersItems}

@@ -2,14 +2,14 @@
 -- builder tells what stands under a number.
 use Rattle.std.specs.Prelude.{◌≡◌, List, map, Some}
 use Rattle.pc_trampoline.specs.declared.part.Mark.{Mark}
-use Rattle.pc_interned.specs.Types.{Types}
-use Rattle.pc_semantics.specs.ExportNode.{NamedNode, map_named}
-use Rattle.pc_semantics.specs.Log.{Entry, Owned, instances_of, map_entry, map_owned, trace}
-use Rattle.pc_semantics.specs.Machine.{NeverStuck, owned_instances}
-use Rattle.pc_semantics.specs.PlanView.{PlanView}
-use Rattle.pc_semantics.specs.Trace.{run_trace}
-use Rattle.pc_reading.specs.Reading.{Reading}
-use Rattle.pc_frames.specs.Typed.{Numbered, number_of, whole_of}
+use Rattle.pc_types_lists.specs.Types.{Types}
+use Rattle.pc_spec_plan.specs.ExportNode.{NamedNode, map_named}
+use Rattle.pc_spec_plan.specs.Log.{Entry, Owned, instances_of, map_entry, map_owned, trace}
+use Rattle.pc_spec_plan.specs.Machine.{NeverStuck, owned_instances}
+use Rattle.pc_spec_plan.specs.PlanView.{PlanView}
+use Rattle.pc_spec_plan.specs.Trace.{run_trace}
+use Rattle.pc_spec_reading.specs.Reading.{Reading}
+use Rattle.pc_inline_state.specs.Typed.{Numbered, number_of, whole_of}
 
 -- a plan does what a reading says, types and core signatures included: there are core instances, a trace and exports
 -- that have each type twice; with the numbers they are what the plan's run makes and ends with, with whole types the

@@ -2,13 +2,13 @@
 
 ghost use Rattle.std.specs.Prelude.{◌≡◌, ◌&&◌};
 ghost use Rattle.std.specs.List.{list_all};
-ghost use Rattle.pc_frames.specs.Kinds.{kinds_of};
-ghost use Rattle.pc_frames.specs.Plain.{is_plain_table};
+ghost use Rattle.pc_inline_state.specs.Kinds.{kinds_of};
+ghost use Rattle.pc_inline_state.specs.Plain.{is_plain_table};
 ghost use Rattle.pc_translate.specs.Planning.{is_built_local};
 
-use pc_frames::{TableKinds, is_built_kind, is_plain_table, kinds_of};
+use pc_inline_items::{are_built, import_kind};
+use pc_inline_state::{TableKinds, is_built_kind, is_plain_table, kinds_of};
 use pc_local::{LocalInitializer, LocalProgram};
-use pc_steps::{are_built, import_kind};
 use pc_types::TypeTable;
 
 /// Whether a local item is of a kind that is built.

@@ -5,19 +5,19 @@ ghost use Rattle.std.specs.Prelude.{◌≡◌, None, Err, All, Contains, IfOk, O
 ghost use Rattle.pc_types.specs.declared.type_index.TypeModuleIndex.{TypeModuleIndex};
 ghost use Rattle.pc_types.specs.declared.types.TypeDef.TheVariants as def;
 ghost use Rattle.pc_types.specs.Table.{table_fault};
-ghost use Rattle.pc_builder.specs.Types.{Grows, IsTooFullFor, Types};
-ghost use Rattle.pc_builder.specs.Trees.{IsEntry};
+ghost use Rattle.pc_types_builder.specs.Types.{Grows, IsTooFullFor, Types};
+ghost use Rattle.pc_types_builder.specs.Trees.{IsEntry};
 ghost use Rattle.pc_dfg.specs.declared.export.Export.{Export};
-ghost use Rattle.pc_linearize.specs.declared.error.FinishError.TheVariants as refusal;
-ghost use Rattle.pc_finish.specs.ModuleTypes.{IsTyped, static_type, type_at};
+ghost use Rattle.pc_dfg_linearize.specs.declared.error.FinishError.TheVariants as refusal;
+ghost use Rattle.pc_dfg_finish.specs.ModuleTypes.{IsTyped, static_type, type_at};
 ghost use Rattle.pc_translate.specs.ModuleTypes.{AreModuleTypes, HasModuleType, HasNoModule, HasNoPlace, IsModuleType};
 ghost use Rattle.pc_translate.specs.ModuleTypes.{StayTyped};
 
-use pc_builder::ComponentTypesBuilder;
 use pc_dfg::Export;
+use pc_dfg_finish::{FinishError, ModuleTypes};
 use pc_entity::NoMemory;
-use pc_finish::{FinishError, ModuleTypes};
 use pc_types::{TypeError, TypeModuleIndex, TypeTable};
+use pc_types_builder::ComponentTypesBuilder;
 use std::alloc::Global;
 
 /// The types of a table of which none was converted yet.

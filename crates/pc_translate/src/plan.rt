@@ -2,21 +2,21 @@
 
 ghost use Rattle.std.specs.Prelude.{◌≡◌, ◌⊎◌, None, All, Contains, Err, IfOk};
 ghost use Rattle.pc_types.specs.Table.{table_fault};
-ghost use Rattle.pc_builder.specs.Types.{Grows};
+ghost use Rattle.pc_types_builder.specs.Types.{Grows};
 ghost use Rattle.pc_dfg.specs.declared.export.Export.{Export};
 ghost use Rattle.pc_dfg.specs.Ordered.{IsOrdered};
-ghost use Rattle.pc_linearize.specs.declared.error.FinishError.TheVariants as refusal;
-ghost use Rattle.pc_linearize.specs.Full.{HasTooMany};
-ghost use Rattle.pc_linearize.specs.Grouped.{IsGrouped};
+ghost use Rattle.pc_dfg_linearize.specs.declared.error.FinishError.TheVariants as refusal;
+ghost use Rattle.pc_dfg_linearize.specs.Full.{HasTooMany};
+ghost use Rattle.pc_dfg_linearize.specs.Grouped.{IsGrouped};
 ghost use Rattle.pc_translate.specs.Finished.{IsFinished};
 ghost use Rattle.pc_translate.specs.ModuleTypes.{HasModuleType, HasNoModule, HasNoPlace};
 
 use crate::module_types::module_types;
-use pc_builder::ComponentTypesBuilder;
 use pc_dfg::ComponentDfg;
-use pc_finish::FinishError;
+use pc_dfg_finish::FinishError;
 use pc_info::ComponentTranslation;
 use pc_types::TypeTable;
+use pc_types_builder::ComponentTypesBuilder;
 use std::alloc::Global;
 
 /// The plan of a graph whose adapters are grouped. Types of the table that it exports are put into the types builder
@@ -38,5 +38,5 @@ pub fn finish(
     ensures plan { IfOk result (λ p. IsFinished types.new table.now graph p) }
 {
     let module_types = module_types(alloc, types, table, graph.export_items.as_slice())?;
-    pc_finish::finish(alloc, graph, &module_types)
+    pc_dfg_finish::finish(alloc, graph, &module_types)
 }

@@ -6,13 +6,13 @@ ghost use Rattle.std.specs.Option.{option_map};
 ghost use Rattle.pc_types.specs.Names.{distinct_names};
 ghost use Rattle.pc_types.specs.Record.{is_sound};
 ghost use Rattle.pc_types.specs.Table.{table_fault};
-ghost use Rattle.pc_builder.specs.Types.{KeepsTypes, no_types};
-ghost use Rattle.pc_reading.specs.Item.{Items};
+ghost use Rattle.pc_types_builder.specs.Types.{KeepsTypes, no_types};
+ghost use Rattle.pc_spec_reading.specs.Item.{Items};
 ghost use Rattle.pc_local.specs.Program.{ProgramStands};
 ghost use Rattle.pc_local.specs.Standing.{BodyStands, no_names};
 ghost use Rattle.pc_inline.specs.Inlines.{export_name};
-ghost use Rattle.pc_frames.specs.Plain.{is_plain_table};
-ghost use Rattle.pc_driver.specs.Totals.{GainsFew};
+ghost use Rattle.pc_inline_state.specs.Plain.{is_plain_table};
+ghost use Rattle.pc_inline_stack.specs.Totals.{GainsFew};
 ghost use Rattle.pc_translate.specs.Causes.{CanBeRead, HasCause, HasOwnCause};
 ghost use Rattle.pc_translate.specs.Planning.{Plans, as_handed_in, error_of_finish};
 ghost use Rattle.pc_translate.specs.Translation.{CountsGained, Gains, GainsCounted, IsPlanOf, IsRefusalOf};
@@ -20,14 +20,14 @@ ghost use Rattle.pc_translate.specs.Translation.{Translates};
 
 use crate::built::is_built;
 use crate::plan::finish;
-use pc_builder::ComponentTypesBuilder;
+use pc_dfg_finish::FinishError;
 use pc_entity::{NoMemory, PrimaryMap, Seq, StaticModuleIndex};
-use pc_finish::FinishError;
 use pc_info::{ComponentTranslation, ModuleTranslation};
 use pc_inline::inline_run;
 use pc_local::{LocalProgram, translate_payloads};
 use pc_parsed::{Payload, Tunables, is_numbered, not_built};
 use pc_types::{Error, ModuleRecord, TypeTable};
+use pc_types_builder::ComponentTypesBuilder;
 use std::alloc::Global;
 
 /// A plan and its core modules.

@@ -1,6 +1,6 @@
 use Rattle.std.proofs.Common.{Some, ap, sym, ◌∙◌}
-use Rattle.pc_frames.specs.AddsEach.{in_reached}
-use Rattle.pc_frames.proofs.AddsLemmas.{each_refl}
+use Rattle.pc_inline_state.specs.AddsEach.{in_reached}
+use Rattle.pc_inline_state.proofs.AddsLemmas.{each_refl}
 use Rattle.pc_inline.proofs.ExportAddsLemmas.{options_reached}
 use Rattle.pc_inline.proofs.ReachLemmas.{function_held, reaches_item}
 use Rattle.pc_inline.proofs.ReachNodeLemmas.{host_reaches, item_few, item_reaches, lifted_options, memory_reaches}

@@ -1,9 +1,9 @@
 use Rattle.std.proofs.Common.{Some, ap, sym, ◌∙◌, arith}
 use Rattle.std.proofs.lemmas.Option.{slice_get-get_or}
-use Rattle.pc_frames.specs.Adds.{imports_in}
+use Rattle.pc_inline_state.specs.Adds.{imports_in}
 use Rattle.pc_inline.proofs.DriverLemmas.{error_there, item_prepared, item_unprepared, items_prepared, none_prepared}
-use Rattle.pc_driver.proofs.LoopAddsLemmas.{added_all, added_last, added_more}
-use Rattle.pc_frames.proofs.StateLemmas.{keeps_trans}
+use Rattle.pc_inline_stack.proofs.LoopAddsLemmas.{added_all, added_last, added_more}
+use Rattle.pc_inline_state.proofs.StateLemmas.{keeps_trans}
 use Rattle.pc_inline.proofs.inliner.prepare_all.Goals as goal
 
 pub loop-n-init : goal.loop-n-init

@@ -1,10 +1,10 @@
 use Rattle.std.proofs.Common.{◌*◌, rules, refl, sym, subst}
 use Rattle.pc_local.specs.Plain.{plain_item}
-use Rattle.pc_frames.specs.Adds.{Adds, imports_in}
-use Rattle.pc_frames.specs.Tables.{tables_of}
-use Rattle.pc_frames.proofs.AddsLemmas.{adds_refl}
+use Rattle.pc_inline_state.specs.Adds.{Adds, imports_in}
+use Rattle.pc_inline_state.specs.Tables.{tables_of}
+use Rattle.pc_inline_state.proofs.AddsLemmas.{adds_refl}
 use Rattle.pc_inline.proofs.DriverLemmas.{import_prepares, other_prepares}
-use Rattle.pc_frames.proofs.StateLemmas.{keeps_refl}
+use Rattle.pc_inline_state.proofs.StateLemmas.{keeps_refl}
 use Rattle.pc_inline.proofs.inliner.prepare_item.Goals as goal
 
 pub returns-in-Import-clause-steps : goal.returns-in-Import-clause-steps

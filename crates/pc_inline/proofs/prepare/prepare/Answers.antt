@@ -1,9 +1,9 @@
 use Rattle.pc_inline.proofs.GivenLemmas.{prepare_unbuilt}
 use Rattle.pc_inline.proofs.PrepareLemmas.{given_adds, prepare_unconverted, type_adds}
 use Rattle.pc_inline.proofs.PreparedLemmas.{prepare_steps}
-use Rattle.pc_canon.proofs.PassedLemmas.{passed_lacking, passed_unfed}
-use Rattle.pc_frames.proofs.AddsLemmas.{adds_refl}
-use Rattle.pc_frames.proofs.StateLemmas.{keeps_refl}
+use Rattle.pc_inline_canon.proofs.PassedLemmas.{passed_lacking, passed_unfed}
+use Rattle.pc_inline_state.proofs.AddsLemmas.{adds_refl}
+use Rattle.pc_inline_state.proofs.StateLemmas.{keeps_refl}
 use Rattle.std.proofs.Common.{ap, refl}
 use Rattle.pc_inline.proofs.prepare.prepare.Goals as goal
 

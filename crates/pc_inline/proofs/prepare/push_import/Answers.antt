@@ -1,10 +1,10 @@
 use Rattle.std.proofs.Common.{ap, refl}
 use Rattle.pc_dfg.specs.Lists as list
-use Rattle.pc_canon.proofs.RoomLemmas.{list_lacks}
-use Rattle.pc_frames.proofs.AddsLemmas.{each_refl}
-use Rattle.pc_frames.proofs.RefusedLemmas.{memory_lacks}
-use Rattle.pc_frames.specs.AddsEach.{nowhere}
-use Rattle.pc_frames.specs.Tables.{tables_of}
+use Rattle.pc_inline_canon.proofs.RoomLemmas.{list_lacks}
+use Rattle.pc_inline_state.proofs.AddsLemmas.{each_refl}
+use Rattle.pc_inline_state.proofs.RefusedLemmas.{memory_lacks}
+use Rattle.pc_inline_state.specs.AddsEach.{nowhere}
+use Rattle.pc_inline_state.specs.Tables.{tables_of}
 use Rattle.pc_inline.proofs.PrepareLemmas.{gives_import, import_adds}
 use Rattle.pc_inline.proofs.prepare.push_import.Goals as goal
 

@@ -1,4 +1,4 @@
-use Rattle.pc_semantics.specs.Text.{adapter_line}
+use Rattle.pc_spec_plan.specs.Text.{adapter_line}
 use Rattle.pc_text.specs.Placed.{placed_view}
 use Rattle.pc_text.proofs.Entries.{line_done}
 use Rattle.pc_text.proofs.adapter.put_all.Goals as goal

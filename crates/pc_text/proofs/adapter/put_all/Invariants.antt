@@ -1,6 +1,6 @@
 use Rattle.std.proofs.Common.{◌≡◌, ◌++◌, map, drop}
 use Rattle.std.specs.List.{flat_map}
-use Rattle.pc_semantics.specs.Text.{adapter_line}
+use Rattle.pc_spec_plan.specs.Text.{adapter_line}
 use Rattle.pc_text.specs.Placed.{placed_view}
 use Rattle.pc_text.proofs.adapter.put_all.Given as goal
 

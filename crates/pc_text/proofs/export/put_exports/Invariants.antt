@@ -1,6 +1,6 @@
 use Rattle.std.proofs.Common.{◌≡◌, ◌++◌, length, reverse}
 use Rattle.std.specs.List.{flat_map}
-use Rattle.pc_semantics.specs.Text.{named_lines}
+use Rattle.pc_spec_plan.specs.Text.{named_lines}
 use Rattle.pc_info.specs.Exports.{exports_view, trees_of}
 use Rattle.pc_text.specs.ExportWalk.{IsOpen, left_lines}
 use Rattle.pc_text.proofs.ExportLemmas.{left_count}

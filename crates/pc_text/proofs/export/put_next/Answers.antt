@@ -1,6 +1,6 @@
 use Rattle.std.proofs.Common.{ℕ, List, [], ◌∷◌, ◌++◌, ◌∙◌, ap, length, take}
 use Rattle.std.specs.Prelude.{codes}
-use Rattle.pc_semantics.specs.Text.{quoted}
+use Rattle.pc_spec_plan.specs.Text.{quoted}
 use Rattle.pc_text.specs.declared.export.Open.{Open}
 use Rattle.pc_text.specs.ExportWalk.{node_line, opened}
 use Rattle.pc_text.proofs.Appending.{then_holds}

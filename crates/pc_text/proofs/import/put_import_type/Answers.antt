@@ -1,5 +1,5 @@
 use Rattle.std.specs.Prelude.{codes}
-use Rattle.pc_semantics.specs.Text.{extern_data, import_kind, line_end, number, quoted}
+use Rattle.pc_spec_plan.specs.Text.{extern_data, import_kind, line_end, number, quoted}
 use Rattle.pc_info.specs.View as seen
 use Rattle.pc_text.proofs.Appending.{eight_pieces, then_holds}
 use Rattle.pc_text.proofs.import.put_import_type.Goals as goal

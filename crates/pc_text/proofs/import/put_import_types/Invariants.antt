@@ -1,5 +1,5 @@
 use Rattle.std.proofs.Common.{◌≡◌, ◌++◌, map, drop}
-use Rattle.pc_semantics.specs.Text.{import_type_line, numbered}
+use Rattle.pc_spec_plan.specs.Text.{import_type_line, numbered}
 use Rattle.pc_info.specs.View.{import_type_view}
 use Rattle.pc_text.proofs.import.put_import_types.Given as goal
 

@@ -1,5 +1,5 @@
 use Rattle.pc_numbers.specs.declared.runtime.RuntimeImportIndex.{RuntimeImportIndex}
-use Rattle.pc_semantics.specs.Text.{imported_resource_line}
+use Rattle.pc_spec_plan.specs.Text.{imported_resource_line}
 use Rattle.pc_text.proofs.Entries.{numbered_done}
 use Rattle.pc_text.proofs.import.put_imported_resources.Goals as goal
 

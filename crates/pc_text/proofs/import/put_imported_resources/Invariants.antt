@@ -1,6 +1,6 @@
 use Rattle.std.proofs.Common.{◌≡◌, ◌++◌, map, drop}
 use Rattle.pc_numbers.specs.declared.runtime.RuntimeImportIndex.{RuntimeImportIndex}
-use Rattle.pc_semantics.specs.Text.{imported_resource_line, numbered}
+use Rattle.pc_spec_plan.specs.Text.{imported_resource_line, numbered}
 use Rattle.pc_text.proofs.import.put_imported_resources.Given as goal
 
 abbrev pub invariant-loop-n : goal.invariant-loop-n

@@ -1,5 +1,5 @@
 use Rattle.std.proofs.Common.{◌≡◌, ◌++◌, map, drop}
-use Rattle.pc_semantics.specs.Text.{import_line, numbered}
+use Rattle.pc_spec_plan.specs.Text.{import_line, numbered}
 use Rattle.pc_info.specs.View.{import_view}
 use Rattle.pc_text.proofs.import.put_imports.Given as goal
 

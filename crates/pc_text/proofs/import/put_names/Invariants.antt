@@ -1,5 +1,5 @@
 use Rattle.std.proofs.Common.{◌≡◌, ◌++◌, drop}
-use Rattle.pc_semantics.specs.Text.{spaced_names}
+use Rattle.pc_spec_plan.specs.Text.{spaced_names}
 use Rattle.pc_text.proofs.import.put_names.Given as goal
 
 abbrev pub invariant-loop-name : goal.invariant-loop-name

@@ -1,6 +1,6 @@
 use Rattle.std.proofs.Common.{◌≡◌, ◌++◌, map, drop}
 use Rattle.std.specs.List.{flat_map}
-use Rattle.pc_semantics.specs.Text.{initializer_line}
+use Rattle.pc_spec_plan.specs.Text.{initializer_line}
 use Rattle.pc_info.specs.Definitions.{initializer_view}
 use Rattle.pc_text.proofs.initializer.put_initializers.Given as goal
 

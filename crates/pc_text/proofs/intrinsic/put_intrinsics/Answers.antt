@@ -2,7 +2,7 @@ use Rattle.std.proofs.Common.{List, ◌≤◌, ◌++◌, ◌∙◌, ap, length, 
 use Rattle.std.proofs.lemmas.List.{append-nil, drop_all}
 use Rattle.pc_entity.specs.declared.packed_option.PackedOption.{PackedOption}
 use Rattle.pc_numbers.specs.declared.module_entity.ModuleInternedTypeIndex.{ModuleInternedTypeIndex}
-use Rattle.pc_semantics.specs.Text.{intrinsic_line, numbered}
+use Rattle.pc_spec_plan.specs.Text.{intrinsic_line, numbered}
 use Rattle.pc_info.specs.View.{intrinsic_view}
 use Rattle.pc_text.proofs.intrinsic.put_intrinsics.Goals as goal
 

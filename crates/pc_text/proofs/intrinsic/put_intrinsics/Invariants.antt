@@ -1,5 +1,5 @@
 use Rattle.std.proofs.Common.{◌≡◌, ◌++◌, map, drop}
-use Rattle.pc_semantics.specs.Text.{intrinsic_line, numbered}
+use Rattle.pc_spec_plan.specs.Text.{intrinsic_line, numbered}
 use Rattle.pc_info.specs.View.{intrinsic_view}
 use Rattle.pc_text.proofs.intrinsic.put_intrinsics.Given as goal
 

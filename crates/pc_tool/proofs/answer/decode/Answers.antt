@@ -1,5 +1,5 @@
 use Rattle.std.proofs.lemmas.Result.{IfErr-at_err}
-use Rattle.pc_form.specs.Input.{HasCause}
+use Rattle.pc_input.specs.Input.{HasCause}
 use Rattle.pc_tool.specs.Headline.{Decodes, IsNotJson, IsBadForm}
 use Rattle.pc_tool.proofs.answer.decode.Goals as goal
 

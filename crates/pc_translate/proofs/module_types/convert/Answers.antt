@@ -1,6 +1,6 @@
 use Rattle.std.proofs.Common.{◌<◌, sym, subst}
 use Rattle.std.specs.Option.{IsSome}
-use Rattle.pc_finish.specs.ModuleTypes.{type_at}
+use Rattle.pc_dfg_finish.specs.ModuleTypes.{type_at}
 use Rattle.pc_translate.specs.ModuleTypes.{AreModuleTypes, StayTyped}
 use Rattle.pc_translate.proofs.ModuleTypeLemmas.{is_put, module_there, types_kept, types_put}
 use Rattle.pc_translate.proofs.module_types.convert.Goals as goal

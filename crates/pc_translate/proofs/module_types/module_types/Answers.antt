@@ -1,8 +1,8 @@
 use Rattle.std.proofs.Common.{All, refl, subst, ◌∙◌}
 use Rattle.std.proofs.lemmas.List.{take_all}
 use Rattle.std.proofs.lemmas.List.Elements.{All-nil}
-use Rattle.pc_builder.proofs.Growth.{grows_trans}
-use Rattle.pc_finish.specs.ModuleTypes.{IsTyped}
+use Rattle.pc_types_builder.proofs.Growth.{grows_trans}
+use Rattle.pc_dfg_finish.specs.ModuleTypes.{IsTyped}
 use Rattle.pc_translate.proofs.ModuleTypeLemmas.{export_at, no_more, none_static, typed_next}
 use Rattle.pc_translate.proofs.module_types.module_types.Goals as goal
 

@@ -1,6 +1,6 @@
 use Rattle.std.proofs.Common.{◌≡◌, All, take}
-use Rattle.pc_builder.specs.Types.{Grows}
-use Rattle.pc_finish.specs.ModuleTypes.{IsTyped}
+use Rattle.pc_types_builder.specs.Types.{Grows}
+use Rattle.pc_dfg_finish.specs.ModuleTypes.{IsTyped}
 use Rattle.pc_translate.specs.ModuleTypes.{AreModuleTypes, HasNoModule}
 use Rattle.pc_translate.proofs.module_types.module_types.Given as goal
 

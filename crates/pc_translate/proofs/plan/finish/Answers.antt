@@ -1,6 +1,6 @@
 use Rattle.std.proofs.Common.{All, Contains, inl, inr, subst}
 use Rattle.pc_dfg.specs.declared.export.Export.{Export}
-use Rattle.pc_finish.specs.ModuleTypes.{IsTyped}
+use Rattle.pc_dfg_finish.specs.ModuleTypes.{IsTyped}
 use Rattle.pc_translate.specs.ModuleTypes.{HasNoPlace}
 use Rattle.pc_translate.proofs.ModuleTypeLemmas.{all_finished, none_lent}
 use Rattle.pc_translate.proofs.plan.finish.Goals as goal

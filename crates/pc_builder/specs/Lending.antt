@@ -1,9 +1,0 @@
--- What a builder becomes whose resources were lent.
-use Rattle.std.specs.Borrow.{Lends, MutBor, Fml}
-use Rattle.pc_interned.specs.Types.{Types, Resources}
-use Rattle.pc_builder.specs.contracts.builder.ComponentTypesBuilder.{the_row as builder_row}
-use Rattle.pc_interned.specs.contracts.resources.ResourcesBuilder.{the_row as resources_row}
-
--- the builder ends with the last resources behind the reference
-abbrev pub LendsResources : MutBor Types → MutBor Resources → Fml
-LendsResources b r = Lends builder_row resources_row b r (λ (k : Resources). record b.now { resources = k })

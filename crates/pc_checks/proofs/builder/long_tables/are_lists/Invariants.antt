@@ -1,5 +1,0 @@
-use Rattle.pc_builder.specs.Converted.{AreConverted}
-use Rattle.pc_checks.proofs.builder.long_tables.are_lists.Given as goal
-
-abbrev pub invariant-loop-n : goal.invariant-loop-n
-invariant-loop-n l = record { converted : AreConverted l.types l.table l.converted }

@@ -1,3 +1,0 @@
--- What the public contracts rest on.
-pub mod Facts
-pub mod Table

@@ -1,5 +1,0 @@
-use Rattle.pc_linearize.specs.Made.{DoneBefore}
-use Rattle.pc_finish.proofs.effects.do_effects.Given as goal
-
-abbrev pub invariant-loop-effect : goal.invariant-loop-effect
-invariant-loop-effect l = DoneBefore l.graph l.effect-index l.finish

@@ -1,0 +1,95 @@
+-- A graph against a log with one entry more.
+use Rattle.std.proofs.Common.{◌≡◌, inl, inr, ℕ, ◌+◌, false, List, [], ◌∷◌, ◌++◌, length, map, Contains, Some, refl, sym}
+use Rattle.std.proofs.Common.{ap, subst, ◌∙◌, arith}
+use Rattle.std.specs.Prelude.{◌≤◌, count_by, slice_get}
+use Rattle.std.specs.List.{AllZip, fold, filter_map, list_any}
+use Rattle.std.proofs.lemmas.List.Elements.{Contains-append_left, Contains-push_cases, filter-append, filter_map-append}
+use Rattle.std.proofs.lemmas.List.Folds.{list_any-append}
+use Rattle.std.proofs.lemmas.List.Sums.{fold-append, sum_by-append}
+use Rattle.pc_types_lists.specs.Types.{Types}
+use Rattle.pc_spec_plan.specs.CoreValue.{CoreValue}
+use Rattle.pc_spec_plan.specs.Log.{Entry, declared, instances_of, is_effect, trace}
+use Rattle.pc_parsed.specs.Mark.{Mark}
+use Rattle.pc_spec_reading.specs.World.{World, logging}
+use Rattle.pc_dfg.specs.declared.dfg.ComponentDfg.{ComponentDfg}
+use Rattle.pc_dfg.specs.Grows as graph
+use Rattle.pc_dfg.specs.Numbers.{SignedTrampoline}
+use Rattle.pc_inline_state.specs.Today.{is_made}
+use Rattle.pc_inline_state.specs.Worlds.{EffectStands, HasTrampoline, ImportStands, IsDeclared, WorldStands, is_declared}
+use Rattle.pc_inline_state.specs.Worlds.{needed_path, path_of, paths_needed, with_path}
+use Rattle.pc_inline_state.proofs.StateLemmas.{types_refl}
+use Rattle.pc_inline_canon.proofs.WorldLemmas.{declared_still, import_still, trampoline_still}
+use Rattle.pc_inline_state.proofs.ZipLemmas.{zip_more}
+
+-- the effects of a log with one entry more: those of the log, and that of the entry
+pub trace-push : (log : List (Entry Mark)) (e : Entry Mark) → trace (log ++ e ∷ []) ≡ trace log ++ trace (e ∷ [])
+trace-push log e = filter-append is_effect log (e ∷ [])
+
+-- the paths that a log needs, with one entry more
+pub paths-push : (log : List (Entry Mark)) (e : Entry Mark)
+    → paths_needed (log ++ e ∷ []) ≡ fold with_path (paths_needed log) (filter_map needed_path (e ∷ []))
+unfolding paths_needed
+paths-push log e =
+    ap (fold with_path []) (filter_map-append needed_path log (e ∷ []))
+    ∙ fold-append with_path [] (filter_map needed_path log) (filter_map needed_path (e ∷ []))
+
+-- no adapter was made, where none was before and the entry makes none
+no_adapters-push : (log : List (Entry Mark)) (e : Entry Mark) → list_any is_made log ≡ false → is_made e ≡ false
+    → list_any is_made (log ++ e ∷ []) ≡ false
+no_adapters-push log e none here = list_any-append is_made log (e ∷ []) ∙ rw (none, here) refl
+
+-- no more trampolines than a log declares, with one entry more
+few-push : (log : List (Entry Mark)) (e : Entry Mark) (before after : ℕ) → before ≤ count_by is_declared log
+    → after ≤ before + count_by is_declared (e ∷ []) → after ≤ count_by is_declared (log ++ e ∷ [])
+few-push log e before after few more =
+    let both : count_by is_declared (log ++ e ∷ []) ≡ count_by is_declared log + count_by is_declared (e ∷ []) =
+    sum_by-append _ log (e ∷ []) in
+    omega (arith, few, more, both)
+
+module _ (types : Types) (g h : ComponentDfg) (grows : graph.Grows g h) (w : World) (e : Entry Mark)
+    (stands : WorldStands types g w) where
+  -- a trampoline that was declared is
+  pub declared_on : (k : ℕ) (x : SignedTrampoline) → slice_get g.trampolines k ≡ Some x
+      → IsDeclared types h (w.log ++ e ∷ []) k x
+  declared_on k x at =
+      let d = declared_still types types g h (types_refl types) grows w.log k x (stands.are_declared k x at) in
+      record {
+        value = d.value;
+        entry = Contains-append_left w.log (e ∷ []) (declared d.value) d.entry;
+        stands = d.stands;
+        signed = d.signed;
+      }
+
+  -- what is declared is a trampoline, where the entry declares none or one of the graph
+  trampoline_on : ((v : CoreValue Mark) → e ≡ declared v → HasTrampoline types h v) → (v : CoreValue Mark)
+      → Contains (w.log ++ e ∷ []) (declared v) → HasTrampoline types h v
+  trampoline_on here v entry =
+      elim (Contains-push_cases w.log e (declared v) entry) as (λ _. HasTrampoline types h v) [
+        | inl before ↦ trampoline_still types types g h (types_refl types) grows v (stands.trampolines v before)
+        | inr last ↦ here v last
+      ]
+
+  -- the world after the entry
+  pub world_on : AllZip (EffectStands types h) h.side_effects (trace (w.log ++ e ∷ []))
+      → length (instances_of (w.log ++ e ∷ [])) ≡ length h.instances
+      → ((k : ℕ) (x : SignedTrampoline) → slice_get h.trampolines k ≡ Some x → IsDeclared types h (w.log ++ e ∷ []) k x)
+      → ((v : CoreValue Mark) → e ≡ declared v → HasTrampoline types h v)
+      → length h.trampolines ≤ length g.trampolines + count_by is_declared (e ∷ [])
+      → map path_of h.imports ≡ paths_needed (w.log ++ e ∷ []) → h.import_types ≡ g.import_types
+      → h.num_runtime_component_instances ≡ g.num_runtime_component_instances → is_made e ≡ false
+      → WorldStands types h (logging w e)
+  world_on effects order declared_so has few imports types_same begun made = record {
+    effects = effects;
+    order = order;
+    are_declared = declared_so;
+    trampolines = trampoline_on has;
+    few_trampolines = few-push w.log e (length g.trampolines) (length h.trampolines) stands.few_trampolines few;
+    import_types = subst (λ is. AllZip (ImportStands types h) is w.imports) (sym types_same)
+        (zip_more (ImportStands types g) (ImportStands types h) (import_still types types g h (types_refl types) grows)
+        g.import_types w.imports stands.import_types);
+    imports = imports;
+    imported_resources = stands.imported_resources;
+    intrinsics = stands.intrinsics;
+    no_adapters = no_adapters-push w.log e stands.no_adapters made;
+    begun = stands.begun ∙ sym begun;
+  }

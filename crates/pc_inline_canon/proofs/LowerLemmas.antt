@@ -1,0 +1,303 @@
+-- The step of a lower: of a host function, or of a lifted one, which isn't built yet.
+use Rattle.std.proofs.Common.{◌≡◌, ◌<◌, ◌||◌, ℕ, Bool, true, false, true≢false, List, [], ◌∷◌, length, None, Some}
+use Rattle.std.proofs.Common.{Result, Ok, Err, if◌then◌else◌, refl, sym, ap, subst, ◌∙◌}
+use Rattle.std.specs.Prelude.{⊤, slice_get, option_and_then}
+use Rattle.std.specs.List.{list_any}
+use Rattle.std.specs.Result.{IsErrAnd}
+use Rattle.std.proofs.lemmas.List.Folds.{list_any-append}
+use Rattle.std.proofs.lemmas.Option.{none-some, same_Some}
+use Rattle.pc_numbers.specs.declared.module_entity.ModuleInternedTypeIndex.{ModuleInternedTypeIndex}
+use Rattle.pc_numbers.specs.declared.runtime.ImportIndex.{ImportIndex}
+use Rattle.pc_types.specs.declared.error.Unsupported.TheVariants.{NotBuilt}
+use Rattle.pc_types.specs.declared.module_record.ModuleRecord.{ModuleRecord}
+use Rattle.pc_types.specs.declared.parsed.CoreFuncSig.{CoreFuncSig}
+use Rattle.pc_types.specs.declared.parsed.CoreKind.TheVariants as kind
+use Rattle.pc_types.specs.declared.parsed.TypeTable.{TypeTable}
+use Rattle.pc_types.specs.declared.type_index.TypeFuncIndex.{TypeFuncIndex}
+use Rattle.pc_types.specs.Table.{is_func}
+use Rattle.pc_types.specs.TypeTree.{TypeTree}
+use Rattle.pc_spec_plan.specs.CoreValue as value
+use Rattle.pc_spec_plan.specs.CoreValue.{CoreValue, adapter, lowered}
+use Rattle.pc_spec_plan.specs.Log as log
+use Rattle.pc_spec_plan.specs.Log.{Entry, made}
+use Rattle.pc_parsed.specs.declared.canon.CanonOption.{CanonOption}
+use Rattle.pc_parsed.specs.Mark.{Mark, of_type}
+use Rattle.pc_spec_reading.specs.Functions.{lower_to, making, read_lower}
+use Rattle.pc_spec_reading.specs.Item.{Item, lower_item}
+use Rattle.pc_spec_reading.specs.Options.{options_of}
+use Rattle.pc_spec_reading.specs.Outcome.{Fault, bad_type, found, invalid, unsupported}
+use Rattle.pc_spec_reading.specs.Rows.{read_row}
+use Rattle.pc_spec_reading.specs.SameValues.{makes, was_made}
+use Rattle.pc_spec_reading.specs.Scope.{Moment, add_core, add_entry, with_core}
+use Rattle.pc_spec_reading.specs.Types.{signature_at, tree_if}
+use Rattle.pc_spec_reading.specs.Value.{Function, Value, func_value, host_function, lifted_function}
+use Rattle.pc_inline_state.specs.declared.definition.CoreId.{CoreId}
+use Rattle.pc_inline_state.specs.declared.definition.Definition.{Definition}
+use Rattle.pc_inline_state.specs.declared.definition.DefinitionId.{DefinitionId}
+use Rattle.pc_inline_state.specs.declared.definition.Options.{Options}
+use Rattle.pc_inline_state.specs.declared.error.ItemError.{ItemError}
+use Rattle.pc_inline_state.specs.declared.error.ItemError.TheVariants as item_error
+use Rattle.pc_inline_state.specs.declared.error.ItemFault.TheVariants as item_fault
+use Rattle.pc_inline_state.specs.declared.frame.Frame.{Frame}
+use Rattle.pc_inline_state.specs.declared.state.State.{State}
+use Rattle.pc_inline_state.specs.Frames.{Both, FuncStands}
+use Rattle.pc_inline_state.specs.Points.{Goes, IsSoundState, PointStands, StepsItem}
+use Rattle.pc_inline_state.specs.Prepares.{Converts}
+use Rattle.pc_inline_state.specs.Refused.{LacksRoomOr}
+use Rattle.pc_inline_state.specs.Definitions.{host_import}
+use Rattle.pc_inline_canon.specs.Hosts.{Lowers}
+use Rattle.pc_inline_state.specs.Lists.{with_core_id}
+use Rattle.pc_inline_state.specs.Slots.{OptionsThere}
+use Rattle.pc_inline_state.specs.Stands.{DefinitionStands, OptionsStand, Stands, stands, stands_component, stands_host}
+use Rattle.pc_inline_state.specs.Stands.{stands_instance, stands_lifted, stands_static}
+use Rattle.pc_inline_state.specs.Tables.{Tables, tables_of}
+use Rattle.pc_inline_state.specs.Worlds.{import_path}
+use Rattle.pc_inline_state.specs.Today.{built_row, is_built, is_made}
+use Rattle.pc_inline_state.specs.Typed.{AreOfFunction, HasNoFunction}
+use Rattle.pc_inline_canon.specs.Written.{options_in}
+use Rattle.pc_inline_canon.proofs.FrameLemmas.{core_framed, framed_point}
+use Rattle.pc_inline_canon.proofs.OptionLemmas.{options_in_stand}
+use Rattle.pc_inline_canon.proofs.PassedLemmas.{steps_lacking, steps_passed}
+use Rattle.pc_inline_state.proofs.StateLemmas.{converts_prepares}
+use Rattle.pc_inline_canon.proofs.StepLemmas.{row_goes, row_stuck, steps_on, steps_stuck}
+use Rattle.pc_inline_canon.proofs.ThereLemmas.{options_there}
+use Rattle.pc_inline_canon.proofs.TypeLemmas.{FunctionThere, function_there, no_function}
+use Rattle.pc_inline_canon.proofs.WorldLemmas.{point_kept}
+use Rattle.pc_inline_state.proofs.ZipLemmas.{both_missing, both_there, zip_at}
+
+-- a lower that makes an adapter isn't built
+row_adapts : (t : TypeTable) (ms : List ModuleRecord) (now next : Moment) (i : Item) → is_built t i ≡ true
+    → read_row t ms now i ≡ Ok next → list_any is_made next.world.log ≡ true
+    → built_row t ms now i ≡ Err (unsupported NotBuilt)
+unfolding built_row
+row_adapts t ms now next i built goes some = rw (built, goes, some) refl
+
+-- a test that follows from another
+any_more : {A : Type 0} (p q : A → Bool) → ((x : A) → p x ≡ true → q x ≡ true) → (xs : List A)
+    → list_any p xs ≡ true → list_any q xs ≡ true
+any_more p q more [] h = h
+any_more {A} p q more (x ∷ xs) h = by (p x) refl h (any_more p q more xs)
+  where
+    or_true : (b : Bool) → (b || true) ≡ true
+    or_true true = refl
+    or_true false = refl
+
+    by : (b : Bool) → p x ≡ b → (b || list_any p xs) ≡ true → (list_any p xs ≡ true → list_any q xs ≡ true)
+        → (q x || list_any q xs) ≡ true
+    by true is h later = rw (more x is) refl
+    by false is h later = rw (later h) (or_true (q x))
+
+-- where this adapter was made, one was
+made_some : (v : CoreValue Mark) (e : Entry Mark) → makes v e ≡ true → is_made e ≡ true
+made_some v (log.instantiated i c) h = h
+made_some v (log.declared_resource rep d c) h = h
+made_some v (log.declared w) h = h
+made_some v (log.made w) h = refl
+made_some v (log.needed p) h = h
+
+-- an adapter that is made where none was makes one
+making_some : (now : Moment) (v : CoreValue Mark) → list_any is_made now.world.log ≡ false
+    → list_any is_made (making now v).world.log ≡ true
+unfolding making was_made
+making_some now v none = by (list_any (makes v) now.world.log) refl
+  where
+    by : (b : Bool) → list_any (makes v) now.world.log ≡ b
+        → list_any is_made (if b then now else add_entry now (made v)).world.log ≡ true
+    by true is = absurd (true≢false (sym (any_more (makes v) is_made (made_some v) now.world.log is) ∙ none))
+    by false is = list_any-append is_made now.world.log (made v ∷ []) ∙ rw none refl
+
+module _ (ms : List ModuleRecord) (b : Tables) where
+  -- a function is one of the host, or was lifted
+  host_entry : (d : Definition) (v : Value) (x : Function) → DefinitionStands ms b d v → v ≡ func_value x
+      → (i : ImportIndex) → host_import d ≡ Some i
+      → (x ≡ host_function (import_path i.0)) × (i.0 < length b.graph.import_types)
+  host_entry d v x (stands_host {i = j} below) is i host =
+      let same : j ≡ i = same_Some j i host in
+      let value : host_function (import_path j.0) ≡ x = cc in (
+        sym value ∙ ap (λ k. host_function (import_path k.0)) same,
+        subst (λ k. k.0 < length b.graph.import_types) same
+            below,
+      )
+  host_entry d v x (stands_lifted ty func options) is i host = absurd (none-some i host)
+  host_entry d v x stands_static is i host = absurd (none-some i host)
+  host_entry d v x (stands_component tr body leaving closure modules components) is i host =
+      absurd (none-some i host)
+  host_entry d v x (stands_instance held _) is i host = absurd (none-some i host)
+
+  host_is : (n : DefinitionId) (x : Function) → Stands ms b n (func_value x) → (i : ImportIndex)
+      → option_and_then host_import (slice_get b.definitions n.0) ≡ Some i
+      → (x ≡ host_function (import_path i.0)) × (i.0 < length b.graph.import_types)
+  host_is n x (stands {d = d} held entry) i host =
+      host_entry d (func_value x) x entry refl i (sym (ap (option_and_then host_import) held) ∙ host)
+
+  -- one that is none of the host was lifted
+  lifted_entry : (d : Definition) (v : Value) (x : Function) → DefinitionStands ms b d v → v ≡ func_value x
+      → host_import d ≡ None
+      → (tree : TypeTree) × (callee : CoreValue Mark) × (o : value.Options Mark) × (x ≡ lifted_function tree callee o)
+  lifted_entry d v x (stands_host below) is none = absurd (none-some _ (sym none))
+  lifted_entry d v x (stands_lifted {tree = tree} {v = w} {os = os} ty func options) is none = (tree, w, os, cc)
+  lifted_entry d v x stands_static is none = absurd (let k : ⊥ = cc in k)
+  lifted_entry d v x (stands_component tr body leaving closure modules components) is none =
+      absurd (let k : ⊥ = cc in k)
+  lifted_entry d v x (stands_instance held _) is none = absurd (let k : ⊥ = cc in k)
+
+  lifted_is : (n : DefinitionId) (x : Function) → Stands ms b n (func_value x)
+      → option_and_then host_import (slice_get b.definitions n.0) ≡ None
+      → (tree : TypeTree) × (callee : CoreValue Mark) × (o : value.Options Mark) × (x ≡ lifted_function tree callee o)
+  lifted_is n x (stands {d = d} held entry) none =
+      lifted_entry d (func_value x) x entry refl (sym (ap (option_and_then host_import) held) ∙ none)
+
+module _ (t : TypeTable) (ms : List ModuleRecord) (func ty core : ℕ) (opts : List CanonOption) where
+  abbrev lower : Item
+  lower = lower_item func ty core opts
+
+  abbrev reads : Moment → Result Moment Fault
+  reads now = built_row t ms now lower
+
+  -- there is no such type or signature
+  lower_untyped : (now : Moment) → HasNoFunction t ty core → reads now ≡ Err bad_type
+  unfolding read_row read_lower
+  lower_untyped now none = row_stuck t ms now lower bad_type refl
+      (no_function t now.scope ty core (λ tree s. found invalid (slice_get now.scope.funcs func)
+      (λ (x : Function). found invalid (options_of now.scope s opts)
+      (λ (o : value.Options Mark). Ok (lower_to now x tree s o)))) none)
+
+  -- what a lower makes of a moment in which all is there
+  lower_read : (now : Moment) (tree : TypeTree) (s : CoreFuncSig) (x : Function) (o : value.Options Mark)
+      → tree_if t is_func now.scope ty ≡ Some tree → signature_at t core ≡ Some s
+      → slice_get now.scope.funcs func ≡ Some x → options_of now.scope s opts ≡ Some o
+      → read_row t ms now lower ≡ Ok (lower_to now x tree s o)
+  unfolding read_row read_lower
+  lower_read now tree s x o a b c d = rw (a, b, c, d) refl
+
+  lower_lacks_types : (st : State) (f : Frame) (st' : State) (f' : Frame) (e : ItemError)
+      → LacksRoomOr item_fault.BadType (HasNoFunction t ty core) st' e → StepsItem t ms lower st f st' f' (Err e)
+  lower_lacks_types st f st' f' e lacks =
+      steps_lacking t ms reads st f st' f' item_fault.BadType (HasNoFunction t ty core) e lacks
+      (λ now at none. lower_untyped now none)
+
+  -- the same, handed on
+  pub lower_lacks : (st : State) (f : Frame) (st' : State) (f' : Frame) (r : Result ⊤ ItemError) (e : ItemError)
+      → IsErrAnd r (λ x. x ≡ e) → LacksRoomOr item_fault.BadType (HasNoFunction t ty core) st' e
+      → StepsItem t ms lower st f st' f' r
+  lower_lacks st f st' f' r e is lacks =
+      steps_passed t ms reads st f st' f' r e is (lower_lacks_types st f st' f' e lacks)
+
+  -- types were converted, and a point stands where it did
+  module _ (st : State) (f : Frame) (st' : State) (converts : Converts t st st') (n : TypeFuncIndex)
+      (i : ModuleInternedTypeIndex) (are : AreOfFunction st'.types t ty core n i) where
+    module _ (now : Moment) (at : PointStands t ms st f now) where
+      there : FunctionThere t now.scope st'.types ty core n i
+      there = function_there t ms st f now at st'.types converts.grows.resources ty core n i are
+
+      still : PointStands t ms st' f now
+      still = point_kept t ms st st' (converts_prepares t ms st st' converts) f now at
+
+      -- the function is missing
+      lower_unfound : slice_get f.funcs func ≡ None → reads now ≡ Err invalid
+      unfolding read_row read_lower
+      lower_unfound none =
+          let missing = both_missing (FuncStands ms (tables_of st')) (slice_get f.funcs func)
+          (slice_get now.scope.funcs func)
+          (zip_at (FuncStands ms (tables_of st')) f.funcs now.scope.funcs func still.frame.funcs) none in
+          row_stuck t ms now lower invalid refl (rw (there.is_tree, there.is_signature, missing) refl)
+
+      module _ (id : DefinitionId) (found_it : slice_get f.funcs func ≡ Some id) where
+        function : (x : Function) × (slice_get now.scope.funcs func ≡ Some x) × FuncStands ms (tables_of st') id x
+        function = both_there (FuncStands ms (tables_of st')) (slice_get f.funcs func)
+            (slice_get now.scope.funcs func) id
+            (zip_at (FuncStands ms (tables_of st')) f.funcs now.scope.funcs func still.frame.funcs) found_it
+
+        options_stand : Both (OptionsStand ms (tables_of st')) (options_in f i opts)
+            (options_of now.scope there.signature opts)
+        options_stand = options_in_stand ms (tables_of st') f now.scope still.frame i there.signature there.signed opts
+
+        -- an index of the options is missing
+        lower_unsound : options_in f i opts ≡ None → reads now ≡ Err invalid
+        unfolding read_row read_lower
+        lower_unsound none =
+            let missing = both_missing (OptionsStand ms (tables_of st')) (options_in f i opts)
+            (options_of now.scope there.signature opts) options_stand none in
+            row_stuck t ms now lower invalid refl (rw (there.is_tree, there.is_signature, function.1, missing) refl)
+
+        module _ (o : Options) (sound : options_in f i opts ≡ Some o) where
+          options : (os : value.Options Mark) × (options_of now.scope there.signature opts ≡ Some os)
+              × OptionsStand ms (tables_of st') o os
+          options = both_there (OptionsStand ms (tables_of st')) (options_in f i opts)
+              (options_of now.scope there.signature opts) o options_stand sound
+
+          -- what is lowered was lifted, which isn't built
+          lower_unbuilt : option_and_then host_import (slice_get st'.definitions id.0) ≡ None
+              → reads now ≡ Err (unsupported NotBuilt)
+          unfolding lower_to
+          lower_unbuilt none =
+              let x = lifted_is ms (tables_of st') id function.0 function.2 none in
+              let a = adapter (of_type x.0) x.2 (of_type there.tree) options.0 x.1 in
+              row_adapts t ms now (add_core (making now a) kind.Func a) lower refl
+              (lower_read now there.tree there.signature function.0 options.0 there.is_tree there.is_signature
+              function.1
+              options.1 ∙ ap (λ y. Ok (lower_to now y there.tree there.signature options.0)) x.3)
+              (making_some now a at.world.no_adapters)
+
+          -- a host function was lowered
+          lower_goes : (j : ImportIndex) → option_and_then host_import (slice_get st'.definitions id.0) ≡ Some j
+              → (end : State) (key : CoreId) → Lowers t ms st' end j n o key
+              → Goes t ms end (with_core_id f kind.Func key) (reads now)
+          unfolding lower_to Lowers
+          lower_goes j host end key lowers =
+              let x = host_is ms (tables_of st') id function.0 function.2 j host in
+              let v = lowered (import_path j.0) (of_type there.tree) options.0 in
+              let went = lowers f now there.tree options.0 still there.has options.2 in
+              let next = lower_to now (host_function (import_path j.0)) there.tree there.signature options.0 in
+              record {
+                now = next;
+                stands = framed_point t ms end f (with_core_id f kind.Func key) _ (with_core now.scope kind.Func v)
+                    went.0
+                    refl (core_framed ms (tables_of end) f now.scope went.0.frame kind.Func key v went.1);
+                done = row_goes t ms now next lower refl
+                    (lower_read now there.tree there.signature function.0 options.0 there.is_tree there.is_signature
+                    function.1 options.1 ∙ ap (λ y. Ok (lower_to now y there.tree there.signature options.0)) x.0)
+                    went.0.world.no_adapters;
+              }
+
+    -- what the call that lowers asks for
+    pub lower_ready : ((now : Moment) × PointStands t ms st f now) → (id : DefinitionId)
+        → slice_get f.funcs func ≡ Some id → (o : Options) → options_in f i opts ≡ Some o → (j : ImportIndex)
+        → option_and_then host_import (slice_get st'.definitions id.0) ≡ Some j
+        → IsSoundState t ms st' × (j.0 < length st'.graph.import_types) × OptionsThere ms (tables_of st') o
+    lower_ready point id found_it o sound j host =
+        let now = point.0 in
+        let at = point.1 in
+        let x = function now at id found_it in
+        let os = options now at id found_it o sound in (
+          (still now at).sound,
+          (host_is ms (tables_of st') id x.0 x.2 j host).1,
+          options_there ms (tables_of st') o
+              os.0 os.2,
+        )
+
+    -- the steps of these
+    pub lower_misses : slice_get f.funcs func ≡ None
+        → StepsItem t ms lower st f st' f (Err (item_error.Fault item_fault.Invalid))
+    lower_misses none = steps_stuck t ms reads st f st' f item_fault.Invalid (λ now at. lower_unfound now at none)
+
+    module _ (id : DefinitionId) (found_it : slice_get f.funcs func ≡ Some id) where
+      pub lower_misses_option : options_in f i opts ≡ None
+          → StepsItem t ms lower st f st' f (Err (item_error.Fault item_fault.Invalid))
+      lower_misses_option none =
+          steps_stuck t ms reads st f st' f item_fault.Invalid (λ now at. lower_unsound now at id found_it none)
+
+      module _ (o : Options) (sound : options_in f i opts ≡ Some o) where
+        pub lower_adapts : option_and_then host_import (slice_get st'.definitions id.0) ≡ None
+            → StepsItem t ms lower st f st' f (Err (item_error.Fault (item_fault.Unsupported NotBuilt)))
+        lower_adapts none =
+            steps_stuck t ms reads st f st' f (item_fault.Unsupported NotBuilt)
+            (λ now at. lower_unbuilt now at id found_it o sound none)
+
+        pub lower_steps : (j : ImportIndex) → option_and_then host_import (slice_get st'.definitions id.0) ≡ Some j
+            → (end : State) (key : CoreId) → Lowers t ms st' end j n o key → (f' : Frame)
+            → f' ≡ with_core_id f kind.Func key → (r : ⊤) → StepsItem t ms lower st f end f' (Ok r)
+        lower_steps j host end key lowers f' is r =
+            subst (λ g. StepsItem t ms lower st f end g (Ok r)) (sym is)
+            (steps_on t ms reads st f end (with_core_id f kind.Func key) r
+            (λ now at. lower_goes now at id found_it o sound j host end key lowers))

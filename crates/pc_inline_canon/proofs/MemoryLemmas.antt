@@ -1,0 +1,100 @@
+-- Memories in slots of the graph.
+use Rattle.std.proofs.Common.{◌≡◌, ◌⊎◌, inl, inr, ◌≤◌, ℕ, zero, suc, List, [], ◌∷◌, length, map, Some, refl, sym, ap}
+use Rattle.std.proofs.Common.{Option, subst, ◌∙◌}
+use Rattle.std.specs.Prelude.{slice_get}
+use Rattle.std.proofs.lemmas.List.{length-map}
+use Rattle.std.proofs.lemmas.Option.{none-some, same_Some}
+use Rattle.pc_numbers.specs.declared.module_entity.MemoryIndex.{MemoryIndex}
+use Rattle.pc_types.specs.declared.module_record.ModuleRecord.{ModuleRecord}
+use Rattle.pc_types.specs.declared.parsed.CoreKind.TheVariants as core
+use Rattle.pc_types.specs.declared.parsed.TypeTable.{TypeTable}
+use Rattle.pc_spec_plan.specs.CoreValue.{MaybeValue}
+use Rattle.pc_spec_plan.specs.PlanView as plan
+use Rattle.pc_parsed.specs.Mark.{Mark}
+use Rattle.pc_dfg.specs.declared.core_def.CoreDef.{CoreDef}
+use Rattle.pc_dfg.specs.declared.core_def.CoreExport.{CoreExport}
+use Rattle.pc_dfg.specs.declared.dfg.ComponentDfg.{ComponentDfg}
+use Rattle.pc_dfg.specs.Grows as graph
+use Rattle.pc_dfg.specs.Held.{HeldSlot, IsHeld}
+use Rattle.pc_dfg.specs.Lists as list
+use Rattle.pc_dfg.specs.Numbers.{memory_def, slots_of}
+use Rattle.pc_dfg.specs.Ordered.{IsOrdered}
+use Rattle.pc_dfg.specs.Pushed.{IsPut}
+use Rattle.pc_inline_state.specs.declared.definition.CoreId.{CoreId}
+use Rattle.pc_inline_state.specs.declared.state.State.{State}
+use Rattle.pc_inline_state.specs.Points.{IsFullSomewhere}
+use Rattle.pc_inline_state.specs.Prepares.{Prepares}
+use Rattle.pc_inline_state.specs.Slots.{SlotStands}
+use Rattle.pc_inline_state.specs.Stands.{MaybeStands}
+use Rattle.pc_inline_state.specs.Tables.{IsItem, Tables, tables_of}
+use Rattle.pc_inline_state.specs.Worlds.{slot_kind}
+use Rattle.pc_inline_canon.proofs.CoreInstanceLemmas.{item_held}
+use Rattle.pc_inline_state.proofs.GrowthLemmas.{graph_crowded}
+use Rattle.pc_inline_canon.proofs.SlotLemmas.{found_in_put, slot_held, slot_keeps, slot_some, slots_prepare}
+
+-- a look-up in images finds the image
+map_at : {A B : Type 0} (f : A → B) (xs : List A) (n : ℕ) (x : A) → slice_get xs n ≡ Some x
+    → slice_get (map f xs) n ≡ Some (f x)
+map_at f [] n x at = absurd (none-some x at)
+map_at f (y ∷ xs) zero x at = ap (λ z. Some (f z)) (same_Some y x at)
+map_at f (y ∷ xs) (suc n) x at = map_at f xs n x at
+
+-- and what it finds is the image of an item
+map_from : {A B : Type 0} (f : A → B) (xs : List A) (n : ℕ) (y : B) → slice_get (map f xs) n ≡ Some y
+    → (x : A) × (slice_get xs n ≡ Some x) × (f x ≡ y)
+map_from f [] n y at = absurd (none-some y at)
+map_from f (x ∷ xs) zero y at = (x, refl, same_Some (f x) y at)
+map_from f (x ∷ xs) (suc n) y at = map_from f xs n y at
+
+module _ (t : TypeTable) (ms : List ModuleRecord) (st : State) (h : ComponentDfg) (grows : graph.Grows st.graph h) where
+  -- one more memory at most
+  pub memory_prepares : (x : CoreExport MemoryIndex) → IsItem ms st.graph core.Memory (memory_def x)
+      → h ≡ record st.graph { memories = h.memories } → IsPut st.graph.memories h.memories x
+      → (IsHeld st.graph (memory_def x) → IsOrdered st.graph → IsOrdered h)
+      → Prepares t ms st (record st { graph = h })
+  unfolding slots_of
+  memory_prepares x item rest put ordered =
+      subst (λ (g : ComponentDfg). Prepares t ms st (record st { graph = g })) (sym rest)
+      (slots_prepare t ms st h.memories st.graph.reallocs st.graph.callbacks st.graph.post_returns st.graph.options
+      (λ held. held.options) (subst (graph.Grows st.graph) rest grows)
+      (λ o. subst IsOrdered rest (ordered (item_held ms st.graph core.Memory (memory_def x) item) o)) slots)
+    where
+      slots : (k : plan.SlotKind) (n : ℕ) (d : CoreDef)
+          → slice_get (slots_of (record st.graph { memories = h.memories }) k) n ≡ Some d
+          → (slice_get (slots_of st.graph k) n ≡ Some d) ⊎ IsItem ms st.graph (slot_kind k) d
+      slots plan.memory n d at =
+          let m = map_from memory_def h.memories n d at in
+          elim (found_in_put st.graph.memories h.memories x put n m.0 m.1)
+          as (λ _. (slice_get (map memory_def st.graph.memories) n ≡ Some d) ⊎ IsItem ms st.graph core.Memory d) [
+            | inl before ↦ inl (map_at memory_def st.graph.memories n m.0 before ∙ ap Some m.2)
+            | inr same ↦ inr (subst (λ y. IsItem ms st.graph core.Memory y) (ap memory_def same ∙ m.2) item)
+          ]
+      slots plan.table n d at = inl at
+      slots plan.realloc n d at = inl at
+      slots plan.callback n d at = inl at
+      slots plan.post_return n d at = inl at
+
+-- it is in its memory slot
+pub memory_stands : (ms : List ModuleRecord) (st : State) (h : ComponentDfg) → graph.Grows st.graph h → (id : CoreId)
+    (d : CoreDef) (n : ℕ) (x : CoreExport MemoryIndex) → slice_get st.cores id.0 ≡ Some d → memory_def x ≡ d
+    → slice_get h.memories n ≡ Some x → (o : Option CoreId) → o ≡ Some id → (v : MaybeValue Mark)
+    → MaybeStands ms (tables_of st) core.Memory o v
+    → SlotStands (tables_of (record st { graph = h })) plan.memory (Some n) v
+unfolding slots_of
+memory_stands ms st h grows id d n x held is at =
+    slot_some ms (tables_of st) (tables_of (record st { graph = h })) core.Memory plan.memory id d n held
+    (map_at memory_def h.memories n x at ∙ ap Some is) (slot_keeps ms st h grows id d n held)
+
+-- there is no room for one more memory
+pub memory_crowded : (b : Tables) (g : ComponentDfg) → graph.Grows g b.graph → 4294967295 ≤ length g.memories
+    → IsFullSomewhere b
+unfolding slots_of
+memory_crowded b g grows full =
+    graph_crowded b g grows (list.slots plan.memory)
+    (subst (λ n. 4294967295 ≤ n) (sym (length-map g.memories memory_def)) full)
+
+-- a memory slot in which something is is held
+pub memory_held : (g : ComponentDfg) (n : ℕ) (x : CoreExport MemoryIndex) → slice_get g.memories n ≡ Some x
+    → HeldSlot g plan.memory (Some n)
+unfolding slots_of
+memory_held g n x at = slot_held g plan.memory n (memory_def x) (map_at memory_def g.memories n x at)

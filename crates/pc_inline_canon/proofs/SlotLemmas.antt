@@ -1,0 +1,297 @@
+-- Core items in slots of the graph.
+use Rattle.std.proofs.Common.{◌≡◌, ◌⊎◌, inl, inr, ◌≤◌, ◌<◌, ℕ, List, length, Option, Some, None, refl, sym, ap}
+use Rattle.std.proofs.Common.{subst, ◌∙◌}
+use Rattle.std.specs.Prelude.{slice_get}
+use Rattle.std.proofs.lemmas.Option.{same_Some, slice_get_within}
+use Rattle.pc_numbers.specs.declared.module_entity.MemoryIndex.{MemoryIndex}
+use Rattle.pc_types.specs.declared.module_record.ModuleRecord.{ModuleRecord}
+use Rattle.pc_types.specs.declared.parsed.CoreKind.{CoreKind}
+use Rattle.pc_types.specs.declared.parsed.CoreKind.TheVariants as core
+use Rattle.pc_types.specs.declared.parsed.TypeTable.{TypeTable}
+use Rattle.pc_spec_plan.specs.CoreValue as value
+use Rattle.pc_spec_plan.specs.CoreValue.{CoreValue, MaybeValue, map_maybe}
+use Rattle.pc_spec_plan.specs.PlanView as plan
+use Rattle.pc_parsed.specs.Mark.{Mark}
+use Rattle.pc_dfg.specs.declared.core_def.CoreDef.{CoreDef}
+use Rattle.pc_dfg.specs.declared.core_def.CoreExport.{CoreExport}
+use Rattle.pc_dfg.specs.declared.dfg.ComponentDfg.{ComponentDfg}
+use Rattle.pc_dfg.specs.declared.options.CanonicalOptions.{CanonicalOptions}
+use Rattle.pc_dfg.specs.Grows as graph
+use Rattle.pc_dfg.specs.Held.{HeldSlot, IsHeld}
+use Rattle.pc_dfg.specs.Lists as list
+use Rattle.pc_dfg.specs.Means.{means_no_slot, means_slot}
+use Rattle.pc_dfg.specs.Numbers.{slots_of}
+use Rattle.pc_dfg.specs.Ordered.{IsOrdered}
+use Rattle.pc_dfg.specs.Pushed.{IsPut}
+use Rattle.pc_dfg.proofs.AllLemmas.{all_more}
+use Rattle.pc_inline_state.specs.declared.definition.CoreId.{CoreId}
+use Rattle.pc_inline_state.specs.declared.state.State.{State}
+use Rattle.pc_inline_state.specs.Points.{IsFullSomewhere}
+use Rattle.pc_inline_state.specs.Prepares.{Prepares}
+use Rattle.pc_inline_state.specs.Slots.{IsThere, SlotStands}
+use Rattle.pc_inline_state.specs.Stands.{CoreStands, MaybeStands, none_stands, some_stands}
+use Rattle.pc_inline_state.specs.Tables.{IsItem, Tables, tables_of}
+use Rattle.pc_inline_state.specs.Worlds.{HoldsTypes, slot_kind}
+use Rattle.pc_inline_canon.proofs.CoreInstanceLemmas.{found_in_push, item_held}
+use Rattle.pc_inline_state.proofs.GrowthLemmas.{graph_crowded, graph_grown}
+use Rattle.pc_inline_canon.proofs.KeptLemmas.{core_kept, is_item_kept}
+use Rattle.pc_inline_state.proofs.StateLemmas.{types_refl}
+
+-- what is found in a list into which an entry was put was there, or is the entry
+pub found_in_put : {A : Type 0} (old new : List A) (x : A) → IsPut old new x → (n : ℕ) (y : A)
+    → slice_get new n ≡ Some y
+    → (slice_get old n ≡ Some y) ⊎ (x ≡ y)
+found_in_put old new x put n y at = elim put.0 as (λ _. (slice_get old n ≡ Some y) ⊎ (x ≡ y)) [
+  | inl same ↦ inl (subst (λ l. slice_get l n ≡ Some y) same at)
+  | inr more ↦ found_in_push old x n y (subst (λ l. slice_get l n ≡ Some y) more at)
+]
+
+-- nothing is in no slot
+pub slot_none : (ms : List ModuleRecord) (b : Tables) (j : CoreKind) (k : plan.SlotKind) (o : Option CoreId) → o ≡ None
+    → (v : MaybeValue Mark) → MaybeStands ms b j o v → SlotStands b k None v
+slot_none ms b j k o is v m = by v (subst (λ x. MaybeStands ms b j x v) is m)
+  where
+    by : (v : MaybeValue Mark) → MaybeStands ms b j None v → SlotStands b k None v
+    by v none_stands = record { numbered = value.no_value; means = means_no_slot; is = refl }
+
+module _ (ms : List ModuleRecord) (b c : Tables) (j : CoreKind) (k : plan.SlotKind) (id : CoreId) (d : CoreDef) (n : ℕ)
+  where
+    -- a core item whose definition is in a slot is in it
+    pub slot_some : slice_get b.cores id.0 ≡ Some d → slice_get (slots_of c.graph k) n ≡ Some d
+        → ((v : CoreValue Mark) → CoreStands b.types b.graph d v → CoreStands c.types c.graph d v)
+        → (o : Option CoreId) → o ≡ Some id → (v : MaybeValue Mark) → MaybeStands ms b j o v → SlotStands c k (Some n) v
+    slot_some held at kept o is v m = by v (subst (λ x. MaybeStands ms b j x v) is m)
+      where
+        by : (v : MaybeValue Mark) → MaybeStands ms b j (Some id) v → SlotStands c k (Some n) v
+        by v (some_stands {v = w} item) =
+            let s = kept w
+            (subst (λ x. CoreStands b.types b.graph x w) (same_Some item.definition d (sym item.held ∙ held))
+            item.stands) in
+            record {
+              numbered = value.a_value s.numbered;
+              means = means_slot at s.means;
+              is = ap value.a_value s.is;
+            }
+
+-- the definition of a core item of the table is an item of its kind
+pub there_usable : (ms : List ModuleRecord) (b : Tables) (k : CoreKind) (id : CoreId) (d : CoreDef) → IsThere ms b k id
+    → slice_get b.cores id.0 ≡ Some d → IsItem ms b.graph k d
+there_usable ms b k id d there held =
+    subst (λ x. IsItem ms b.graph k x) (same_Some there.definition d (sym there.held ∙ held)) there.usable
+
+module _ (t : TypeTable) (ms : List ModuleRecord) (st : State) (memories : List (CoreExport MemoryIndex))
+    (reallocs callbacks post_returns : List CoreDef) (options : List CanonicalOptions) where
+  -- the graph with these slots and options
+  abbrev slotted : ComponentDfg
+  slotted = record st.graph {
+    memories = memories;
+    reallocs = reallocs;
+    callbacks = callbacks;
+    post_returns = post_returns;
+    options = options;
+  }
+
+  -- a graph in which slots and options alone are more does what it did
+  pub slots_prepare : (HoldsTypes st.types st.graph → (k : ℕ) (x : CanonicalOptions) → slice_get options k ≡ Some x
+      → x.core_type.0 < length st.types.signatures)
+      → graph.Grows st.graph slotted → (IsOrdered st.graph → IsOrdered slotted)
+      → ((k : plan.SlotKind) (n : ℕ) (d : CoreDef) → slice_get (slots_of slotted k) n ≡ Some d
+      → (slice_get (slots_of st.graph k) n ≡ Some d) ⊎ IsItem ms st.graph (slot_kind k) d)
+      → Prepares t ms st (record st { graph = slotted })
+  slots_prepare held grows ordered slots = record {
+    keeps = graph_grown (tables_of st) slotted grows;
+    sound = λ s. record {
+      ordered = ordered s.ordered;
+      items = record {
+        modules = λ i m args at. let old = s.items.modules i m args at in (
+          old.0,
+          old.1,
+          old.2,
+          all_more (λ d. (k : CoreKind) × IsItem ms st.graph k d)
+              (λ d. (k : CoreKind) × IsItem ms slotted k d)
+              (λ d x. (x.0, is_item_kept ms st.graph slotted grows x.0 d x.1))
+              args old.3,
+        );
+        slots = λ k n d at. is_item_kept ms st.graph slotted grows (slot_kind k) d
+            (elim (slots k n d at) as (λ _. IsItem ms st.graph (slot_kind k) d) [
+              | inl before ↦ s.items.slots k n d before
+              | inr item ↦ item
+            ]);
+        exports = λ n ty o d at. is_item_kept ms st.graph slotted grows _ d (s.items.exports n ty o d at);
+      };
+      plain = record {
+        adapters = s.plain.adapters;
+        adapter_modules = s.plain.adapter_modules;
+        adapter_partitionings = s.plain.adapter_partitionings;
+        resources = s.plain.resources;
+        imported_resources = s.plain.imported_resources;
+        unsafe_intrinsics = s.plain.unsafe_intrinsics;
+        instances = s.plain.instances;
+        export_items = s.plain.export_items;
+      };
+      used = record { room = s.used.room; numbers = s.used.numbers; others = s.used.others };
+      numbers = s.numbers;
+      held = record { options = held s.held; functions = s.held.functions };
+    };
+    side_effects = refl;
+    instances = refl;
+    trampolines = refl;
+    imports = refl;
+    import_types = refl;
+    begun = refl;
+    exports = refl;
+    export_items = refl;
+    used = refl;
+  }
+
+module _ (t : TypeTable) (ms : List ModuleRecord) (st : State) (h : ComponentDfg) (grows : graph.Grows st.graph h) where
+  -- one more realloc at most
+  pub realloc_prepares : (d : CoreDef) → IsItem ms st.graph core.Func d → h ≡ record st.graph { reallocs = h.reallocs }
+      → IsPut st.graph.reallocs h.reallocs d → (IsHeld st.graph d → IsOrdered st.graph → IsOrdered h)
+      → Prepares t ms st (record st { graph = h })
+  unfolding slots_of
+  realloc_prepares d item rest put ordered =
+      subst (λ (g : ComponentDfg). Prepares t ms st (record st { graph = g })) (sym rest)
+      (slots_prepare t ms st st.graph.memories h.reallocs st.graph.callbacks st.graph.post_returns st.graph.options
+      (λ held. held.options) (subst (graph.Grows st.graph) rest grows)
+      (λ o. subst IsOrdered rest (ordered (item_held ms st.graph core.Func d item) o)) slots)
+    where
+      slots : (k : plan.SlotKind) (n : ℕ) (x : CoreDef)
+          → slice_get (slots_of (record st.graph { reallocs = h.reallocs }) k) n ≡ Some x
+          → (slice_get (slots_of st.graph k) n ≡ Some x) ⊎ IsItem ms st.graph (slot_kind k) x
+      slots plan.realloc n x at = elim (found_in_put st.graph.reallocs h.reallocs d put n x at)
+          as (λ _. (slice_get st.graph.reallocs n ≡ Some x) ⊎ IsItem ms st.graph core.Func x) [
+            | inl before ↦ inl before
+            | inr same ↦ inr (subst (λ y. IsItem ms st.graph core.Func y) same item)
+          ]
+      slots plan.memory n x at = inl at
+      slots plan.table n x at = inl at
+      slots plan.callback n x at = inl at
+      slots plan.post_return n x at = inl at
+
+  -- one more callback at most
+  pub callback_prepares : (d : CoreDef) → IsItem ms st.graph core.Func d
+      → h ≡ record st.graph { callbacks = h.callbacks }
+      → IsPut st.graph.callbacks h.callbacks d → (IsHeld st.graph d → IsOrdered st.graph → IsOrdered h)
+      → Prepares t ms st (record st { graph = h })
+  unfolding slots_of
+  callback_prepares d item rest put ordered =
+      subst (λ (g : ComponentDfg). Prepares t ms st (record st { graph = g })) (sym rest)
+      (slots_prepare t ms st st.graph.memories st.graph.reallocs h.callbacks st.graph.post_returns st.graph.options
+      (λ held. held.options) (subst (graph.Grows st.graph) rest grows)
+      (λ o. subst IsOrdered rest (ordered (item_held ms st.graph core.Func d item) o)) slots)
+    where
+      slots : (k : plan.SlotKind) (n : ℕ) (x : CoreDef)
+          → slice_get (slots_of (record st.graph { callbacks = h.callbacks }) k) n ≡ Some x
+          → (slice_get (slots_of st.graph k) n ≡ Some x) ⊎ IsItem ms st.graph (slot_kind k) x
+      slots plan.callback n x at = elim (found_in_put st.graph.callbacks h.callbacks d put n x at)
+          as (λ _. (slice_get st.graph.callbacks n ≡ Some x) ⊎ IsItem ms st.graph core.Func x) [
+            | inl before ↦ inl before
+            | inr same ↦ inr (subst (λ y. IsItem ms st.graph core.Func y) same item)
+          ]
+      slots plan.memory n x at = inl at
+      slots plan.table n x at = inl at
+      slots plan.realloc n x at = inl at
+      slots plan.post_return n x at = inl at
+
+  -- one more post-return at most
+  pub post_return_prepares : (d : CoreDef) → IsItem ms st.graph core.Func d
+      → h ≡ record st.graph { post_returns = h.post_returns }
+      → IsPut st.graph.post_returns h.post_returns d → (IsHeld st.graph d → IsOrdered st.graph → IsOrdered h)
+      → Prepares t ms st (record st { graph = h })
+  unfolding slots_of
+  post_return_prepares d item rest put ordered =
+      subst (λ (g : ComponentDfg). Prepares t ms st (record st { graph = g })) (sym rest)
+      (slots_prepare t ms st st.graph.memories st.graph.reallocs st.graph.callbacks h.post_returns st.graph.options
+      (λ held. held.options) (subst (graph.Grows st.graph) rest grows)
+      (λ o. subst IsOrdered rest (ordered (item_held ms st.graph core.Func d item) o)) slots)
+    where
+      slots : (k : plan.SlotKind) (n : ℕ) (x : CoreDef)
+          → slice_get (slots_of (record st.graph { post_returns = h.post_returns }) k) n ≡ Some x
+          → (slice_get (slots_of st.graph k) n ≡ Some x) ⊎ IsItem ms st.graph (slot_kind k) x
+      slots plan.post_return n x at = elim (found_in_put st.graph.post_returns h.post_returns d put n x at)
+          as (λ _. (slice_get st.graph.post_returns n ≡ Some x) ⊎ IsItem ms st.graph core.Func x) [
+            | inl before ↦ inl before
+            | inr same ↦ inr (subst (λ y. IsItem ms st.graph core.Func y) same item)
+          ]
+      slots plan.memory n x at = inl at
+      slots plan.table n x at = inl at
+      slots plan.realloc n x at = inl at
+      slots plan.callback n x at = inl at
+
+module _ (ms : List ModuleRecord) (st : State) (h : ComponentDfg) (grows : graph.Grows st.graph h) (id : CoreId)
+    (d : CoreDef) (n : ℕ) (held : slice_get st.cores id.0 ≡ Some d) where
+  -- a definition keeps its value in the graph with one more slot
+  pub slot_keeps : (v : CoreValue Mark) → CoreStands st.types st.graph d v → CoreStands st.types h d v
+  slot_keeps v = core_kept st.types st.types st.graph h (types_refl st.types) grows d v
+
+  -- it is in its realloc slot
+  pub realloc_stands : slice_get h.reallocs n ≡ Some d → (o : Option CoreId) → o ≡ Some id → (v : MaybeValue Mark)
+      → MaybeStands ms (tables_of st) core.Func o v
+      → SlotStands (tables_of (record st { graph = h })) plan.realloc (Some n) v
+  unfolding slots_of
+  realloc_stands at =
+      slot_some ms (tables_of st) (tables_of (record st { graph = h })) core.Func plan.realloc id d n held at slot_keeps
+
+  -- it is in its callback slot
+  pub callback_stands : slice_get h.callbacks n ≡ Some d → (o : Option CoreId) → o ≡ Some id → (v : MaybeValue Mark)
+      → MaybeStands ms (tables_of st) core.Func o v
+      → SlotStands (tables_of (record st { graph = h })) plan.callback (Some n) v
+  unfolding slots_of
+  callback_stands at =
+      slot_some ms (tables_of st) (tables_of (record st { graph = h })) core.Func plan.callback id d n held at
+      slot_keeps
+
+  -- it is in its post-return slot
+  pub post_return_stands : slice_get h.post_returns n ≡ Some d → (o : Option CoreId) → o ≡ Some id
+      → (v : MaybeValue Mark) → MaybeStands ms (tables_of st) core.Func o v
+      → SlotStands (tables_of (record st { graph = h })) plan.post_return (Some n) v
+  unfolding slots_of
+  post_return_stands at =
+      slot_some ms (tables_of st) (tables_of (record st { graph = h })) core.Func plan.post_return id d n held at
+      slot_keeps
+
+module _ (b : Tables) (g : ComponentDfg) (grows : graph.Grows g b.graph) where
+  -- there is no room for one more realloc
+  pub realloc_crowded : 4294967295 ≤ length g.reallocs → IsFullSomewhere b
+  unfolding slots_of
+  realloc_crowded full = graph_crowded b g grows (list.slots plan.realloc) full
+
+  -- there is no room for one more callback
+  pub callback_crowded : 4294967295 ≤ length g.callbacks → IsFullSomewhere b
+  unfolding slots_of
+  callback_crowded full = graph_crowded b g grows (list.slots plan.callback) full
+
+  -- there is no room for one more post-return
+  pub post_return_crowded : 4294967295 ≤ length g.post_returns → IsFullSomewhere b
+  unfolding slots_of
+  post_return_crowded full = graph_crowded b g grows (list.slots plan.post_return) full
+
+-- no slot is held
+pub none_held : (g : ComponentDfg) (k : plan.SlotKind) → HeldSlot g k None
+unfolding HeldSlot
+none_held g k = tt
+
+-- a slot in which something is is held
+pub slot_held : (g : ComponentDfg) (k : plan.SlotKind) (n : ℕ) (d : CoreDef) → slice_get (slots_of g k) n ≡ Some d
+    → HeldSlot g k (Some n)
+unfolding HeldSlot
+slot_held g k n d at = slice_get_within (slots_of g k) n d at
+
+-- that of a realloc
+pub realloc_held : (g : ComponentDfg) (n : ℕ) (d : CoreDef) → slice_get g.reallocs n ≡ Some d
+    → HeldSlot g plan.realloc (Some n)
+unfolding slots_of
+realloc_held g n d at = slot_held g plan.realloc n d at
+
+-- that of a callback
+pub callback_held : (g : ComponentDfg) (n : ℕ) (d : CoreDef) → slice_get g.callbacks n ≡ Some d
+    → HeldSlot g plan.callback (Some n)
+unfolding slots_of
+callback_held g n d at = slot_held g plan.callback n d at
+
+-- that of a post-return
+pub post_return_held : (g : ComponentDfg) (n : ℕ) (d : CoreDef) → slice_get g.post_returns n ≡ Some d
+    → HeldSlot g plan.post_return (Some n)
+unfolding slots_of
+post_return_held g n d at = slot_held g plan.post_return n d at

@@ -1,0 +1,106 @@
+-- What was done stays done as the tables grow, where the graph does nothing more.
+use Rattle.std.proofs.Common.{◌≡◌, ℕ, List, map, length, Some, sym, ap, subst, ◌∙◌}
+use Rattle.std.specs.Prelude.{◌≤◌, count_by, slice_get}
+use Rattle.std.specs.List.{AllZip}
+use Rattle.pc_types.specs.declared.module_record.ModuleRecord.{ModuleRecord}
+use Rattle.pc_types.specs.declared.parsed.TypeTable.{TypeTable}
+use Rattle.pc_types.specs.declared.types.ComponentExtern.{ComponentExtern}
+use Rattle.pc_types_lists.specs.Types.{Types}
+use Rattle.pc_types_lists.specs.Types as builder
+use Rattle.pc_spec_plan.specs.CoreValue.{CoreValue}
+use Rattle.pc_spec_plan.specs.Log.{Entry, map_entry, trace}
+use Rattle.pc_trampoline.specs.declared.part.Mark.TheVariants as mark
+use Rattle.pc_parsed.specs.Mark.{Mark, of_type}
+use Rattle.pc_spec_reading.specs.Scope.{Moment}
+use Rattle.pc_spec_reading.specs.World.{HostImport, World}
+use Rattle.pc_dfg.specs.declared.core_def.CoreDef.TheVariants as def
+use Rattle.pc_dfg.specs.declared.dfg.ComponentDfg.{ComponentDfg}
+use Rattle.pc_dfg.specs.declared.instance.SideEffect.{SideEffect}
+use Rattle.pc_dfg.specs.Effects.{MeansEffect}
+use Rattle.pc_dfg.specs.Grows as graph
+use Rattle.pc_dfg.specs.Numbers.{SignedTrampoline}
+use Rattle.pc_dfg.proofs.TraceLemmas.{effect_kept}
+use Rattle.pc_inline_state.specs.declared.frame.Frame.{Frame}
+use Rattle.pc_inline_state.specs.declared.state.State.{State}
+use Rattle.pc_inline_state.specs.Points.{PointStands}
+use Rattle.pc_inline_state.specs.Prepares.{Prepares}
+use Rattle.pc_inline_state.specs.Tables.{tables_of}
+use Rattle.pc_inline_state.specs.Typed.{number_of, whole_of}
+use Rattle.pc_inline_state.specs.Worlds.{EffectStands, HasTrampoline, ImportStands, IsDeclared, WorldStands, is_declared}
+use Rattle.pc_inline_state.specs.Worlds.{path_of}
+use Rattle.pc_inline_canon.proofs.KeptLemmas.{core_kept, frame_kept}
+use Rattle.pc_inline_canon.proofs.MarkLemmas.{entry_twice, holds_still, still}
+use Rattle.pc_inline_state.proofs.ZipLemmas.{zip_more}
+
+module _ (old new : Types) (g h : ComponentDfg) (types : builder.Grows old new) (grows : graph.Grows g h) where
+  -- a side effect does what it did
+  pub effect_still : (e : SideEffect) (x : Entry Mark) → EffectStands old g e x → EffectStands new h e x
+  effect_still e x s = record {
+    numbered = map_entry (still old new types) s.numbered;
+    means = subst (MeansEffect h e) (sym (entry_twice (still old new types) (number_of new) s.numbered))
+        (effect_kept g h grows s.means);
+    is = entry_twice (still old new types) (whole_of new) s.numbered ∙ s.is;
+  }
+
+  -- an import is that of the host
+  pub import_still : (i : List ℕ × ComponentExtern) (x : HostImport) → ImportStands old g i x → ImportStands new h i x
+  import_still i x s = record {
+    name = s.name;
+    extern_data = s.extern_data;
+    typed = holds_still old new types (mark.Type_ i.1.ty) (of_type x.import_type) s.typed;
+  }
+
+  -- a trampoline is declared
+  pub declared_still : (log : List (Entry Mark)) (k : ℕ) (x : SignedTrampoline) → IsDeclared old g log k x
+      → IsDeclared new h log k x
+  declared_still log k x d = record {
+    value = d.value;
+    entry = d.entry;
+    stands = core_kept old new g h types grows (def.Trampoline (record { 0 = k })) d.value d.stands;
+    signed = (d.signed.0, types.signatures x.0.0 d.signed.0 d.signed.1, d.signed.2);
+  }
+
+  -- what is declared is a trampoline
+  pub trampoline_still : (v : CoreValue Mark) → HasTrampoline old g v → HasTrampoline new h v
+  trampoline_still v t = record {
+    trampoline = t.trampoline;
+    stands = core_kept old new g h types grows (def.Trampoline t.trampoline) v t.stands;
+  }
+
+  -- a graph that does no more than before
+  pub world_still : h.side_effects ≡ g.side_effects → h.instances ≡ g.instances → h.trampolines ≡ g.trampolines
+      → h.imports ≡ g.imports → h.import_types ≡ g.import_types
+      → h.num_runtime_component_instances ≡ g.num_runtime_component_instances
+      → (w : World) → WorldStands old g w → WorldStands new h w
+  world_still effects instances trampolines imports import_types begun w s = record {
+    effects = subst (λ es. AllZip (EffectStands new h) es (trace w.log)) (sym effects)
+        (zip_more (EffectStands old g) (EffectStands new h) effect_still g.side_effects (trace w.log) s.effects);
+    order = s.order ∙ ap length (sym instances);
+    are_declared = λ k x at. declared_still w.log k x
+        (s.are_declared k x (subst (λ ts. slice_get ts k ≡ Some x) trampolines at));
+    trampolines = λ v entry. trampoline_still v (s.trampolines v entry);
+    few_trampolines = subst (λ ts. length ts ≤ count_by is_declared w.log) (sym trampolines) s.few_trampolines;
+    import_types = subst (λ is. AllZip (ImportStands new h) is w.imports) (sym import_types)
+        (zip_more (ImportStands old g) (ImportStands new h) import_still g.import_types w.imports s.import_types);
+    imports = ap (map path_of) imports ∙ s.imports;
+    imported_resources = s.imported_resources;
+    intrinsics = s.intrinsics;
+    no_adapters = s.no_adapters;
+    begun = s.begun ∙ sym begun;
+  }
+
+-- a point is where it was while nothing is done
+pub point_kept : (t : TypeTable) (ms : List ModuleRecord) (old new : State) → Prepares t ms old new
+    → (f : Frame) (now : Moment) → PointStands t ms old f now → PointStands t ms new f now
+point_kept t ms old new p f now at = record {
+  sound = p.sound at.sound;
+  here = p.keeps.types.resources ∙ at.here;
+  typed = at.typed;
+  frame = frame_kept ms (tables_of old) (tables_of new) p.keeps f now.scope at.frame;
+  world = world_still old.types new.types old.graph new.graph p.keeps.types p.keeps.graph p.side_effects p.instances
+      p.trampolines p.imports p.import_types p.begun now.world at.world;
+  unexported = record {
+    exports = p.exports ∙ at.unexported.exports;
+    items = p.export_items ∙ at.unexported.items;
+  };
+}

@@ -1,0 +1,44 @@
+use Rattle.std.proofs.Common.{sym, ◌∙◌}
+use Rattle.pc_inline_canon.proofs.ConvertedLemmas.{lift_adds}
+use Rattle.pc_inline_canon.proofs.GotLemmas.{got_by}
+use Rattle.pc_inline_canon.proofs.LiftLemmas.{lift_lacks, lift_made, lift_misses, lift_misses_option}
+use Rattle.pc_inline_canon.proofs.PassedLemmas.{passed_lacking, passed_unfed}
+use Rattle.pc_inline_canon.proofs.functions.step_lift.Goals as goal
+
+pub returns-in_err-ty-clause-steps : goal.returns-in_err-ty-clause-steps
+returns-in_err-ty-clause-steps c =
+    lift_lacks _ _ _ _ _ _ _ _ _ _ _ _ c.from_residual.ensures.1 c.in_err-ty.ensures.err
+
+pub returns-in_default-clause-steps : goal.returns-in_default-clause-steps
+returns-in_default-clause-steps c =
+    lift_misses _ _ _ _ _ _ _ _ _ c.in_ok-ty.ensures.converts _ _ c.in_ok-ty.ensures.are
+    (got_by _ _ _ c.as_slice.ensures _ _ c.at.ensures c.in_default.is)
+
+pub returns-in_default-options_in-clause-steps : goal.returns-in_default-options_in-clause-steps
+returns-in_default-options_in-clause-steps c =
+    lift_misses_option _ _ _ _ _ _ _ _ _ c.in_ok-ty.ensures.converts _ _ c.in_ok-ty.ensures.are _
+    (got_by _ _ _ c.as_slice.ensures _ _ c.at.ensures c.in-Some.is)
+    (sym c.options_in.ensures ∙ c.in_default-options_in.is)
+
+pub returns-in_err-id-clause-steps : goal.returns-in_err-id-clause-steps
+returns-in_err-id-clause-steps c =
+    passed_lacking _ _ _ _ _ _ _ _ _ c.from_residual-in_err-id.ensures.1 c.in_err-id.ensures.lacks
+
+pub returns-in_err-push-clause-steps : goal.returns-in_err-push-clause-steps
+returns-in_err-push-clause-steps c = passed_unfed _ _ _ _ _ _ _ _ c.from_residual-in_err-push.ensures.1
+
+pub returns-clause-steps : goal.returns-clause-steps
+returns-clause-steps c =
+    lift_made _ _ _ _ _ _ _ _ _ c.in_ok-ty.ensures.converts _ _ c.in_ok-ty.ensures.are _
+    (got_by _ _ _ c.as_slice.ensures _ _ c.at.ensures c.in-Some.is) _
+    (sym c.options_in.ensures ∙ c.in-Some-options_in.is) _ c.in_ok-id.ensures.key tt _ _ c.in_ok-id.ensures.ok
+    c.in_ok-push.ensures.ok
+
+pub returns-in_err-id-clause-adds : goal.returns-in_err-id-clause-adds
+returns-in_err-id-clause-adds c = lift_adds _ _ _ _ c.function_types.ensures.adds c.push_definition.ensures.adds
+
+pub returns-in_err-push-clause-adds : goal.returns-in_err-push-clause-adds
+returns-in_err-push-clause-adds c = lift_adds _ _ _ _ c.function_types.ensures.adds c.push_definition.ensures.adds
+
+pub returns-clause-adds : goal.returns-clause-adds
+returns-clause-adds c = lift_adds _ _ _ _ c.function_types.ensures.adds c.push_definition.ensures.adds

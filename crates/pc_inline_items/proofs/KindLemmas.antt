@@ -1,0 +1,137 @@
+-- The step of a local item from that of its kind.
+use Rattle.std.proofs.Common.{◌≡◌, ℕ, List, Option, Result, map, ap, sym, subst}
+use Rattle.std.specs.Prelude.{⊤}
+use Rattle.pc_numbers.specs.declared.component_entity.StaticModuleIndex.{StaticModuleIndex}
+use Rattle.pc_numbers.specs.declared.entity_index.EntityIndex.{EntityIndex}
+use Rattle.pc_numbers.specs.declared.runtime.RuntimeComponentInstanceIndex.{RuntimeComponentInstanceIndex}
+use Rattle.pc_types.specs.declared.module_record.ModuleRecord.{ModuleRecord}
+use Rattle.pc_types.specs.declared.parsed.CoreKind.{CoreKind}
+use Rattle.pc_types.specs.declared.parsed.Entity.{Entity}
+use Rattle.pc_types.specs.declared.parsed.TypeTable.{TypeTable}
+use Rattle.pc_parsed.specs.declared.canon.CanonOption.{CanonOption}
+use Rattle.pc_parsed.specs.declared.payload.ExternName.{ExternName}
+use Rattle.pc_parsed.specs.declared.payload.ItemKind.{ItemKind}
+use Rattle.pc_spec_reading.specs.Item.{alias_item, component_exports_item, core_alias_item, core_exports_item, export_item}
+use Rattle.pc_spec_reading.specs.Item.{import_item, instantiate_module_item, lift_item, lower_item, module_item}
+use Rattle.pc_spec_reading.specs.Section.{named_item}
+use Rattle.pc_local.specs.declared.item.LocalInitializer.{LocalInitializer}
+use Rattle.pc_local.specs.declared.item.LocalInitializer.TheVariants as local
+use Rattle.pc_local.specs.Plain.{plain_item}
+use Rattle.pc_inline_state.specs.declared.definition.ClosureId.{ClosureId}
+use Rattle.pc_inline_state.specs.declared.error.ItemError.{ItemError}
+use Rattle.pc_inline_state.specs.declared.frame.Frame.{Frame}
+use Rattle.pc_inline_state.specs.declared.state.State.{State}
+use Rattle.pc_inline_state.specs.Adds.{Adds, functions_in}
+use Rattle.pc_inline_state.specs.Points.{StepsItem}
+use Rattle.pc_inline_items.specs.StepsLocal.{StepsLocal}
+use Rattle.pc_inline_state.specs.Tables.{Keeps, Tables}
+use Rattle.pc_inline_state.proofs.AddsLemmas.{adds_refl}
+use Rattle.pc_inline_state.proofs.StateLemmas.{keeps_refl}
+use Rattle.pc_inline_items.proofs.LocalLemmas.{local_plain}
+
+module _ {t : TypeTable} {a : Tables} {x y : RuntimeComponentInstanceIndex} {S T : Type 0} where
+  -- what the step of a local item promises, from that of its kind, which changes no table
+  pub still : {n : ℕ} → record { same : x ≡ y; steps : S } → (S → T)
+      → record { keeps : Keeps a a; adds : Adds t n 4 a a; same : x ≡ y; steps : T }
+  still {n = n} h steps =
+      record { keeps = keeps_refl a; adds = adds_refl t n 4 a; same = h.same; steps = steps h.steps }
+
+  -- from one that may
+  pub moved : {b : Tables} {l m : LocalInitializer} → l ≡ m
+      → record { keeps : Keeps a b; adds : Adds t (functions_in m) 4 a b; same : x ≡ y; steps : S } → (S → T)
+      → record { keeps : Keeps a b; adds : Adds t (functions_in l) 4 a b; same : x ≡ y; steps : T }
+  moved {b = b} is h steps = record {
+    keeps = h.keeps;
+    adds = subst (λ i. Adds t (functions_in i) 4 a b) (sym is) h.adds;
+    same = h.same;
+    steps = steps h.steps;
+  }
+
+module _ (t : TypeTable) (ms : List ModuleRecord) (c : Option ClosureId) (st : State) (f : Frame) (st' : State)
+    (f' : Frame) (r : Result ⊤ ItemError) {l : LocalInitializer} where
+  -- an item that is another
+  pub same_local : {m : LocalInitializer} → l ≡ m → StepsLocal t ms c m st f st' f' r
+      → StepsLocal t ms c l st f st' f' r
+  same_local is h = subst (λ i. StepsLocal t ms c i st f st' f' r) (sym is) h
+
+  -- import
+  pub import_local : {name : ExternName} {ty : Entity} → l ≡ local.Import name ty
+      → StepsItem t ms (import_item name ty) st f st' f' r
+      → StepsLocal t ms c l st f st' f' r
+  unfolding plain_item
+  import_local {name = name} {ty = ty} is =
+      local_plain t ms c st f st' f' r l (import_item name ty) (ap plain_item is)
+
+  -- lift
+  pub lift_local : {func ty core : ℕ} {opts xs : List CanonOption} → l ≡ local.Lift func ty core opts → xs ≡ opts
+      → StepsItem t ms (lift_item func ty core xs) st f st' f' r → StepsLocal t ms c l st f st' f' r
+  unfolding plain_item
+  lift_local {func = func} {ty = ty} {core = core} {opts = opts} is same h =
+      local_plain t ms c st f st' f' r l (lift_item func ty core opts) (ap plain_item is)
+      (subst (λ ys. StepsItem t ms (lift_item func ty core ys) st f st' f' r) same h)
+
+  -- lower
+  pub lower_local : {func ty core : ℕ} {opts xs : List CanonOption} → l ≡ local.Lower func ty core opts → xs ≡ opts
+      → StepsItem t ms (lower_item func ty core xs) st f st' f' r → StepsLocal t ms c l st f st' f' r
+  unfolding plain_item
+  lower_local {func = func} {ty = ty} {core = core} {opts = opts} is same h =
+      local_plain t ms c st f st' f' r l (lower_item func ty core opts) (ap plain_item is)
+      (subst (λ ys. StepsItem t ms (lower_item func ty core ys) st f st' f' r) same h)
+
+  -- module
+  pub module_local : {index : StaticModuleIndex} {ty : ℕ} → l ≡ local.ModuleStatic index ty
+      → StepsItem t ms (module_item index.0 ty) st f st' f' r
+      → StepsLocal t ms c l st f st' f' r
+  unfolding plain_item
+  module_local {index = index} {ty = ty} is =
+      local_plain t ms c st f st' f' r l (module_item index.0 ty) (ap plain_item is)
+
+  -- core instance
+  pub core_instance_local : {m : ℕ} {args xs : List (List ℕ × ℕ)} → l ≡ local.ModuleInstantiate m args → xs ≡ args
+      → StepsItem t ms (instantiate_module_item m xs) st f st' f' r → StepsLocal t ms c l st f st' f' r
+  unfolding plain_item
+  core_instance_local {m = m} {args = args} is same h =
+      local_plain t ms c st f st' f' r l (instantiate_module_item m args) (ap plain_item is)
+      (subst (λ ys. StepsItem t ms (instantiate_module_item m ys) st f st' f' r) same h)
+
+  -- core exports
+  pub core_exports_local : {items xs : List (List ℕ × EntityIndex)} → l ≡ local.ModuleSynthetic items → xs ≡ items
+      → StepsItem t ms (core_exports_item xs) st f st' f' r → StepsLocal t ms c l st f st' f' r
+  unfolding plain_item
+  core_exports_local {items = items} is same h =
+      local_plain t ms c st f st' f' r l (core_exports_item items) (ap plain_item is)
+      (subst (λ ys. StepsItem t ms (core_exports_item ys) st f st' f' r) same h)
+
+  -- core alias
+  pub core_alias_local : {kind : CoreKind} {n : ℕ} {name : List ℕ} → l ≡ local.AliasCoreExport kind n name
+      → StepsItem t ms (core_alias_item kind n name) st f st' f' r
+      → StepsLocal t ms c l st f st' f' r
+  unfolding plain_item
+  core_alias_local {kind = kind} {n = n} {name = name} is =
+      local_plain t ms c st f st' f' r l (core_alias_item kind n name) (ap plain_item is)
+
+  -- component exports
+  pub component_exports_local : {es xs : List (ExternName × ItemKind × ℕ)} {ty : ℕ}
+      → l ≡ local.ComponentSynthetic es ty → xs ≡ es
+      → StepsItem t ms (component_exports_item (map named_item xs) ty) st f st' f' r → StepsLocal t ms c l st f st' f' r
+  unfolding plain_item
+  component_exports_local {es = es} {ty = ty} is same h =
+      local_plain t ms c st f st' f' r l (component_exports_item (map named_item es) ty) (ap plain_item is)
+      (subst (λ ys. StepsItem t ms (component_exports_item (map named_item ys) ty) st f st' f' r) same h)
+
+  -- alias
+  pub alias_local : {kind : ItemKind} {n : ℕ} {name : List ℕ} → l ≡ local.AliasComponentExport kind n name
+      → StepsItem t ms (alias_item kind n name) st f st' f' r
+      → StepsLocal t ms c l st f st' f' r
+  unfolding plain_item
+  alias_local {kind = kind} {n = n} {name = name} is =
+      local_plain t ms c st f st' f' r l (alias_item kind n name) (ap plain_item is)
+
+  -- export
+  pub export_local : {name : ExternName} {kind : ItemKind} {n : ℕ} → l ≡ local.Export name kind n
+      → StepsItem t ms (export_item (record { name = name; kind = kind; index = n })) st f st' f' r
+      → StepsLocal t ms c l st f st' f' r
+  unfolding plain_item
+  export_local {name = name} {kind = kind} {n = n} is =
+      local_plain t ms c st f st' f' r l (export_item (record { name = name; kind = kind; index = n }))
+      (ap plain_item is)

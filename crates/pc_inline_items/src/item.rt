@@ -1,0 +1,84 @@
+//! One item, by its kind.
+
+ghost use Rattle.std.specs.Prelude.{◌≡◌};
+ghost use Rattle.pc_inline_state.specs.Adds.{Adds, functions_in};
+ghost use Rattle.pc_inline_state.specs.Kinds.{kinds_of};
+ghost use Rattle.pc_inline_state.specs.Points.{IsInput, IsPoint};
+ghost use Rattle.pc_inline_items.specs.StepsLocal.{StepsLocal};
+ghost use Rattle.pc_inline_state.specs.Tables.{Keeps, tables_of};
+
+use crate::components::{step_alias_component, step_alias_module, step_component};
+use crate::imports::step_import;
+use crate::instances::{step_alias, step_component_exports, step_export};
+use crate::modules::{step_core_alias, step_core_exports, step_core_instance, step_module};
+use pc_inline_canon::{step_lift, step_lower};
+use pc_inline_state::{ClosureId, Context, Frame, ItemError, ItemFault, State};
+use pc_local::LocalInitializer;
+use pc_types::Unsupported;
+
+/// One item of a body, but an instantiation of a component, which the driver goes into.
+pub fn step(
+    context: &Context<'_>,
+    state: &mut State<'_>,
+    frame: &mut Frame,
+    closure: Option<ClosureId>,
+    item: &LocalInitializer,
+) -> Result<(), ItemError>
+    requires input { IsInput context.now.table.now context.now.modules }
+    requires here { IsPoint context.now.table.now context.now.modules state.old frame.old }
+    requires kinds { context.now.kinds ≡ kinds_of context.now.table.now }
+    ensures keeps { Keeps (tables_of state.old) (tables_of state.new) }
+    ensures adds { Adds context.now.table.now (functions_in item.now) 4 (tables_of state.old) (tables_of state.new) }
+    ensures same { frame.new.component_instance ≡ frame.old.component_instance }
+    ensures steps { StepsLocal context.now.table.now context.now.modules closure item.now
+        state.old frame.old state.new frame.new result }
+{
+    match item {
+        LocalInitializer::Import { name, ty } => step_import(context, state, frame, name, *ty),
+        LocalInitializer::Lift {
+            func,
+            ty,
+            core,
+            opts,
+        } => step_lift(context, state, frame, *func, *ty, *core, opts.as_slice()),
+        LocalInitializer::Lower {
+            func,
+            ty,
+            core,
+            opts,
+        } => step_lower(context, state, frame, *func, *ty, *core, opts.as_slice()),
+        LocalInitializer::ModuleStatic { index, ty } => {
+            step_module(context, state, frame, *index, *ty)
+        }
+        LocalInitializer::ModuleInstantiate { module, args } => {
+            step_core_instance(context, state, frame, *module, args.as_slice())
+        }
+        LocalInitializer::ModuleSynthetic(items) => {
+            step_core_exports(frame, context.alloc, items.as_slice())
+        }
+        LocalInitializer::ComponentStatic { index, vars } => {
+            step_component(context, state, frame, closure, *index, vars)
+        }
+        LocalInitializer::AliasCoreExport {
+            kind,
+            instance,
+            name,
+        } => step_core_alias(context, state, frame, *kind, *instance, name),
+        LocalInitializer::ComponentSynthetic { exports, ty } => {
+            step_component_exports(context, state, frame, exports.as_slice(), *ty)
+        }
+        LocalInitializer::AliasComponentExport {
+            kind,
+            instance,
+            name,
+        } => step_alias(state, frame, *kind, *instance, name),
+        LocalInitializer::AliasModule(variable) => {
+            step_alias_module(&state.closures, frame, closure, *variable)
+        }
+        LocalInitializer::AliasComponent(variable) => {
+            step_alias_component(&state.closures, frame, closure, *variable)
+        }
+        LocalInitializer::Export { kind, index, .. } => step_export(frame, *kind, *index),
+        _ => Err(ItemError::Fault(ItemFault::Unsupported(Unsupported::NotBuilt))),
+    }
+}

@@ -1,0 +1,52 @@
+-- An item as it is built: a row at its place, or the instantiation of a component.
+use Rattle.std.proofs.Common.{◌≡◌, ℕ, Bool, true, false, List, refl, if◌then◌else◌}
+use Rattle.pc_types.specs.declared.error.Place.TheVariants as place
+use Rattle.pc_types.specs.declared.error.Unsupported.TheVariants.{NotBuilt}
+use Rattle.pc_types.specs.declared.module_record.ModuleRecord.{ModuleRecord}
+use Rattle.pc_types.specs.declared.parsed.TypeTable.{TypeTable}
+use Rattle.pc_spec_reading.specs.Item
+use Rattle.pc_spec_reading.specs.Item.{ArgumentOf}
+use Rattle.pc_spec_reading.specs.Outcome.{at_item, fault, unsupported}
+use Rattle.pc_spec_reading.specs.Reading.{Enter, instantiate}
+use Rattle.pc_spec_reading.specs.Scope.{Moment}
+use Rattle.pc_inline_state.specs.Today.{built_item, built_row, is_built_call}
+
+-- whether an item instantiates a component
+abbrev pub is_instantiation : Item.Item → Bool
+is_instantiation (Item.instantiate_component_item n args ty) = true
+is_instantiation _ = false
+
+module _ (t : TypeTable) (ms : List ModuleRecord) (enter : Enter) (n : ℕ) where
+  -- another item is a row at its place
+  pub item_is_row : (i : Item.Item) (now : Moment) → is_instantiation i ≡ false
+      → built_item t ms enter n i now ≡ at_item now.scope.component_instance n (built_row t ms now i)
+  unfolding built_item built_row
+  item_is_row (Item.import_item a b) now is = refl
+  item_is_row Item.intrinsics_import now is = refl
+  item_is_row (Item.resource_item a b d) now is = refl
+  item_is_row (Item.lift_item a b d e) now is = refl
+  item_is_row (Item.lower_item a b d e) now is = refl
+  item_is_row (Item.builtin_item a b d) now is = refl
+  item_is_row (Item.waitable_item a b d) now is = refl
+  item_is_row (Item.task_return_item a b d) now is = refl
+  item_is_row (Item.error_context_item a b d) now is = refl
+  item_is_row (Item.context_item a b d) now is = refl
+  item_is_row (Item.new_thread_item a b d) now is = refl
+  item_is_row (Item.module_item a b) now is = refl
+  item_is_row (Item.instantiate_module_item a b) now is = refl
+  item_is_row (Item.core_exports_item a) now is = refl
+  item_is_row (Item.component_item a) now is = refl
+  item_is_row (Item.instantiate_component_item a b d) now is = cc
+  item_is_row (Item.component_exports_item a b) now is = refl
+  item_is_row (Item.core_alias_item a b d) now is = refl
+  item_is_row (Item.alias_item a b d) now is = refl
+  item_is_row (Item.outer_item a b d) now is = refl
+  item_is_row (Item.export_item a) now is = refl
+
+  -- the instantiation of a component, where it is built
+  pub call_item : (component : ℕ) (args : List ArgumentOf) (ty : ℕ) (now : Moment)
+      → built_item t ms enter n (Item.instantiate_component_item component args ty) now
+      ≡ (if is_built_call t args then instantiate t ms enter n component args ty now
+      else fault (unsupported NotBuilt) (place.Reading now.scope.component_instance n))
+  unfolding built_item
+  call_item component args ty now = refl

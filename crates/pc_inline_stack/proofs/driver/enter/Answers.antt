@@ -1,0 +1,41 @@
+use Rattle.std.proofs.Common.{◌∙◌}
+use Rattle.pc_inline_stack.proofs.MovesLemmas.{child_is, error_moved, falls_entered, moves_entered, moves_refused}
+use Rattle.pc_inline_stack.proofs.MovesLemmas.{moves_unbegun, moves_unfed, one_counted, one_waits}
+use Rattle.pc_inline_stack.proofs.driver.enter.Goals as goal
+
+pub returns-in-Err : goal.returns-in-Err
+returns-in-Err c = record {
+  moves = moves_refused _ _ _ c.args.root.now c.args.state.now _ c.args.stack.now.top _ _ _ c.requires.item
+      c.in-Err.error
+      c.in-Err.ensures _ _ c.place_of.ensures c.error_at.ensures _ _;
+  falls = tt;
+  waits = tt;
+}
+
+pub returns-in_err-instance : goal.returns-in_err-instance
+returns-in_err-instance c =
+    error_moved _ _ _ c.args.root.now c.args.state.now _ c.args.stack.now _ _ _ _ c.from_residual.ensures.1
+    (moves_unbegun _ _ _ c.args.root.now c.args.state.now _ c.args.stack.now.top _ _ _ c.requires.item c.in-Ok.call
+    c.in-Ok.ensures c.begin_instance.new.graph _ c.in_err-instance.ensures.begins _ c.from_residual.ensures.1 _ _)
+
+pub returns-in_err-push_caller : goal.returns-in_err-push_caller
+returns-in_err-push_caller c =
+    error_moved _ _ _ c.args.root.now c.args.state.now _ c.args.stack.now _ _ _ _
+    c.from_residual-in_err-push_caller.ensures.1
+    (moves_unfed _ _ _ c.args.root.now c.args.state.now _ c.args.stack.now.top _ _ _ c.requires.item c.in-Ok.call
+    c.in-Ok.ensures c.in_ok-instance.instance c.begin_instance.new.graph c.in_ok-instance.ensures.begins
+    c.begin_instance.ensures.grows _ c.from_residual-in_err-push_caller.ensures.1 _ _)
+
+pub returns : goal.returns
+returns c =
+    let waits = one_waits _ _ _ _ c.in_ok-push_caller.ensures c.replace-caller.ensures.value in
+    let child = c.replace-caller.ensures.after ∙ child_is c.in-Ok.call _ _ c.new.ensures in
+    record {
+      moves = moves_entered _ _ _ c.args.root.now c.args.state.now _ c.args.stack.now.top _ _ _ c.requires.item
+          c.in-Ok.call c.in-Ok.ensures c.in_ok-instance.instance c.begin_instance.new.graph
+          c.in_ok-instance.ensures.begins c.begin_instance.ensures.grows _ _ _ waits child;
+      falls = falls_entered c.args.context.now.table.now c.args.context.now.modules _ c.args.root.now c.args.state.now
+          _ c.args.stack.now.top c.in-Ok.call c.in_ok-instance.instance c.begin_instance.new.graph
+          c.in_ok-instance.ensures.begins _ _ waits child;
+      waits = one_counted _ _ _ _ c.in_ok-push_caller.ensures c.replace-caller.ensures.value c.requires.next;
+    }

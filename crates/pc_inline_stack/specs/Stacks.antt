@@ -1,0 +1,251 @@
+-- Component instances one inside another: those of the code against the readers of the reading.
+use Rattle.std.specs.Prelude.{◌≡◌, ◌<◌, ◌≤◌, ◌+◌, ◌*◌, ◌-◌, ◌⊎◌, ℕ, zero, suc, Bool, true, false, List, [], ◌∷◌}
+use Rattle.std.specs.Prelude.{All, length, map, reverse, sum_by}
+use Rattle.std.specs.Prelude.{Option, None, Some, Result, Ok, Err, slice_get, unwrap_or}
+use Rattle.std.specs.Result.{IfOk, OnOk}
+use Rattle.std.specs.List.{list_all}
+use Rattle.pc_numbers.specs.declared.component_entity.StaticComponentIndex.{StaticComponentIndex}
+use Rattle.pc_types.specs.declared.error.Error.{Error}
+use Rattle.pc_types.specs.declared.module_record.ModuleRecord.{ModuleRecord}
+use Rattle.pc_types.specs.declared.parsed.TypeTable.{TypeTable}
+use Rattle.pc_types.specs.Table.{is_instance}
+use Rattle.pc_spec_reading.specs.Components.{read_return}
+use Rattle.pc_spec_reading.specs.Item.{ArgumentOf, ExportOf, Items, and_item, exports_in, instantiate_component_item}
+use Rattle.pc_spec_reading.specs.Outcome.{Outcome, and_then, at_item, past}
+use Rattle.pc_spec_reading.specs.Reading.{Return, returning}
+use Rattle.pc_spec_reading.specs.Scope.{Moment, Scope}
+use Rattle.pc_spec_reading.specs.Section.{named_item}
+use Rattle.pc_spec_reading.specs.Types.{has_entry}
+use Rattle.pc_spec_reading.specs.World.{World, full}
+use Rattle.pc_local.specs.declared.item.LocalInitializer.{LocalInitializer}
+use Rattle.pc_local.specs.declared.item.LocalInitializer.TheVariants as local
+use Rattle.pc_local.specs.declared.item.Translation.{Translation}
+use Rattle.pc_local.specs.Standing.{ItemsStand, Names, no_names}
+use Rattle.pc_inline_state.specs.declared.closure.Closure.{Closure}
+use Rattle.pc_inline_state.specs.declared.definition.ClosureId.{ClosureId}
+use Rattle.pc_inline_stack.specs.declared.driver.Open.{Open}
+use Rattle.pc_inline_stack.specs.declared.driver.Stack.{Stack}
+use Rattle.pc_inline_state.specs.declared.frame.Frame.{Frame}
+use Rattle.pc_inline_state.specs.declared.state.State.{State}
+use Rattle.pc_inline_state.specs.Adds.{Adds, item_count}
+use Rattle.pc_inline_items.specs.Captures.{IsEnclosed}
+use Rattle.pc_inline_stack.specs.Driving.{reading_from}
+use Rattle.pc_inline_state.specs.Frames.{FrameStands}
+use Rattle.pc_inline_state.specs.Points.{IsSoundState, IsTypedAsRoot, PointStands}
+use Rattle.pc_inline_stack.specs.Reads.{Ends, items_from}
+use Rattle.pc_inline_state.specs.Tables.{Keeps, Tables, tables_of}
+use Rattle.pc_inline_state.specs.Today.{built_enter, built_items, can_instantiate, is_built_kind}
+use Rattle.pc_inline_state.specs.Typed.{no_resources}
+use Rattle.pc_inline_state.specs.Worlds.{HasNoExports, WorldStands}
+
+-- the body of this number, that of the root where there is none
+abbrev pub body_at : List Translation → (root : Translation) → Option StaticComponentIndex → Translation
+body_at bodies root None = root
+body_at bodies root (Some s) = unwrap_or (slice_get bodies s.0) root
+
+-- the items of a component instance
+abbrev pub items_of : List Translation → (root : Translation) → Open → List LocalInitializer
+items_of bodies root o = (body_at bodies root o.body).initializers
+
+-- how many of them aren't read yet
+abbrev pub items_left : List Translation → (root : Translation) → Open → ℕ
+items_left bodies root o = length (items_of bodies root o) - o.next
+
+-- how many items of all component instances that are being read; those that wait stand from the innermost out
+abbrev pub all_left : List Translation → (root : Translation) → (callers : List Open) → Open → ℕ
+all_left bodies root ks o = sum_by (items_left bodies root) ks + items_left bodies root o
+
+-- the items of all bodies
+abbrev pub items_in : Translation → ℕ
+items_in tr = length tr.initializers
+
+-- so many times a number
+abbrev pub times : ℕ → ℕ → ℕ
+times zero n = 0
+times (suc k) n = n + times k n
+
+-- what is left to do: no more component instances begin than the limit, and each of them has items of one body
+unfoldable pub work : (limit : ℕ) → List Translation → (root : Translation) → (begun : ℕ) → (callers : List Open) → Open
+    → ℕ
+work limit bodies root begun ks o =
+    times (limit - begun) (items_in root + sum_by items_in bodies + 2) + (all_left bodies root ks o + (length ks + 1))
+
+-- each that waits stands at an item after whose number there is another one
+abbrev pub AreCounted : List Open → Type 0
+AreCounted ks = All (λ (o : Open). o.next < 18446744073709551615) ks
+
+-- whether exports are of kinds that are built
+abbrev pub AreBuilt : List ExportOf → Type 0
+AreBuilt es = list_all (λ (e : ExportOf). is_built_kind e.kind) es ≡ true
+
+-- a component instance of the reading: its scope, the names of what its body captures, and the body
+pub record Reader : Type 0 where
+  pub scope : Scope
+  pub names : Names
+  pub body : Items
+
+-- one that waits for a child, which is begun by this item and has this type
+pub record Waiting : Type 0 where
+  pub reader : Reader
+  pub item : ℕ
+  pub ty : ℕ
+
+module _ (t : TypeTable) (ms : List ModuleRecord) (limit : ℕ) where
+  -- how many instantiations may still stand inside one another
+  abbrev pub levels : List Waiting → ℕ
+  levels ws = limit - length ws
+
+  -- what is read when a child is done
+  abbrev pub going_on : List Waiting → Waiting → Return → Outcome Moment
+  going_on ws w r =
+      and_then (at_item w.reader.scope.component_instance w.item
+      (read_return t (record { scope = w.reader.scope; world = r.world }) r.exports w.ty))
+      (built_items t ms (built_enter t ms limit (levels ws)) (w.item + 1) (items_from (w.item + 1) w.reader.body))
+
+  -- how all that waits goes on when the items of the innermost have ended so
+  unfoldable pub resume : List Waiting → (body : Items) → Outcome Moment → Outcome Moment
+  resume [] body o = o
+  resume (w ∷ ws) body o = resume ws w.reader.body (and_then (and_then o (returning t ms limit body)) (going_on ws w))
+
+  -- the reading from item number n of the innermost on
+  abbrev pub reads_on : List Waiting → Reader → (n : ℕ) → World → Outcome Moment
+  reads_on ws r n w =
+      resume ws r.body (built_items t ms (built_enter t ms limit (levels ws)) n (items_from n r.body)
+      (record { scope = r.scope; world = w }))
+
+module _ (t : TypeTable) (ms : List ModuleRecord) (bodies : List Translation) (root : Translation) where
+  -- one that waits stands for one that waits: it is at the item that begins the child
+  pub record CallerStands (o : Open) (w : Waiting) : Type 0 where
+    pub item : o.next ≡ w.item
+    pub is_typed : has_entry t is_instance w.ty ≡ true
+    pub local_item : LocalInitializer
+    pub there : slice_get (items_of bodies root o) o.next ≡ Some local_item
+    pub component : ℕ
+    pub arguments : List ArgumentOf
+    pub at : items_from o.next w.reader.body
+        ≡ and_item (instantiate_component_item component arguments w.ty) (items_from (suc o.next) w.reader.body)
+
+  module _ (b : Tables) where
+    -- a component instance stands for a reader
+    pub record OpenStands (o : Open) (r : Reader) : Type 0 where
+      pub frame : FrameStands ms b o.frame r.scope
+      pub typed : IsTypedAsRoot t ms o.frame
+      pub enclosed : IsEnclosed ms b r.names o.closure r.scope.chain
+      pub closed : (k : ClosureId) → o.closure ≡ Some k → (c : Closure) × (slice_get b.closures k.0 ≡ Some c)
+      pub items : ItemsStand bodies r.names (items_of bodies root o) r.body
+      pub kinds : AreBuilt (exports_in (items_from o.next r.body)) → AreBuilt (exports_in r.body)
+
+    -- the innermost stands for a reader, and those that wait, from the innermost out, for those that wait
+    pub data AllStand : List Open → Open → List Waiting → Reader → Type 0 where
+      root_stands : {o : Open} {r : Reader} → OpenStands o r → AllStand [] o [] r
+      child_stands : {os : List Open} {caller o : Open} {ws : List Waiting} {w : Waiting} {r : Reader} → OpenStands o r
+          → map named_item (body_at bodies root o.body).exports ≡ exports_in r.body → CallerStands caller w
+          → can_instantiate t ≡ true → AllStand os caller ws w.reader → AllStand (caller ∷ os) o (w ∷ ws) r
+
+-- no total is counted, or one that isn't too much
+unfoldable pub HasRoom : Option ℕ → Type 0
+HasRoom None = Unit {0}
+HasRoom (Some n) = n < full
+
+-- no total is counted; or it has grown by 8 for each item, read or left, of the component instances that began
+unfoldable pub Grew : (first now : Option ℕ) → (items left count : ℕ) → Type 0
+Grew None x items left count = x ≡ None
+Grew (Some n) x items left count =
+    (m : ℕ) × (x ≡ Some m) × (m < full) × (8 * items + n + 8 * left ≤ 8 * count + m)
+
+-- a total is counted, and it is too much
+unfoldable pub IsPast : (first : Option ℕ) → Outcome Moment → Type 0
+IsPast None o = ⊥
+IsPast (Some n) o = o ≡ past
+
+module _ (t : TypeTable) (ms : List ModuleRecord) (limit : ℕ) (root : Translation) where
+  -- the reading from a moment on is where the code is, when so many items have been read
+  pub record Reached (is : Items) (first : Moment) (st : State) (ks : List Open) (o : Open) (items : ℕ) : Type 0 where
+    pub waiting : List Waiting
+    pub reader : Reader
+    pub world : World
+    pub sound : IsSoundState t ms st
+    pub here : st.types.resources ≡ no_resources
+    pub world_stands : WorldStands st.types st.graph world
+    pub unexported : HasNoExports st.graph
+    pub all : AllStand t ms st.bodies.now root (tables_of st) ks o waiting reader
+    pub same : reads_on t ms limit waiting reader o.next world ≡ reading_from t ms limit is first
+    pub grew : Grew first.world.total world.total items (all_left st.bodies.now root ks o) (item_count is)
+
+  -- the reading began in some moment in which no total was counted
+  pub record Starts (old : State) (f : Frame) : Type 0 where
+    pub items : Items
+    pub first : Moment
+    pub stand : ItemsStand old.bodies.now no_names root.initializers items
+    pub at : PointStands t ms old f first
+    pub uncounted : first.world.total ≡ None
+
+  -- so many items have been read, whatever the moment was in which the reading began
+  pub record Driven (old : State) (f : Frame) (st : State) (ks : List Open) (o : Open) : Type 0 where
+    pub items : ℕ
+    pub keeps : Keeps (tables_of old) (tables_of st)
+    pub adds : Adds t items (4 * items + length ks) (tables_of old) (tables_of st)
+    pub deep : length ks < st.graph.num_runtime_component_instances
+    pub within : st.graph.num_runtime_component_instances ≤ limit
+    pub starts : Starts old f
+    pub reads : (is : Items) (first : Moment) → ItemsStand old.bodies.now no_names root.initializers is
+        → PointStands t ms old f first → HasRoom first.world.total
+        → IsPast first.world.total (reading_from t ms limit is first) ⊎ Reached is first st ks o items
+
+  -- the reading ends with an error
+  pub record Fails (is : Items) (first : Moment) (st : State) (f : Frame) (items : ℕ) (e : Error) : Type 0 where
+    pub ends : Ends t ms st f (reading_from t ms limit is first) (Err e)
+    pub total : Option ℕ
+    pub grew : Grew first.world.total total items 0 (item_count is)
+
+  -- so it is after so many items
+  pub record Failed (old : State) (f : Frame) (st : State) (e : Error) : Type 0 where
+    pub items : ℕ
+    pub keeps : Keeps (tables_of old) (tables_of st)
+    pub adds : Adds t items (4 * items) (tables_of old) (tables_of st)
+    pub reads : (is : Items) (first : Moment) → ItemsStand old.bodies.now no_names root.initializers is
+        → PointStands t ms old f first → HasRoom first.world.total
+        → IsPast first.world.total (reading_from t ms limit is first) ⊎ Fails is first st f items e
+
+  -- the code went on, or the reading ends with the error
+  unfoldable pub GoesOn : {A : Type 0} → (old : State) → Frame → State → List Open → Open → Result A Error → Type 0
+  GoesOn old f st ks o (Ok x) = Driven old f st ks o
+  GoesOn old f st ks o (Err e) = Failed old f st e
+
+  -- a move goes on with the reading, wherever it began
+  unfoldable pub Moves : {A : Type 0} → State → List Open → Open → State → List Open → Open → Result A Error → Type 0
+  Moves st ks o st' ks' o' r = (old : State) (f : Frame) → Driven old f st ks o → GoesOn old f st' ks' o' r
+
+-- less is left to do
+unfoldable pub Falls : (limit : ℕ) → (root : Translation) → State → List Open → Open → State → List Open → Open → Type 0
+Falls limit root st ks o st' ks' o' =
+    work limit st'.bodies.now root st'.graph.num_runtime_component_instances ks' o'
+    < work limit st.bodies.now root st.graph.num_runtime_component_instances ks o
+
+-- there was a move, or the root has ended
+unfoldable pub Turned : (limit : ℕ) → (root : Translation) → State → List Open → Open → State → List Open → Open → Bool
+    → Type 0
+Turned limit root st ks o st' ks' o' true = Falls limit root st ks o st' ks' o'
+Turned limit root st ks o st' ks' o' false =
+    (ks' ≡ []) × (length (items_of st'.bodies.now root o') ≤ o'.next)
+
+-- a call on a stack, at first above these that wait, moves; less is left to do then, and each that waits stands at an
+-- item after whose number there is another one
+pub record Moved {A : Type 0} (t : TypeTable) (ms : List ModuleRecord) (limit : ℕ) (root : Translation) (st : State)
+    (ks : List Open) (s : Stack) (st' : State) (s' : Stack) (r : Result A Error) : Type 0 where
+  pub moves : Moves t ms limit root st ks s.top st' (reverse s'.callers.items) s'.top r
+  pub falls : OnOk r (Falls limit root st ks s.top st' (reverse s'.callers.items) s'.top)
+  pub waits : OnOk r (AreCounted s.callers.items → AreCounted s'.callers.items)
+
+-- a turn: a call moves, and less is left to do, or the root has ended; each that waits stands at an item after whose
+-- number there is another one
+pub record Turns (t : TypeTable) (ms : List ModuleRecord) (limit : ℕ) (root : Translation) (st : State) (s : Stack)
+    (st' : State) (s' : Stack) (r : Result Bool Error) : Type 0 where
+  pub moves : Moves t ms limit root st (reverse s.callers.items) s.top st' (reverse s'.callers.items) s'.top r
+  pub falls : IfOk r (Turned limit root st (reverse s.callers.items) s.top st' (reverse s'.callers.items) s'.top)
+  pub waits : OnOk r (AreCounted s'.callers.items)
+
+-- whether an item begins a component instance
+abbrev pub begins_child : LocalInitializer → Bool
+begins_child (local.ComponentInstantiate component args ty) = true
+begins_child l = false

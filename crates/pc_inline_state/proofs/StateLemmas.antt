@@ -1,0 +1,227 @@
+-- What grows and does nothing: tables, types.
+use Rattle.std.proofs.Common.{List, [], ◌∷◌, ◌++◌, refl, sym, subst, ◌∙◌}
+use Rattle.pc_entity.proofs.Growing.{append_kept, kept_refl, kept_trans}
+use Rattle.pc_entity.proofs.LookupLemmas.{kept_within}
+use Rattle.pc_types.specs.declared.module_record.ModuleRecord.{ModuleRecord}
+use Rattle.pc_types.specs.declared.parsed.TypeTable.{TypeTable}
+use Rattle.pc_types_lists.specs.Types.{Types}
+use Rattle.pc_types_lists.specs.Types as builder
+use Rattle.pc_types_lists.proofs.Growth as builder_growth
+use Rattle.pc_dfg.specs.declared.core_def.CoreDef.{CoreDef}
+use Rattle.pc_dfg.specs.declared.dfg.ComponentDfg.{ComponentDfg}
+use Rattle.pc_dfg.proofs.GrowLemmas as graph_growth
+use Rattle.pc_inline_state.specs.declared.closure.Closure.{Closure}
+use Rattle.pc_inline_state.specs.declared.definition.Definition.{Definition}
+use Rattle.pc_inline_state.specs.declared.state.State.{State}
+use Rattle.pc_inline_state.specs.Prepares.{Converts, Prepares}
+use Rattle.pc_inline_state.specs.Tables.{Keeps, Tables, tables_of}
+use Rattle.pc_inline_state.specs.Worlds.{HoldsTypes}
+
+-- a builder has only grown where it is as it was
+pub types_refl : (b : Types) → builder.Grows b b
+types_refl b = record {
+  funcs = kept_refl b.funcs;
+  tuples = kept_refl b.tuples;
+  records = kept_refl b.records;
+  variants = kept_refl b.variants;
+  lists = kept_refl b.lists;
+  options = kept_refl b.options;
+  results = kept_refl b.results;
+  flags = kept_refl b.flags;
+  enums = kept_refl b.enums;
+  resource_tables = kept_refl b.resource_tables;
+  future_tables = kept_refl b.future_tables;
+  stream_tables = kept_refl b.stream_tables;
+  error_context_tables = kept_refl b.error_context_tables;
+  instances = kept_refl b.instances;
+  components = kept_refl b.components;
+  modules = kept_refl b.modules;
+  signatures = kept_refl b.signatures;
+  resources = refl;
+}
+
+-- tables have only grown where they are as they were
+pub keeps_refl : (b : Tables) → Keeps b b
+keeps_refl b = record {
+  types = types_refl b.types;
+  graph = graph_growth.grows_refl b.graph;
+  cores = kept_refl b.cores;
+  definitions = kept_refl b.definitions;
+  closures = kept_refl b.closures;
+  instances = kept_refl b.instances;
+  bodies = refl;
+}
+
+-- and where they grew twice
+pub keeps_trans : (a b c : Tables) → Keeps a b → Keeps b c → Keeps a c
+keeps_trans a b c first second = record {
+  types = builder_growth.grows_trans a.types b.types c.types first.types second.types;
+  graph = graph_growth.grows_trans a.graph b.graph c.graph first.graph second.graph;
+  cores = kept_trans a.cores b.cores c.cores first.cores second.cores;
+  definitions = kept_trans a.definitions b.definitions c.definitions first.definitions second.definitions;
+  closures = kept_trans a.closures b.closures c.closures first.closures second.closures;
+  instances = kept_trans a.instances b.instances c.instances first.instances second.instances;
+  bodies = second.bodies ∙ first.bodies;
+}
+
+-- a builder that has grown holds what it held
+holds_grow : (old new : Types) → builder.Grows old new → (g : ComponentDfg) → HoldsTypes old g → HoldsTypes new g
+holds_grow old new grows g holds = record {
+  options = λ k x at. kept_within old.signatures new.signatures grows.signatures x.core_type.0 (holds.options k x at);
+  functions = λ n ty f o at. kept_within old.funcs new.funcs grows.funcs ty.0 (holds.functions n ty f o at);
+}
+
+-- no type was converted
+pub converts_refl : (t : TypeTable) (a : State) → Converts t a a
+converts_refl t a = record { grows = types_refl a.types; numbers = λ n. n; rest = refl }
+
+-- types were converted twice
+pub converts_trans : (t : TypeTable) (a b c : State) → Converts t a b → Converts t b c → Converts t a c
+converts_trans t a b c p q = record {
+  grows = builder_growth.grows_trans a.types b.types c.types p.grows q.grows;
+  numbers = λ n. q.numbers (p.numbers n);
+  rest = q.rest ∙ (λ i. record (p.rest i) { types = c.types; numbers = c.numbers });
+}
+
+module _ (t : TypeTable) (ms : List ModuleRecord) where
+  -- nothing was done where nothing was done twice
+  pub prepares_trans : (a b c : State) → Prepares t ms a b → Prepares t ms b c → Prepares t ms a c
+  prepares_trans a b c p q = record {
+    keeps = keeps_trans (tables_of a) (tables_of b) (tables_of c) p.keeps q.keeps;
+    sound = λ s. q.sound (p.sound s);
+    side_effects = q.side_effects ∙ p.side_effects;
+    instances = q.instances ∙ p.instances;
+    trampolines = q.trampolines ∙ p.trampolines;
+    imports = q.imports ∙ p.imports;
+    import_types = q.import_types ∙ p.import_types;
+    begun = q.begun ∙ p.begun;
+    exports = q.exports ∙ p.exports;
+    export_items = q.export_items ∙ p.export_items;
+    used = q.used ∙ p.used;
+  }
+
+  -- one more core item
+  pub core_prepares : (st : State) (d : CoreDef) → Prepares t ms st (record st { cores = st.cores ++ d ∷ [] })
+  core_prepares st d = record {
+    keeps = record {
+      types = types_refl st.types;
+      graph = graph_growth.grows_refl st.graph;
+      cores = append_kept st.cores (d ∷ []);
+      definitions = kept_refl st.definitions;
+      closures = kept_refl st.closures;
+      instances = kept_refl st.instances;
+      bodies = refl;
+    };
+    sound = λ s. record {
+      ordered = s.ordered;
+      items = s.items;
+      plain = s.plain;
+      used = s.used;
+      numbers = s.numbers;
+      held = s.held;
+    };
+    side_effects = refl;
+    instances = refl;
+    trampolines = refl;
+    imports = refl;
+    import_types = refl;
+    begun = refl;
+    exports = refl;
+    export_items = refl;
+    used = refl;
+  }
+
+  -- one more definition
+  pub definition_prepares : (st : State) (d : Definition)
+      → Prepares t ms st (record st { definitions = st.definitions ++ d ∷ [] })
+  definition_prepares st d = record {
+    keeps = record {
+      types = types_refl st.types;
+      graph = graph_growth.grows_refl st.graph;
+      cores = kept_refl st.cores;
+      definitions = append_kept st.definitions (d ∷ []);
+      closures = kept_refl st.closures;
+      instances = kept_refl st.instances;
+      bodies = refl;
+    };
+    sound = λ s. record {
+      ordered = s.ordered;
+      items = s.items;
+      plain = s.plain;
+      used = s.used;
+      numbers = s.numbers;
+      held = s.held;
+    };
+    side_effects = refl;
+    instances = refl;
+    trampolines = refl;
+    imports = refl;
+    import_types = refl;
+    begun = refl;
+    exports = refl;
+    export_items = refl;
+    used = refl;
+  }
+
+  -- what one more component captured
+  pub closure_prepares : (st : State) (d : Closure)
+      → Prepares t ms st (record st { closures = st.closures ++ d ∷ [] })
+  closure_prepares st d = record {
+    keeps = record {
+      types = types_refl st.types;
+      graph = graph_growth.grows_refl st.graph;
+      cores = kept_refl st.cores;
+      definitions = kept_refl st.definitions;
+      closures = append_kept st.closures (d ∷ []);
+      instances = kept_refl st.instances;
+      bodies = refl;
+    };
+    sound = λ s. record {
+      ordered = s.ordered;
+      items = s.items;
+      plain = s.plain;
+      used = s.used;
+      numbers = s.numbers;
+      held = s.held;
+    };
+    side_effects = refl;
+    instances = refl;
+    trampolines = refl;
+    imports = refl;
+    import_types = refl;
+    begun = refl;
+    exports = refl;
+    export_items = refl;
+    used = refl;
+  }
+
+  -- types were converted
+  pub converts_prepares : (old new : State) → Converts t old new → Prepares t ms old new
+  converts_prepares old new c = subst (λ st. Prepares t ms old st) (sym c.rest) (record {
+    keeps = record {
+      types = c.grows;
+      graph = graph_growth.grows_refl old.graph;
+      cores = kept_refl old.cores;
+      definitions = kept_refl old.definitions;
+      closures = kept_refl old.closures;
+      instances = kept_refl old.instances;
+      bodies = refl;
+    };
+    sound = λ s. record {
+      ordered = s.ordered;
+      items = s.items;
+      plain = s.plain;
+      used = s.used;
+      numbers = c.numbers s.numbers;
+      held = holds_grow old.types new.types c.grows old.graph s.held;
+    };
+    side_effects = refl;
+    instances = refl;
+    trampolines = refl;
+    imports = refl;
+    import_types = refl;
+    begun = refl;
+    exports = refl;
+    export_items = refl;
+    used = refl;
+  })

@@ -1,0 +1,25 @@
+use Rattle.std.proofs.Common.{◌≡◌, ◌<◌, ◌+◌, ◌++◌, ◌∷◌, [], ℕ, List, length, take, sym, subst, ap, ◌∙◌, arith}
+use Rattle.std.specs.List.{AllZip}
+use Rattle.std.proofs.lemmas.Grind.{take_at_read}
+use Rattle.pc_numbers.specs.declared.entity_index.EntityIndex.{EntityIndex}
+use Rattle.pc_entity.specs.Lists.{value_of}
+use Rattle.pc_inline_state.proofs.ZipLemmas.{zip_push}
+use Rattle.pc_inline_state.specs.Index.{HasExports}
+use Rattle.pc_types.specs.declared.module_record.ModuleRecord.{ModuleRecord}
+use Rattle.pc_inline_state.proofs.core_modules.CoreModules.new.Goals as goal
+
+pub loop-record_-preserved : goal.loop-record_-preserved
+loop-record_-preserved c =
+    let i = c.loop-record_.record_-index in
+    let rs = c.args.records.now in
+    let r = c.record_-item.result in
+    let is_it = c.record_-item.is in
+    let within : i < length rs = omega arith in
+    let longer : take (i + 1) rs ≡ take i rs ++ r ∷ [] =
+    (take_at_read rs i r within).1 ∙ (λ j. take i rs ++ sym is_it j ∷ []) in
+    let map = c.in_ok-first_values.field-0 in
+    let has : HasExports r map = λ name. c.in_ok-first_values.ensures name ∙ ap (value_of name) c.as_slice.ensures in
+    subst (λ (xs : List ModuleRecord). AllZip HasExports xs c.push.new.self.items) (sym longer)
+    (subst (λ (ys : List (List (List ℕ × EntityIndex))). AllZip HasExports (take i rs ++ r ∷ []) ys)
+    (sym {A = List (List (List ℕ × EntityIndex))} c.in_ok-push.ensures.items)
+    (zip_push HasExports (take i rs) c.loop-record_.exports.items r map c.loop-record_.invariant has))

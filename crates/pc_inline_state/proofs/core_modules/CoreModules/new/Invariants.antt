@@ -1,0 +1,7 @@
+use Rattle.std.proofs.Common.{take}
+use Rattle.std.specs.List.{AllZip}
+use Rattle.pc_inline_state.specs.Index.{HasExports}
+use Rattle.pc_inline_state.proofs.core_modules.CoreModules.new.Given as goal
+
+abbrev pub invariant-loop-record_ : goal.invariant-loop-record_
+invariant-loop-record_ l = AllZip HasExports (take l.record_-index l.records) l.exports.items

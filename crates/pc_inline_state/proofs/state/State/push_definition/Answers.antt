@@ -1,0 +1,18 @@
+use Rattle.pc_inline_state.proofs.AddsPushLemmas.{definition_adds}
+use Rattle.pc_inline_state.proofs.GrowthLemmas.{definitions_grown, push_kept}
+use Rattle.pc_inline_state.proofs.RefusedLemmas.{definitions_lack}
+use Rattle.pc_inline_state.specs.Tables.{tables_of}
+use Rattle.pc_inline_state.proofs.state.State.push_definition.Goals as goal
+
+pub returns-clause-keeps : goal.returns-clause-keeps
+returns-clause-keeps c =
+    definitions_grown (tables_of c.args.self.now) _
+    (push_kept c.append.result _ _ c.args.definition c.append.ensures.ok c.append.ensures.err)
+
+pub returns-clause-adds : goal.returns-clause-adds
+returns-clause-adds c =
+    definition_adds (tables_of c.args.self.now) c.append.result _ c.args.definition c.append.ensures.ok
+    c.append.ensures.err
+
+pub returns-clause-lacks : goal.returns-clause-lacks
+returns-clause-lacks c = definitions_lack _ _ c.append.ensures.lacks

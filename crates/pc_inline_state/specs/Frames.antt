@@ -1,0 +1,85 @@
+-- Component instances while their items are read, against the scopes of the reading.
+use Rattle.std.specs.Prelude.{◌≡◌, ℕ, [], List, Option, None, Some, slice_get}
+use Rattle.std.specs.List.{AllZip}
+use Rattle.pc_entity.specs.Lists.{value_of}
+use Rattle.pc_dfg.specs.declared.ids.InstanceId.{InstanceId}
+use Rattle.pc_numbers.specs.declared.component_entity.StaticModuleIndex.{StaticModuleIndex}
+use Rattle.pc_types.specs.declared.module_record.ModuleRecord.{ModuleRecord}
+use Rattle.pc_types.specs.declared.parsed.CoreKind.{CoreKind}
+use Rattle.pc_types.specs.declared.parsed.CoreKind.TheVariants as core
+use Rattle.pc_spec_plan.specs.CoreValue.{CoreValue}
+use Rattle.pc_parsed.specs.Mark.{Mark}
+use Rattle.pc_spec_reading.specs.Scope as reading
+use Rattle.pc_spec_reading.specs.Scope.{CoreItem, Scope}
+use Rattle.pc_spec_reading.specs.Value.{Component, Function, Instance, Module, component_value, func_value, instance_value}
+use Rattle.pc_spec_reading.specs.Value.{module_value}
+use Rattle.pc_dfg.specs.declared.core_def.CoreDef.{CoreDef}
+use Rattle.pc_dfg.specs.declared.instance.Instance.TheVariants as source
+use Rattle.pc_dfg.specs.Held.{HasBegun}
+use Rattle.pc_inline_state.specs.declared.definition.CoreId.{CoreId}
+use Rattle.pc_inline_state.specs.declared.definition.DefinitionId.{DefinitionId}
+use Rattle.pc_inline_state.specs.declared.frame.CoreInstance.{CoreInstance}
+use Rattle.pc_inline_state.specs.declared.frame.CoreInstance.TheVariants as instance
+use Rattle.pc_inline_state.specs.declared.frame.Frame.{Frame}
+use Rattle.pc_inline_state.specs.Stands.{ItemStands, Stands}
+use Rattle.pc_inline_state.specs.Tables.{Tables}
+
+-- both are there and stand so, or neither is there
+pub data Both {A B : Type 0} (R : A → B → Type 0) : Option A → Option B → Type 0 where
+  neither : Both R None None
+  both : {a : A} {b : B} → R a b → Both R (Some a) (Some b)
+
+-- each name has on both sides what stands so, or on neither anything
+abbrev pub SameNames : {A B : Type 0} → (A → B → Type 0) → List (List ℕ × A) → List (List ℕ × B) → Type 0
+SameNames {A} {B} R xs ys = (name : List ℕ) → Both R (value_of name xs) (value_of name ys)
+
+module _ (ms : List ModuleRecord) (b : Tables) where
+  -- core items by number, of a kind
+  abbrev pub ItemsStand : CoreKind → List CoreId → List (CoreValue Mark) → Type 0
+  ItemsStand k ns vs = AllZip (ItemStands ms b k) ns vs
+
+  -- an item of a bag
+  pub record BagItemStands (x : CoreKind × CoreId) (i : CoreItem) : Type 0 where
+    pub kind : i.kind ≡ x.0
+    pub item : ItemStands ms b x.0 x.1 i.value
+
+  -- a core instance
+  pub data CoreInstanceStands : CoreInstance → reading.CoreInstance → Type 0 where
+    made_stands : {i : InstanceId} {m : StaticModuleIndex} {args : List CoreDef}
+        → slice_get b.graph.instances i.0 ≡ Some (source.Static m args)
+        → CoreInstanceStands (instance.Made i m) (reading.of_module i.0 m.0)
+    bag_stands : {xs : List (List ℕ × (CoreKind × CoreId))} {items : List (List ℕ × CoreItem)}
+        → SameNames BagItemStands xs items → CoreInstanceStands (instance.Bag xs) (reading.bag items)
+
+  -- a function, by number
+  abbrev pub FuncStands : DefinitionId → Function → Type 0
+  FuncStands n f = Stands ms b n (func_value f)
+
+  -- the same of a module
+  abbrev pub ModuleStands : DefinitionId → Module → Type 0
+  ModuleStands n m = Stands ms b n (module_value m)
+
+  -- of a component
+  abbrev pub ComponentStands : DefinitionId → Component → Type 0
+  ComponentStands n c = Stands ms b n (component_value c)
+
+  -- and of a component instance
+  abbrev pub InstanceStands : DefinitionId → Instance → Type 0
+  InstanceStands n i = Stands ms b n (instance_value i)
+
+  -- a component instance that knows no resources
+  pub record FrameStands (f : Frame) (s : Scope) : Type 0 where
+    pub core_funcs : ItemsStand core.Func f.core_funcs s.core_funcs
+    pub memories : ItemsStand core.Memory f.memories s.memories
+    pub tables : ItemsStand core.Table f.tables s.tables
+    pub globals : ItemsStand core.Global f.globals s.globals
+    pub tags : ItemsStand core.Tag f.tags s.tags
+    pub modules : AllZip ModuleStands f.modules s.modules
+    pub funcs : AllZip FuncStands f.funcs s.funcs
+    pub core_instances : AllZip CoreInstanceStands f.core_instances s.core_instances
+    pub instances : AllZip InstanceStands f.instances s.instances
+    pub components : AllZip ComponentStands f.components s.components
+    pub arguments : SameNames (Stands ms b) f.arguments s.arguments
+    pub known : s.known ≡ []
+    pub component_instance : s.component_instance ≡ f.component_instance.0
+    pub begun : HasBegun b.graph f.component_instance.0

@@ -1,0 +1,74 @@
+-- What numbers are looked up in: the types builder, the graph, and the tables of what items are.
+use Rattle.std.specs.Prelude.{◌≡◌, ◌<◌, ℕ, true, List, length, Some, slice_get}
+use Rattle.pc_entity.specs.Lists.{Kept}
+use Rattle.pc_dfg.specs.declared.ids.InstanceId.{InstanceId}
+use Rattle.pc_types_lists.specs.Types.{Types}
+use Rattle.pc_types_lists.specs.Types as builder
+use Rattle.pc_numbers.specs.declared.component_entity.StaticModuleIndex.{StaticModuleIndex}
+use Rattle.pc_numbers.specs.declared.entity_index.EntityIndex.{EntityIndex}
+use Rattle.pc_numbers.specs.declared.runtime.TrampolineIndex.{TrampolineIndex}
+use Rattle.pc_types.specs.declared.module_record.ModuleRecord.{ModuleRecord}
+use Rattle.pc_types.specs.declared.parsed.CoreKind.{CoreKind}
+use Rattle.pc_types.specs.declared.parsed.CoreKind.TheVariants as core
+use Rattle.pc_types.specs.Record.{has_entity, index_kind}
+use Rattle.pc_info.specs.declared.core_def.ExportItem.TheVariants as item
+use Rattle.pc_dfg.specs.declared.core_def.CoreDef.{CoreDef}
+use Rattle.pc_dfg.specs.declared.core_def.CoreDef.TheVariants as def
+use Rattle.pc_dfg.specs.declared.dfg.ComponentDfg.{ComponentDfg}
+use Rattle.pc_dfg.specs.declared.instance.Instance.TheVariants as source
+use Rattle.pc_dfg.specs.Grows as graph
+use Rattle.pc_local.specs.declared.item.Translation.{Translation}
+use Rattle.pc_inline_state.specs.declared.closure.Closure.{Closure}
+use Rattle.pc_inline_state.specs.declared.definition.Definition.{Definition}
+use Rattle.pc_inline_state.specs.declared.definition.DefinitionId.{DefinitionId}
+use Rattle.pc_inline_state.specs.declared.state.State.{State}
+
+-- the types builder, the graph so far, and the tables: core items, definitions, what components captured, what
+-- instances export, and the bodies of the program
+pub record Tables : Type 0 where
+  pub types : Types
+  pub graph : ComponentDfg
+  pub cores : List CoreDef
+  pub definitions : List Definition
+  pub closures : List Closure
+  pub instances : List (List (List ℕ × DefinitionId))
+  pub bodies : List Translation
+
+-- those of a state
+abbrev pub tables_of : State → Tables
+tables_of st = record {
+  types = st.types;
+  graph = st.graph;
+  cores = st.cores;
+  definitions = st.definitions;
+  closures = st.closures;
+  instances = st.instances;
+  bodies = st.bodies.now;
+}
+
+-- each number still names what it named
+pub record Keeps (old new : Tables) : Type 0 where
+  pub types : builder.Grows old.types new.types
+  pub graph : graph.Grows old.graph new.graph
+  pub cores : Kept old.cores new.cores
+  pub definitions : Kept old.definitions new.definitions
+  pub closures : Kept old.closures new.closures
+  pub instances : Kept old.instances new.instances
+  pub bodies : new.bodies ≡ old.bodies
+
+-- Where the core modules that were handed in have these records.
+module _ (ms : List ModuleRecord) where
+  -- the core instance is made of a module that has the entity
+  pub record HasEntity (g : ComponentDfg) (i : InstanceId) (e : EntityIndex) : Type 0 where
+    pub core_module : StaticModuleIndex
+    pub arguments : List CoreDef
+    pub module_record : ModuleRecord
+    pub made : slice_get g.instances i.0 ≡ Some (source.Static core_module arguments)
+    pub handed_in : slice_get ms core_module.0 ≡ Some module_record
+    pub has : has_entity module_record e ≡ true
+
+  -- a definition that is a core item of a kind
+  pub data IsItem (g : ComponentDfg) : CoreKind → CoreDef → Type 0 where
+    is_entity : {k : CoreKind} {i : InstanceId} {e : EntityIndex} → index_kind e ≡ k → HasEntity g i e
+        → IsItem g k (def.Export (record { instance = i; item = item.Index e }))
+    is_trampoline : {t : TrampolineIndex} → t.0 < length g.trampolines → IsItem g core.Func (def.Trampoline t)

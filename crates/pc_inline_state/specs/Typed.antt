@@ -1,0 +1,71 @@
+-- Types and core signatures twice: as numbers of the types builder, and whole, as the reading has them.
+use Rattle.std.specs.Prelude.{◌≡◌, ◌⊎◌, ℕ, true, false, List, [], Option, None, Some, slice_get}
+use Rattle.pc_numbers.specs.declared.module_entity.ModuleInternedTypeIndex.{ModuleInternedTypeIndex}
+use Rattle.pc_numbers.specs.declared.runtime.ResourceIndex.{ResourceIndex}
+use Rattle.pc_types.specs.declared.parsed.CoreFuncSig.{CoreFuncSig}
+use Rattle.pc_types.specs.declared.parsed.TypeTable.{TypeTable}
+use Rattle.pc_types.specs.declared.type_index.TypeFuncIndex.{TypeFuncIndex}
+use Rattle.pc_types.specs.declared.types.TypeDef.TheVariants as def
+use Rattle.pc_types.specs.Table.{is_func}
+use Rattle.pc_types.specs.TypeTree.{Identity}
+use Rattle.pc_types_lists.specs.Types.{Resources, Types}
+use Rattle.pc_types_builder.specs.Converted.{AreConverted}
+use Rattle.pc_types_builder.specs.Trees.{HasTree, IsEntry}
+use Rattle.pc_trampoline.specs.declared.part.Mark.{Mark}
+use Rattle.pc_trampoline.specs.declared.part.Mark.TheVariants as mark
+use Rattle.pc_parsed.specs.Mark as reading
+use Rattle.pc_spec_reading.specs.Types.{has_entry}
+use Rattle.pc_inline_state.specs.declared.numbers.Numbers.{Numbers}
+
+-- no resource is known, and types are converted in the root
+abbrev pub no_resources : Resources
+no_resources = record { known = []; current = record { 0 = 0 } }
+
+module _ (types : Types) where
+  -- the builder holds this type, whatever the resources are, or this core signature under the number
+  unfoldable pub Holds : Mark → reading.Mark → Type 0
+  Holds (mark.Type_ ty) (reading.of_type tree) = (who : ResourceIndex → Identity) → HasTree types who ty tree
+  Holds (mark.Signature n) (reading.of_signature s) = slice_get types.signatures n.0 ≡ Some s
+  Holds _ _ = ⊥
+
+  -- a type or a core signature twice: as a number, and whole, as the builder holds it under the number
+  pub record Numbered : Type 0 where
+    pub number : Mark
+    pub whole : reading.Mark
+    pub holds : Holds number whole
+
+  -- as a number
+  abbrev pub number_of : Numbered → Mark
+  number_of m = m.number
+
+  -- whole
+  abbrev pub whole_of : Numbered → reading.Mark
+  whole_of m = m.whole
+
+-- the number is that of signature `n` of the table
+abbrev pub IsSignature : Types → TypeTable → ℕ → ModuleInternedTypeIndex → Type 0
+IsSignature types t n i =
+    (s : CoreFuncSig) × (slice_get t.core_funcs n ≡ Some s) × (slice_get types.signatures i.0 ≡ Some s)
+
+-- each signature that has a number has its own
+abbrev pub AreSignatures : Types → TypeTable → List (Option ModuleInternedTypeIndex) → Type 0
+AreSignatures types t numbers =
+    (n : ℕ) (i : ModuleInternedTypeIndex) → slice_get numbers n ≡ Some (Some i) → IsSignature types t n i
+
+-- the numbers are those of the table's entries and signatures
+pub record AreNumbers (types : Types) (t : TypeTable) (x : Numbers) : Type 0 where
+  pub converted : AreConverted types t x.converted
+  pub signatures : AreSignatures types t x.signatures.items
+
+-- the numbers are those of a function type and of a core signature of the table
+pub record AreOfFunction (types : Types) (t : TypeTable) (ty core : ℕ) (n : TypeFuncIndex) (s : ModuleInternedTypeIndex)
+    : Type 0 where
+  pub there : has_entry t is_func ty ≡ true
+  pub entry : IsEntry types t ty (def.ComponentFunc n)
+  pub signature : IsSignature types t core s
+
+-- the table has no such function type, or it has, and no such core signature
+abbrev pub HasNoFunction : TypeTable → (ty core : ℕ) → Type 0
+HasNoFunction t ty core =
+    (has_entry t is_func ty ≡ false)
+    ⊎ ((has_entry t is_func ty ≡ true) × (slice_get t.core_funcs core ≡ None))

@@ -1,0 +1,176 @@
+-- What all component instances share, against the world of the reading.
+use Rattle.std.specs.Prelude.{◌≡◌, ◌<◌, ◌≤◌, ℕ, true, false, Bool, count_by, [], ◌∷◌, ◌++◌, length, List, Option, None}
+use Rattle.std.specs.Prelude.{Some, map, slice_get, replicate, if◌then◌else◌, All, Contains}
+use Rattle.std.specs.List.{AllZip, list_any, filter_map, fold}
+use Rattle.pc_entity.specs.declared.packed_option.PackedOption.TheVariants as packed
+use Rattle.pc_types_lists.specs.Types.{Types}
+use Rattle.pc_dfg.specs.declared.ids.OptionsId.{OptionsId}
+use Rattle.pc_numbers.specs.declared.component_entity.StaticModuleIndex.{StaticModuleIndex}
+use Rattle.pc_numbers.specs.declared.runtime.ImportIndex.{ImportIndex}
+use Rattle.pc_numbers.specs.declared.runtime.RuntimeImportIndex.{RuntimeImportIndex}
+use Rattle.pc_numbers.specs.declared.runtime.TrampolineIndex.{TrampolineIndex}
+use Rattle.pc_types.specs.declared.module_record.ModuleRecord.{ModuleRecord}
+use Rattle.pc_types.specs.declared.parsed.CoreFuncSig.{CoreFuncSig}
+use Rattle.pc_types.specs.declared.parsed.CoreKind.{CoreKind}
+use Rattle.pc_types.specs.declared.parsed.CoreKind.TheVariants as core
+use Rattle.pc_types.specs.declared.type_index.TypeFuncIndex.{TypeFuncIndex}
+use Rattle.pc_types.specs.declared.types.ComponentExtern.{ComponentExtern}
+use Rattle.pc_types.specs.TypeTree.{Path}
+use Rattle.pc_spec_plan.specs.CoreValue.{CoreValue, lowered, options}
+use Rattle.pc_spec_plan.specs.Log.{Entry, declared, instances_of, map_entry, needed, trace}
+use Rattle.pc_spec_plan.specs.PlanView as plan
+use Rattle.pc_trampoline.specs.declared.part.Mark.TheVariants as mark
+use Rattle.pc_parsed.specs.Mark.{Mark, of_signature, of_type}
+use Rattle.pc_spec_reading.specs.Nodes.{extern_data}
+use Rattle.pc_spec_reading.specs.SameTypes.{same_path}
+use Rattle.pc_spec_reading.specs.World.{HostImport, World}
+use Rattle.pc_dfg.specs.declared.core_def.CoreDef.{CoreDef}
+use Rattle.pc_dfg.specs.declared.core_def.CoreDef.TheVariants as def
+use Rattle.pc_dfg.specs.declared.dfg.ComponentDfg.{ComponentDfg}
+use Rattle.pc_dfg.specs.declared.export.Export.{Export}
+use Rattle.pc_dfg.specs.declared.export.Export.TheVariants as export
+use Rattle.pc_dfg.specs.declared.instance.Instance.{Instance}
+use Rattle.pc_dfg.specs.declared.options.CanonicalOptions.{CanonicalOptions}
+use Rattle.pc_dfg.specs.declared.instance.Instance.TheVariants as source
+use Rattle.pc_dfg.specs.declared.instance.SideEffect.{SideEffect}
+use Rattle.pc_dfg.specs.Effects.{MeansEffect}
+use Rattle.pc_dfg.specs.Numbers.{SignedTrampoline, slots_of}
+use Rattle.pc_inline_state.specs.Stands.{CoreStands}
+use Rattle.pc_inline_state.specs.Tables.{IsItem}
+use Rattle.pc_inline_state.specs.Today.{is_made}
+use Rattle.pc_inline_state.specs.Typed.{Holds, Numbered, number_of, whole_of}
+
+-- the path that an entry needs, if it needs one
+abbrev pub needed_path : Entry Mark → Option Path
+needed_path (needed p) = Some p
+needed_path _ = None
+
+-- whether an entry says that a host function was lowered, or that a builtin was added
+abbrev pub is_declared : Entry Mark → Bool
+is_declared (declared v) = true
+is_declared _ = false
+
+-- paths with one more, unless it is one of them
+abbrev pub with_path : List Path → Path → List Path
+with_path ps p = if list_any (same_path p) ps then ps else ps ++ p ∷ []
+
+-- the core signature of a function that was lowered
+abbrev pub signature_of : CoreValue Mark → Option CoreFuncSig
+signature_of (lowered p ty (options c encoding is_async (of_signature s) callback post_return model)) = Some s
+signature_of _ = None
+
+-- a trampoline has the core signature of the function that was lowered
+abbrev pub IsSigned : Types → SignedTrampoline → CoreValue Mark → Type 0
+IsSigned types x v = (s : CoreFuncSig) × (slice_get types.signatures x.0.0 ≡ Some s) × (signature_of v ≡ Some s)
+
+-- the paths that a log needs, in order, each once
+unfoldable pub paths_needed : List (Entry Mark) → List Path
+paths_needed log = fold with_path [] (filter_map needed_path log)
+
+-- the path to a host item
+abbrev pub path_of : ImportIndex × List (List ℕ) → Path
+path_of i = record { import = i.0.0; names = i.1 }
+
+-- the path of an import itself
+abbrev pub import_path : ℕ → Path
+import_path i = record { import = i; names = [] }
+
+-- the kind of what is in a slot
+abbrev pub slot_kind : plan.SlotKind → CoreKind
+slot_kind plan.memory = core.Memory
+slot_kind plan.table = core.Table
+slot_kind plan.realloc = core.Func
+slot_kind plan.callback = core.Func
+slot_kind plan.post_return = core.Func
+
+-- a graph in which each definition is an item of its kind, where the modules that were handed in have these records
+pub record HasItems (ms : List ModuleRecord) (g : ComponentDfg) : Type 0 where
+  -- a module is given as many arguments as it imports, all of them core items
+  pub modules : (i : ℕ) (m : StaticModuleIndex) (args : List CoreDef)
+      → slice_get g.instances i ≡ Some (source.Static m args)
+      → (r : ModuleRecord) × (slice_get ms m.0 ≡ Some r) × (length args ≡ length r.imports)
+      × All (λ d. (k : CoreKind) × IsItem ms g k d) args
+  pub slots : (k : plan.SlotKind) (n : ℕ) (d : CoreDef) → slice_get (slots_of g k) n ≡ Some d
+      → IsItem ms g (slot_kind k) d
+  pub exports : (n : ℕ) (ty : TypeFuncIndex) (o : OptionsId) (d : CoreDef)
+      → slice_get g.export_items n ≡ Some (export.LiftedFunction ty d o) → IsItem ms g core.Func d
+
+-- an instance of a module that was handed in
+abbrev pub IsStatic : Instance → Type 0
+IsStatic (source.Static m args) = Unit {0}
+IsStatic _ = ⊥
+
+-- the export of a function that was lifted
+abbrev pub IsLifted : Export → Type 0
+IsLifted (export.LiftedFunction ty f o) = Unit {0}
+IsLifted _ = ⊥
+
+-- a graph with instances of handed-in modules and exports of functions alone, and without what isn't built
+pub record IsPlain (g : ComponentDfg) : Type 0 where
+  pub adapters : g.adapters ≡ []
+  pub adapter_modules : g.adapter_modules ≡ []
+  pub adapter_partitionings : g.adapter_partitionings ≡ []
+  pub resources : g.resources ≡ []
+  pub imported_resources : g.imported_resources ≡ []
+  pub unsafe_intrinsics : g.unsafe_intrinsics ≡ replicate 21 packed.None
+  pub instances : (i : ℕ) (x : Instance) → slice_get g.instances i ≡ Some x → IsStatic x
+  pub export_items : (n : ℕ) (x : Export) → slice_get g.export_items n ≡ Some x → IsLifted x
+
+-- the builder holds the types and signatures that a graph names
+pub record HoldsTypes (types : Types) (g : ComponentDfg) : Type 0 where
+  pub options : (k : ℕ) (x : CanonicalOptions) → slice_get g.options k ≡ Some x
+      → x.core_type.0 < length types.signatures
+  pub functions : (n : ℕ) (ty : TypeFuncIndex) (f : CoreDef) (o : OptionsId)
+      → slice_get g.export_items n ≡ Some (export.LiftedFunction ty f o) → ty.0 < length types.funcs
+
+-- a graph that exports nothing yet
+pub record HasNoExports (g : ComponentDfg) : Type 0 where
+  pub exports : g.exports ≡ []
+  pub items : g.export_items ≡ []
+
+-- the numbers of the imports that are used are those that they have in the graph
+pub record AreUsed (g : ComponentDfg) (used : List (Option RuntimeImportIndex)) : Type 0 where
+  pub room : length used ≡ length g.import_types
+  pub numbers : (i : ℕ) (r : RuntimeImportIndex) → slice_get used i ≡ Some (Some r)
+      → slice_get g.imports r.0 ≡ Some (record { 0 = i }, [])
+  pub others : (i : ℕ) → slice_get used i ≡ Some None
+      → list_any (same_path (import_path i)) (map path_of g.imports) ≡ false
+
+module _ (types : Types) (g : ComponentDfg) where
+  -- a side effect does what an entry says
+  pub record EffectStands (e : SideEffect) (x : Entry Mark) : Type 0 where
+    pub numbered : Entry (Numbered types)
+    pub means : MeansEffect g e (map_entry (number_of types) numbered)
+    pub is : map_entry (whole_of types) numbered ≡ x
+
+  -- an import of the root is one that the host gives, its type under its number
+  pub record ImportStands (i : List ℕ × ComponentExtern) (h : HostImport) : Type 0 where
+    pub name : i.0 ≡ h.name.name
+    pub extern_data : i.1.data_ ≡ extern_data h.name
+    pub typed : Holds types (mark.Type_ i.1.ty) (of_type h.import_type)
+
+  -- a trampoline is declared, and has the core signature of its lowering
+  pub record IsDeclared (log : List (Entry Mark)) (k : ℕ) (x : SignedTrampoline) : Type 0 where
+    pub value : CoreValue Mark
+    pub entry : Contains log (declared value)
+    pub stands : CoreStands types g (def.Trampoline (record { 0 = k })) value
+    pub signed : IsSigned types x value
+
+  -- what is declared is a trampoline
+  pub record HasTrampoline (v : CoreValue Mark) : Type 0 where
+    pub trampoline : TrampolineIndex
+    pub stands : CoreStands types g (def.Trampoline trampoline) v
+
+  -- the graph so far does what the log says
+  pub record WorldStands (w : World) : Type 0 where
+    pub effects : AllZip EffectStands g.side_effects (trace w.log)
+    pub order : length (instances_of w.log) ≡ length g.instances
+    pub are_declared : (k : ℕ) (x : SignedTrampoline) → slice_get g.trampolines k ≡ Some x → IsDeclared w.log k x
+    pub trampolines : (v : CoreValue Mark) → Contains w.log (declared v) → HasTrampoline v
+    pub few_trampolines : length g.trampolines ≤ count_by is_declared w.log
+    pub import_types : AllZip ImportStands g.import_types w.imports
+    pub imports : map path_of g.imports ≡ paths_needed w.log
+    pub imported_resources : w.imported_resources ≡ []
+    pub intrinsics : w.intrinsics ≡ []
+    pub no_adapters : list_any is_made w.log ≡ false
+    pub begun : w.begun ≡ g.num_runtime_component_instances

@@ -1,0 +1,103 @@
+//! What a core instance has under a name.
+
+ghost use Rattle.std.specs.Prelude.{◌≡◌, IfErr, IfOk};
+ghost use Rattle.pc_types.specs.declared.parsed.CoreKind.{CoreKind};
+ghost use Rattle.pc_spec_plan.specs.CoreValue.{CoreValue};
+ghost use Rattle.pc_parsed.specs.Mark.{Mark};
+ghost use Rattle.pc_dfg.specs.declared.core_def.CoreDef.TheVariants as def;
+ghost use Rattle.pc_info.specs.declared.core_def.ExportItem.TheVariants as item;
+ghost use Rattle.pc_inline_state.specs.AddsEach.{AddsEach, nowhere};
+ghost use Rattle.pc_inline_state.specs.Bags.{bag_item, export_item};
+ghost use Rattle.pc_inline_state.specs.Found.{ArgumentStands, FoundThere, ItemFound};
+ghost use Rattle.pc_inline_state.specs.Prepares.{Prepares};
+ghost use Rattle.pc_inline_state.specs.Refused.{LacksRoom};
+ghost use Rattle.pc_inline_state.specs.Stands.{ItemStands};
+ghost use Rattle.pc_inline_state.specs.Tables.{tables_of};
+
+use crate::context::Context;
+use crate::definition::CoreId;
+use crate::error::ItemError;
+use crate::frame::CoreInstance;
+use crate::state::State;
+use pc_dfg::{CoreDef, CoreExport, ExportItem, InstanceId};
+use pc_entity::{EntityIndex, NoMemory, TextMap, TryClone};
+use pc_types::CoreKind;
+
+/// An entity of a core instance that was made, or a core item of the table.
+#[derive(Clone, Copy)]
+pub enum CoreItem {
+    Entity(InstanceId, EntityIndex),
+    Known(CoreId),
+}
+
+/// An entity of a core instance as a definition.
+fn entity_def(instance: InstanceId, entity: EntityIndex) -> CoreDef
+    ensures { result ≡ def.Export (record { instance = instance; item = item.Index entity }) }
+{
+    CoreDef::Export(CoreExport {
+        instance,
+        item: ExportItem::Index(entity),
+    })
+}
+
+/// What a bag has under a name, if it is of a kind.
+fn bag_item(items: &TextMap<(CoreKind, CoreId)>, kind: CoreKind, name: &str) -> Option<CoreItem>
+    ensures { result ≡ bag_item items.now kind name.now }
+{
+    let &(found, id) = items.get(name)?;
+    if kind.is(found) {
+        Some(CoreItem::Known(id))
+    } else {
+        None
+    }
+}
+
+impl<'a> Context<'a> {
+    /// What a core instance has under a name, if it is of a kind.
+    pub fn export(&self, instance: &CoreInstance, kind: CoreKind, name: &str) -> Option<CoreItem>
+        ensures { result ≡ export_item self.now.modules kind name.now instance.now }
+    {
+        match instance {
+            CoreInstance::Made {
+                instance,
+                core_module,
+            } => {
+                let entity = self.modules.export(*core_module, name)?;
+                if kind.is(CoreKind::of(entity)) {
+                    Some(CoreItem::Entity(*instance, entity))
+                } else {
+                    None
+                }
+            }
+            CoreInstance::Bag(items) => bag_item(items, kind, name),
+        }
+    }
+
+    /// The definition of what was found.
+    pub fn found_def(&self, state: &State<'_>, item: CoreItem) -> Result<CoreDef, NoMemory>
+        requires there { FoundThere self.now.modules (tables_of state.now) item }
+        ensures { IfOk result (λ d. (k : CoreKind) (v : CoreValue Mark)
+            → ItemFound self.now.modules (tables_of state.now) k item v
+            → ArgumentStands self.now.modules (tables_of state.now) d v) }
+    {
+        match item {
+            CoreItem::Entity(instance, entity) => Ok(entity_def(instance, entity)),
+            CoreItem::Known(id) => state.cores[id].try_clone(self.alloc),
+        }
+    }
+
+    /// The number of what was found in the table of core items.
+    pub fn found_id(&self, state: &mut State<'_>, item: CoreItem) -> Result<CoreId, ItemError>
+        ensures prepares { Prepares self.now.table.now self.now.modules state.old state.new }
+        ensures adds { AddsEach nowhere 1 0 (tables_of state.old) (tables_of state.new) }
+        ensures id { IfOk result (λ id. (k : CoreKind) (v : CoreValue Mark)
+            → ItemFound self.now.modules (tables_of state.old) k item v
+            → ItemStands self.now.modules (tables_of state.new) k id v) }
+        ensures err { IfErr result (LacksRoom state.new) }
+    {
+        match item {
+            CoreItem::Entity(instance, entity) => state.push_core(entity_def(instance, entity)),
+            CoreItem::Known(id) => Ok(id),
+        }
+    }
+}

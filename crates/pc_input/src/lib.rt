@@ -1,0 +1,14 @@
+//! The reader of input forms: bytes go in, and out come the type table and the payloads of a translation.
+//! It stands on `pc_parsed` for the payloads, and on `pc_input_values` for the values of which they are made.
+#![tactic(auto)]
+
+mod canon;
+mod canon_option;
+mod entry;
+mod input;
+mod module;
+mod payload;
+mod sections;
+
+pub use input::{Input, decode_input};
+pub use pc_input_values::DecodeError;

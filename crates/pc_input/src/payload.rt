@@ -1,0 +1,90 @@
+//! Payloads: a word, or an object whose key names the section.
+
+ghost use Rattle.std.specs.Prelude.{◌≡◌};
+ghost use Rattle.serde_json.specs.View.{view};
+ghost use Rattle.pc_entity.specs.Lists.{value_of};
+ghost use Rattle.pc_input.specs.Payload.{instance_sections, payload_words, payload_keys, payload_of};
+ghost use Rattle.pc_input_values.specs.Tree.{by_row};
+ghost use Rattle.pc_input_values.specs.Reads.{Reads};
+
+use crate::entry::{ReadEntry, section};
+use crate::module::core_module;
+use pc_input_values::{DecodeError, Form, tagged};
+use pc_parsed::{Encoding, Payload};
+use serde_json::Value;
+use std::alloc::Global;
+
+/// A payload without content.
+#[tactic(auto, unfolding(crate::specs::Payload::payload_words))]
+fn bare(word: &str) -> Option<Payload>
+    ensures { result ≡ value_of word.now payload_words }
+{
+    match word {
+        "version" => Some(Payload::Version {
+            encoding: Encoding::Component,
+        }),
+        "version-module" => Some(Payload::Version {
+            encoding: Encoding::Module,
+        }),
+        "core-types" => Some(Payload::CoreTypeSection),
+        "custom" => Some(Payload::CustomSection),
+        "start" => Some(Payload::ComponentStartSection),
+        "component" => Some(Payload::ComponentSection),
+        "end" => Some(Payload::End),
+        _ => None,
+    }
+}
+
+/// A payload of core modules, instances or aliases, by its key.
+fn instance_section<F: Form>(
+    form: &F,
+    alloc: Global,
+    key: &str,
+    value: &Value,
+) -> Result<Payload, DecodeError>
+    ensures { Reads result (by_row (instance_sections (F.rules form.now)) key.now (view value.now)) }
+{
+    match key {
+        "module" => core_module(form, alloc, value),
+        "instances" => Ok(Payload::InstanceSection(section(form, alloc, value)?)),
+        "component-instances" => Ok(Payload::ComponentInstanceSection(section(
+            form, alloc, value,
+        )?)),
+        "aliases" => Ok(Payload::ComponentAliasSection(section(form, alloc, value)?)),
+        _ => Err(DecodeError::BadForm),
+    }
+}
+
+/// A payload with content, by its key.
+#[tactic(auto, unfolding(crate::specs::Payload::payload_keys))]
+fn with_content<F: Form>(
+    form: &F,
+    alloc: Global,
+    key: &str,
+    value: &Value,
+) -> Result<Payload, DecodeError>
+    ensures { Reads result (by_row (payload_keys (F.rules form.now)) key.now (view value.now)) }
+{
+    match key {
+        "types" => Ok(Payload::ComponentTypeSection(section(form, alloc, value)?)),
+        "imports" => Ok(Payload::ComponentImportSection(section(form, alloc, value)?)),
+        "canon" => Ok(Payload::ComponentCanonicalSection(section(form, alloc, value)?)),
+        "exports" => Ok(Payload::ComponentExportSection(section(form, alloc, value)?)),
+        _ => instance_section(form, alloc, key, value),
+    }
+}
+
+impl ReadEntry for Payload {
+    ghost shape = { payload_of };
+
+    #[tactic(auto, unfolding(crate::specs::Payload::payload_of))]
+    fn read<F: Form>(form: &F, alloc: Global, value: &Value) -> Result<Payload, DecodeError> {
+        if let Some(word) = value.as_str() {
+            return bare(word).ok_or(DecodeError::BadForm);
+        }
+        match tagged(value) {
+            Some((key, body)) => with_content(form, alloc, key, body),
+            None => Err(DecodeError::BadForm),
+        }
+    }
+}

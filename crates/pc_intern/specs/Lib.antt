@@ -1,2 +1,0 @@
--- What the public contracts rest on.
-pub mod Numbered

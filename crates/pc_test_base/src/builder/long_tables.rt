@@ -1,0 +1,73 @@
+//! Tables that are long, or whose trees are large: what no clause says of them is time.
+
+ghost use Rattle.pc_types_builder.specs.Converted.{AreConverted};
+
+use crate::builder::converts;
+use crate::builder::entries::Shape;
+use crate::support::{holds, is_sound};
+use pc_entity::NoMemory;
+use pc_types::{
+    InterfaceType, TypeDef, TypeKind, TypeListIndex, TypeOptionIndex, TypeTable, ValType,
+};
+use pc_types_builder::{ComponentTypesBuilder, Converted};
+use std::alloc::Global;
+use std::process::Abort;
+use std::test::*;
+
+/// A look through the table for each of its entries would take minutes.
+#[test]
+fn each_of_a_long_chain_is_met_once(rt: HostRuntime) {
+    converts(&rt, rt.alloc(), Shape::Chain);
+}
+
+/// Converts each entry of a chain.
+pub fn converts_chain(
+    rt: &impl Abort,
+    alloc: Global,
+    types: &mut ComponentTypesBuilder,
+    table: &TypeTable,
+) {
+    let lists = are_lists(alloc, types, table);
+    holds(rt, "lists", lists.unwrap_or(false));
+    holds(rt, "held", types.held(TypeKind::List) == 200_000);
+}
+
+/// Whether each entry of a chain, from the last to the first, is the list of its number.
+fn are_lists(
+    alloc: Global,
+    types: &mut ComponentTypesBuilder,
+    table: &TypeTable,
+) -> Result<bool, NoMemory> {
+    if !is_sound(alloc, table) {
+        return Ok(false);
+    }
+    let mut converted = Converted::new(alloc, table)?;
+    for n in (0..200_000).rev() {
+        let list = TypeDef::Interface(InterfaceType::List(TypeListIndex(n)));
+        if types.convert_type_with(table, n, &mut converted) != Ok(list) {
+            return Ok(false);
+        }
+    }
+    Ok(true)
+}
+
+/// The tree of the last entry has 2 ^ 60 leaves.
+#[test]
+fn a_diamond_is_converted(rt: HostRuntime) {
+    converts(&rt, rt.alloc(), Shape::Diamond);
+}
+
+/// That the last entry of a diamond is an option, and that no pair is converted twice.
+pub fn converts_diamond(
+    rt: &impl Abort,
+    alloc: Global,
+    types: &mut ComponentTypesBuilder,
+    table: &TypeTable,
+) {
+    holds(rt, "sound", is_sound(alloc, table));
+    let top = types.convert_val(table, &ValType::Type_(62));
+    let option = InterfaceType::Option(TypeOptionIndex(0));
+    holds(rt, "option", top == Ok(option));
+    holds(rt, "tuples", types.held(TypeKind::Tuple) == 60);
+    holds(rt, "streams", types.held(TypeKind::StreamTable) == 0);
+}

@@ -1,0 +1,23 @@
+//! Tests of what a plan is made of: `pc_info`, `pc_trampoline`, `pc_dfg`, `pc_offsets`, and the graph of `pc_dfg`.
+#![tactic(auto)]
+
+#[cfg(test)]
+mod copies;
+#[cfg(test)]
+mod graph;
+#[cfg(test)]
+mod interned;
+#[cfg(test)]
+mod items;
+#[cfg(test)]
+mod laid_out;
+#[cfg(test)]
+mod layouts;
+#[cfg(test)]
+mod options;
+#[cfg(test)]
+mod plans;
+#[cfg(test)]
+mod support;
+#[cfg(test)]
+mod trampolines;

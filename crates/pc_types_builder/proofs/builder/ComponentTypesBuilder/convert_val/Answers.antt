@@ -1,0 +1,32 @@
+use Rattle.pc_types_lists.proofs.ErrorLemmas.{told}
+use Rattle.pc_types_lists.proofs.Growth.{too_full}
+use Rattle.std.proofs.Common.{sym, subst}
+use Rattle.pc_types.specs.declared.types.TypeDef.TheVariants as def
+use Rattle.pc_types_convert.proofs.PartLemmas.{if_ok_more}
+use Rattle.pc_types_builder.specs.Trees.{IsEntry, IsValue}
+use Rattle.pc_types_builder.proofs.RefusalLemmas.{prim_wanted}
+use Rattle.pc_types_builder.proofs.Simulation.{prim_is_value}
+use Rattle.pc_types_builder.proofs.builder.ComponentTypesBuilder.convert_val.Goals as goal
+
+pub returns-in_ok-primitive-in-Prim-clause-tree : goal.returns-in_ok-primitive-in-Prim-clause-tree
+returns-in_ok-primitive-in-Prim-clause-tree c =
+    prim_is_value _ c.args.table.now c.args.v.now _ _ c.in-Prim.is c.in_ok-primitive-in-Prim.ensures.is
+
+pub returns-in-Type_-clause-tree : goal.returns-in-Type_-clause-tree
+returns-in-Type_-clause-tree c =
+    let b = c.defined_type.new.self in
+    let t = c.args.table.now in
+    if_ok_more (λ w. IsEntry b t c.in-Type_.n (def.Interface w)) (IsValue b t c.args.v.now)
+    (λ w h. subst (λ v. IsValue b t v w) (sym c.in-Type_.is) h)
+    c.defined_type.result c.defined_type.ensures.tree
+
+pub returns-in_err-primitive-in-Prim-clause-full : goal.returns-in_err-primitive-in-Prim-clause-full
+returns-in_err-primitive-in-Prim-clause-full c h =
+    let refused = c.in_err-primitive-in-Prim in
+    too_full _ _ _ (λ next g is. prim_wanted next c.args.table.now c.args.v.now _ c.in-Prim.is)
+    (told c.from_residual.result refused.field-0.0 c.from_residual.ensures.1 refused.ensures.full h)
+
+pub returns-in-Type_-clause-full : goal.returns-in-Type_-clause-full
+returns-in-Type_-clause-full c h =
+    too_full _ _ _ (λ next g is q. (q.0, subst (λ v. IsValue next c.args.table.now v q.0) c.in-Type_.is q.1))
+    (c.defined_type.ensures.full h)

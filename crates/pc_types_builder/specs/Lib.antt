@@ -1,0 +1,10 @@
+-- What the public contracts rest on.
+pub use Rattle.pc_types_lists.specs.Types
+pub use Rattle.pc_types_lists.specs.Held
+pub use Rattle.pc_types_lists.specs.Known
+pub use Rattle.pc_types_lists.specs.Primitive
+pub use Rattle.pc_types_convert.specs.Few
+pub mod Lending
+pub mod LendingTypes
+pub mod Trees
+pub mod Converted

@@ -1,0 +1,119 @@
+//! The entries of a type table, converted one by one.
+//!
+//! What an entry needs is found first (`parts`), and then converted in ascending order: what an entry names has its
+//! type before it.
+
+ghost use Rattle.std.specs.Prelude.{◌≡◌, ◌<◌, ℕ, true, None, Some, Err, IfOk, OnOk, length, take};
+ghost use Rattle.std.specs.Prelude.{slice_get};
+ghost use Rattle.pc_types.specs.declared.parsed.DeclType.{DeclType};
+ghost use Rattle.pc_types.specs.declared.types.TypeDef.{TypeDef};
+ghost use Rattle.pc_types.specs.Table.{is_some_and, table_fault};
+ghost use Rattle.pc_types_lists.specs.Types.{Grows, IsTooFullFor};
+ghost use Rattle.pc_types_convert.specs.Few.{AddsFuncs, is_plain_func};
+ghost use Rattle.pc_types_builder.specs.Trees.{IsEntry};
+ghost use Rattle.pc_types_builder.specs.Converted.{AreConverted, IsOfKind};
+ghost use Rattle.pc_types_convert.specs.Entries.{EntryIs};
+ghost use Rattle.pc_types_convert.specs.Needed.{AreNeeded, Each, IsDone, parts_of};
+
+use crate::Converted;
+use pc_types::{TypeDef, TypeTable};
+use pc_types_convert::{convert, entry_at, needed, type_at};
+use pc_types_lists::{InternedTypes, NoPlace};
+
+/// Entry `n`, which is there, with all that it leads to.
+pub(crate) fn entry_type(
+    interned: &mut InternedTypes,
+    table: &TypeTable,
+    n: u32,
+) -> Result<TypeDef, NoPlace>
+    requires sound { table_fault table.now ≡ None }
+    requires there { n < length table.now.types }
+    ensures tree { IfOk result (λ d. IsEntry interned.new table.now n d) }
+    ensures kind { IfOk result (λ d. (e : DeclType) → slice_get table.now.types n ≡ Some e → IsOfKind e d) }
+    ensures grows { Grows interned.old interned.new }
+    ensures full { result ≡ Err NoPlace.TooMany → IsTooFullFor interned.new
+        (λ b. (d : TypeDef) × IsEntry b table.now n d) }
+    ensures few { is_some_and is_plain_func (slice_get table.now.types n) ≡ true
+        → AddsFuncs 1 2 interned.old interned.new }
+{
+    let mut converted = Converted::new(interned.alloc(), table)?;
+    entry_with(interned, table, n, &mut converted)
+}
+
+/// Entry `n`, which is there, with all that it leads to, where some entries are converted.
+pub(crate) fn entry_with(
+    interned: &mut InternedTypes,
+    table: &TypeTable,
+    n: u32,
+    converted: &mut Converted,
+) -> Result<TypeDef, NoPlace>
+    requires sound { table_fault table.now ≡ None }
+    requires there { n < length table.now.types }
+    requires converted { AreConverted interned.old table.now converted.old }
+    ensures converted { AreConverted interned.new table.now converted.new }
+    ensures tree { IfOk result (λ d. IsEntry interned.new table.now n d) }
+    ensures kind { IfOk result (λ d. (e : DeclType) → slice_get table.now.types n ≡ Some e → IsOfKind e d) }
+    ensures grows { Grows interned.old interned.new }
+    ensures full { result ≡ Err NoPlace.TooMany → IsTooFullFor interned.new
+        (λ b. (d : TypeDef) × IsEntry b table.now n d) }
+    ensures few { is_some_and is_plain_func (slice_get table.now.types n) ≡ true
+        → AddsFuncs 1 2 interned.old interned.new }
+{
+    let order = needed(interned.alloc(), table, converted.as_slice(), n)?;
+    convert_needed(interned, table, n, order.as_slice(), converted)?;
+    Ok(type_at(converted.as_slice(), n))
+}
+
+/// The entries that are needed for entry `n`, in ascending order, are converted.
+fn convert_needed(
+    interned: &mut InternedTypes,
+    table: &TypeTable,
+    n: u32,
+    order: &[u32],
+    converted: &mut Converted,
+) -> Result<(), NoPlace>
+    requires sound { table_fault table.now ≡ None }
+    requires needed { AreNeeded table.now converted.old n order.now }
+    requires converted { AreConverted interned.old table.now converted.old }
+    ensures converted { AreConverted interned.new table.now converted.new }
+    ensures done { OnOk result (IsDone converted.new n) }
+    ensures grows { Grows interned.old interned.new }
+    ensures full { result ≡ Err NoPlace.TooMany → IsTooFullFor interned.new
+        (λ b. (d : TypeDef) × IsEntry b table.now n d) }
+    ensures few { is_some_and is_plain_func (slice_get table.now.types n) ≡ true
+        → AddsFuncs 1 2 interned.old interned.new }
+{
+    for k in order {
+        step(interned, table, converted, *k)?;
+    }
+    Ok(())
+}
+
+/// Entry `k`, where what it names is converted.
+fn step(
+    interned: &mut InternedTypes,
+    table: &TypeTable,
+    converted: &mut Converted,
+    k: u32,
+) -> Result<(), NoPlace>
+    requires sound { table_fault table.now ≡ None }
+    requires there { k < length table.now.types }
+    requires converted { AreConverted interned.old table.now converted.old }
+    requires parts { (e : DeclType) → slice_get table.now.types k ≡ Some e
+        → Each (IsDone converted.old) (parts_of e) }
+    ensures converted { AreConverted interned.new table.now converted.new }
+    ensures done { OnOk result (IsDone converted.new k) }
+    ensures kept { (m : ℕ) → IsDone converted.old m → IsDone converted.new m }
+    ensures grows { Grows interned.old interned.new }
+    ensures full { result ≡ Err NoPlace.TooMany
+        → IsTooFullFor interned.new
+        (λ b. (e : DeclType) × (slice_get table.now.types k ≡ Some e) × (d : TypeDef)
+        × EntryIs b (take k converted.old) table.now k e d) }
+    ensures few { is_some_and is_plain_func (slice_get table.now.types k) ≡ true
+        → AddsFuncs 1 2 interned.old interned.new }
+{
+    let entry = entry_at(table, k);
+    let type_ = convert(interned, table, converted.in_front(k), k, entry)?;
+    converted.put(k, type_);
+    Ok(())
+}

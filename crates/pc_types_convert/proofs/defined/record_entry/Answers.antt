@@ -1,0 +1,40 @@
+use Rattle.std.proofs.Common.{refl}
+use Rattle.pc_types_lists.proofs.ErrorLemmas.{passed_on}
+use Rattle.pc_types_lists.proofs.Growth.{grows_trans}
+use Rattle.pc_types_convert.proofs.HeldLemmas.{fields_held}
+use Rattle.pc_types_convert.proofs.PartLemmas.{fields_grow}
+use Rattle.pc_types_convert.proofs.ThereLemmas.{record_there}
+use Rattle.pc_types_convert.proofs.defined.record_entry.Goals as goal
+
+pub put_record_type-requires : goal.put_record_type-requires
+put_record_type-requires c =
+    record {
+      parts = fields_held _ _ c.field_types.ensures.grows c.args.done.now c.requires.held c.args.fields.now _
+          c.in_ok-fields.ensures.are;
+    }
+
+pub returns-in_err-put_record_type-clause-grows : goal.returns-in_err-put_record_type-clause-grows
+returns-in_err-put_record_type-clause-grows c =
+    grows_trans _ _ _ c.field_types.ensures.grows c.put_record_type.ensures.grows
+
+pub returns-clause-is : goal.returns-clause-is
+returns-clause-is c = (
+  c.in_ok-put_record_type.field-0,
+  _,
+  refl,
+  c.in_ok-put_record_type.ensures.held,
+  fields_grow _ _ c.put_record_type.ensures.grows c.args.done.now c.args.fields.now c.in_ok-fields.fields
+      c.in_ok-fields.ensures.are,
+)
+
+pub returns-clause-grows : goal.returns-clause-grows
+returns-clause-grows c = grows_trans _ _ _ c.field_types.ensures.grows c.put_record_type.ensures.grows
+
+pub returns-in_err-put_record_type-clause-full : goal.returns-in_err-put_record_type-clause-full
+returns-in_err-put_record_type-clause-full c =
+    let error = c.from_residual-in_err-put_record_type in
+    passed_on error.result c.in_err-put_record_type.field-0.0 _ _ _ error.ensures.1
+    c.in_err-put_record_type.ensures.full
+    (λ next g is.
+    record_there _ _ next c.put_record_type.ensures.grows g is c.args.done.now c.args.fields.now _
+    c.in_ok-fields.ensures.are)

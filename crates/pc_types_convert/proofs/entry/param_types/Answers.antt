@@ -1,0 +1,48 @@
+use Rattle.pc_types_lists.proofs.ErrorLemmas.{passed_on}
+use Rattle.std.proofs.Common.{arith}
+use Rattle.pc_types_convert.specs.Parts.{ValIs}
+use Rattle.pc_types_lists.proofs.Growth.{grows_trans}
+use Rattle.pc_types_lists.proofs.ZipLemmas.{zip_here}
+use Rattle.pc_types_convert.proofs.PartLemmas.{val_grows, zip_step}
+use Rattle.pc_types_convert.proofs.FewLemmas.{plain_next}
+use Rattle.pc_types_convert.proofs.entry.param_types.Goals as goal
+
+pub returns-in_err-value-clause-grows : goal.returns-in_err-value-clause-grows
+returns-in_err-value-clause-grows c = grows_trans _ _ _ c.loop-param.invariant.grows c.value.ensures.grows
+
+pub returns-in_err-push-clause-grows : goal.returns-in_err-push-clause-grows
+returns-in_err-push-clause-grows c = grows_trans _ _ _ c.loop-param.invariant.grows c.value.ensures.grows
+
+pub loop-param-preserved : goal.loop-param-preserved
+loop-param-preserved c =
+    let l = c.loop-param in
+    let p = c.param-item in
+    let ps = c.args.params.now in
+    let s = c.args.done.now in
+    let now = c.value.ensures.grows in
+    record {
+      are =
+          zip_step (λ p w. ValIs l.interned s p.1 w) (λ p w. ValIs c.value.new.interned s p.1 w)
+          (λ p w. val_grows _ _ now s p.1 w) ps _ _ l.param-index p.result c.in_ok-value.field-0 (omega arith) p.is
+          l.invariant.are c.in_ok-value.ensures.is c.in_ok-push.ensures.ok;
+      grows = grows_trans _ _ _ l.invariant.grows now;
+      plain = plain_next ps l.param-index p.result (omega arith) p.is _ _ _ l.invariant.plain c.value.ensures.plain;
+    }
+
+pub returns-in_err-value-clause-full : goal.returns-in_err-value-clause-full
+returns-in_err-value-clause-full c =
+    passed_on c.from_residual.result c.in_err-value.field-0.0 _ _ _ c.from_residual.ensures.1
+    c.in_err-value.ensures.full
+    (λ next g is q.
+    zip_here (λ p w. ValIs next c.args.done.now p.1 w) c.args.params.now q.0 c.loop-param.param-index
+    c.param-item.result (omega arith) c.param-item.is q.1)
+
+pub returns-in_err-value-clause-plain : goal.returns-in_err-value-clause-plain
+returns-in_err-value-clause-plain c =
+    plain_next c.args.params.now c.loop-param.param-index c.param-item.result (omega arith) c.param-item.is _ _ _
+    c.loop-param.invariant.plain c.value.ensures.plain
+
+pub returns-in_err-push-clause-plain : goal.returns-in_err-push-clause-plain
+returns-in_err-push-clause-plain c =
+    plain_next c.args.params.now c.loop-param.param-index c.param-item.result (omega arith) c.param-item.is _ _ _
+    c.loop-param.invariant.plain c.value.ensures.plain

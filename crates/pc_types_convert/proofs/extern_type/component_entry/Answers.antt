@@ -1,0 +1,16 @@
+use Rattle.std.proofs.Common.{Some, ◌∙◌}
+use Rattle.pc_types_convert.proofs.OneNumber.{one_externs}
+use Rattle.pc_types_lists.proofs.ErrorLemmas.{passed_on}
+use Rattle.pc_types_convert.proofs.extern_type.component_entry.Goals as goal
+
+pub returns-in_err-put_component-clause-full : goal.returns-in_err-put_component-clause-full
+returns-in_err-put_component-clause-full c =
+    let done = c.args.done.now in
+    let i = c.in_ok-imports in
+    let e = c.in_ok-exports in
+    passed_on c.from_residual-in_err-put_component.result c.in_err-put_component.field-0.0 _ _ _
+    c.from_residual-in_err-put_component.ensures.1 c.in_err-put_component.ensures.full
+    (λ next g is q.
+    let imports = one_externs done c.args.imports.now q.1.1.imports i.imports q.1.4 i.ensures.are in
+    let exports = one_externs done c.args.exports.now q.1.1.exports e.exports q.1.5 e.ensures.are in
+    (q.1.0.0, q.1.3 ∙ (λ j. Some (record { imports = imports j; exports = exports j }))))

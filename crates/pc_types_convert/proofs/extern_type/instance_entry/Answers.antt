@@ -1,0 +1,15 @@
+use Rattle.std.proofs.Common.{Some, ap, ◌∙◌}
+use Rattle.pc_types_convert.proofs.OneNumber.{one_externs}
+use Rattle.pc_types_lists.proofs.ErrorLemmas.{passed_on}
+use Rattle.pc_types_convert.proofs.extern_type.instance_entry.Goals as goal
+
+pub returns-in_err-put_instance-clause-full : goal.returns-in_err-put_instance-clause-full
+returns-in_err-put_instance-clause-full c =
+    let part = c.in_ok-exports in
+    passed_on c.from_residual-in_err-put_instance.result c.in_err-put_instance.field-0.0 _ _ _
+    c.from_residual-in_err-put_instance.ensures.1 c.in_err-put_instance.ensures.full
+    (λ next g is q. (
+      q.1.0.0,
+      q.1.3 ∙ ap (λ x. Some (record { exports = x }))
+          (one_externs c.args.done.now c.args.exports.now q.1.1.exports part.exports q.1.4 part.ensures.are),
+    ))

@@ -1,0 +1,21 @@
+use Rattle.pc_types_lists.proofs.Growth.{too_full}
+use Rattle.pc_types_convert.proofs.FewLemmas.{adds_signature}
+use Rattle.pc_types_convert.proofs.PartLemmas.{if_ok_more}
+use Rattle.pc_types_convert.proofs.ThereLemmas.{signature_is, signature_there}
+use Rattle.pc_types_convert.proofs.extern_type.signature_at.Goals as goal
+
+pub returns-clause-ok : goal.returns-clause-ok
+returns-clause-ok c =
+    if_ok_more _ _
+    (λ i h. signature_is c.put_signature.new.self c.args.table.now c.args.n _ _ c.core_func_at.ensures
+    c.in_ok-signature.ensures i.0 h)
+    c.put_signature.result c.put_signature.ensures.held
+
+pub returns-clause-full : goal.returns-clause-full
+returns-clause-full c h =
+    too_full _ _ _
+    (λ next g is. signature_there next c.args.table.now c.args.n _ _ c.core_func_at.ensures c.in_ok-signature.ensures)
+    (c.put_signature.ensures.full h)
+
+pub returns-clause-few : goal.returns-clause-few
+returns-clause-few c = adds_signature _ _ _ c.put_signature.ensures.rest c.put_signature.ensures.put

@@ -1,0 +1,15 @@
+//! One entry of a type table, converted where what it names is done, and which entries that are for an entry.
+//! It stands on `pc_types` and `pc_types_lists`, and `pc_types_builder` calls it for each entry that is needed.
+#![tactic(auto)]
+
+mod defined;
+mod entry;
+mod extern_type;
+mod kinds;
+mod parts;
+mod value;
+
+pub use extern_type::{signature_at, type_at};
+pub use kinds::convert;
+pub use parts::{entry_at, needed};
+pub use value::{error_contexts, primitive};

@@ -1,0 +1,45 @@
+use Rattle.std.proofs.Common.{refl}
+use Rattle.std.proofs.lemmas.Slice.Zip.{AllZip-long}
+use Rattle.pc_types_lists.specs.Table.{ListHas}
+use Rattle.pc_types_lists.specs.View.{types_of}
+use Rattle.pc_types_lists.proofs.FactLemmas.{known}
+use Rattle.pc_types_lists.proofs.Growth.{full_lists, grows_lists}
+use Rattle.pc_types_lists.proofs.PutLemmas.{lists_within}
+use Rattle.pc_types_lists.proofs.ErrorLemmas.{passed}
+use Rattle.pc_types_lists.proofs.interned_types.InternedTypes.put_list.Goals as goal
+
+pub of_list-facts-requires : goal.of_list-facts-requires
+of_list-facts-requires c =
+    let s = c.self.inside in
+    record {
+      known = known c.args.self.now
+          (types_of s) s.facts c.self.view_is c.self.invariant.facts _ c.requires.part;
+    }
+
+pub intern_with-requires-clause-paired : goal.intern_with-requires-clause-paired
+intern_with-requires-clause-paired c =
+    let s = c.self.inside in
+    AllZip-long (ListHas s.facts) s.lists s.facts.lists c.self.invariant.facts.lists
+
+pub invariant_of-self : goal.invariant_of-self
+invariant_of-self c =
+    let put = c.intern_with.ensures in
+    lists_within c.self.inside c.self.invariant _ _ c.args.value _ c.of_list-facts.ensures put.facts put.within
+
+pub returns-in_err-number-clause-grows : goal.returns-in_err-number-clause-grows
+returns-in_err-number-clause-grows c =
+    rw (← c.self.view_is) (grows_lists _ _ c.args.value refl c.intern_with.ensures.put)
+
+pub invariant_of-self-2 : goal.invariant_of-self-2
+invariant_of-self-2 c =
+    let put = c.intern_with.ensures in
+    lists_within c.self.inside c.self.invariant _ _ c.args.value _ c.of_list-facts.ensures put.facts put.within
+
+pub returns-clause-grows : goal.returns-clause-grows
+returns-clause-grows c = rw (← c.self.view_is) (grows_lists _ _ c.args.value refl c.intern_with.ensures.put)
+
+pub returns-in_err-number-clause-full : goal.returns-in_err-number-clause-full
+returns-in_err-number-clause-full c h =
+    let refused = passed c.from_residual.result c.in_err-number.field-0.0 c.from_residual.ensures.1
+    c.in_err-number.ensures.full h in
+    full_lists _ c.args.value refused.0 refused.1

@@ -1,0 +1,14 @@
+-- What the public contracts rest on.
+pub mod Facts
+pub mod Table
+pub mod Types
+pub mod Held
+pub mod Known
+pub mod Lending
+pub mod Primitive
+pub mod Trees
+pub mod Interned
+pub mod Refusal
+-- What the functions inside promise each other.
+pub mod KeptFacts
+pub mod View
