@@ -4,8 +4,8 @@ ghost use Rattle.std.specs.Prelude.{◌≡◌, ◌≤◌, length, slice_get, Som
 ghost use Rattle.pc_types_lists.specs.Interned.{IsPut, IsPutWith};
 
 use crate::no_place::NoPlace;
+use crate::{FactList, TypeFacts};
 use pc_entity::{ExactEq, Interner};
-use pc_types_lists::{FactList, TypeFacts};
 
 /// The most types of one kind.
 const MAX_TYPES: usize = 4294967294;

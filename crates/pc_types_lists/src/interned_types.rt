@@ -5,14 +5,13 @@ ghost use Rattle.std.specs.Borrow.{sem};
 ghost use Rattle.pc_types_lists.specs.Types.{IsBuilder, held, no_types};
 ghost use Rattle.pc_types_lists.specs.Lending.{LendsResources};
 
-use crate::ResourcesBuilder;
+use crate::{FactTable, ResourcesBuilder};
 use pc_entity::Interner;
 use pc_types::{
     CoreFuncSig, TypeComponent, TypeComponentInstance, TypeEnum, TypeErrorContextTable, TypeFlags,
     TypeFunc, TypeFutureTable, TypeKind, TypeList, TypeModule, TypeOption, TypeRecord,
     TypeResourceTable, TypeResult, TypeStreamTable, TypeTuple, TypeVariant,
 };
-use pc_types_lists::FactTable;
 use std::alloc::Global;
 use std::marker::Model;
 

@@ -8,7 +8,7 @@ ghost use Rattle.pc_types.specs.TypeTree.{Identity, TypeTree};
 ghost use Rattle.pc_types_lists.specs.Facts.{facts_of, has_handle};
 ghost use Rattle.pc_types_lists.specs.Trees.{HasTree};
 
-use crate::InternedTypes;
+use crate::{InternedTypes, TypeFacts};
 use pc_entity::ModuleInternedTypeIndex;
 use pc_types::{
     CoreFuncSig, TypeComponent, TypeComponentIndex, TypeComponentInstance,
@@ -19,7 +19,6 @@ use pc_types::{
     TypeResult, TypeResultIndex, TypeStreamTable, TypeStreamTableIndex, TypeTuple, TypeTupleIndex,
     TypeVariant, TypeVariantIndex,
 };
-use pc_types_lists::TypeFacts;
 
 impl InternedTypes {
     /// The function type under a number.
