@@ -11,7 +11,7 @@ use thiserror::Error;
 pub enum Place {
     /// An entry of the type table, by number.
     Table(u32),
-    /// A payload of the list, and an item of its list. A payload without a list has item 0.
+    /// A payload, and an item within it: 0 where the payload is no list of items.
     Payload { payload: u64, item: u64 },
     /// An item of the body that a component instance reads, both numbered from 0.
     Reading { instance: u32, item: u64 },
@@ -71,8 +71,6 @@ pub enum Unsupported {
     ComponentValue,
     #[error("a component imported at the root")]
     ComponentImport,
-    #[error("a host function as an export of the root")]
-    ReexportedFunction,
     #[error("an unsafe intrinsic as an export of the root")]
     ReexportedIntrinsic,
     #[error("the unsafe intrinsics as an export of the root")]
@@ -102,13 +100,13 @@ pub enum Error {
     /// A name is none of the unsafe intrinsics.
     #[error("no unsafe intrinsic of this name at {0}")]
     UnknownIntrinsic(Place),
-    /// A name stands twice in one list of names.
+    /// A list of names has one of them more than once.
     #[error("a name is defined twice at {0}")]
     DefinedTwice(Place),
     /// An index, a name or a kind fits nothing.
     #[error("an index, name or kind that fits nothing at {0}")]
     Invalid(Place),
-    /// A type number is missing or of another kind, or a resource isn't known.
+    /// No type of the kind that is wanted has this number, or nothing tells which resource it is.
     #[error("a type of another kind at {0}")]
     BadType(Place),
     /// An adapter lacks a memory or a realloc that its types need.

@@ -83,7 +83,7 @@ impl ModuleRecord {
         None
     }
 
-    /// The entity that the import at a place is.
+    /// What the nth import is, as an entity of the module.
     pub fn import_index(&self, position: usize) -> Option<EntityIndex>
         requires numbered { length self.now.imports < 4294967295 }
         ensures { result ≡ imported_entity self.now position }

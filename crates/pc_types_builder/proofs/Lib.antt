@@ -1,8 +1,11 @@
 -- Laws of the words of `specs/`, for the layers above too.
 pub use Rattle.pc_types_lists.proofs.Growth
+pub use Rattle.pc_types_convert.proofs.OneNumber
+pub use Rattle.pc_types_convert.proofs.OneTree
 pub mod TreeLemmas
 -- What the functions of this crate rest on.
 mod AloneLemmas
+mod AskedLemmas
 mod EntryInversion
 mod KindLemmas
 mod PartInversion

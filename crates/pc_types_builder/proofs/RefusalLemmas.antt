@@ -33,11 +33,11 @@ use Rattle.pc_types_convert.proofs.SoundLemmas.{parts_below, sound_at}
 use Rattle.pc_types_builder.proofs.TreeLemmas.{entry_grows}
 
 -- an identity of its own for each resource
-abbrev by_number : ResourceIndex → Identity
+abbrev pub by_number : ResourceIndex → Identity
 by_number r = declared r.0
 
 -- no two resources have one of these identities
-apart : (r s : ResourceIndex) → by_number r ≡ by_number s → r ≡ s
+pub apart : (r s : ResourceIndex) → by_number r ≡ by_number s → r ≡ s
 apart r s same = ap (λ i. record { 0 = order i }) same
   where
     order : Identity → ℕ
@@ -61,7 +61,7 @@ prim_wanted b t v p is q =
 
 module _ (t : TypeTable) (sound : table_fault t ≡ None) where
   -- the tree of an entry is made from those of the entries in front
-  made_from : (known : List (ℕ × Identity)) (c k : ℕ) (e : DeclType) → slice_get t.types k ≡ Some e → (tree : TypeTree)
+  pub made_from : (known : List (ℕ × Identity)) (c k : ℕ) (e : DeclType) → slice_get t.types k ≡ Some e → (tree : TypeTree)
       → earlier_tree known c t (trees_from known c t [] t.types) k ≡ Some tree
       → (before : List (Option TypeTree)) × (length before ≡ k) × Kept before (trees_from known c t [] t.types)
       × (entry_tree known c t before e ≡ Some tree)

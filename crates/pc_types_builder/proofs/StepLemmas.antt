@@ -175,7 +175,7 @@ module _ (t : TypeTable) (sound : table_fault t ≡ None) where
       subst (λ l. IsReadyEntry t l e) (sym before) (ready_step b done k e are at parts)
 
   -- the type of a converted entry has its tree
-  converted_entry : (b : Types) (done : List (Option TypeDef)) (k : ℕ) (e : DeclType) (d : TypeDef)
+  pub converted_entry : (b : Types) (done : List (Option TypeDef)) (k : ℕ) (e : DeclType) (d : TypeDef)
       → slice_get t.types k ≡ Some e → AreConverted b t done
       → EntryIs b (take k done) t k e d → IsEntry b t k d
   converted_entry b done k e d at are is who =
@@ -198,9 +198,9 @@ module _ (t : TypeTable) (sound : table_fault t ≡ None) where
 
   -- one entry more
   pub one_more : (b : Types) (done : List (Option TypeDef)) (k : ℕ) (e : DeclType) (d : TypeDef)
-      → slice_get t.types k ≡ Some e → AreConverted b t done
+      → slice_get t.types k ≡ Some e → Each (IsDone done) (parts_of e) → AreConverted b t done
       → EntryIs b (take k done) t k e d → AreConverted b t (slice_set done k (Some d))
-  one_more b done k e d at are is = record {
+  one_more b done k e d at parts are is = record {
     room = length-set done k (Some d) ∙ are.room;
     kinds = λ n f g found at_n.
         elim (set_found done k n (Some d) (Some f) found) as (λ _. IsOfKind g f) [
@@ -216,15 +216,24 @@ module _ (t : TypeTable) (sound : table_fault t ≡ None) where
               (subst (λ x. IsEntry b t k x) (same_Some d f here.1) (converted_entry b done k e d at are is))
           | inr old ↦ are.entries n f old
         ];
+    closed = λ n g found at_n.
+        let stay = each_more (IsDone done) (IsDone (slice_set done k (Some d))) (λ m. done_kept done k m d) in
+        elim (set_found done k n (Some d) (Some found.0) found.1) as
+        (λ _. Each (IsDone (slice_set done k (Some d))) (parts_of g)) [
+          | inl here ↦ (
+              let same = same_Some e g (sym at ∙ subst (λ m. slice_get t.types m ≡ Some g) here.0 at_n) in
+              stay (parts_of g) (subst (λ h. Each (IsDone done) (parts_of h)) same parts))
+          | inr old ↦ stay (parts_of g) (are.closed n g (found.0, old) at_n)
+        ];
   }
 
   -- the same of the lists that a step reads and leaves
   pub put_more : (b : Types) (done front new : List (Option TypeDef)) (k : ℕ) (e : DeclType) (d : TypeDef)
-      → slice_get t.types k ≡ Some e → AreConverted b t done → front ≡ take k done → EntryIs b front t k e d
-      → new ≡ slice_set done k (Some d) → AreConverted b t new
-  put_more b done front new k e d at are before is put =
+      → slice_get t.types k ≡ Some e → Each (IsDone done) (parts_of e) → AreConverted b t done → front ≡ take k done
+      → EntryIs b front t k e d → new ≡ slice_set done k (Some d) → AreConverted b t new
+  put_more b done front new k e d at parts are before is put =
       subst (AreConverted b t) (sym put)
-      (one_more b done k e d at are (subst (λ f. EntryIs b f t k e d) before is))
+      (one_more b done k e d at parts are (subst (λ f. EntryIs b f t k e d) before is))
 
   -- what the next of the needed entries names is done
   pub parts_done : (before done : List (Option TypeDef)) (n : ℕ) (order : List ℕ) → AreNeeded t before n order

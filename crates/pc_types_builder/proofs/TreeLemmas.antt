@@ -167,6 +167,7 @@ converted_grows old new g t done are = record {
   room = are.room;
   kinds = are.kinds;
   entries = λ n d found. entry_grows old new g t n d (are.entries n d found);
+  closed = are.closed;
 }
 
 -- the number of a function type that has a tree is held

@@ -12,6 +12,7 @@ use Rattle.pc_types.specs.declared.types.InterfaceType.{InterfaceType}
 use Rattle.pc_types.specs.declared.types.TypeDef.{TypeDef}
 use Rattle.pc_types.specs.declared.types.TypeDef.TheVariants as def
 use Rattle.pc_types_lists.specs.Types.{Types}
+use Rattle.pc_types_convert.specs.Needed.{Each, IsDone, parts_of}
 use Rattle.pc_types_builder.specs.Trees.{IsEntry}
 
 -- the type is of the kind of the entry
@@ -23,9 +24,11 @@ IsOfKind (entry.Component imports exports) d = (i : TypeComponentIndex) × (d �
 IsOfKind (entry.Module imports exports) d = (i : TypeModuleIndex) × (d ≡ def.Module i)
 IsOfKind _ d = (w : InterfaceType) × (d ≡ def.Interface w)
 
--- a place for each entry of the table, where each type that stands there has the entry's tree and is of its kind
+-- a place for each entry of the table, where each type that stands there has the entry's tree and is of its kind; an
+-- entry that is done has its parts done
 pub record AreConverted (b : Types) (t : TypeTable) (done : List (Option TypeDef)) : Type 0 where
   pub room : length done ≡ length t.types
   pub kinds : (n : ℕ) (d : TypeDef) (e : DeclType) → slice_get done n ≡ Some (Some d) → slice_get t.types n ≡ Some e
       → IsOfKind e d
   pub entries : (n : ℕ) (d : TypeDef) → slice_get done n ≡ Some (Some d) → IsEntry b t n d
+  pub closed : (n : ℕ) (e : DeclType) → IsDone done n → slice_get t.types n ≡ Some e → Each (IsDone done) (parts_of e)

@@ -43,3 +43,8 @@ IsEntity b t e d =
     (tree : TypeTree)
     × (entity_tree (identities who b.resources.known) b.resources.current.0 t (trees_in b who t) e ≡ Some tree)
     × HasTree b who d tree
+
+-- one tree has one number, and one number has one tree
+pub record AreOneToOne (b : Types) (who : ResourceIndex → Identity) : Type 0 where
+  pub one_number : (d e : TypeDef) (tree : TypeTree) → HasTree b who d tree → HasTree b who e tree → d ≡ e
+  pub one_tree : (d : TypeDef) (s t : TypeTree) → HasTree b who d s → HasTree b who d t → s ≡ t

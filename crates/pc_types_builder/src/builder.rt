@@ -4,6 +4,9 @@ ghost use Rattle.std.specs.Prelude.{◌≡◌};
 ghost use Rattle.std.specs.Borrow.{sem};
 ghost use Rattle.pc_types_lists.specs.Types.{IsBuilder, held, no_types};
 ghost use Rattle.pc_types_builder.specs.Lending.{LendsResources};
+ghost use Rattle.pc_types_builder.specs.Trees.{AreOneToOne};
+ghost use Rattle.pc_types.specs.TypeTree.{Identity};
+ghost use Rattle.pc_numbers.specs.declared.runtime.ResourceIndex.{ResourceIndex};
 
 use pc_types::TypeKind;
 use pc_types_lists::{InternedTypes, ResourcesBuilder};
@@ -39,6 +42,14 @@ impl ComponentTypesBuilder {
         ensures { IsBuilder self.now }
     {
         self.interned.types_are_distinct();
+    }
+
+    /// One tree has one number, and one number has one tree, however resources are named that have names of their own.
+    pub fn numbers_are_trees(&self)
+        ensures { (who : ResourceIndex → Identity) → ((r s : ResourceIndex) → who r ≡ who s → r ≡ s)
+            → AreOneToOne self.now who }
+    {
+        self.types_are_distinct();
     }
 
     /// The registered resources.

@@ -5,7 +5,7 @@
 //! sort of what the entry leads to, whatever tree it stands for, and nothing recurses. A caller that converts many
 //! entries keeps what was converted (`Converted`), and all conversions together then meet each entry once.
 
-ghost use Rattle.std.specs.Prelude.{◌≡◌, ◌<◌, ◌∷◌, [], true, false, None, Some, Err, All, IfOk, length};
+ghost use Rattle.std.specs.Prelude.{◌≡◌, ◌<◌, ◌∷◌, [], ℕ, true, false, None, Some, Err, All, IfOk, OnErr, length};
 ghost use Rattle.std.specs.Prelude.{slice_get};
 ghost use Rattle.pc_types.specs.declared.parsed.CoreFuncSig.{CoreFuncSig};
 ghost use Rattle.pc_types.specs.declared.type_index.TypeComponentInstanceIndex.{TypeComponentInstanceIndex};
@@ -26,7 +26,9 @@ ghost use Rattle.pc_types_convert.specs.Parts.{IsErrorContext};
 ghost use Rattle.pc_types_convert.specs.Few.{AddsFuncs, AddsSignature, is_plain_func};
 ghost use Rattle.pc_types_builder.specs.Trees.{IsEntity, IsEntry, IsValue};
 ghost use Rattle.pc_types_builder.specs.Converted.{AreConverted};
-ghost use Rattle.pc_types_convert.specs.Needed.{entity_parts};
+ghost use Rattle.pc_types_convert.specs.Needed.{IsAmong, entity_parts};
+ghost use Rattle.pc_types_lists.specs.Interned.{IsPut};
+ghost use Rattle.pc_types_builder.specs.Asked.{AddsAsked, AddsValue};
 
 use crate::steps::{entry_type, entry_with};
 use crate::{ComponentTypesBuilder, Converted};
@@ -43,10 +45,13 @@ impl ComponentTypesBuilder {
     ///
     /// `BadNumber` where there is no entry `n`, and `TooMany` where a list has no place for the type, or for one that
     /// it needs. The types that were held keep their numbers, whatever is answered.
+    #[tactic(auto, using(crate::proofs::AskedLemmas::asked_none))]
     pub fn convert_type(&mut self, table: &TypeTable, n: u32) -> Result<TypeDef, TypeError>
         requires sound { table_fault table.now ≡ None }
         ensures ok { IfOk result (λ d. IsEntry self.new table.now n d) }
         ensures grows { Grows self.old self.new }
+        ensures adds { AddsAsked table.now n self.old self.new }
+        ensures same { result ≡ Err TypeError.BadNumber → self.new ≡ self.old }
         ensures bad { result ≡ Err TypeError.BadNumber → slice_get table.now.types n ≡ None }
         ensures missing { slice_get table.now.types n ≡ None → result ≡ Err TypeError.BadNumber }
         ensures full { result ≡ Err TypeError.TooMany
@@ -61,6 +66,7 @@ impl ComponentTypesBuilder {
 
     /// The type that entry `n` of the table is, for a caller that keeps what was converted: what this call converts
     /// goes among it, and no entry is converted twice. Refused as `convert_type` is.
+    #[tactic(auto, using(crate::proofs::AskedLemmas::asked_none))]
     pub fn convert_type_with(
         &mut self,
         table: &TypeTable,
@@ -72,6 +78,8 @@ impl ComponentTypesBuilder {
         ensures converted { AreConverted self.new table.now converted.new }
         ensures ok { IfOk result (λ d. IsEntry self.new table.now n d) }
         ensures grows { Grows self.old self.new }
+        ensures adds { AddsAsked table.now n self.old self.new }
+        ensures same { result ≡ Err TypeError.BadNumber → self.new ≡ self.old }
         ensures bad { result ≡ Err TypeError.BadNumber → slice_get table.now.types n ≡ None }
         ensures missing { slice_get table.now.types n ≡ None → result ≡ Err TypeError.BadNumber }
         ensures full { result ≡ Err TypeError.TooMany
@@ -86,12 +94,15 @@ impl ComponentTypesBuilder {
     /// The number of the function type that is entry `n` of the table.
     ///
     /// `BadNumber` where there is no entry `n`, or it is no function; `TooMany` as of `convert_type`.
+    #[tactic(auto, using(crate::proofs::AskedLemmas::asked_none))]
     pub fn convert_func(&mut self, table: &TypeTable, n: u32) -> Result<TypeFuncIndex, TypeError>
         requires sound { table_fault table.now ≡ None }
         ensures ok { IfOk result
             (λ i. (is_some_and is_func (slice_get table.now.types n) ≡ true) × (i.0 < length self.new.funcs)) }
         ensures tree { IfOk result (λ i. IsEntry self.new table.now n (def.ComponentFunc i)) }
         ensures grows { Grows self.old self.new }
+        ensures adds { AddsAsked table.now n self.old self.new }
+        ensures same { result ≡ Err TypeError.BadNumber → self.new ≡ self.old }
         ensures bad { result ≡ Err TypeError.BadNumber → is_some_and is_func (slice_get table.now.types n) ≡ false }
         ensures missing { is_some_and is_func (slice_get table.now.types n) ≡ false → result ≡ Err TypeError.BadNumber }
         ensures full { result ≡ Err TypeError.TooMany → (is_some_and is_func (slice_get table.now.types n) ≡ true)
@@ -107,6 +118,7 @@ impl ComponentTypesBuilder {
 
     /// The number of the function type that is entry `n` of the table, for a caller that keeps what was converted: what
     /// this call converts goes among it. Refused as `convert_func` is.
+    #[tactic(auto, using(crate::proofs::AskedLemmas::asked_none))]
     pub fn convert_func_with(
         &mut self,
         table: &TypeTable,
@@ -120,6 +132,8 @@ impl ComponentTypesBuilder {
             (λ i. (is_some_and is_func (slice_get table.now.types n) ≡ true) × (i.0 < length self.new.funcs)) }
         ensures tree { IfOk result (λ i. IsEntry self.new table.now n (def.ComponentFunc i)) }
         ensures grows { Grows self.old self.new }
+        ensures adds { AddsAsked table.now n self.old self.new }
+        ensures same { result ≡ Err TypeError.BadNumber → self.new ≡ self.old }
         ensures bad { result ≡ Err TypeError.BadNumber → is_some_and is_func (slice_get table.now.types n) ≡ false }
         ensures missing { is_some_and is_func (slice_get table.now.types n) ≡ false → result ≡ Err TypeError.BadNumber }
         ensures full { result ≡ Err TypeError.TooMany → (is_some_and is_func (slice_get table.now.types n) ≡ true)
@@ -136,6 +150,7 @@ impl ComponentTypesBuilder {
     }
 
     /// The number of the instance type that is entry `n` of the table. It is refused as a function is.
+    #[tactic(auto, using(crate::proofs::AskedLemmas::asked_none))]
     pub fn convert_instance(
         &mut self,
         table: &TypeTable,
@@ -144,6 +159,8 @@ impl ComponentTypesBuilder {
         requires sound { table_fault table.now ≡ None }
         ensures tree { IfOk result (λ i. IsEntry self.new table.now n (def.ComponentInstance i)) }
         ensures grows { Grows self.old self.new }
+        ensures adds { AddsAsked table.now n self.old self.new }
+        ensures same { result ≡ Err TypeError.BadNumber → self.new ≡ self.old }
         ensures bad { result ≡ Err TypeError.BadNumber → is_some_and is_instance (slice_get table.now.types n) ≡ false }
         ensures missing { is_some_and is_instance (slice_get table.now.types n) ≡ false
             → result ≡ Err TypeError.BadNumber }
@@ -161,6 +178,7 @@ impl ComponentTypesBuilder {
     }
 
     /// The number of the module type that is entry `n` of the table. It is refused as a function is.
+    #[tactic(auto, using(crate::proofs::AskedLemmas::asked_none))]
     pub fn convert_module(
         &mut self,
         table: &TypeTable,
@@ -169,6 +187,8 @@ impl ComponentTypesBuilder {
         requires sound { table_fault table.now ≡ None }
         ensures tree { IfOk result (λ i. IsEntry self.new table.now n (def.Module i)) }
         ensures grows { Grows self.old self.new }
+        ensures adds { AddsAsked table.now n self.old self.new }
+        ensures same { result ≡ Err TypeError.BadNumber → self.new ≡ self.old }
         ensures bad { result ≡ Err TypeError.BadNumber → is_some_and is_module (slice_get table.now.types n) ≡ false }
         ensures missing { is_some_and is_module (slice_get table.now.types n) ≡ false
             → result ≡ Err TypeError.BadNumber }
@@ -195,6 +215,8 @@ impl ComponentTypesBuilder {
         requires sound { table_fault table.now ≡ None }
         ensures tree { IfOk result (λ w. IsValue self.new table.now v.now w) }
         ensures grows { Grows self.old self.new }
+        ensures adds { AddsValue table.now v.now self.old self.new }
+        ensures same { result ≡ Err TypeError.BadNumber → self.new ≡ self.old }
         ensures bad { result ≡ Err TypeError.BadNumber → is_sound_val table.now.types v.now ≡ false }
         ensures missing { is_sound_val table.now.types v.now ≡ false → result ≡ Err TypeError.BadNumber }
         ensures full { result ≡ Err TypeError.TooMany
@@ -209,11 +231,14 @@ impl ComponentTypesBuilder {
     /// The type of an entity of the table, which isn't a component value.
     ///
     /// `BadNumber` where its number is of no entry of its kind; `TooMany` as of `convert_type`.
+    #[tactic(auto, using(crate::proofs::AskedLemmas::asked_none))]
     pub fn convert_entity(&mut self, table: &TypeTable, e: &Entity) -> Result<TypeDef, TypeError>
         requires sound { table_fault table.now ≡ None }
         requires not_value { is_value e.now ≡ false }
         ensures tree { IfOk result (λ d. IsEntity self.new table.now e.now d) }
         ensures grows { Grows self.old self.new }
+        ensures adds { (n : ℕ) → IsAmong n (entity_parts e.now) → AddsAsked table.now n self.old self.new }
+        ensures same { result ≡ Err TypeError.BadNumber → self.new ≡ self.old }
         ensures bad { result ≡ Err TypeError.BadNumber → is_sound_entity table.now.types e.now ≡ false }
         ensures missing { is_sound_entity table.now.types e.now ≡ false → result ≡ Err TypeError.BadNumber }
         ensures full { result ≡ Err TypeError.TooMany
@@ -238,10 +263,14 @@ impl ComponentTypesBuilder {
             (λ i. (s : CoreFuncSig) × (slice_get table.now.core_funcs n ≡ Some s)
             × (slice_get self.new.signatures i.0 ≡ Some s)) }
         ensures grows { Grows self.old self.new }
+        ensures err { OnErr result (self.new ≡ self.old) }
+        ensures rest { self.new ≡ record self.old { signatures = self.new.signatures } }
+        ensures put { (s : CoreFuncSig) → slice_get table.now.core_funcs n ≡ Some s
+            → IsPut self.old.signatures self.new.signatures s }
         ensures bad { result ≡ Err TypeError.BadNumber → slice_get table.now.core_funcs n ≡ None }
         ensures missing { slice_get table.now.core_funcs n ≡ None → result ≡ Err TypeError.BadNumber }
         ensures full { result ≡ Err TypeError.TooMany → (has_signature table.now n ≡ true)
-            × IsTooFullFor self.new
+            × IsTooFullFor self.old
             (λ b. (s : CoreFuncSig) × (slice_get table.now.core_funcs n ≡ Some s) × HasNumber b.signatures s) }
         ensures few { AddsSignature self.old self.new }
     {
@@ -257,10 +286,13 @@ impl ComponentTypesBuilder {
         ensures is { IfOk result
             (λ i. slice_get self.new.resource_tables i.0 ≡ Some (handles_of self.new.resources n)) }
         ensures grows { Grows self.old self.new }
+        ensures err { OnErr result (self.new ≡ self.old) }
+        ensures rest { self.new ≡ record self.old { resource_tables = self.new.resource_tables } }
+        ensures put { IsPut self.old.resource_tables self.new.resource_tables (handles_of self.old.resources n) }
         ensures bad { result ≡ Err TypeError.BadNumber → resource_of self.old.resources.known n ≡ None }
         ensures missing { resource_of self.old.resources.known n ≡ None → result ≡ Err TypeError.BadNumber }
         ensures full { result ≡ Err TypeError.TooMany
-            → IsTooFullFor self.new (λ b. HasNumber b.resource_tables (handles_of b.resources n)) }
+            → IsTooFullFor self.old (λ b. HasNumber b.resource_tables (handles_of b.resources n)) }
     {
         let instance = self.interned.resources().current_instance();
         match self.interned.resources().lookup(n) {
@@ -278,9 +310,13 @@ impl ComponentTypesBuilder {
     ) -> Result<TypeComponentLocalErrorContextTableIndex, TypeError>
         ensures is { IfOk result (λ i. IsErrorContext self.new i) }
         ensures grows { Grows self.old self.new }
+        ensures err { OnErr result (self.new ≡ self.old) }
+        ensures rest { self.new ≡ record self.old { error_context_tables = self.new.error_context_tables } }
+        ensures put { IsPut self.old.error_context_tables self.new.error_context_tables
+            (record { instance = self.old.resources.current }) }
         ensures never_bad { result ≡ Err TypeError.BadNumber → ⊥ }
         ensures full { result ≡ Err TypeError.TooMany
-            → IsTooFullFor self.new (λ b. (i : TypeComponentLocalErrorContextTableIndex) × IsErrorContext b i) }
+            → IsTooFullFor self.old (λ b. (i : TypeComponentLocalErrorContextTableIndex) × IsErrorContext b i) }
     {
         Ok(error_contexts(&mut self.interned)?)
     }
@@ -290,19 +326,25 @@ impl ComponentTypesBuilder {
         requires held { All (IsHeld self.old) types.items }
         ensures is { IfOk result (λ i. slice_get self.new.tuples i.0 ≡ Some (record { types = types.items })) }
         ensures grows { Grows self.old self.new }
+        ensures err { OnErr result (self.new ≡ self.old) }
+        ensures rest { self.new ≡ record self.old { tuples = self.new.tuples } }
+        ensures put { IsPut self.old.tuples self.new.tuples (record { types = types.items }) }
         ensures never_bad { result ≡ Err TypeError.BadNumber → ⊥ }
         ensures full { result ≡ Err TypeError.TooMany
-            → IsTooFullFor self.new (λ b. HasNumber b.tuples (record { types = types.items })) }
+            → IsTooFullFor self.old (λ b. HasNumber b.tuples (record { types = types.items })) }
     {
         let types = Seq::from_vec(types);
         Ok(self.interned.put_tuple(TypeTuple { types })?)
     }
 
     /// The value type that entry `n` of the table is, if it is a defined type.
+    #[tactic(auto, using(crate::proofs::AskedLemmas::asked_none))]
     fn defined_type(&mut self, table: &TypeTable, n: u32) -> Result<InterfaceType, TypeError>
         requires sound { table_fault table.now ≡ None }
         ensures tree { IfOk result (λ w. IsEntry self.new table.now n (def.Interface w)) }
         ensures grows { Grows self.old self.new }
+        ensures adds { AddsAsked table.now n self.old self.new }
+        ensures same { result ≡ Err TypeError.BadNumber → self.new ≡ self.old }
         ensures bad { result ≡ Err TypeError.BadNumber
             → is_some_and is_defined_type (slice_get table.now.types n) ≡ false }
         ensures missing { is_some_and is_defined_type (slice_get table.now.types n) ≡ false

@@ -13,6 +13,8 @@ ghost use Rattle.pc_types_convert.specs.Few.{AddsFuncs, is_plain_func};
 ghost use Rattle.pc_types_builder.specs.Trees.{IsEntry};
 ghost use Rattle.pc_types_builder.specs.Converted.{AreConverted, IsOfKind};
 ghost use Rattle.pc_types_convert.specs.Entries.{EntryIs};
+ghost use Rattle.pc_types_convert.specs.Adds.{AddsEntry};
+ghost use Rattle.pc_types_builder.specs.Asked.{AddsAsked};
 ghost use Rattle.pc_types_convert.specs.Needed.{AreNeeded, Each, IsDone, parts_of};
 
 use crate::Converted;
@@ -31,6 +33,7 @@ pub(crate) fn entry_type(
     ensures tree { IfOk result (λ d. IsEntry interned.new table.now n d) }
     ensures kind { IfOk result (λ d. (e : DeclType) → slice_get table.now.types n ≡ Some e → IsOfKind e d) }
     ensures grows { Grows interned.old interned.new }
+    ensures adds { AddsAsked table.now n interned.old interned.new }
     ensures full { result ≡ Err NoPlace.TooMany → IsTooFullFor interned.new
         (λ b. (d : TypeDef) × IsEntry b table.now n d) }
     ensures few { is_some_and is_plain_func (slice_get table.now.types n) ≡ true
@@ -54,6 +57,7 @@ pub(crate) fn entry_with(
     ensures tree { IfOk result (λ d. IsEntry interned.new table.now n d) }
     ensures kind { IfOk result (λ d. (e : DeclType) → slice_get table.now.types n ≡ Some e → IsOfKind e d) }
     ensures grows { Grows interned.old interned.new }
+    ensures adds { AddsAsked table.now n interned.old interned.new }
     ensures full { result ≡ Err NoPlace.TooMany → IsTooFullFor interned.new
         (λ b. (d : TypeDef) × IsEntry b table.now n d) }
     ensures few { is_some_and is_plain_func (slice_get table.now.types n) ≡ true
@@ -78,6 +82,7 @@ fn convert_needed(
     ensures converted { AreConverted interned.new table.now converted.new }
     ensures done { OnOk result (IsDone converted.new n) }
     ensures grows { Grows interned.old interned.new }
+    ensures adds { AddsAsked table.now n interned.old interned.new }
     ensures full { result ≡ Err NoPlace.TooMany → IsTooFullFor interned.new
         (λ b. (d : TypeDef) × IsEntry b table.now n d) }
     ensures few { is_some_and is_plain_func (slice_get table.now.types n) ≡ true
@@ -105,6 +110,8 @@ fn step(
     ensures done { OnOk result (IsDone converted.new k) }
     ensures kept { (m : ℕ) → IsDone converted.old m → IsDone converted.new m }
     ensures grows { Grows interned.old interned.new }
+    ensures adds { (e : DeclType) → slice_get table.now.types k ≡ Some e
+        → AddsEntry (take k converted.old) table.now k e interned.old interned.new }
     ensures full { result ≡ Err NoPlace.TooMany
         → IsTooFullFor interned.new
         (λ b. (e : DeclType) × (slice_get table.now.types k ≡ Some e) × (d : TypeDef)

@@ -1,17 +1,19 @@
 -- How few types a step adds, and how few the conversion of a plain function does.
-use Rattle.std.proofs.Common.{◌≡◌, ℕ, ◌<◌, ◌≤◌, ◌+◌, true, List, [], ◌∷◌, length, get_or, zero, suc, Option, refl, sym}
+use Rattle.std.proofs.Common.{◌≡◌, ℕ, ◌≤◌, ◌+◌, true, List, [], ◌∷◌, length, ◌&&◌, Option, None, Some, refl, sym}
 use Rattle.std.proofs.Common.{ap, ◌∙◌, subst, arith, inl, inr}
 use Rattle.std.specs.List.{list_all}
 use Rattle.std.proofs.lemmas.List.{length-append}
 use Rattle.pc_entity.proofs.Elements.{and_true}
 use Rattle.pc_types.specs.declared.parsed.CoreFuncSig.{CoreFuncSig}
 use Rattle.pc_types.specs.declared.parsed.ValType.{ValType}
+use Rattle.pc_types.specs.declared.parsed.ValType.TheVariants as val
 use Rattle.pc_types.specs.declared.types.TypeFunc.{TypeFunc}
 use Rattle.pc_types.specs.declared.types.TypeTuple.{TypeTuple}
 use Rattle.pc_types.specs.Table.{is_none_or}
 use Rattle.pc_types_lists.specs.Types.{Types}
 use Rattle.pc_types_lists.specs.Interned.{IsPut}
 use Rattle.pc_types_lists.proofs.Growth.{put_kept}
+use Rattle.pc_types_convert.specs.Adds.{no_context_in_field, no_context_in_maybe, no_context_in_val}
 use Rattle.pc_types_convert.specs.Few.{AddsFuncs, AddsSignature, are_plain, is_plain_param, is_plain_val}
 
 -- a list into which a type was put has at most one more
@@ -85,21 +87,23 @@ pub plain_returns : (params : List (List ℕ × ValType)) (returns : Option ValT
     → is_none_or is_plain_val returns ≡ true
 plain_returns params returns h = (and_true (list_all is_plain_param params) (is_none_or is_plain_val returns) h).1
 
--- each parameter of a plain function is plain
-pub plain_at : (ps : List (List ℕ × ValType)) (i : ℕ) (p : List ℕ × ValType) → i < length ps → p ≡ get_or ps i p
-    → list_all is_plain_param ps ≡ true
-    → is_plain_param p ≡ true
-plain_at [] i p within is h = absurd (omega (arith, within))
-plain_at (q ∷ ps) zero p within is h =
-    subst (λ x. is_plain_param x ≡ true) (sym is) (and_true (is_plain_param q) (list_all is_plain_param ps) h).0
-plain_at (q ∷ ps) (suc i) p within is h =
-    plain_at ps i p (omega (arith, within)) is (and_true (is_plain_param q) (list_all is_plain_param ps) h).1
+-- a plain value type names no error contexts
+free_val : (v : ValType) → is_plain_val v ≡ true → no_context_in_val v ≡ true
+free_val (val.Prim p) h = h
+free_val (val.Type_ n) h = refl
 
--- one more plain parameter changes nothing
-pub plain_next : (ps : List (List ℕ × ValType)) (i : ℕ) (p : List ℕ × ValType) → i < length ps → p ≡ get_or ps i p
-    → (a b c : Types) → (list_all is_plain_param ps ≡ true → b ≡ a) → (is_plain_val p.1 ≡ true → c ≡ b)
-    → list_all is_plain_param ps ≡ true → c ≡ a
-plain_next ps i p within is a b c before here h = here (plain_at ps i p within is h) ∙ before h
+-- nor do plain parameters
+pub free_params : (ps : List (List ℕ × ValType)) → list_all is_plain_param ps ≡ true
+    → list_all no_context_in_field ps ≡ true
+free_params [] h = refl
+free_params (p ∷ ps) h =
+    let both = and_true (is_plain_param p) (list_all is_plain_param ps) h in
+    ap (λ x. x && list_all no_context_in_field ps) (free_val p.1 both.0) ∙ free_params ps both.1
+
+-- nor does a plain result
+pub free_returns : (v : Option ValType) → is_none_or is_plain_val v ≡ true → no_context_in_maybe v ≡ true
+free_returns None h = refl
+free_returns (Some v) h = free_val v h
 
 module _ (params : List (List ℕ × ValType)) (returns : Option ValType) (plain : are_plain params returns ≡ true)
     (a b : Types) (first : list_all is_plain_param params ≡ true → AddsFuncs 0 1 a b) where

@@ -1,11 +1,14 @@
 -- Laws of the words of `specs/`, for the layer above too.
+pub mod AddsLemmas
 pub mod AmongLemmas
 pub mod FewLemmas
 pub mod OneNumber
+pub mod OneTree
 pub mod PartLemmas
 pub mod SoundLemmas
 -- What the functions of this crate rest on.
 mod FuncLemmas
 mod HeldLemmas
+mod KindAdds
 mod NeededLemmas
 mod ThereLemmas

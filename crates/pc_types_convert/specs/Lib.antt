@@ -4,3 +4,4 @@ pub mod Parts
 pub mod Entries
 pub mod Steps
 pub mod Few
+pub mod Adds

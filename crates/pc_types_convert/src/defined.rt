@@ -1,7 +1,7 @@
 //! Entries of a table that are defined types, converted kind by kind.
 
-ghost use Rattle.std.specs.Prelude.{◌≡◌, ℕ, List, Option, Some, Err, IfOk, slice_get};
-ghost use Rattle.std.specs.List.{All, AllZip};
+ghost use Rattle.std.specs.Prelude.{◌≡◌, ◌&&◌, ℕ, false, List, Option, Some, Err, IfOk, slice_get};
+ghost use Rattle.std.specs.List.{All, AllZip, list_all};
 ghost use Rattle.pc_types.specs.declared.types.InterfaceType.{InterfaceType};
 ghost use Rattle.pc_types.specs.declared.types.TypeDef.{TypeDef};
 ghost use Rattle.pc_types.specs.declared.types.TypeDef.TheVariants as def;
@@ -9,6 +9,8 @@ ghost use Rattle.pc_types_lists.specs.Types.{Grows, IsTooFullFor};
 ghost use Rattle.pc_types_convert.specs.Parts.{AreHeld, ValIs, MaybeIs, FieldIs, CaseIs, IsReady, MayBeReady, HasHandles};
 ghost use Rattle.pc_types_convert.specs.Entries.{DefinedIs, RecordIs, VariantIs, ListIs, TupleIs, FlagsAre, EnumIs, OptionIs};
 ghost use Rattle.pc_types_convert.specs.Entries.{ResultIs, OwnIs, BorrowIs, StreamIs, FutureIs};
+ghost use Rattle.pc_types_convert.specs.Adds.{AddsContexts, AddsType, no_context_in_case, no_context_in_field};
+ghost use Rattle.pc_types_convert.specs.Adds.{no_context_in_maybe, no_context_in_val};
 
 use crate::value::value;
 use pc_entity::{Seq, Text, TryClone};
@@ -27,6 +29,7 @@ pub(crate) fn val_entry(
     requires ready { IsReady done.now v }
     ensures is { IfOk result (λ d. DefinedIs interned.new done.now v d) }
     ensures grows { Grows interned.old interned.new }
+    ensures contexts { AddsContexts (no_context_in_val v) interned.old interned.new }
     ensures full { result ≡ Err NoPlace.TooMany → IsTooFullFor interned.new
         (λ b. (d : TypeDef) × DefinedIs b done.now v d) }
 {
@@ -43,6 +46,8 @@ pub(crate) fn record_entry(
     requires held { AreHeld interned.old done.now }
     ensures is { IfOk result (λ d. RecordIs interned.new done.now fields.now d) }
     ensures grows { Grows interned.old interned.new }
+    ensures adds { AddsType (list_all no_context_in_field fields.now ≡ false)
+        (RecordIs interned.new done.now fields.now) interned.old interned.new }
     ensures full { result ≡ Err NoPlace.TooMany → IsTooFullFor interned.new
         (λ b. (d : TypeDef) × RecordIs b done.now fields.now d) }
 {
@@ -60,6 +65,8 @@ pub(crate) fn variant_entry(
     requires held { AreHeld interned.old done.now }
     ensures is { IfOk result (λ d. VariantIs interned.new done.now cases.now d) }
     ensures grows { Grows interned.old interned.new }
+    ensures adds { AddsType (list_all no_context_in_case cases.now ≡ false)
+        (VariantIs interned.new done.now cases.now) interned.old interned.new }
     ensures full { result ≡ Err NoPlace.TooMany → IsTooFullFor interned.new
         (λ b. (d : TypeDef) × VariantIs b done.now cases.now d) }
 {
@@ -77,6 +84,7 @@ pub(crate) fn list_entry(
     requires held { AreHeld interned.old done.now }
     ensures is { IfOk result (λ d. ListIs interned.new done.now v d) }
     ensures grows { Grows interned.old interned.new }
+    ensures adds { AddsType (no_context_in_val v ≡ false) (ListIs interned.new done.now v) interned.old interned.new }
     ensures full { result ≡ Err NoPlace.TooMany → IsTooFullFor interned.new
         (λ b. (d : TypeDef) × ListIs b done.now v d) }
 {
@@ -94,6 +102,8 @@ pub(crate) fn tuple_entry(
     requires held { AreHeld interned.old done.now }
     ensures is { IfOk result (λ d. TupleIs interned.new done.now vs.now d) }
     ensures grows { Grows interned.old interned.new }
+    ensures adds { AddsType (list_all no_context_in_val vs.now ≡ false)
+        (TupleIs interned.new done.now vs.now) interned.old interned.new }
     ensures full { result ≡ Err NoPlace.TooMany → IsTooFullFor interned.new
         (λ b. (d : TypeDef) × TupleIs b done.now vs.now d) }
 {
@@ -108,6 +118,7 @@ pub(crate) fn flags_entry(
 ) -> Result<TypeDef, NoPlace>
     ensures is { IfOk result (λ d. FlagsAre interned.new names.now d) }
     ensures grows { Grows interned.old interned.new }
+    ensures adds { AddsType ⊥ (FlagsAre interned.new names.now) interned.old interned.new }
     ensures full { result ≡ Err NoPlace.TooMany → IsTooFullFor interned.new
         (λ b. (d : TypeDef) × FlagsAre b names.now d) }
 {
@@ -122,6 +133,7 @@ pub(crate) fn enum_entry(
 ) -> Result<TypeDef, NoPlace>
     ensures is { IfOk result (λ d. EnumIs interned.new names.now d) }
     ensures grows { Grows interned.old interned.new }
+    ensures adds { AddsType ⊥ (EnumIs interned.new names.now) interned.old interned.new }
     ensures full { result ≡ Err NoPlace.TooMany → IsTooFullFor interned.new
         (λ b. (d : TypeDef) × EnumIs b names.now d) }
 {
@@ -139,6 +151,8 @@ pub(crate) fn option_entry(
     requires held { AreHeld interned.old done.now }
     ensures is { IfOk result (λ d. OptionIs interned.new done.now v d) }
     ensures grows { Grows interned.old interned.new }
+    ensures adds { AddsType (no_context_in_val v ≡ false)
+        (OptionIs interned.new done.now v) interned.old interned.new }
     ensures full { result ≡ Err NoPlace.TooMany → IsTooFullFor interned.new
         (λ b. (d : TypeDef) × OptionIs b done.now v d) }
 {
@@ -158,6 +172,8 @@ pub(crate) fn result_entry(
     requires held { AreHeld interned.old done.now }
     ensures is { IfOk result (λ d. ResultIs interned.new done.now ok err d) }
     ensures grows { Grows interned.old interned.new }
+    ensures adds { AddsType (no_context_in_maybe ok && no_context_in_maybe err ≡ false)
+        (ResultIs interned.new done.now ok err) interned.old interned.new }
     ensures full { result ≡ Err NoPlace.TooMany → IsTooFullFor interned.new
         (λ b. (d : TypeDef) × ResultIs b done.now ok err d) }
 {
@@ -175,6 +191,8 @@ pub(crate) fn stream_entry(
     requires ready { MayBeReady done.now v }
     ensures is { IfOk result (λ d. StreamIs interned.new done.now v d) }
     ensures grows { Grows interned.old interned.new }
+    ensures adds { AddsType (no_context_in_maybe v ≡ false)
+        (StreamIs interned.new done.now v) interned.old interned.new }
     ensures full { result ≡ Err NoPlace.TooMany → IsTooFullFor interned.new
         (λ b. (d : TypeDef) × StreamIs b done.now v d) }
 {
@@ -195,6 +213,8 @@ pub(crate) fn future_entry(
     requires ready { MayBeReady done.now v }
     ensures is { IfOk result (λ d. FutureIs interned.new done.now v d) }
     ensures grows { Grows interned.old interned.new }
+    ensures adds { AddsType (no_context_in_maybe v ≡ false)
+        (FutureIs interned.new done.now v) interned.old interned.new }
     ensures full { result ≡ Err NoPlace.TooMany → IsTooFullFor interned.new
         (λ b. (d : TypeDef) × FutureIs b done.now v d) }
 {
@@ -215,6 +235,7 @@ fn field_types(
     requires ready { All (λ f. IsReady done.now f.1) fields.now }
     ensures are { IfOk result (λ gs. AllZip (FieldIs interned.new done.now) fields.now gs) }
     ensures grows { Grows interned.old interned.new }
+    ensures contexts { AddsContexts (list_all no_context_in_field fields.now) interned.old interned.new }
     ensures full { result ≡ Err NoPlace.TooMany → IsTooFullFor interned.new
         (λ b. (gs : List (List ℕ × InterfaceType)) × AllZip (FieldIs b done.now) fields.now gs) }
 {
@@ -235,6 +256,7 @@ fn case_types(
     requires ready { All (λ c. MayBeReady done.now c.1) cases.now }
     ensures are { IfOk result (λ gs. AllZip (CaseIs interned.new done.now) cases.now gs) }
     ensures grows { Grows interned.old interned.new }
+    ensures contexts { AddsContexts (list_all no_context_in_case cases.now) interned.old interned.new }
     ensures full { result ≡ Err NoPlace.TooMany → IsTooFullFor interned.new
         (λ b. (gs : List (List ℕ × Option InterfaceType)) × AllZip (CaseIs b done.now) cases.now gs) }
 {
@@ -255,6 +277,7 @@ fn value_types(
     requires ready { All (IsReady done.now) vs.now }
     ensures are { IfOk result (λ ws. AllZip (ValIs interned.new done.now) vs.now ws) }
     ensures grows { Grows interned.old interned.new }
+    ensures contexts { AddsContexts (list_all no_context_in_val vs.now) interned.old interned.new }
     ensures full { result ≡ Err NoPlace.TooMany → IsTooFullFor interned.new
         (λ b. (ws : List InterfaceType) × AllZip (ValIs b done.now) vs.now ws) }
 {
@@ -274,6 +297,7 @@ fn maybe_value(
     requires ready { MayBeReady done.now v }
     ensures is { IfOk result (λ w. MaybeIs interned.new done.now v w) }
     ensures grows { Grows interned.old interned.new }
+    ensures contexts { AddsContexts (no_context_in_maybe v) interned.old interned.new }
     ensures full { result ≡ Err NoPlace.TooMany → IsTooFullFor interned.new
         (λ b. (w : Option InterfaceType) × MaybeIs b done.now v w) }
 {

@@ -1,11 +1,13 @@
 //! Entries of a table, converted kind by kind.
 
-ghost use Rattle.std.specs.Prelude.{◌≡◌, true, List, Some, Err, All, IfOk};
+ghost use Rattle.std.specs.Prelude.{◌≡◌, true, false, List, Some, Err, All, IfOk};
 ghost use Rattle.std.specs.List.{AllZip, list_all};
 ghost use Rattle.pc_types.specs.Table.{is_none_or};
 ghost use Rattle.pc_entity.specs.Lists.{names_of};
 ghost use Rattle.pc_types_lists.specs.Types.{Grows, IsTooFullFor};
 ghost use Rattle.pc_types_convert.specs.Few.{AddsFuncs, are_plain, is_plain_param, is_plain_val};
+ghost use Rattle.pc_types_convert.specs.Adds.{AddsContexts, AddsFunc, AddsTuple, no_context_in_field};
+ghost use Rattle.pc_types_convert.specs.Adds.{no_context_in_maybe, no_context_in_val};
 ghost use Rattle.pc_types_convert.specs.Parts.{AreHeld, ValIs, IsReady, MayBeReady};
 ghost use Rattle.pc_types.specs.declared.type_index.TypeFuncIndex.{TypeFuncIndex};
 ghost use Rattle.pc_types.specs.declared.type_index.TypeTupleIndex.{TypeTupleIndex};
@@ -37,6 +39,7 @@ pub(crate) fn func_type_entry(
         (λ d. (i : TypeFuncIndex) × (d ≡ def.ComponentFunc i)
         × FuncIs interned.new done.now params.now returns async_ i) }
     ensures grows { Grows interned.old interned.new }
+    ensures adds { AddsFunc done.now params.now returns async_ interned.old interned.new }
     ensures full { result ≡ Err NoPlace.TooMany → IsTooFullFor interned.new
         (λ b. (d : TypeDef) × (i : TypeFuncIndex) × (d ≡ def.ComponentFunc i)
         × FuncIs b done.now params.now returns async_ i) }
@@ -58,6 +61,7 @@ fn func_entry(
     requires held { AreHeld interned.old done.now }
     ensures is { IfOk result (λ i. FuncIs interned.new done.now params.now returns async_ i) }
     ensures grows { Grows interned.old interned.new }
+    ensures adds { AddsFunc done.now params.now returns async_ interned.old interned.new }
     ensures full { result ≡ Err NoPlace.TooMany → IsTooFullFor interned.new
         (λ b. (i : TypeFuncIndex) × FuncIs b done.now params.now returns async_ i) }
     ensures few { are_plain params.now returns ≡ true → AddsFuncs 1 2 interned.old interned.new }
@@ -83,6 +87,8 @@ fn params_tuple(
     requires held { AreHeld interned.old done.now }
     ensures are { IfOk result (λ i. ParamsAre interned.new done.now params.now i) }
     ensures grows { Grows interned.old interned.new }
+    ensures adds { AddsTuple (list_all no_context_in_field params.now ≡ false)
+        (λ i. ParamsAre interned.new done.now params.now (record { 0 = i })) interned.old interned.new }
     ensures full { result ≡ Err NoPlace.TooMany → IsTooFullFor interned.new
         (λ b. (i : TypeTupleIndex) × ParamsAre b done.now params.now i) }
     ensures few { list_all is_plain_param params.now ≡ true → AddsFuncs 0 1 interned.old interned.new }
@@ -101,6 +107,8 @@ fn results_tuple(
     requires held { AreHeld interned.old done.now }
     ensures are { IfOk result (λ i. ResultsAre interned.new done.now returns i) }
     ensures grows { Grows interned.old interned.new }
+    ensures adds { AddsTuple (no_context_in_maybe returns ≡ false)
+        (λ i. ResultsAre interned.new done.now returns (record { 0 = i })) interned.old interned.new }
     ensures full { result ≡ Err NoPlace.TooMany → IsTooFullFor interned.new
         (λ b. (i : TypeTupleIndex) × ResultsAre b done.now returns i) }
     ensures few { is_none_or is_plain_val returns ≡ true → AddsFuncs 0 1 interned.old interned.new }
@@ -118,9 +126,9 @@ fn param_types(
     requires ready { All (λ p. IsReady done.now p.1) params.now }
     ensures are { IfOk result (λ ws. AllZip (λ p w. ValIs interned.new done.now p.1 w) params.now ws) }
     ensures grows { Grows interned.old interned.new }
+    ensures contexts { AddsContexts (list_all no_context_in_field params.now) interned.old interned.new }
     ensures full { result ≡ Err NoPlace.TooMany → IsTooFullFor interned.new
         (λ b. (ws : List InterfaceType) × AllZip (λ p w. ValIs b done.now p.1 w) params.now ws) }
-    ensures plain { list_all is_plain_param params.now ≡ true → interned.new ≡ interned.old }
 {
     let mut types = Seq::new(interned.alloc());
     for param in params {
@@ -138,9 +146,9 @@ fn return_types(
     requires ready { MayBeReady done.now returns }
     ensures are { IfOk result (λ ws. ReturnsAre interned.new done.now returns ws) }
     ensures grows { Grows interned.old interned.new }
+    ensures contexts { AddsContexts (no_context_in_maybe returns) interned.old interned.new }
     ensures full { result ≡ Err NoPlace.TooMany → IsTooFullFor interned.new
         (λ b. (ws : List InterfaceType) × ReturnsAre b done.now returns ws) }
-    ensures plain { is_none_or is_plain_val returns ≡ true → interned.new ≡ interned.old }
 {
     match returns {
         Some(v) => one_type(interned, done, v),
@@ -157,9 +165,9 @@ fn one_type(
     requires ready { IsReady done.now v }
     ensures is { IfOk result (λ ws. ReturnsAre interned.new done.now (Some v) ws) }
     ensures grows { Grows interned.old interned.new }
+    ensures contexts { AddsContexts (no_context_in_val v) interned.old interned.new }
     ensures full { result ≡ Err NoPlace.TooMany → IsTooFullFor interned.new
         (λ b. (ws : List InterfaceType) × ReturnsAre b done.now (Some v) ws) }
-    ensures plain { is_plain_val v ≡ true → interned.new ≡ interned.old }
 {
     let w = value(interned, done, v)?;
     let mut types = Seq::new(interned.alloc());

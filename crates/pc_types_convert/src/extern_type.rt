@@ -1,13 +1,16 @@
 //! Entries of a table that are instances, components, core modules and resources, converted.
 
-ghost use Rattle.std.specs.Prelude.{◌≡◌, ◌<◌, ℕ, List, length, true, None, Some, Err, IfOk, slice_get};
+ghost use Rattle.std.specs.Prelude.{◌≡◌, ◌<◌, ◌∷◌, [], ℕ, List, length, map, true, None, Some, Err, IfOk, OnErr, slice_get};
 ghost use Rattle.std.specs.List.{All, AllZip};
 ghost use Rattle.pc_types.specs.declared.parsed.CoreEntity.{CoreEntity};
+ghost use Rattle.pc_types.specs.declared.parsed.CoreEntity.TheVariants as core_entity;
 ghost use Rattle.pc_types.specs.declared.parsed.CoreFuncSig.{CoreFuncSig};
 ghost use Rattle.pc_types.specs.declared.types.TypeDef.{TypeDef};
 ghost use Rattle.pc_types.specs.Record.{is_typed};
 ghost use Rattle.pc_types_lists.specs.Types.{Grows, HasNumber, IsTooFullFor};
 ghost use Rattle.pc_types_convert.specs.Few.{AddsSignature};
+ghost use Rattle.pc_types_convert.specs.Adds.{AddsModule, AddsSignatures, AddsType};
+ghost use Rattle.pc_types_lists.specs.Interned.{IsPut};
 ghost use Rattle.pc_types_convert.specs.Parts.{EntityIs, ExternIs, IsThere};
 ghost use Rattle.pc_types_convert.specs.Entries.{CoreIs, ComponentIs, ExportIs, ImportIs, InstanceIs, ModuleIs, ResourceIs};
 ghost use Rattle.pc_types_convert.specs.Entries.{handles_of};
@@ -24,6 +27,7 @@ use std::alloc::Global;
 pub(crate) fn resource_entry(interned: &mut InternedTypes, n: u32) -> Result<TypeDef, NoPlace>
     ensures is { IfOk result (λ d. ResourceIs interned.new n d) }
     ensures grows { Grows interned.old interned.new }
+    ensures adds { AddsType ⊥ (ResourceIs interned.new n) interned.old interned.new }
     ensures full { result ≡ Err NoPlace.TooMany → IsTooFullFor interned.new (λ b. (d : TypeDef) × ResourceIs b n d) }
 {
     Ok(TypeDef::Resource(handles(interned, n)?))
@@ -34,6 +38,7 @@ fn handles(interned: &mut InternedTypes, n: u32) -> Result<TypeResourceTableInde
     ensures is { IfOk result
         (λ i. slice_get interned.new.resource_tables i.0 ≡ Some (handles_of interned.new.resources n)) }
     ensures grows { Grows interned.old interned.new }
+    ensures adds { AddsType ⊥ (ResourceIs interned.new n) interned.old interned.new }
     ensures full { result ≡ Err NoPlace.TooMany → IsTooFullFor interned.new
         (λ b. HasNumber b.resource_tables (handles_of b.resources n)) }
 {
@@ -53,6 +58,7 @@ pub(crate) fn instance_entry(
     requires ready { All (λ e. IsThere done.now e.1) exports.now }
     ensures is { IfOk result (λ d. InstanceIs interned.new done.now exports.now d) }
     ensures grows { Grows interned.old interned.new }
+    ensures adds { AddsType ⊥ (InstanceIs interned.new done.now exports.now) interned.old interned.new }
     ensures full { result ≡ Err NoPlace.TooMany → IsTooFullFor interned.new
         (λ b. (d : TypeDef) × InstanceIs b done.now exports.now d) }
 {
@@ -71,6 +77,7 @@ pub(crate) fn component_entry(
     requires exports_ready { All (λ e. IsThere done.now e.1) exports.now }
     ensures is { IfOk result (λ d. ComponentIs interned.new done.now imports.now exports.now d) }
     ensures grows { Grows interned.old interned.new }
+    ensures adds { AddsType ⊥ (ComponentIs interned.new done.now imports.now exports.now) interned.old interned.new }
     ensures full { result ≡ Err NoPlace.TooMany → IsTooFullFor interned.new
         (λ b. (d : TypeDef) × ComponentIs b done.now imports.now exports.now d) }
 {
@@ -90,6 +97,7 @@ pub(crate) fn module_entry(
     requires exports_typed { All (λ e. is_typed table.now e.1 ≡ true) exports.now }
     ensures is { IfOk result (λ d. ModuleIs interned.new table.now imports.now exports.now d) }
     ensures grows { Grows interned.old interned.new }
+    ensures adds { AddsModule table.now imports.now exports.now interned.old interned.new }
     ensures full { result ≡ Err NoPlace.TooMany → IsTooFullFor interned.new
         (λ b. (d : TypeDef) × ModuleIs b table.now imports.now exports.now d) }
 {
@@ -107,6 +115,7 @@ fn module_imports(
     requires typed { All (λ i. is_typed table.now i.2 ≡ true) imports.now }
     ensures are { IfOk result (λ is. AllZip (ImportIs interned.new table.now) imports.now is) }
     ensures grows { Grows interned.old interned.new }
+    ensures signatures { AddsSignatures table.now (map (λ i. i.2) imports.now) interned.old interned.new }
     ensures full { result ≡ Err NoPlace.TooMany → IsTooFullFor interned.new
         (λ b. (is : List (List ℕ × List ℕ × CoreEntity)) × AllZip (ImportIs b table.now) imports.now is) }
 {
@@ -126,6 +135,7 @@ fn module_import(
     requires typed { is_typed table.now import.now.2 ≡ true }
     ensures is { IfOk result (λ i. ImportIs interned.new table.now import.now i) }
     ensures grows { Grows interned.old interned.new }
+    ensures signatures { AddsSignatures table.now (import.now.2 ∷ []) interned.old interned.new }
     ensures full { result ≡ Err NoPlace.TooMany → IsTooFullFor interned.new
         (λ b. (i : List ℕ × List ℕ × CoreEntity) × ImportIs b table.now import.now i) }
 {
@@ -144,6 +154,7 @@ fn module_exports(
     requires typed { All (λ e. is_typed table.now e.1 ≡ true) exports.now }
     ensures are { IfOk result (λ es. AllZip (ExportIs interned.new table.now) exports.now es) }
     ensures grows { Grows interned.old interned.new }
+    ensures signatures { AddsSignatures table.now (map (λ e. e.1) exports.now) interned.old interned.new }
     ensures full { result ≡ Err NoPlace.TooMany → IsTooFullFor interned.new
         (λ b. (es : List (List ℕ × CoreEntity)) × AllZip (ExportIs b table.now) exports.now es) }
 {
@@ -164,6 +175,7 @@ fn core_entity(
     requires typed { is_typed table.now e ≡ true }
     ensures is { IfOk result (λ f. CoreIs interned.new table.now e f) }
     ensures grows { Grows interned.old interned.new }
+    ensures signatures { AddsSignatures table.now (e ∷ []) interned.old interned.new }
     ensures full { result ≡ Err NoPlace.TooMany → IsTooFullFor interned.new
         (λ b. (f : CoreEntity) × CoreIs b table.now e f) }
 {
@@ -184,6 +196,10 @@ pub fn signature_at(
         (λ i. (s : CoreFuncSig) × (slice_get table.now.core_funcs n ≡ Some s)
         × (slice_get interned.new.signatures i.0 ≡ Some s)) }
     ensures grows { Grows interned.old interned.new }
+    ensures signatures { AddsSignatures table.now (core_entity.Func n ∷ []) interned.old interned.new }
+    ensures err { OnErr result (interned.new ≡ interned.old) }
+    ensures put { (s : CoreFuncSig) → slice_get table.now.core_funcs n ≡ Some s
+        → IsPut interned.old.signatures interned.new.signatures s }
     ensures full { result ≡ Err NoPlace.TooMany → IsTooFullFor interned.new
         (λ b. (s : CoreFuncSig) × (slice_get table.now.core_funcs n ≡ Some s) × HasNumber b.signatures s) }
     ensures few { AddsSignature interned.old interned.new }

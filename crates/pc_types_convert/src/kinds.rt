@@ -4,6 +4,7 @@ ghost use Rattle.std.specs.Prelude.{◌≡◌, true, Err, IfOk};
 ghost use Rattle.pc_types.specs.declared.types.TypeDef.{TypeDef};
 ghost use Rattle.pc_types_lists.specs.Types.{Grows, IsTooFullFor};
 ghost use Rattle.pc_types_convert.specs.Few.{AddsFuncs, is_plain_func};
+ghost use Rattle.pc_types_convert.specs.Adds.{AddsEntry};
 ghost use Rattle.pc_types_convert.specs.Entries.{EntryIs};
 ghost use Rattle.pc_types_convert.specs.Parts.{AreHeld};
 ghost use Rattle.pc_types_convert.specs.Steps.{IsReadyEntry};
@@ -29,6 +30,7 @@ pub fn convert(
     requires held { AreHeld interned.old done.now }
     ensures is { IfOk result (λ d. EntryIs interned.new done.now table.now n entry.now d) }
     ensures grows { Grows interned.old interned.new }
+    ensures adds { AddsEntry done.now table.now n entry.now interned.old interned.new }
     ensures full { result ≡ Err NoPlace.TooMany → IsTooFullFor interned.new
         (λ b. (d : TypeDef) × EntryIs b done.now table.now n entry.now d) }
     ensures few { is_plain_func entry.now ≡ true → AddsFuncs 1 2 interned.old interned.new }

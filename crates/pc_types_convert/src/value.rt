@@ -1,8 +1,8 @@
 //! Value types of a table, converted.
 
-ghost use Rattle.std.specs.Prelude.{◌≡◌, true, Some, Err, IfOk, slice_get, is_some};
+ghost use Rattle.std.specs.Prelude.{◌≡◌, false, Some, Err, IfOk, OnErr, slice_get, is_some};
 ghost use Rattle.pc_types_lists.specs.Types.{Grows, IsTooFullFor};
-ghost use Rattle.pc_types_convert.specs.Few.{is_plain_val};
+ghost use Rattle.pc_types_convert.specs.Adds.{AddsContexts, no_context_in_val};
 ghost use Rattle.pc_types_lists.specs.Primitive.{plain_type};
 ghost use Rattle.pc_types_convert.specs.Parts.{IsErrorContext, PrimIs, ValIs, IsReady};
 ghost use Rattle.pc_types.specs.declared.types.TypeDef.TheVariants as def;
@@ -21,6 +21,8 @@ pub fn error_contexts(
 ) -> Result<TypeComponentLocalErrorContextTableIndex, NoPlace>
     ensures is { IfOk result (λ i. IsErrorContext interned.new i) }
     ensures grows { Grows interned.old interned.new }
+    ensures contexts { AddsContexts false interned.old interned.new }
+    ensures err { OnErr result (interned.new ≡ interned.old) }
     ensures full { result ≡ Err NoPlace.TooMany → IsTooFullFor interned.new
         (λ b. (i : TypeComponentLocalErrorContextTableIndex) × IsErrorContext b i) }
 {
@@ -32,8 +34,9 @@ pub fn error_contexts(
 pub fn primitive(interned: &mut InternedTypes, p: PrimType) -> Result<InterfaceType, NoPlace>
     ensures is { IfOk result (λ w. PrimIs interned.new p w) }
     ensures grows { Grows interned.old interned.new }
+    ensures contexts { AddsContexts (is_some (plain_type p)) interned.old interned.new }
+    ensures err { OnErr result (interned.new ≡ interned.old) }
     ensures full { result ≡ Err NoPlace.TooMany → IsTooFullFor interned.new (λ b. (w : InterfaceType) × PrimIs b p w) }
-    ensures plain { is_some (plain_type p) ≡ true → interned.new ≡ interned.old }
 {
     match plain_type(p) {
         Some(w) => Ok(w),
@@ -50,9 +53,9 @@ pub(crate) fn value(
     requires ready { IsReady done.now v }
     ensures is { IfOk result (λ w. ValIs interned.new done.now v w) }
     ensures grows { Grows interned.old interned.new }
+    ensures contexts { AddsContexts (no_context_in_val v) interned.old interned.new }
     ensures full { result ≡ Err NoPlace.TooMany → IsTooFullFor interned.new
         (λ b. (w : InterfaceType) × ValIs b done.now v w) }
-    ensures plain { is_plain_val v ≡ true → interned.new ≡ interned.old }
 {
     match v {
         ValType::Prim(p) => primitive(interned, p),

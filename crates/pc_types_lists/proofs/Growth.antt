@@ -59,6 +59,10 @@ grows_trans a b c first second = record {
   resources = second.resources ∙ first.resources;
 }
 
+-- what stays keeps the types
+pub grows_same : (a : Types) → Grows a a
+grows_same a = search kept_refl
+
 -- three, four and five steps that keep the types
 pub grows_3 : (a b c d : Types) → Grows a b → Grows b c → Grows c d → Grows a d
 grows_3 a b c d ab bc cd = grows_trans a b d ab (grows_trans b c d bc cd)

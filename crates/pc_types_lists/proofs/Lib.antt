@@ -2,6 +2,7 @@
 pub mod Joining
 pub mod Keeping
 pub mod Growth
+pub mod AddedLemmas
 pub mod HeldLemmas
 pub mod ErrorLemmas
 pub mod ZipLemmas

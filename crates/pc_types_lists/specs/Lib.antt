@@ -8,7 +8,9 @@ pub mod Lending
 pub mod Primitive
 pub mod Trees
 pub mod Interned
+pub mod Added
 pub mod Refusal
+pub mod Adds
 -- What the functions inside promise each other.
 pub mod KeptFacts
 pub mod View

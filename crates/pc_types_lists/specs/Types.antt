@@ -1,5 +1,5 @@
 -- The interned types: one list for each kind of type, and the resources that are known.
-use Rattle.std.specs.Prelude.{◌≡◌, ◌≤◌, ℕ, List, [], length, Some, slice_get}
+use Rattle.std.specs.Prelude.{◌≡◌, ◌≤◌, ◌+◌, ℕ, List, [], length, Some, slice_get}
 use Rattle.pc_numbers.specs.declared.runtime.ResourceIndex.{ResourceIndex}
 use Rattle.pc_numbers.specs.declared.runtime.RuntimeComponentInstanceIndex.{RuntimeComponentInstanceIndex}
 use Rattle.pc_types.specs.declared.parsed.CoreFuncSig.{CoreFuncSig}
@@ -91,6 +91,14 @@ held b kind.Instance = length b.instances
 held b kind.Component = length b.components
 held b kind.Module = length b.modules
 held b kind.Signature = length b.signatures
+
+-- how many types are held, of all kinds
+abbrev pub types_held : Types → ℕ
+types_held b =
+    length b.funcs + length b.tuples + length b.records + length b.variants + length b.lists + length b.options
+    + length b.results + length b.flags + length b.enums + length b.resource_tables + length b.future_tables
+    + length b.stream_tables + length b.error_context_tables + length b.instances + length b.components
+    + length b.modules + length b.signatures
 
 -- no two types of a kind are equal
 abbrev pub HasDistinct : Types → TypeKind → Type 0

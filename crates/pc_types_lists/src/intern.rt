@@ -1,6 +1,6 @@
 //! A type put into its list.
 
-ghost use Rattle.std.specs.Prelude.{◌≡◌, ◌≤◌, length, slice_get, Some, Err, IfOk, Contains};
+ghost use Rattle.std.specs.Prelude.{◌≡◌, ◌≤◌, length, slice_get, Some, Err, IfOk, OnErr, Contains};
 ghost use Rattle.pc_types_lists.specs.Interned.{IsPut, IsPutWith};
 
 use crate::no_place::NoPlace;
@@ -15,6 +15,7 @@ pub(crate) fn intern<V: ExactEq + Drop>(list: &mut Interner<V>, value: V) -> Res
     requires within { length list.old ≤ 4294967294 }
     ensures held { IfOk result (λ key. slice_get list.new key ≡ Some value) }
     ensures put { IsPut list.old list.new value }
+    ensures err { OnErr result (list.new ≡ list.old) }
     ensures full { result ≡ Err NoPlace.TooMany → (length list.new ≡ 4294967294) × (Contains list.new value → ⊥) }
     ensures within { length list.new ≤ 4294967294 }
 {
@@ -38,6 +39,7 @@ pub(crate) fn intern_with<V: ExactEq + Drop>(
     requires paired { length facts.old ≡ length list.old }
     ensures held { IfOk result (λ key. slice_get list.new key ≡ Some value) }
     ensures put { IsPut list.old list.new value }
+    ensures err { OnErr result (list.new ≡ list.old) }
     ensures facts { IsPutWith list.old list.new facts.old facts.new value of_value }
     ensures full { result ≡ Err NoPlace.TooMany → (length list.new ≡ 4294967294) × (Contains list.new value → ⊥) }
     ensures within { length list.new ≤ 4294967294 }

@@ -3,7 +3,7 @@
 //! A type goes to the end of its list, and only where no equal one is held. `TooMany` comes where the list is full and
 //! lacks the type. What was held keeps its number, whatever is answered.
 
-ghost use Rattle.std.specs.Prelude.{◌≡◌, ◌<◌, length, slice_get, Some, Err, All, IfOk};
+ghost use Rattle.std.specs.Prelude.{◌≡◌, ◌<◌, length, slice_get, Some, Err, All, IfOk, OnErr};
 ghost use Rattle.pc_types_lists.specs.Types.{Grows, HasNumber, IsTooFullFor};
 ghost use Rattle.pc_types_lists.specs.Held.{IsHeld, MayBeHeld};
 ghost use Rattle.pc_types_lists.specs.Interned.{IsPut};
@@ -31,6 +31,7 @@ impl InternedTypes {
         ensures put { IsPut self.old.funcs self.new.funcs value }
         ensures rest { self.new ≡ record self.old { funcs = self.new.funcs } }
         ensures grows { Grows self.old self.new }
+        ensures err { OnErr result (self.new ≡ self.old) }
         ensures full { result ≡ Err NoPlace.TooMany → IsTooFullFor self.new (λ b. HasNumber b.funcs value) }
     {
         let facts = self.facts.of_func(&value);
@@ -45,6 +46,7 @@ impl InternedTypes {
         ensures put { IsPut self.old.tuples self.new.tuples value }
         ensures rest { self.new ≡ record self.old { tuples = self.new.tuples } }
         ensures grows { Grows self.old self.new }
+        ensures err { OnErr result (self.new ≡ self.old) }
         ensures full { result ≡ Err NoPlace.TooMany → IsTooFullFor self.new (λ b. HasNumber b.tuples value) }
     {
         let facts = self.facts.of_tuple(&value);
@@ -59,6 +61,7 @@ impl InternedTypes {
         ensures put { IsPut self.old.records self.new.records value }
         ensures rest { self.new ≡ record self.old { records = self.new.records } }
         ensures grows { Grows self.old self.new }
+        ensures err { OnErr result (self.new ≡ self.old) }
         ensures full { result ≡ Err NoPlace.TooMany → IsTooFullFor self.new (λ b. HasNumber b.records value) }
     {
         let facts = self.facts.of_record(&value);
@@ -73,6 +76,7 @@ impl InternedTypes {
         ensures put { IsPut self.old.variants self.new.variants value }
         ensures rest { self.new ≡ record self.old { variants = self.new.variants } }
         ensures grows { Grows self.old self.new }
+        ensures err { OnErr result (self.new ≡ self.old) }
         ensures full { result ≡ Err NoPlace.TooMany → IsTooFullFor self.new (λ b. HasNumber b.variants value) }
     {
         let facts = self.facts.of_variant(&value);
@@ -87,6 +91,7 @@ impl InternedTypes {
         ensures put { IsPut self.old.lists self.new.lists value }
         ensures rest { self.new ≡ record self.old { lists = self.new.lists } }
         ensures grows { Grows self.old self.new }
+        ensures err { OnErr result (self.new ≡ self.old) }
         ensures full { result ≡ Err NoPlace.TooMany → IsTooFullFor self.new (λ b. HasNumber b.lists value) }
     {
         let facts = self.facts.of_list(&value);
@@ -101,6 +106,7 @@ impl InternedTypes {
         ensures put { IsPut self.old.options self.new.options value }
         ensures rest { self.new ≡ record self.old { options = self.new.options } }
         ensures grows { Grows self.old self.new }
+        ensures err { OnErr result (self.new ≡ self.old) }
         ensures full { result ≡ Err NoPlace.TooMany → IsTooFullFor self.new (λ b. HasNumber b.options value) }
     {
         let facts = self.facts.of_option(&value);
@@ -116,6 +122,7 @@ impl InternedTypes {
         ensures put { IsPut self.old.results self.new.results value }
         ensures rest { self.new ≡ record self.old { results = self.new.results } }
         ensures grows { Grows self.old self.new }
+        ensures err { OnErr result (self.new ≡ self.old) }
         ensures full { result ≡ Err NoPlace.TooMany → IsTooFullFor self.new (λ b. HasNumber b.results value) }
     {
         let facts = self.facts.of_result(&value);
@@ -129,6 +136,7 @@ impl InternedTypes {
         ensures put { IsPut self.old.flags self.new.flags value }
         ensures rest { self.new ≡ record self.old { flags = self.new.flags } }
         ensures grows { Grows self.old self.new }
+        ensures err { OnErr result (self.new ≡ self.old) }
         ensures full { result ≡ Err NoPlace.TooMany → IsTooFullFor self.new (λ b. HasNumber b.flags value) }
     {
         Ok(TypeFlagsIndex(intern(&mut self.flags, value)?))
@@ -140,6 +148,7 @@ impl InternedTypes {
         ensures put { IsPut self.old.enums self.new.enums value }
         ensures rest { self.new ≡ record self.old { enums = self.new.enums } }
         ensures grows { Grows self.old self.new }
+        ensures err { OnErr result (self.new ≡ self.old) }
         ensures full { result ≡ Err NoPlace.TooMany → IsTooFullFor self.new (λ b. HasNumber b.enums value) }
     {
         Ok(TypeEnumIndex(intern(&mut self.enums, value)?))
@@ -154,6 +163,7 @@ impl InternedTypes {
         ensures put { IsPut self.old.resource_tables self.new.resource_tables value }
         ensures rest { self.new ≡ record self.old { resource_tables = self.new.resource_tables } }
         ensures grows { Grows self.old self.new }
+        ensures err { OnErr result (self.new ≡ self.old) }
         ensures full { result ≡ Err NoPlace.TooMany → IsTooFullFor self.new (λ b. HasNumber b.resource_tables value) }
     {
         Ok(TypeResourceTableIndex(intern(&mut self.resource_tables, value)?))
@@ -168,6 +178,7 @@ impl InternedTypes {
         ensures put { IsPut self.old.future_tables self.new.future_tables value }
         ensures rest { self.new ≡ record self.old { future_tables = self.new.future_tables } }
         ensures grows { Grows self.old self.new }
+        ensures err { OnErr result (self.new ≡ self.old) }
         ensures full { result ≡ Err NoPlace.TooMany → IsTooFullFor self.new (λ b. HasNumber b.future_tables value) }
     {
         Ok(TypeFutureTableIndex(intern(&mut self.future_tables, value)?))
@@ -182,6 +193,7 @@ impl InternedTypes {
         ensures put { IsPut self.old.stream_tables self.new.stream_tables value }
         ensures rest { self.new ≡ record self.old { stream_tables = self.new.stream_tables } }
         ensures grows { Grows self.old self.new }
+        ensures err { OnErr result (self.new ≡ self.old) }
         ensures full { result ≡ Err NoPlace.TooMany → IsTooFullFor self.new (λ b. HasNumber b.stream_tables value) }
     {
         Ok(TypeStreamTableIndex(intern(&mut self.stream_tables, value)?))
@@ -196,6 +208,7 @@ impl InternedTypes {
         ensures put { IsPut self.old.error_context_tables self.new.error_context_tables value }
         ensures rest { self.new ≡ record self.old { error_context_tables = self.new.error_context_tables } }
         ensures grows { Grows self.old self.new }
+        ensures err { OnErr result (self.new ≡ self.old) }
         ensures full { result ≡ Err NoPlace.TooMany → IsTooFullFor self.new
             (λ b. HasNumber b.error_context_tables value) }
     {
@@ -211,6 +224,7 @@ impl InternedTypes {
         ensures put { IsPut self.old.instances self.new.instances value }
         ensures rest { self.new ≡ record self.old { instances = self.new.instances } }
         ensures grows { Grows self.old self.new }
+        ensures err { OnErr result (self.new ≡ self.old) }
         ensures full { result ≡ Err NoPlace.TooMany → IsTooFullFor self.new (λ b. HasNumber b.instances value) }
     {
         Ok(TypeComponentInstanceIndex(intern(&mut self.instances, value)?))
@@ -222,6 +236,7 @@ impl InternedTypes {
         ensures put { IsPut self.old.components self.new.components value }
         ensures rest { self.new ≡ record self.old { components = self.new.components } }
         ensures grows { Grows self.old self.new }
+        ensures err { OnErr result (self.new ≡ self.old) }
         ensures full { result ≡ Err NoPlace.TooMany → IsTooFullFor self.new (λ b. HasNumber b.components value) }
     {
         Ok(TypeComponentIndex(intern(&mut self.components, value)?))
@@ -233,6 +248,7 @@ impl InternedTypes {
         ensures put { IsPut self.old.modules self.new.modules value }
         ensures rest { self.new ≡ record self.old { modules = self.new.modules } }
         ensures grows { Grows self.old self.new }
+        ensures err { OnErr result (self.new ≡ self.old) }
         ensures full { result ≡ Err NoPlace.TooMany → IsTooFullFor self.new (λ b. HasNumber b.modules value) }
     {
         Ok(TypeModuleIndex(intern(&mut self.modules, value)?))
@@ -244,6 +260,7 @@ impl InternedTypes {
         ensures put { IsPut self.old.signatures self.new.signatures value }
         ensures rest { self.new ≡ record self.old { signatures = self.new.signatures } }
         ensures grows { Grows self.old self.new }
+        ensures err { OnErr result (self.new ≡ self.old) }
         ensures full { result ≡ Err NoPlace.TooMany → IsTooFullFor self.new (λ b. HasNumber b.signatures value) }
     {
         Ok(ModuleInternedTypeIndex(intern(&mut self.signatures, value)?))

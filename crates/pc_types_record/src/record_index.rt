@@ -77,7 +77,7 @@ impl<'a> RecordIndex<'a> {
         item(places.as_slice(), entity_number(entity) as usize)
     }
 
-    /// The entity that the import at a place is.
+    /// What the nth import is, as an entity of the module.
     pub fn import_index(&self, position: usize) -> Option<EntityIndex>
         ensures { result ≡ imported_entity self.now position }
     {

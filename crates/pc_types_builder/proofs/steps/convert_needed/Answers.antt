@@ -1,6 +1,7 @@
 use Rattle.std.proofs.Common.{arith}
 use Rattle.pc_types_lists.proofs.ErrorLemmas.{passed_on}
 use Rattle.pc_types_lists.proofs.Growth.{grows_trans}
+use Rattle.pc_types_builder.proofs.AskedLemmas.{asked_both, next_asked}
 use Rattle.pc_types_builder.proofs.AloneLemmas.{adds_few, adds_last, adds_step}
 use Rattle.pc_types_builder.proofs.RefusalLemmas.{next_there}
 use Rattle.pc_types_builder.proofs.StepLemmas.{asked_done, done_next, parts_done}
@@ -22,6 +23,9 @@ loop-k-preserved c =
       kept = λ m h. c.step.ensures.kept m (l.invariant.kept m h);
       grows = grows_trans _ _ _ l.invariant.grows c.step.ensures.grows;
       within = omega (arith, c.loop-k-test.true);
+      adds = asked_both _ _ _ _ _ c.step.ensures.grows l.invariant.adds
+          (next_asked c.args.table.now c.requires.sound _ _ _ c.requires.needed l.k-index
+          (omega (arith, c.loop-k-test.true)) _ _ _ l.invariant.converted c.step.ensures.grows c.step.ensures.adds);
       few = λ h. adds_step c.args.table.now c.requires.sound _ _ _ c.requires.needed h l.k-index
           (omega (arith, c.loop-k-test.true)) _ _ _ (l.invariant.few h) c.step.ensures.few;
     }
@@ -52,3 +56,9 @@ pub returns-clause-few : goal.returns-clause-few
 returns-clause-few c h =
     adds_few c.args.table.now c.requires.sound _ _ _ c.requires.needed h _ c.loop-k.invariant.within _ _
     (c.loop-k.invariant.few h)
+
+pub returns-in_err-step-clause-adds : goal.returns-in_err-step-clause-adds
+returns-in_err-step-clause-adds c =
+    asked_both _ _ _ _ _ c.step.ensures.grows c.loop-k.invariant.adds
+    (next_asked c.args.table.now c.requires.sound _ _ _ c.requires.needed c.loop-k.k-index
+    (omega (arith, c.loop-k-test.true)) _ _ _ c.loop-k.invariant.converted c.step.ensures.grows c.step.ensures.adds)

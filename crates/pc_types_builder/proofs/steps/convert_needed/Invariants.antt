@@ -3,6 +3,7 @@ use Rattle.std.specs.Prelude.{slice_get}
 use Rattle.pc_types.specs.Table.{is_some_and}
 use Rattle.pc_types_lists.specs.Types.{Grows}
 use Rattle.pc_types_convert.specs.Few.{AddsFuncs, is_plain_func}
+use Rattle.pc_types_builder.specs.Asked.{AddsAsked}
 use Rattle.pc_types_builder.specs.Converted.{AreConverted}
 use Rattle.pc_types_convert.specs.Needed.{Each, IsDone}
 use Rattle.pc_types_builder.proofs.steps.convert_needed.Given as goal
@@ -14,6 +15,7 @@ invariant-loop-k l = record {
   kept : (m : ℕ) → IsDone l.fn.converted m → IsDone l.converted m;
   grows : Grows l.fn.interned l.interned;
   within : l.k-index ≤ length l.order;
+  adds : AddsAsked l.fn.table l.fn.n l.fn.interned l.interned;
   few : is_some_and is_plain_func (slice_get l.fn.table.types l.fn.n) ≡ true
       → AddsFuncs l.k-index (l.k-index + l.k-index) l.fn.interned l.interned;
 }

@@ -2,6 +2,7 @@ use Rattle.std.proofs.Common.{◌≡◌, arith, subst, true}
 use Rattle.pc_types.specs.Table.{is_some_and}
 use Rattle.pc_types_lists.proofs.ErrorLemmas.{passed_on}
 use Rattle.pc_types_convert.specs.Few.{is_plain_func}
+use Rattle.pc_types_builder.proofs.AskedLemmas.{step_adds}
 use Rattle.pc_types_builder.proofs.StepLemmas.{done_put, entry_wanted, front_held, kept_put, put_more, ready_front}
 use Rattle.pc_types_builder.proofs.TreeLemmas.{converted_grows}
 use Rattle.pc_types_builder.proofs.steps.step.Goals as goal
@@ -28,7 +29,8 @@ returns-in_err-type_-clause-full c =
 pub returns-clause-converted : goal.returns-clause-converted
 returns-clause-converted c =
     put_more c.args.table.now c.requires.sound _ c.args.converted.now _ _ c.args.k _ c.in_ok-type_.type_
-    c.entry_at-entry.ensures (converted_grows _ _ c.convert.ensures.grows _ _ c.requires.converted)
+    c.entry_at-entry.ensures (c.requires.parts _ c.entry_at-entry.ensures) (converted_grows _ _
+    c.convert.ensures.grows _ _ c.requires.converted)
     c.in_front.ensures c.in_ok-type_.ensures.is c.put.ensures
 
 pub returns-clause-done : goal.returns-clause-done
@@ -45,3 +47,13 @@ returns-in_err-type_-clause-few c h =
 pub returns-clause-few : goal.returns-clause-few
 returns-clause-few c h =
     c.convert.ensures.few (subst (λ o. is_some_and is_plain_func o ≡ true) c.entry_at-entry.ensures h)
+
+pub returns-in_err-type_-clause-adds : goal.returns-in_err-type_-clause-adds
+returns-in_err-type_-clause-adds c e at =
+    step_adds c.args.table.now c.args.k _ e at c.entry_at-entry.ensures _ _ c.in_front.ensures _ _
+    c.convert.ensures.adds
+
+pub returns-clause-adds : goal.returns-clause-adds
+returns-clause-adds c e at =
+    step_adds c.args.table.now c.args.k _ e at c.entry_at-entry.ensures _ _ c.in_front.ensures _ _
+    c.convert.ensures.adds

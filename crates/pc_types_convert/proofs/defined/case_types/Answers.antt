@@ -1,3 +1,5 @@
+use Rattle.pc_types_convert.specs.Adds.{no_context_in_case}
+use Rattle.pc_types_convert.proofs.AddsLemmas.{contexts_next}
 use Rattle.pc_types_lists.proofs.ErrorLemmas.{passed_on}
 use Rattle.std.proofs.Common.{arith, sym}
 use Rattle.pc_types_convert.specs.Parts.{CaseIs}
@@ -26,6 +28,9 @@ loop-case-preserved c =
           (omega arith) c.case-item.is l.invariant.are
           (sym c.in_ok-name.ensures, c.in_ok-maybe_value.ensures.is) c.in_ok-push.ensures.ok;
       grows = grows_trans _ _ _ l.invariant.grows now;
+      contexts = contexts_next no_context_in_case c.args.cases.now l.case-index c.case-item.result (omega arith)
+          c.case-item.is _ _ _
+          l.invariant.contexts c.maybe_value.ensures.contexts;
     }
 
 pub returns-in_err-maybe_value-clause-full : goal.returns-in_err-maybe_value-clause-full
@@ -36,3 +41,15 @@ returns-in_err-maybe_value-clause-full c =
     let here = zip_here (CaseIs next c.args.done.now) c.args.cases.now q.0 c.loop-case.case-index c.case-item.result
     (omega arith) c.case-item.is q.1 in
     (here.0.1, here.1.1))
+
+pub returns-in_err-maybe_value-clause-contexts : goal.returns-in_err-maybe_value-clause-contexts
+returns-in_err-maybe_value-clause-contexts c =
+    contexts_next no_context_in_case c.args.cases.now c.loop-case.case-index c.case-item.result (omega arith)
+    c.case-item.is _ _ _
+    c.loop-case.invariant.contexts c.maybe_value.ensures.contexts
+
+pub returns-in_err-push-clause-contexts : goal.returns-in_err-push-clause-contexts
+returns-in_err-push-clause-contexts c =
+    contexts_next no_context_in_case c.args.cases.now c.loop-case.case-index c.case-item.result (omega arith)
+    c.case-item.is _ _ _
+    c.loop-case.invariant.contexts c.maybe_value.ensures.contexts

@@ -1,3 +1,5 @@
+use Rattle.pc_types_convert.specs.Adds.{no_context_in_field}
+use Rattle.pc_types_convert.proofs.AddsLemmas.{contexts_next}
 use Rattle.pc_types_lists.proofs.ErrorLemmas.{passed_on}
 use Rattle.std.proofs.Common.{arith, sym}
 use Rattle.pc_types_convert.specs.Parts.{FieldIs}
@@ -25,6 +27,9 @@ loop-field-preserved c =
           l.field-index c.field-item.result (c.in_ok-name.name, c.in_ok-value.field-0) (omega arith) c.field-item.is
           l.invariant.are (sym c.in_ok-name.ensures, c.in_ok-value.ensures.is) c.in_ok-push.ensures.ok;
       grows = grows_trans _ _ _ l.invariant.grows now;
+      contexts = contexts_next no_context_in_field c.args.fields.now l.field-index c.field-item.result (omega arith)
+          c.field-item.is _ _ _
+          l.invariant.contexts c.value.ensures.contexts;
     }
 
 pub returns-in_err-value-clause-full : goal.returns-in_err-value-clause-full
@@ -36,3 +41,15 @@ returns-in_err-value-clause-full c =
     (FieldIs next c.args.done.now) c.args.fields.now q.0 c.loop-field.field-index c.field-item.result
     (omega arith) c.field-item.is q.1 in
     (here.0.1, here.1.1))
+
+pub returns-in_err-value-clause-contexts : goal.returns-in_err-value-clause-contexts
+returns-in_err-value-clause-contexts c =
+    contexts_next no_context_in_field c.args.fields.now c.loop-field.field-index c.field-item.result (omega arith)
+    c.field-item.is _ _ _
+    c.loop-field.invariant.contexts c.value.ensures.contexts
+
+pub returns-in_err-push-clause-contexts : goal.returns-in_err-push-clause-contexts
+returns-in_err-push-clause-contexts c =
+    contexts_next no_context_in_field c.args.fields.now c.loop-field.field-index c.field-item.result (omega arith)
+    c.field-item.is _ _ _
+    c.loop-field.invariant.contexts c.value.ensures.contexts

@@ -1,3 +1,5 @@
+use Rattle.pc_types_convert.proofs.KindAdds.{list_added}
+use Rattle.pc_types_convert.proofs.AddsLemmas.{type_contexts}
 use Rattle.std.proofs.Common.{refl}
 use Rattle.pc_types_lists.proofs.ErrorLemmas.{passed_on}
 use Rattle.pc_types_lists.proofs.Growth.{grows_trans}
@@ -33,3 +35,18 @@ returns-in_err-put_list-clause-full c =
     passed_on error.result c.in_err-put_list.field-0.0 _ _ _ error.ensures.1 c.in_err-put_list.ensures.full
     (λ next g is.
     list_there _ _ next c.put_list.ensures.grows g is c.args.done.now c.args.v _ c.in_ok-element.ensures.is)
+
+pub returns-in_err-element-clause-adds : goal.returns-in_err-element-clause-adds
+returns-in_err-element-clause-adds c = type_contexts _ _ _ _ c.value.ensures.contexts
+
+pub returns-in_err-put_list-clause-adds : goal.returns-in_err-put_list-clause-adds
+returns-in_err-put_list-clause-adds c =
+    list_added _ _ _ c.put_list.ensures.grows c.args.done.now c.args.v _ c.in_ok-element.ensures.is
+    c.value.ensures.contexts
+    c.put_list.ensures.rest c.put_list.ensures.put
+
+pub returns-clause-adds : goal.returns-clause-adds
+returns-clause-adds c =
+    list_added _ _ _ c.put_list.ensures.grows c.args.done.now c.args.v _ c.in_ok-element.ensures.is
+    c.value.ensures.contexts
+    c.put_list.ensures.rest c.put_list.ensures.put

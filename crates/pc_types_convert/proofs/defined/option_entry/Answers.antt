@@ -1,3 +1,5 @@
+use Rattle.pc_types_convert.proofs.KindAdds.{option_added}
+use Rattle.pc_types_convert.proofs.AddsLemmas.{type_contexts}
 use Rattle.std.proofs.Common.{refl}
 use Rattle.pc_types_lists.proofs.ErrorLemmas.{passed_on}
 use Rattle.pc_types_lists.proofs.Growth.{grows_trans}
@@ -33,3 +35,18 @@ returns-in_err-put_option-clause-full c =
     passed_on error.result c.in_err-put_option.field-0.0 _ _ _ error.ensures.1 c.in_err-put_option.ensures.full
     (λ next g is.
     option_there _ _ next c.put_option.ensures.grows g is c.args.done.now c.args.v _ c.in_ok-ty.ensures.is)
+
+pub returns-in_err-ty-clause-adds : goal.returns-in_err-ty-clause-adds
+returns-in_err-ty-clause-adds c = type_contexts _ _ _ _ c.value.ensures.contexts
+
+pub returns-in_err-put_option-clause-adds : goal.returns-in_err-put_option-clause-adds
+returns-in_err-put_option-clause-adds c =
+    option_added _ _ _ c.put_option.ensures.grows c.args.done.now c.args.v _ c.in_ok-ty.ensures.is
+    c.value.ensures.contexts
+    c.put_option.ensures.rest c.put_option.ensures.put
+
+pub returns-clause-adds : goal.returns-clause-adds
+returns-clause-adds c =
+    option_added _ _ _ c.put_option.ensures.grows c.args.done.now c.args.v _ c.in_ok-ty.ensures.is
+    c.value.ensures.contexts
+    c.put_option.ensures.rest c.put_option.ensures.put

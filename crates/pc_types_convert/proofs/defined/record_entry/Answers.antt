@@ -1,3 +1,5 @@
+use Rattle.pc_types_convert.proofs.KindAdds.{record_added}
+use Rattle.pc_types_convert.proofs.AddsLemmas.{type_contexts}
 use Rattle.std.proofs.Common.{refl}
 use Rattle.pc_types_lists.proofs.ErrorLemmas.{passed_on}
 use Rattle.pc_types_lists.proofs.Growth.{grows_trans}
@@ -38,3 +40,18 @@ returns-in_err-put_record_type-clause-full c =
     (λ next g is.
     record_there _ _ next c.put_record_type.ensures.grows g is c.args.done.now c.args.fields.now _
     c.in_ok-fields.ensures.are)
+
+pub returns-in_err-fields-clause-adds : goal.returns-in_err-fields-clause-adds
+returns-in_err-fields-clause-adds c = type_contexts _ _ _ _ c.field_types.ensures.contexts
+
+pub returns-in_err-put_record_type-clause-adds : goal.returns-in_err-put_record_type-clause-adds
+returns-in_err-put_record_type-clause-adds c =
+    record_added _ _ _ c.put_record_type.ensures.grows c.args.done.now c.args.fields.now _ c.in_ok-fields.ensures.are
+    c.field_types.ensures.contexts
+    c.put_record_type.ensures.rest c.put_record_type.ensures.put
+
+pub returns-clause-adds : goal.returns-clause-adds
+returns-clause-adds c =
+    record_added _ _ _ c.put_record_type.ensures.grows c.args.done.now c.args.fields.now _ c.in_ok-fields.ensures.are
+    c.field_types.ensures.contexts
+    c.put_record_type.ensures.rest c.put_record_type.ensures.put

@@ -1,3 +1,6 @@
+use Rattle.pc_types_convert.specs.Adds.{no_context_in_maybe}
+use Rattle.pc_types_convert.proofs.KindAdds.{result_added}
+use Rattle.pc_types_convert.proofs.AddsLemmas.{type_contexts, contexts_first, contexts_pair}
 use Rattle.std.proofs.Common.{refl}
 use Rattle.pc_types_lists.proofs.ErrorLemmas.{passed_on}
 use Rattle.pc_types_lists.proofs.Growth.{grows_3, grows_trans}
@@ -36,3 +39,25 @@ returns-in_err-put_result-clause-full c =
     (λ next g is.
     result_there _ _ next c.maybe_value-2.ensures.grows (grows_trans _ _ next c.put_result.ensures.grows g) is
     c.args.done.now c.args.ok c.args.err _ _ c.in_ok-ok.ensures.is c.in_ok-err.ensures.is)
+
+pub returns-in_err-ok-clause-adds : goal.returns-in_err-ok-clause-adds
+returns-in_err-ok-clause-adds c =
+    type_contexts _ _ _ _ (contexts_first _ (no_context_in_maybe c.args.err) _ _ c.maybe_value.ensures.contexts)
+
+pub returns-in_err-err-clause-adds : goal.returns-in_err-err-clause-adds
+returns-in_err-err-clause-adds c =
+    type_contexts _ _ _ _ (contexts_pair _ _ _ _ _ c.maybe_value.ensures.contexts c.maybe_value-2.ensures.contexts)
+
+pub returns-in_err-put_result-clause-adds : goal.returns-in_err-put_result-clause-adds
+returns-in_err-put_result-clause-adds c =
+    result_added _ _ _ c.put_result.ensures.grows c.args.done.now _ c.maybe_value-2.ensures.grows c.args.ok
+    c.args.err _ _
+    c.in_ok-ok.ensures.is c.in_ok-err.ensures.is c.maybe_value.ensures.contexts c.maybe_value-2.ensures.contexts
+    c.put_result.ensures.rest c.put_result.ensures.put
+
+pub returns-clause-adds : goal.returns-clause-adds
+returns-clause-adds c =
+    result_added _ _ _ c.put_result.ensures.grows c.args.done.now _ c.maybe_value-2.ensures.grows c.args.ok
+    c.args.err _ _
+    c.in_ok-ok.ensures.is c.in_ok-err.ensures.is c.maybe_value.ensures.contexts c.maybe_value-2.ensures.contexts
+    c.put_result.ensures.rest c.put_result.ensures.put

@@ -1,3 +1,5 @@
+use Rattle.pc_types_convert.proofs.KindAdds.{stream_added}
+use Rattle.pc_types_convert.proofs.AddsLemmas.{type_contexts}
 use Rattle.pc_types_lists.specs.Types.{Resources}
 use Rattle.pc_types_lists.proofs.ErrorLemmas.{passed_on}
 use Rattle.pc_types_lists.proofs.Growth.{grows_trans}
@@ -33,3 +35,20 @@ returns-in_err-put_stream_table-clause-full c =
     stream_there _ _ next c.put_stream_table.ensures.grows g is c.args.done.now c.args.v _ _
     (c.current_instance-instance.ensures ∙ ap (λ (r : Resources). r.current) c.resources.ensures)
     c.in_ok-payload.ensures.is)
+
+pub returns-in_err-payload-clause-adds : goal.returns-in_err-payload-clause-adds
+returns-in_err-payload-clause-adds c = type_contexts _ _ _ _ c.maybe_value.ensures.contexts
+
+pub returns-in_err-put_stream_table-clause-adds : goal.returns-in_err-put_stream_table-clause-adds
+returns-in_err-put_stream_table-clause-adds c =
+    stream_added _ _ _ c.put_stream_table.ensures.grows c.args.done.now c.args.v _ _
+    (c.current_instance-instance.ensures ∙ ap (λ (r : Resources). r.current) c.resources.ensures)
+    c.in_ok-payload.ensures.is c.maybe_value.ensures.contexts
+    c.put_stream_table.ensures.rest c.put_stream_table.ensures.put
+
+pub returns-clause-adds : goal.returns-clause-adds
+returns-clause-adds c =
+    stream_added _ _ _ c.put_stream_table.ensures.grows c.args.done.now c.args.v _ _
+    (c.current_instance-instance.ensures ∙ ap (λ (r : Resources). r.current) c.resources.ensures)
+    c.in_ok-payload.ensures.is c.maybe_value.ensures.contexts
+    c.put_stream_table.ensures.rest c.put_stream_table.ensures.put

@@ -1,3 +1,5 @@
+use Rattle.pc_types_convert.proofs.KindAdds.{tuple_added}
+use Rattle.pc_types_convert.proofs.AddsLemmas.{type_contexts}
 use Rattle.std.proofs.Common.{refl}
 use Rattle.pc_types_lists.proofs.ErrorLemmas.{passed_on}
 use Rattle.pc_types_lists.proofs.Growth.{grows_trans}
@@ -38,3 +40,18 @@ returns-in_err-types-clause-full c =
     passed_on c.from_residual.result c.in_err-types.field-0.0 _ _ _ c.from_residual.ensures.1
     c.in_err-types.ensures.full
     (λ next g is q. (q.1.1.types, q.1.4))
+
+pub returns-in_err-types-clause-adds : goal.returns-in_err-types-clause-adds
+returns-in_err-types-clause-adds c = type_contexts _ _ _ _ c.value_types.ensures.contexts
+
+pub returns-in_err-put_tuple-clause-adds : goal.returns-in_err-put_tuple-clause-adds
+returns-in_err-put_tuple-clause-adds c =
+    tuple_added _ _ _ c.put_tuple.ensures.grows c.args.done.now c.args.vs.now _ c.in_ok-types.ensures.are
+    c.value_types.ensures.contexts
+    c.put_tuple.ensures.rest c.put_tuple.ensures.put
+
+pub returns-clause-adds : goal.returns-clause-adds
+returns-clause-adds c =
+    tuple_added _ _ _ c.put_tuple.ensures.grows c.args.done.now c.args.vs.now _ c.in_ok-types.ensures.are
+    c.value_types.ensures.contexts
+    c.put_tuple.ensures.rest c.put_tuple.ensures.put

@@ -1,3 +1,5 @@
+use Rattle.pc_types_convert.specs.Adds.{no_context_in_val}
+use Rattle.pc_types_convert.proofs.AddsLemmas.{contexts_next}
 use Rattle.pc_types_lists.proofs.ErrorLemmas.{passed_on}
 use Rattle.std.proofs.Common.{arith, get_or}
 use Rattle.std.proofs.lemmas.List.{get_or_default}
@@ -30,6 +32,9 @@ loop-v-preserved c =
           c.in_ok-value.field-0 (omega arith) (get_or_default vs l.v-index (Prim Bool) v c.loop-v-test.true)
           l.invariant.are c.in_ok-value.ensures.is c.in_ok-push.ensures.ok;
       grows = grows_trans _ _ _ l.invariant.grows now;
+      contexts = contexts_next no_context_in_val c.args.vs.now l.v-index v (omega arith) (get_or_default vs l.v-index
+          (Prim Bool) v c.loop-v-test.true) _ _ _
+          l.invariant.contexts c.value.ensures.contexts;
     }
 
 pub returns-in_err-value-clause-full : goal.returns-in_err-value-clause-full
@@ -41,3 +46,15 @@ returns-in_err-value-clause-full c =
     c.in_err-value.ensures.full
     (λ next g is q. zip_here (ValIs next c.args.done.now) vs q.0 i v (omega arith)
     (get_or_default vs i (Prim Bool) v c.loop-v-test.true) q.1)
+
+pub returns-in_err-value-clause-contexts : goal.returns-in_err-value-clause-contexts
+returns-in_err-value-clause-contexts c =
+    contexts_next no_context_in_val c.args.vs.now c.loop-v.v-index (get_or c.args.vs.now c.loop-v.v-index (Prim
+    Bool)) (omega arith) (get_or_default c.args.vs.now c.loop-v.v-index (Prim Bool) _ c.loop-v-test.true) _ _ _
+    c.loop-v.invariant.contexts c.value.ensures.contexts
+
+pub returns-in_err-push-clause-contexts : goal.returns-in_err-push-clause-contexts
+returns-in_err-push-clause-contexts c =
+    contexts_next no_context_in_val c.args.vs.now c.loop-v.v-index (get_or c.args.vs.now c.loop-v.v-index (Prim
+    Bool)) (omega arith) (get_or_default c.args.vs.now c.loop-v.v-index (Prim Bool) _ c.loop-v-test.true) _ _ _
+    c.loop-v.invariant.contexts c.value.ensures.contexts

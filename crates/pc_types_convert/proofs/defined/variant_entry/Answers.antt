@@ -1,3 +1,5 @@
+use Rattle.pc_types_convert.proofs.KindAdds.{variant_added}
+use Rattle.pc_types_convert.proofs.AddsLemmas.{type_contexts}
 use Rattle.std.proofs.Common.{refl}
 use Rattle.pc_types_lists.proofs.ErrorLemmas.{passed_on}
 use Rattle.pc_types_lists.proofs.Growth.{grows_trans}
@@ -36,3 +38,18 @@ returns-in_err-put_variant-clause-full c =
     (λ next g is.
     variant_there _ _ next c.put_variant.ensures.grows g is c.args.done.now c.args.cases.now _
     c.in_ok-cases.ensures.are)
+
+pub returns-in_err-cases-clause-adds : goal.returns-in_err-cases-clause-adds
+returns-in_err-cases-clause-adds c = type_contexts _ _ _ _ c.case_types.ensures.contexts
+
+pub returns-in_err-put_variant-clause-adds : goal.returns-in_err-put_variant-clause-adds
+returns-in_err-put_variant-clause-adds c =
+    variant_added _ _ _ c.put_variant.ensures.grows c.args.done.now c.args.cases.now _ c.in_ok-cases.ensures.are
+    c.case_types.ensures.contexts
+    c.put_variant.ensures.rest c.put_variant.ensures.put
+
+pub returns-clause-adds : goal.returns-clause-adds
+returns-clause-adds c =
+    variant_added _ _ _ c.put_variant.ensures.grows c.args.done.now c.args.cases.now _ c.in_ok-cases.ensures.are
+    c.case_types.ensures.contexts
+    c.put_variant.ensures.rest c.put_variant.ensures.put

@@ -1,3 +1,4 @@
+use Rattle.pc_types_convert.proofs.KindAdds.{func_none, func_params_added, func_tuples_added, func_added}
 use Rattle.std.proofs.Common.{refl}
 use Rattle.std.proofs.lemmas.Option.{slice_get_within}
 use Rattle.pc_types_lists.proofs.ErrorLemmas.{passed_on}
@@ -70,4 +71,26 @@ returns-in_err-results-clause-few c h =
 pub returns-clause-few : goal.returns-clause-few
 returns-clause-few c h =
     adds_func c.args.params.now c.args.returns h _ _ c.params_tuple.ensures.few _ c.results_tuple.ensures.few _ _
+    c.put_func.ensures.rest c.put_func.ensures.put
+
+pub returns-in_err-param_names-clause-adds : goal.returns-in_err-param_names-clause-adds
+returns-in_err-param_names-clause-adds c =
+    func_none c.args.done.now c.args.params.now c.args.returns c.args.async_ _ _ refl
+
+pub returns-in_err-params-clause-adds : goal.returns-in_err-params-clause-adds
+returns-in_err-params-clause-adds c =
+    func_params_added c.args.done.now c.args.params.now c.args.returns c.args.async_ _ _ c.params_tuple.ensures.adds
+
+pub returns-in_err-results-clause-adds : goal.returns-in_err-results-clause-adds
+returns-in_err-results-clause-adds c =
+    func_tuples_added c.args.done.now c.args.params.now c.args.returns c.args.async_ _ _ c.params_tuple.ensures.adds _
+    c.results_tuple.ensures.grows c.results_tuple.ensures.adds
+
+pub returns-clause-adds : goal.returns-clause-adds
+returns-clause-adds c =
+    func_added c.args.done.now c.args.params.now c.args.returns c.args.async_ _ _ c.params_tuple.ensures.adds _
+    c.results_tuple.ensures.grows c.results_tuple.ensures.adds _ c.put_func.ensures.grows _
+    (func_made _ _ _ c.results_tuple.ensures.grows c.put_func.ensures.grows c.args.done.now c.args.params.now
+    c.args.returns c.args.async_ _ _ _ c.in_ok-param_names.ensures c.in_ok-params.ensures.are
+    c.in_ok-results.ensures.are)
     c.put_func.ensures.rest c.put_func.ensures.put

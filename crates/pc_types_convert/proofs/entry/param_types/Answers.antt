@@ -1,10 +1,11 @@
+use Rattle.pc_types_convert.specs.Adds.{no_context_in_field}
+use Rattle.pc_types_convert.proofs.AddsLemmas.{contexts_next}
 use Rattle.pc_types_lists.proofs.ErrorLemmas.{passed_on}
 use Rattle.std.proofs.Common.{arith}
 use Rattle.pc_types_convert.specs.Parts.{ValIs}
 use Rattle.pc_types_lists.proofs.Growth.{grows_trans}
 use Rattle.pc_types_lists.proofs.ZipLemmas.{zip_here}
 use Rattle.pc_types_convert.proofs.PartLemmas.{val_grows, zip_step}
-use Rattle.pc_types_convert.proofs.FewLemmas.{plain_next}
 use Rattle.pc_types_convert.proofs.entry.param_types.Goals as goal
 
 pub returns-in_err-value-clause-grows : goal.returns-in_err-value-clause-grows
@@ -26,7 +27,9 @@ loop-param-preserved c =
           (λ p w. val_grows _ _ now s p.1 w) ps _ _ l.param-index p.result c.in_ok-value.field-0 (omega arith) p.is
           l.invariant.are c.in_ok-value.ensures.is c.in_ok-push.ensures.ok;
       grows = grows_trans _ _ _ l.invariant.grows now;
-      plain = plain_next ps l.param-index p.result (omega arith) p.is _ _ _ l.invariant.plain c.value.ensures.plain;
+      contexts = contexts_next no_context_in_field c.args.params.now l.param-index c.param-item.result (omega arith)
+          c.param-item.is _ _ _
+          l.invariant.contexts c.value.ensures.contexts;
     }
 
 pub returns-in_err-value-clause-full : goal.returns-in_err-value-clause-full
@@ -37,12 +40,14 @@ returns-in_err-value-clause-full c =
     zip_here (λ p w. ValIs next c.args.done.now p.1 w) c.args.params.now q.0 c.loop-param.param-index
     c.param-item.result (omega arith) c.param-item.is q.1)
 
-pub returns-in_err-value-clause-plain : goal.returns-in_err-value-clause-plain
-returns-in_err-value-clause-plain c =
-    plain_next c.args.params.now c.loop-param.param-index c.param-item.result (omega arith) c.param-item.is _ _ _
-    c.loop-param.invariant.plain c.value.ensures.plain
+pub returns-in_err-value-clause-contexts : goal.returns-in_err-value-clause-contexts
+returns-in_err-value-clause-contexts c =
+    contexts_next no_context_in_field c.args.params.now c.loop-param.param-index c.param-item.result (omega arith)
+    c.param-item.is _ _ _
+    c.loop-param.invariant.contexts c.value.ensures.contexts
 
-pub returns-in_err-push-clause-plain : goal.returns-in_err-push-clause-plain
-returns-in_err-push-clause-plain c =
-    plain_next c.args.params.now c.loop-param.param-index c.param-item.result (omega arith) c.param-item.is _ _ _
-    c.loop-param.invariant.plain c.value.ensures.plain
+pub returns-in_err-push-clause-contexts : goal.returns-in_err-push-clause-contexts
+returns-in_err-push-clause-contexts c =
+    contexts_next no_context_in_field c.args.params.now c.loop-param.param-index c.param-item.result (omega arith)
+    c.param-item.is _ _ _
+    c.loop-param.invariant.contexts c.value.ensures.contexts

@@ -1,4 +1,5 @@
-use Rattle.std.proofs.Common.{Some, ◌∙◌}
+use Rattle.pc_types_convert.proofs.KindAdds.{component_added, type_none}
+use Rattle.std.proofs.Common.{Some, ◌∙◌, refl}
 use Rattle.pc_types_convert.proofs.OneNumber.{one_externs}
 use Rattle.pc_types_lists.proofs.ErrorLemmas.{passed_on}
 use Rattle.pc_types_convert.proofs.extern_type.component_entry.Goals as goal
@@ -14,3 +15,19 @@ returns-in_err-put_component-clause-full c =
     let imports = one_externs done c.args.imports.now q.1.1.imports i.imports q.1.4 i.ensures.are in
     let exports = one_externs done c.args.exports.now q.1.1.exports e.exports q.1.5 e.ensures.are in
     (q.1.0.0, q.1.3 ∙ (λ j. Some (record { imports = imports j; exports = exports j }))))
+
+pub returns-in_err-imports-clause-adds : goal.returns-in_err-imports-clause-adds
+returns-in_err-imports-clause-adds c = type_none _ _ _ refl
+
+pub returns-in_err-exports-clause-adds : goal.returns-in_err-exports-clause-adds
+returns-in_err-exports-clause-adds c = type_none _ _ _ refl
+
+pub returns-in_err-put_component-clause-adds : goal.returns-in_err-put_component-clause-adds
+returns-in_err-put_component-clause-adds c =
+    component_added _ _ c.args.done.now c.args.imports.now c.args.exports.now _ _ c.in_ok-imports.ensures.are
+    c.in_ok-exports.ensures.are c.put_component.ensures.rest c.put_component.ensures.put
+
+pub returns-clause-adds : goal.returns-clause-adds
+returns-clause-adds c =
+    component_added _ _ c.args.done.now c.args.imports.now c.args.exports.now _ _ c.in_ok-imports.ensures.are
+    c.in_ok-exports.ensures.are c.put_component.ensures.rest c.put_component.ensures.put

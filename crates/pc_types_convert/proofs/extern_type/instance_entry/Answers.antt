@@ -1,4 +1,5 @@
-use Rattle.std.proofs.Common.{Some, ap, ◌∙◌}
+use Rattle.pc_types_convert.proofs.KindAdds.{instance_added, type_none}
+use Rattle.std.proofs.Common.{Some, ap, ◌∙◌, refl}
 use Rattle.pc_types_convert.proofs.OneNumber.{one_externs}
 use Rattle.pc_types_lists.proofs.ErrorLemmas.{passed_on}
 use Rattle.pc_types_convert.proofs.extern_type.instance_entry.Goals as goal
@@ -13,3 +14,16 @@ returns-in_err-put_instance-clause-full c =
       q.1.3 ∙ ap (λ x. Some (record { exports = x }))
           (one_externs c.args.done.now c.args.exports.now q.1.1.exports part.exports q.1.4 part.ensures.are),
     ))
+
+pub returns-in_err-exports-clause-adds : goal.returns-in_err-exports-clause-adds
+returns-in_err-exports-clause-adds c = type_none _ _ _ refl
+
+pub returns-in_err-put_instance-clause-adds : goal.returns-in_err-put_instance-clause-adds
+returns-in_err-put_instance-clause-adds c =
+    instance_added _ _ c.args.done.now c.args.exports.now _ c.in_ok-exports.ensures.are c.put_instance.ensures.rest
+    c.put_instance.ensures.put
+
+pub returns-clause-adds : goal.returns-clause-adds
+returns-clause-adds c =
+    instance_added _ _ c.args.done.now c.args.exports.now _ c.in_ok-exports.ensures.are c.put_instance.ensures.rest
+    c.put_instance.ensures.put

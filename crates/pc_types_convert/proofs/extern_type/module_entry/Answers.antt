@@ -1,3 +1,4 @@
+use Rattle.pc_types_convert.proofs.KindAdds.{module_imports_added, module_exports_added, module_added}
 use Rattle.std.proofs.Common.{refl}
 use Rattle.pc_types_lists.proofs.ErrorLemmas.{passed_on}
 use Rattle.pc_types_lists.proofs.Growth.{grows_3, grows_trans}
@@ -37,3 +38,24 @@ returns-in_err-put_module-clause-full c =
     (λ next g is.
     module_there _ _ next c.module_exports.ensures.grows (grows_trans _ _ next c.put_module.ensures.grows g) is
     c.args.table.now c.args.imports.now _ c.args.exports.now _ c.in_ok-imports.ensures.are c.in_ok-exports.ensures.are)
+
+pub returns-in_err-imports-clause-adds : goal.returns-in_err-imports-clause-adds
+returns-in_err-imports-clause-adds c =
+    module_imports_added c.args.table.now c.args.imports.now c.args.exports.now _ _ c.module_imports.ensures.signatures
+
+pub returns-in_err-exports-clause-adds : goal.returns-in_err-exports-clause-adds
+returns-in_err-exports-clause-adds c =
+    module_exports_added c.args.table.now c.args.imports.now c.args.exports.now _ _ _ c.module_exports.ensures.grows
+    c.module_imports.ensures.signatures c.module_exports.ensures.signatures
+
+pub returns-in_err-put_module-clause-adds : goal.returns-in_err-put_module-clause-adds
+returns-in_err-put_module-clause-adds c =
+    module_added c.args.table.now c.args.imports.now c.args.exports.now _ _ _ c.module_exports.ensures.grows
+    c.module_imports.ensures.signatures c.module_exports.ensures.signatures _ c.put_module.ensures.grows _ _
+    c.in_ok-imports.ensures.are c.in_ok-exports.ensures.are c.put_module.ensures.rest c.put_module.ensures.put
+
+pub returns-clause-adds : goal.returns-clause-adds
+returns-clause-adds c =
+    module_added c.args.table.now c.args.imports.now c.args.exports.now _ _ _ c.module_exports.ensures.grows
+    c.module_imports.ensures.signatures c.module_exports.ensures.signatures _ c.put_module.ensures.grows _ _
+    c.in_ok-imports.ensures.are c.in_ok-exports.ensures.are c.put_module.ensures.rest c.put_module.ensures.put

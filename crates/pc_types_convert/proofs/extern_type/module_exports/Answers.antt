@@ -1,5 +1,7 @@
+use Rattle.pc_types.specs.declared.parsed.CoreEntity.{CoreEntity}
+use Rattle.pc_types_convert.proofs.AddsLemmas.{signatures_next}
 use Rattle.pc_types_lists.proofs.ErrorLemmas.{passed_on}
-use Rattle.std.proofs.Common.{arith, sym}
+use Rattle.std.proofs.Common.{arith, sym, List, ℕ}
 use Rattle.pc_types_convert.specs.Entries.{ExportIs}
 use Rattle.pc_types_lists.proofs.Growth.{grows_trans}
 use Rattle.pc_types_lists.proofs.ZipLemmas.{zip_here}
@@ -26,6 +28,9 @@ loop-export-preserved c =
           (omega arith) c.export-item.is l.invariant.are
           (sym c.in_ok-name.ensures, c.in_ok-core_entity.ensures.is) c.in_ok-push.ensures.ok;
       grows = grows_trans _ _ _ l.invariant.grows now;
+      signatures = signatures_next s (λ (e : List ℕ × CoreEntity). e.1) c.args.exports.now l.export-index
+          c.export-item.result (omega arith) c.export-item.is
+          _ _ _ now l.invariant.signatures c.core_entity.ensures.signatures;
     }
 
 pub returns-in_err-core_entity-clause-full : goal.returns-in_err-core_entity-clause-full
@@ -37,3 +42,17 @@ returns-in_err-core_entity-clause-full c =
     (ExportIs next c.args.table.now) c.args.exports.now q.0 c.loop-export.export-index c.export-item.result
     (omega arith) c.export-item.is q.1 in
     (here.0.1, here.1.1))
+
+pub returns-in_err-core_entity-clause-signatures : goal.returns-in_err-core_entity-clause-signatures
+returns-in_err-core_entity-clause-signatures c =
+    signatures_next c.args.table.now (λ (e : List ℕ × CoreEntity). e.1) c.args.exports.now c.loop-export.export-index
+    c.export-item.result (omega arith)
+    c.export-item.is _ _ _ c.core_entity.ensures.grows c.loop-export.invariant.signatures
+    c.core_entity.ensures.signatures
+
+pub returns-in_err-push-clause-signatures : goal.returns-in_err-push-clause-signatures
+returns-in_err-push-clause-signatures c =
+    signatures_next c.args.table.now (λ (e : List ℕ × CoreEntity). e.1) c.args.exports.now c.loop-export.export-index
+    c.export-item.result (omega arith)
+    c.export-item.is _ _ _ c.core_entity.ensures.grows c.loop-export.invariant.signatures
+    c.core_entity.ensures.signatures

@@ -1,5 +1,7 @@
+use Rattle.pc_types.specs.declared.parsed.CoreEntity.{CoreEntity}
+use Rattle.pc_types_convert.proofs.AddsLemmas.{signatures_next}
 use Rattle.pc_types_lists.proofs.ErrorLemmas.{passed_on}
-use Rattle.std.proofs.Common.{arith}
+use Rattle.std.proofs.Common.{arith, List, ℕ}
 use Rattle.pc_types_convert.specs.Entries.{ImportIs}
 use Rattle.pc_types_lists.proofs.Growth.{grows_trans}
 use Rattle.pc_types_lists.proofs.ZipLemmas.{zip_here}
@@ -25,6 +27,9 @@ loop-import-preserved c =
           c.args.imports.now _ _ l.import-index c.import-item.result c.in_ok-module_import.field-0 (omega arith)
           c.import-item.is l.invariant.are c.in_ok-module_import.ensures.is c.in_ok-push.ensures.ok;
       grows = grows_trans _ _ _ l.invariant.grows now;
+      signatures = signatures_next s (λ (i : List ℕ × List ℕ × CoreEntity). i.2) c.args.imports.now l.import-index
+          c.import-item.result (omega arith) c.import-item.is
+          _ _ _ now l.invariant.signatures c.module_import.ensures.signatures;
     }
 
 pub returns-in_err-module_import-clause-full : goal.returns-in_err-module_import-clause-full
@@ -36,3 +41,17 @@ returns-in_err-module_import-clause-full c =
     (ImportIs next c.args.table.now) c.args.imports.now q.0 c.loop-import.import-index c.import-item.result
     (omega arith) c.import-item.is q.1 in
     here)
+
+pub returns-in_err-module_import-clause-signatures : goal.returns-in_err-module_import-clause-signatures
+returns-in_err-module_import-clause-signatures c =
+    signatures_next c.args.table.now (λ (i : List ℕ × List ℕ × CoreEntity). i.2) c.args.imports.now
+    c.loop-import.import-index c.import-item.result (omega arith)
+    c.import-item.is _ _ _ c.module_import.ensures.grows c.loop-import.invariant.signatures
+    c.module_import.ensures.signatures
+
+pub returns-in_err-push-clause-signatures : goal.returns-in_err-push-clause-signatures
+returns-in_err-push-clause-signatures c =
+    signatures_next c.args.table.now (λ (i : List ℕ × List ℕ × CoreEntity). i.2) c.args.imports.now
+    c.loop-import.import-index c.import-item.result (omega arith)
+    c.import-item.is _ _ _ c.module_import.ensures.grows c.loop-import.invariant.signatures
+    c.module_import.ensures.signatures

@@ -6,6 +6,8 @@ use Rattle.pc_types_convert.proofs.PartLemmas.{if_ok_more}
 use Rattle.pc_types_builder.specs.Trees.{IsEntry, IsValue}
 use Rattle.pc_types_builder.proofs.RefusalLemmas.{prim_wanted}
 use Rattle.pc_types_builder.proofs.Simulation.{prim_is_value}
+use Rattle.pc_types_builder.specs.Asked.{AddsValue}
+use Rattle.pc_types_builder.proofs.AskedLemmas.{prim_asked, type_asked}
 use Rattle.pc_types_builder.proofs.builder.ComponentTypesBuilder.convert_val.Goals as goal
 
 pub returns-in_ok-primitive-in-Prim-clause-tree : goal.returns-in_ok-primitive-in-Prim-clause-tree
@@ -30,3 +32,17 @@ pub returns-in-Type_-clause-full : goal.returns-in-Type_-clause-full
 returns-in-Type_-clause-full c h =
     too_full _ _ _ (λ next g is q. (q.0, subst (λ v. IsValue next c.args.table.now v q.0) c.in-Type_.is q.1))
     (c.defined_type.ensures.full h)
+
+pub returns-in_ok-primitive-in-Prim-clause-adds : goal.returns-in_ok-primitive-in-Prim-clause-adds
+returns-in_ok-primitive-in-Prim-clause-adds c =
+    subst (λ b. AddsValue c.args.table.now c.args.v.now b c.primitive.new.interned) c.self.view_is
+    (prim_asked c.args.table.now c.args.v.now _ _ _ c.in-Prim.is c.primitive.ensures.contexts)
+
+pub returns-in_err-primitive-in-Prim-clause-adds : goal.returns-in_err-primitive-in-Prim-clause-adds
+returns-in_err-primitive-in-Prim-clause-adds c =
+    subst (λ b. AddsValue c.args.table.now c.args.v.now b c.primitive.new.interned) c.self.view_is
+    (prim_asked c.args.table.now c.args.v.now _ _ _ c.in-Prim.is c.primitive.ensures.contexts)
+
+pub returns-in-Type_-clause-adds : goal.returns-in-Type_-clause-adds
+returns-in-Type_-clause-adds c =
+    type_asked c.args.table.now c.args.v.now _ _ _ c.in-Type_.is c.defined_type.ensures.adds
