@@ -34,7 +34,7 @@ abbrev pub prim_of : (earlier : List (Option PrimType)) → ValType → Option P
 prim_of earlier (val.Prim p) = Some p
 prim_of earlier (val.Type_ n) = option_and_then (λ p. p) (slice_get earlier n)
 
--- the primitive that an entry holds: a `Val` entry counts as what it holds
+-- the primitive that an entry is: of the entries `Val` alone is one, where its value type is
 abbrev pub entry_prim : (earlier : List (Option PrimType)) → DeclType → Option PrimType
 entry_prim earlier (entry.Val v) = prim_of earlier v
 entry_prim earlier _ = None

@@ -58,7 +58,7 @@ around before = record {
 abbrev pub exposed_at : (open_count : ℕ) → (exposed : Option (List ℕ)) → Option (List ℕ)
 exposed_at n exposed = if nat_eq n 1 then exposed else None
 
--- the first fault of a payload's content, with the number of its item; a payload without a list has item 0
+-- the first fault of a payload's content, with the number of its item: 0 where the payload is no list of items
 abbrev pub content_fault : TypeTable → (exposed : Option (List ℕ)) → Around → Payload → Option (ℕ × StaticFault)
 content_fault t exposed a payload.ComponentStartSection = Some (0, fault.Unsupported unsupported.StartSection)
 content_fault t exposed a (payload.ComponentImportSection items) =

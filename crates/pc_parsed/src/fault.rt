@@ -15,7 +15,7 @@ pub enum StaticFault {
     Unsupported(Unsupported),
     /// A module record is inconsistent.
     BadTable,
-    /// A name stands twice in one list of names.
+    /// A list of names has one of them more than once.
     DefinedTwice,
     /// The import of the unsafe intrinsics doesn't declare what they are.
     BadIntrinsics,

@@ -71,9 +71,8 @@ fn have_few_entities(payloads: &[Payload]) -> bool
 
 /// Whether the entries of a table and the items and entities of a list can be numbered.
 ///
-/// Each of the table's two lists has fewer than 4294967295 entries, the core modules have fewer than 4294967295
-/// entities together, imported and defined, and the payloads fewer than 4294967295 items. A payload without a list
-/// counts as one.
+/// Four numbers have to be below 4294967295: the core signatures of the table, its types, the entities of all core
+/// modules, whether imported or defined, and the items of all payloads. A payload that is no list is one item.
 pub fn is_numbered(table: &TypeTable, payloads: &[Payload]) -> bool
     ensures { result ≡ is_numbered table.now payloads.now }
 {

@@ -26,17 +26,19 @@ use Rattle.pc_spec_reading.specs.Functions.{read_lift, read_lower, read_context,
 use Rattle.pc_spec_reading.specs.Builtins.{read_builtin, read_waitable, read_task_return, read_error_context}
 use Rattle.pc_spec_reading.specs.Builtins.{read_new_thread}
 use Rattle.pc_spec_reading.specs.Member.{member, resource_at, resource_among}
-use Rattle.pc_spec_reading.specs.Resource.{resource_paths, registered}
+use Rattle.pc_spec_reading.specs.Resource.{resource_paths, registered, walk, newly}
 use Rattle.pc_spec_reading.specs.Items.{value_at, exported_value, argument_value, exports_at}
 use Rattle.pc_spec_reading.specs.Instances.{read_component_exports, read_alias, read_export}
 use Rattle.pc_spec_reading.specs.Components.{read_component, read_outer, outer_of, read_call, add_child, read_return}
 use Rattle.pc_spec_reading.specs.Components.{is_definable}
-use Rattle.pc_spec_reading.specs.Imports.{prepare, prepare_all, import_resources, read_import, read_intrinsics}
+use Rattle.pc_spec_reading.specs.Imports.{prepare, import_resources, read_import, read_intrinsics}
 use Rattle.pc_spec_reading.specs.Rows.{read_resource, read_row}
 use Rattle.pc_spec_reading.specs.Total.{counted, body_weight, prepared_weight, item_weight}
-use Rattle.pc_spec_reading.specs.Nodes.{root_nodes, host_node, value_node}
-use Rattle.pc_spec_reading.specs.Reading.{instantiate, read_item, read_items, read_body, enter_at, read_root, finishing}
-use Rattle.pc_spec_reading.specs.Reading.{reading_of, reading}
+use Rattle.pc_spec_reading.specs.Guard.{everything}
+use Rattle.pc_spec_reading.specs.HostTypes.{type_at}
+use Rattle.pc_spec_reading.specs.Nodes.{host_node, value_node}
+use Rattle.pc_spec_reading.specs.Reading.{called, prepared, prepare_all, root_exports, finishing, row, instantiate}
+use Rattle.pc_spec_reading.specs.Reading.{read_item, read_items, read_body, enter_at, read_root, reading_of, reading}
 
 -- what an answer unfolds to compute the tree of a text, the input that it is, and its reading
 unfoldable pub on_literals : ⊤
@@ -50,9 +52,9 @@ unfolding serde_json_on_literals core_types prim_types core_kinds item_kinds out
     results_tree options_of the_options memory_options same_type was_made same_value core_export static_arguments
     host_arguments read_module read_core_instance read_core_exports read_core_alias read_lift read_lower
     read_context lower_to making read_builtin read_waitable read_task_return read_error_context read_new_thread
-    member resource_at resource_among resource_paths registered value_at exported_value argument_value exports_at
+    member resource_at resource_among resource_paths registered walk newly value_at exported_value argument_value exports_at
     read_component_exports read_alias read_export read_component read_outer outer_of read_call add_child read_return
-    is_definable prepare prepare_all import_resources read_import read_intrinsics read_resource read_row counted
-    body_weight prepared_weight item_weight root_nodes host_node value_node instantiate read_item read_items
-    read_body enter_at read_root finishing reading_of reading static_fault
+    is_definable prepare import_resources read_import read_intrinsics read_resource read_row counted body_weight
+    prepared_weight item_weight everything type_at host_node value_node called prepared prepare_all root_exports
+    finishing row instantiate read_item read_items read_body enter_at read_root reading_of reading static_fault
 on_literals = tt

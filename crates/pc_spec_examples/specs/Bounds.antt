@@ -1,8 +1,8 @@
 -- What a reading can be too large for, and lists that have none.
 use Rattle.std.specs.Prelude.{ℕ, List, [], ◌++◌, codes}
-use Rattle.pc_spec_reading.specs.Outcome.{Outcome}
+use Rattle.pc_spec_reading.specs.Outcome.{Outcome, invalid}
 use Rattle.pc_spec_reading.specs.Reading.{Reading}
-use Rattle.pc_spec_examples.specs.Means.{finished}
+use Rattle.pc_spec_examples.specs.Means.{finished, stuck}
 
 -- an instance type of more than 2^32 names, imported: its weight alone is too much. The total is looked at before the
 -- import is prepared
@@ -32,6 +32,57 @@ too_many_names_text =
     ++ codes "{\"instance\":[[\"a\",[\"instance\",30]],[\"b\",[\"instance\",30]]]},{\"instance\":[[\"a\",[\"instance\","
     ++ codes "31]],[\"b\",[\"instance\",31]]]}]},\"payloads\":[\"version\",{\"imports\":[[\"i\",[\"instance\",32]]]},"
     ++ codes "\"end\"]}"
+
+-- an input whose total can be set to the last number. Its 31 instance types have 0 names, 1, and then twice as many as
+-- the type before and 2 or 3 more; the last has 2147483468. The total is the 31 entries of the table, the n items of
+-- the list, and of the root 1, its import twice, 2 * (8 + 3 + 3 * 31 + 2147483468), its export of a type,
+-- 8 + 3 + 3 * 31, and its alias, 8: 4294967288 + n in all
+abbrev pub near_the_bound : (more : List ℕ) → List ℕ
+near_the_bound more =
+    codes "{\"limit\":100,\"intrinsics\":null,\"types\":{\"core\":[],\"types\":[{\"instance\":[]},"
+    ++ codes "{\"instance\":[[\"a\",[\"instance\",0]]]},{\"instance\":[[\"a\",[\"instance\",1]],[\"b\","
+    ++ codes "[\"instance\",1]],[\"c\",[\"instance\",0]]]},{\"instance\":[[\"a\",[\"instance\",2]],[\"b\","
+    ++ codes "[\"instance\",2]],[\"c\",[\"instance\",0]]]},{\"instance\":[[\"a\",[\"instance\",3]],[\"b\","
+    ++ codes "[\"instance\",3]],[\"c\",[\"instance\",0]]]},{\"instance\":[[\"a\",[\"instance\",4]],[\"b\","
+    ++ codes "[\"instance\",4]],[\"c\",[\"instance\",0]]]},{\"instance\":[[\"a\",[\"instance\",5]],[\"b\","
+    ++ codes "[\"instance\",5]],[\"c\",[\"instance\",0]]]},{\"instance\":[[\"a\",[\"instance\",6]],[\"b\","
+    ++ codes "[\"instance\",6]],[\"c\",[\"instance\",0]]]},{\"instance\":[[\"a\",[\"instance\",7]],[\"b\","
+    ++ codes "[\"instance\",7]],[\"c\",[\"instance\",0]]]},{\"instance\":[[\"a\",[\"instance\",8]],[\"b\","
+    ++ codes "[\"instance\",8]],[\"c\",[\"instance\",0]]]},{\"instance\":[[\"a\",[\"instance\",9]],[\"b\","
+    ++ codes "[\"instance\",9]],[\"c\",[\"instance\",0]]]},{\"instance\":[[\"a\",[\"instance\",10]],[\"b\","
+    ++ codes "[\"instance\",10]],[\"c\",[\"instance\",0]]]},{\"instance\":[[\"a\",[\"instance\",11]],[\"b\","
+    ++ codes "[\"instance\",11]],[\"c\",[\"instance\",0]]]},{\"instance\":[[\"a\",[\"instance\",12]],[\"b\","
+    ++ codes "[\"instance\",12]],[\"c\",[\"instance\",0]]]},{\"instance\":[[\"a\",[\"instance\",13]],[\"b\","
+    ++ codes "[\"instance\",13]],[\"c\",[\"instance\",0]]]},{\"instance\":[[\"a\",[\"instance\",14]],[\"b\","
+    ++ codes "[\"instance\",14]],[\"c\",[\"instance\",0]]]},{\"instance\":[[\"a\",[\"instance\",15]],[\"b\","
+    ++ codes "[\"instance\",15]],[\"c\",[\"instance\",0]]]},{\"instance\":[[\"a\",[\"instance\",16]],[\"b\","
+    ++ codes "[\"instance\",16]],[\"c\",[\"instance\",0]]]},{\"instance\":[[\"a\",[\"instance\",17]],[\"b\","
+    ++ codes "[\"instance\",17]],[\"c\",[\"instance\",0]]]},{\"instance\":[[\"a\",[\"instance\",18]],[\"b\","
+    ++ codes "[\"instance\",18]],[\"c\",[\"instance\",0]]]},{\"instance\":[[\"a\",[\"instance\",19]],[\"b\","
+    ++ codes "[\"instance\",19]],[\"c\",[\"instance\",0]]]},{\"instance\":[[\"a\",[\"instance\",20]],[\"b\","
+    ++ codes "[\"instance\",20]],[\"c\",[\"instance\",0]]]},{\"instance\":[[\"a\",[\"instance\",21]],[\"b\","
+    ++ codes "[\"instance\",21]],[\"c\",[\"instance\",0]]]},{\"instance\":[[\"a\",[\"instance\",22]],[\"b\","
+    ++ codes "[\"instance\",22]]]},{\"instance\":[[\"a\",[\"instance\",23]],[\"b\",[\"instance\",23]],[\"c\","
+    ++ codes "[\"instance\",0]]]},{\"instance\":[[\"a\",[\"instance\",24]],[\"b\",[\"instance\",24]]]},"
+    ++ codes "{\"instance\":[[\"a\",[\"instance\",25]],[\"b\",[\"instance\",25]]]},{\"instance\":[[\"a\","
+    ++ codes "[\"instance\",26]],[\"b\",[\"instance\",26]],[\"c\",[\"instance\",0]]]},{\"instance\":[[\"a\","
+    ++ codes "[\"instance\",27]],[\"b\",[\"instance\",27]],[\"c\",[\"instance\",0]]]},{\"instance\":[[\"a\","
+    ++ codes "[\"instance\",28]],[\"b\",[\"instance\",28]],[\"c\",[\"instance\",0]]]},{\"instance\":[[\"a\","
+    ++ codes "[\"instance\",29]],[\"b\",[\"instance\",29]]]}]},\"payloads\":[\"version\",{\"imports\":[[\"i\","
+    ++ codes "[\"instance\",30]]]},{\"exports\":[[\"t\",\"type\",0]]},{\"aliases\":[{\"export\":[\"func\",7,"
+    ++ codes "\"f\"]}]}," ++ more ++ codes "\"end\"]}"
+
+-- six items, the largest total that is none too many: the reading goes on to the alias, which names no instance
+abbrev pub below_the_bound_text : List ℕ
+below_the_bound_text = near_the_bound (codes "\"custom\",")
+
+-- it is stuck there
+abbrev pub below_the_bound : Outcome Reading
+below_the_bound = stuck invalid 0 2
+
+-- seven items
+abbrev pub at_the_bound_text : List ℕ
+at_the_bound_text = near_the_bound (codes "\"custom\",\"custom\",")
 
 -- forty instances, each of which has the one before twice; none is exported
 abbrev pub shared_instances_text : List ℕ

@@ -5,13 +5,13 @@ use Rattle.pc_spec_reading.specs.Outcome.{Outcome}
 use Rattle.pc_spec_reading.specs.Reading.{Reading}
 use Rattle.pc_spec_examples.specs.Means.{refused}
 
--- forty instances, each of which has the one before twice, over one with a host function: the walk of what is exported
--- meets the function first, and ends there
+-- forty instances, each of which has the one before twice, over one with a component: the walk of what is exported
+-- meets the component first, and ends there
 abbrev pub deep_refusal_text : List ℕ
 deep_refusal_text =
-    codes "{\"limit\":100,\"intrinsics\":null,\"types\":{\"core\":[],\"types\":[{\"instance\":[]},"
-    ++ codes "{\"func\":{\"params\":[],\"result\":null,\"async\":false}}]},\"payloads\":[\"version\","
-    ++ codes "{\"imports\":[[\"h\",[\"func\",1]]]},{\"component-instances\":[{\"exports\":[[[\"h\",\"func\",0]],0]},"
+    codes "{\"limit\":100,\"intrinsics\":null,\"types\":{\"core\":[],\"types\":[{\"instance\":[]}]},"
+    ++ codes "\"payloads\":[\"version\",\"component\",\"version\",\"end\","
+    ++ codes "{\"component-instances\":[{\"exports\":[[[\"c\",\"component\",0]],0]},"
     ++ codes "{\"exports\":[[[\"a\",\"instance\",0],[\"b\",\"instance\",0]],0]},{\"exports\":[[[\"a\",\"instance\",1],"
     ++ codes "[\"b\",\"instance\",1]],0]},{\"exports\":[[[\"a\",\"instance\",2],[\"b\",\"instance\",2]],0]},"
     ++ codes "{\"exports\":[[[\"a\",\"instance\",3],[\"b\",\"instance\",3]],0]},{\"exports\":[[[\"a\",\"instance\",4],"
@@ -43,7 +43,7 @@ deep_refusal_text =
 
 -- its outcome
 abbrev pub deep_refusal : Outcome Reading
-deep_refusal = refused refusal.ReexportedFunction 0
+deep_refusal = refused refusal.ExportedComponent 0
 
 -- a component that makes itself two thousand times
 abbrev pub two_thousand_text : List ℕ

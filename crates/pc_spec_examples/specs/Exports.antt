@@ -1,9 +1,9 @@
 -- What the root exports: one input or more for each kind of node.
-use Rattle.std.specs.Prelude.{ℕ, List, [], ◌∷◌, ◌++◌, Some, None, codes}
+use Rattle.std.specs.Prelude.{ℕ, false, List, [], ◌∷◌, ◌++◌, Some, None, codes}
 use Rattle.pc_types.specs.declared.parsed.WasmValType.TheVariants as core
 use Rattle.pc_types.specs.declared.types.ComponentExternData.{ComponentExternData}
 use Rattle.pc_types.specs.TypeTree.{TypeTree, Fields, Path, resource_of, concrete, imported, instance_of, and_field}
-use Rattle.pc_types.specs.TypeTree.{no_fields}
+use Rattle.pc_types.specs.TypeTree.{no_fields, func_of, no_tree}
 use Rattle.pc_types.specs.TypeTree as tree
 use Rattle.pc_spec_plan.specs.CoreValue.{no_value}
 use Rattle.pc_spec_plan.specs.ExportNode.{ExportNode, ExportNodes, NamedNode, no_nodes, and_node}
@@ -14,7 +14,7 @@ use Rattle.pc_spec_reading.specs.Outcome.{Outcome}
 use Rattle.pc_spec_reading.specs.Reading.{Reading}
 use Rattle.pc_spec_examples.specs.Means.{finished, given}
 use Rattle.pc_spec_examples.specs.Words.{import_named, func_of_instance, silent, ran, path, node_named, no_data, i32_to_i32}
-use Rattle.pc_spec_examples.specs.Words.{u32_to_u32, plain_module}
+use Rattle.pc_spec_examples.specs.Words.{u32_to_u32, of_string, plain_module}
 
 -- an instance of one lifted function
 abbrev pub instance_export_text : List ℕ
@@ -120,5 +120,59 @@ host_tree =
     (and_node (codes "r") no_data (node.type_node (of_type host_r))
     (and_node (codes "m") no_data (host_leaf (codes "a" ∷ codes "m" ∷ [])) no_nodes)))
     (and_node (codes "t") no_data (host_leaf (codes "t" ∷ [])) no_nodes)))
+    ∷ [])
+    1)
+
+-- a host function inside of two instances
+abbrev pub host_function_inside_text : List ℕ
+host_function_inside_text =
+    codes "{\"limit\":100,\"intrinsics\":null,\"types\":{\"core\":[],\"types\":[{\"func\":{\"params\":[],"
+    ++ codes "\"result\":null,\"async\":false}},{\"instance\":[]}]},\"payloads\":[\"version\",{\"imports\":[[\"f\","
+    ++ codes "[\"func\",0]]]},{\"component-instances\":[{\"exports\":[[[\"f\",\"func\",0]],1]},{\"exports\":[[[\"i\","
+    ++ codes "\"instance\",0]],1]}]},{\"exports\":[[\"e\",\"instance\",1]]},\"end\"]}"
+
+-- the type of the function
+abbrev pub of_nothing : TypeTree
+of_nothing = func_of no_fields no_tree false
+
+-- an instance of no declared type, with one export
+abbrev pub instance_leaf : List ℕ → ExportNode Mark → ExportNode Mark
+instance_leaf name n = node.instance (of_type (instance_of no_fields)) (and_node name no_data n no_nodes)
+
+-- the function is needed where its node is reached
+abbrev pub host_function_inside : Outcome Reading
+host_function_inside =
+    given (import_named (codes "f") of_nothing ∷ []) []
+    (finished (needed (path 0 []) ∷ [])
+    (node_named (codes "e")
+    (instance_leaf (codes "i")
+    (instance_leaf (codes "f") (node.imported_function (of_type of_nothing) (path 0 []))))
+    ∷ [])
+    1)
+
+-- a host function taken out of the second import, behind the first, which is a function of another type
+abbrev pub host_function_aliased_text : List ℕ
+host_function_aliased_text =
+    codes "{\"limit\":100,\"intrinsics\":null,\"types\":{\"core\":[],\"types\":[{\"func\":{\"params\":[],"
+    ++ codes "\"result\":null,\"async\":false}},{\"instance\":[[\"f\",[\"func\",0]]]},{\"func\":{\"params\":[[\"s\","
+    ++ codes "\"string\"]],\"result\":null,\"async\":false}}]},\"payloads\":[\"version\",{\"imports\":[[\"h\","
+    ++ codes "[\"func\",2]],[\"i\",[\"instance\",1]]]},{\"aliases\":[{\"export\":[\"func\",0,\"f\"]}]},"
+    ++ codes "{\"exports\":[[\"g\",\"func\",1],[\"again\",\"func\",0]]},\"end\"]}"
+
+-- the path of the function
+abbrev pub f_path : Path
+f_path = path 1 (codes "f" ∷ [])
+
+-- each is needed where its node is reached, and has the type that its path has among the imports
+abbrev pub host_function_aliased : Outcome Reading
+host_function_aliased =
+    given
+    (import_named (codes "h") of_string
+    ∷ import_named (codes "i") (instance_of (and_field (codes "f") of_nothing no_fields))
+    ∷ [])
+    []
+    (finished (needed f_path ∷ needed (path 0 []) ∷ [])
+    (node_named (codes "g") (node.imported_function (of_type of_nothing) f_path)
+    ∷ node_named (codes "again") (node.imported_function (of_type of_string) (path 0 []))
     ∷ [])
     1)

@@ -28,6 +28,11 @@ f_node o = node_named (codes "f") (node.lifted (of_type u32_to_u32) (func_of_ins
 abbrev pub smallest : Outcome Reading
 smallest = finished (ran 0 [] 0 ∷ []) (f_node (silent 0 i32_to_i32)) 1
 
+-- its total: 3 entries of the table, 7 items of the list and 1 function of the module; 1 for the root, and of its items
+-- 17 for the module, 8 for the instance, 8 for the alias, 17 for the lift and 8 for the export; 8 for the node
+abbrev pub smallest_total : ℕ
+smallest_total = 78
+
 -- a root without items
 abbrev pub empty_root_text : List ℕ
 empty_root_text =

@@ -2,20 +2,21 @@
 use Rattle.std.specs.Prelude.{ℕ, false, List, [], ◌∷◌, ◌++◌, codes}
 use Rattle.pc_types.specs.declared.error.Unsupported.TheVariants as refusal
 use Rattle.pc_types.specs.TypeTree.{TypeTree, Path, module_of, core_memory, core_table, instance_of, and_field}
-use Rattle.pc_types.specs.TypeTree.{no_fields, resource_of, concrete, imported}
+use Rattle.pc_types.specs.TypeTree.{no_fields, resource_of, concrete, imported, func_of, no_tree}
 use Rattle.pc_spec_plan.specs.CoreValue.{CoreValue, a_value, lowered}
 use Rattle.pc_spec_plan.specs.ExportNode as node
-use Rattle.pc_spec_plan.specs.Log.{NamedArgument, instantiated, of_host, needed, declared}
+use Rattle.pc_spec_plan.specs.ExportNode.{and_node, no_nodes}
+use Rattle.pc_spec_plan.specs.Log.{Entry, NamedArgument, instantiated, of_host, needed, declared}
 use Rattle.pc_parsed.specs.Mark.{Mark, of_type}
 use Rattle.pc_spec_reading.specs.Outcome.{Outcome, unsupported}
 use Rattle.pc_spec_reading.specs.Reading.{Reading}
-use Rattle.pc_spec_examples.specs.Means.{finished, given, stuck, refused}
+use Rattle.pc_spec_examples.specs.Means.{finished, given, stuck}
 use Rattle.pc_spec_examples.specs.Words.{import_named, func_of_instance, memory_of_instance, with_memory, ran, path}
-use Rattle.pc_spec_examples.specs.Words.{node_named, two_i32, of_string}
+use Rattle.pc_spec_examples.specs.Words.{node_named, no_data, two_i32, of_string}
 
--- a host function, lowered with a memory and a realloc, and given to a module
-abbrev pub host_lowering_text : List ℕ
-host_lowering_text =
+-- a host function, lowered with a memory and a realloc, and given to a module; what follows isn't said yet
+abbrev pub lowering_start : List ℕ
+lowering_start =
     codes "{\"limit\":100,\"intrinsics\":null,\"types\":{\"core\":[[[\"i32\",\"i32\"],[]],[[\"i32\",\"i32\",\"i32\","
     ++ codes "\"i32\"],[\"i32\"]]],\"types\":[{\"func\":{\"params\":[[\"s\",\"string\"]],\"result\":null,"
     ++ codes "\"async\":false}},{\"module\":[[],[]]}]},\"payloads\":[\"version\",{\"imports\":[[\"log\",[\"func\","
@@ -25,7 +26,11 @@ host_lowering_text =
     ++ codes "\"tags\":0,\"exports\":[]}},{\"instances\":[{\"instantiate\":[0,[]]}]},"
     ++ codes "{\"aliases\":[{\"core-export\":[\"memory\",0,\"mem\"]},{\"core-export\":[\"func\",0,\"realloc\"]}]},"
     ++ codes "{\"canon\":[[\"lower\",0,0,0,[[\"memory\",0],[\"realloc\",0]]]]},{\"instances\":[{\"exports\":[[\"log\","
-    ++ codes "\"func\",1]]},{\"instantiate\":[1,[[\"env\",1]]]}]},\"end\"]}"
+    ++ codes "\"func\",1]]},{\"instantiate\":[1,[[\"env\",1]]]}]},"
+
+-- nothing follows
+abbrev pub host_lowering_text : List ℕ
+host_lowering_text = lowering_start ++ codes "\"end\"]}"
 
 -- the nth import, lowered with the memory of the first core instance and with a realloc
 abbrev pub lowering : (import : ℕ) → (realloc : CoreValue Mark) → CoreValue Mark
@@ -36,11 +41,25 @@ lowering n realloc =
 abbrev pub log_lowering : CoreValue Mark
 log_lowering = lowering 0 (func_of_instance 0 0)
 
+-- what is done
+abbrev pub lowering_log : List (Entry Mark)
+lowering_log = ran 0 [] 0 ∷ needed (path 0 []) ∷ declared log_lowering ∷ ran 1 (log_lowering ∷ []) 0 ∷ []
+
 -- the host function is needed where it is lowered
 abbrev pub host_lowering : Outcome Reading
-host_lowering =
+host_lowering = given (import_named (codes "log") of_string ∷ []) [] (finished lowering_log [] 1)
+
+-- it is exported too
+abbrev pub re_export_beside_text : List ℕ
+re_export_beside_text = lowering_start ++ codes "{\"exports\":[[\"again\",\"func\",0]]},\"end\"]}"
+
+-- it is needed once more where its node is reached
+abbrev pub re_export_beside : Outcome Reading
+re_export_beside =
     given (import_named (codes "log") of_string ∷ []) []
-    (finished (ran 0 [] 0 ∷ needed (path 0 []) ∷ declared log_lowering ∷ ran 1 (log_lowering ∷ []) 0 ∷ []) [] 1)
+    (finished (lowering_log ++ needed (path 0 []) ∷ [])
+    (node_named (codes "again") (node.imported_function (of_type of_string) (path 0 [])) ∷ [])
+    1)
 
 -- a lowering whose realloc is a lowering
 abbrev pub realloc_is_a_lowering_text : List ℕ
@@ -135,6 +154,19 @@ re_export_text =
     ++ codes "\"result\":null,\"async\":false}},{\"instance\":[[\"f\",[\"func\",0]]]}]},\"payloads\":[\"version\","
     ++ codes "{\"imports\":[[\"i\",[\"instance\",1]]]},{\"exports\":[[\"e\",\"instance\",0]]},\"end\"]}"
 
--- its outcome
+-- the type of the instance, whose function is of nothing to nothing
+abbrev pub with_f : TypeTree
+with_f = instance_of (and_field (codes "f") (func_of no_fields no_tree false) no_fields)
+
+-- the instance has a node for the function, which is needed there
 abbrev pub re_export : Outcome Reading
-re_export = refused refusal.ReexportedFunction 0
+re_export =
+    given (import_named (codes "i") with_f ∷ []) []
+    (finished (needed (path 0 (codes "f" ∷ [])) ∷ [])
+    (node_named (codes "e")
+    (node.instance (of_type with_f)
+    (and_node (codes "f") no_data
+    (node.imported_function (of_type (func_of no_fields no_tree false)) (path 0 (codes "f" ∷ [])))
+    no_nodes))
+    ∷ [])
+    1)

@@ -1,6 +1,6 @@
 -- What a text of the input form means, by the definitions alone: the tree of the text, the input that it is, and the
 -- reading of its payloads.
-use Rattle.std.specs.Prelude.{◌≡◌, ℕ, List, [], Option, Some, None}
+use Rattle.std.specs.Prelude.{◌≡◌, ℕ, List, [], Option, Some, None, option_map}
 use Rattle.serde_json.specs.Read.{read}
 use Rattle.pc_types.specs.declared.error.Place.TheVariants as place
 use Rattle.pc_types.specs.declared.error.Unsupported.{Unsupported}
@@ -15,6 +15,7 @@ use Rattle.pc_input.specs.Input.{input_of}
 use Rattle.pc_spec_reading.specs.Outcome.{Outcome, Fault, done, fault, unsupported, and_then}
 use Rattle.pc_spec_reading.specs.Reading.{Reading, reading}
 use Rattle.pc_spec_reading.specs.Total.{counted}
+use Rattle.pc_spec_reading.specs.Uncounted.{uncounted}
 use Rattle.pc_spec_reading.specs.World.{HostImport, AddedIntrinsic}
 
 -- the reading of an input, where no types were held before
@@ -26,9 +27,18 @@ of_input i =
 abbrev pub meaning : List ℕ → Option (Outcome Reading)
 meaning text = read text >>= input_of plain >>= of_input
 
--- a text means this outcome
+-- a text means this outcome, whatever its total is
 abbrev pub Means : List ℕ → Outcome Reading → Type 0
-Means text outcome = meaning text ≡ Some outcome
+Means text outcome = option_map uncounted (meaning text) ≡ Some outcome
+
+-- the total of an outcome that is done
+abbrev pub total_of : Outcome Reading → Option ℕ
+total_of (done r) = r.total
+total_of o = None
+
+-- the reading of a text comes to this total
+abbrev pub ComesTo : List ℕ → (total : ℕ) → Type 0
+ComesTo text n = option_map total_of (meaning text) ≡ Some (Some n)
 
 -- a text is an input whose payloads don't nest
 abbrev pub DoesNotNest : List ℕ → Type 0
@@ -41,6 +51,7 @@ finished log nodes begun = done (record {
   log = log;
   nodes = nodes;
   begun = begun;
+  total = None;
   imports = [];
   imported_resources = [];
   intrinsics = [];

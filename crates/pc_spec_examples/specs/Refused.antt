@@ -51,18 +51,6 @@ host_component_text =
 abbrev pub host_component : Outcome Reading
 host_component = refused refusal.ComponentImport 1
 
--- a host function inside of two instances
-abbrev pub host_function_inside_text : List ℕ
-host_function_inside_text =
-    codes "{\"limit\":100,\"intrinsics\":null,\"types\":{\"core\":[],\"types\":[{\"func\":{\"params\":[],"
-    ++ codes "\"result\":null,\"async\":false}},{\"instance\":[]}]},\"payloads\":[\"version\",{\"imports\":[[\"f\","
-    ++ codes "[\"func\",0]]]},{\"component-instances\":[{\"exports\":[[[\"f\",\"func\",0]],1]},{\"exports\":[[[\"i\","
-    ++ codes "\"instance\",0]],1]}]},{\"exports\":[[\"e\",\"instance\",1]]},\"end\"]}"
-
--- its outcome
-abbrev pub host_function_inside : Outcome Reading
-host_function_inside = refused refusal.ReexportedFunction 0
-
 -- an export of what isn't there, and of a type that isn't
 abbrev pub export_missing_text : List ℕ
 export_missing_text =

@@ -3,6 +3,7 @@
 ghost use Rattle.pc_spec_reading.specs.Outcome.{over, past};
 ghost use Rattle.pc_spec_examples.specs.Means.{Means, DoesNotNest};
 ghost use Rattle.pc_spec_examples.specs.Bounds.{too_many_names_text, shared_instances_text, nothing_done};
+ghost use Rattle.pc_spec_examples.specs.Bounds.{below_the_bound_text, below_the_bound, at_the_bound_text};
 ghost use Rattle.pc_spec_examples.specs.Bounds.{no_payload_text, no_end_text, behind_the_end_text, a_module_text};
 ghost use Rattle.pc_spec_examples.specs.Bounds.{no_version_text, past_the_root_text};
 ghost use Rattle.pc_spec_examples.specs.Deep.{deep_refusal_text, deep_refusal, two_thousand_text};
@@ -10,6 +11,8 @@ ghost use Rattle.pc_spec_examples.specs.Deep.{deep_refusal_text, deep_refusal, t
 /// Each text means the outcome beside it.
 pub fn are_read()
     ensures too_many_names { Means too_many_names_text past }
+    ensures below_the_bound { Means below_the_bound_text below_the_bound }
+    ensures at_the_bound { Means at_the_bound_text past }
     ensures shared_instances { Means shared_instances_text nothing_done }
     ensures deep_refusal { Means deep_refusal_text deep_refusal }
     ensures two_thousand { Means two_thousand_text over }

@@ -5,10 +5,11 @@ use Rattle.pc_types.specs.TypeTree.{Path}
 use Rattle.pc_spec_plan.specs.CoreValue.{CoreValue, Options, map_value, map_options, erased}
 
 mutual
-  -- an export: a lifted function with its options, a core module of the input or of the host, an instance with what it
-  -- exports, or a type
+  -- an export: a lifted function with its options, a function of the host, a core module of the input or of the host,
+  -- an instance with what it exports, or a type
   pub data ExportNode (τ : Type 0) : Type 0 where
     lifted : (function_type : τ) → CoreValue τ → Options τ → ExportNode τ
+    imported_function : (function_type : τ) → Path → ExportNode τ
     static_module : (number : ℕ) → (module_type : τ) → ExportNode τ
     host_module : Path → (module_type : τ) → ExportNode τ
     instance : (instance_type : τ) → ExportNodes τ → ExportNode τ
@@ -30,6 +31,7 @@ module _ {τ υ : Type 0} (f : τ → υ) where
   abbrev mutual
     pub map_node : ExportNode τ → ExportNode υ
     map_node (lifted ty v o) = lifted (f ty) (map_value f v) (map_options f o)
+    map_node (imported_function ty path) = imported_function (f ty) path
     map_node (static_module n ty) = static_module n (f ty)
     map_node (host_module path ty) = host_module path (f ty)
     map_node (instance ty nodes) = instance (f ty) (map_nodes nodes)

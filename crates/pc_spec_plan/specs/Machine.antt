@@ -323,6 +323,7 @@ module _ {τ : Type 0} (p : PlanView.PlanView τ) where
     pub export_node : State τ → PlanView.PlanExport τ → Option (ExportNode τ)
     export_node s (PlanView.lifted ty d o) =
         option_and_then (λ v. option_map (node.lifted ty v) (options_at s o)) (resolve s d)
+    export_node s (PlanView.imported_function ty r) = option_map (node.imported_function ty) (path_of r)
     export_node s (PlanView.static_module m ty) =
         if nat_lt m (length p.handed_in) then Some (node.static_module m ty) else None
     export_node s (PlanView.host_module r ty) = option_map (λ path. node.host_module path ty) (path_of r)

@@ -100,10 +100,11 @@ pub record RuntimeImport : Type 0 where
   pub names : List (List ℕ)
 
 mutual
-  -- an export: a lifted function with the number of its options, a core module of the plan or of the host, an instance
-  -- with what it exports, or a type
+  -- an export: a lifted function with the number of its options, a function of the host, a core module of the plan or
+  -- of the host, an instance with what it exports, or a type
   pub data PlanExport (τ : Type 0) : Type 0 where
     lifted : (function_type : τ) → Definition → (options : ℕ) → PlanExport τ
+    imported_function : (function_type : τ) → (runtime_import : ℕ) → PlanExport τ
     static_module : (number : ℕ) → (module_type : τ) → PlanExport τ
     host_module : (runtime_import : ℕ) → (module_type : τ) → PlanExport τ
     instance : (instance_type : τ) → PlanExports τ → PlanExport τ

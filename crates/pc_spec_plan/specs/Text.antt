@@ -313,6 +313,8 @@ abbrev mutual
   export_lines path meta (PlanView.lifted ty d o) =
       codes "export" ++ path ++ codes " lifted " ++ definition d ++ codes " options" ++ number o ++ extern_data meta
       ++ line_end
+  export_lines path meta (PlanView.imported_function ty r) =
+      codes "export" ++ path ++ codes " imported" ++ number r ++ extern_data meta ++ line_end
   export_lines path meta (PlanView.static_module m ty) =
       codes "export" ++ path ++ codes " module-static" ++ number m ++ extern_data meta ++ line_end
   export_lines path meta (PlanView.host_module r ty) =
@@ -339,11 +341,11 @@ counts_line c =
     ++ number c.tables ++ number c.reallocs ++ number c.callbacks ++ number c.post_returns ++ number c.resources
     ++ number c.future_tables ++ number c.stream_tables ++ number c.error_context_tables ++ line_end
 
--- the text of a plan
-abbrev pub plan_text : {τ : Type 0} → PlanView.PlanView τ → List ℕ
-plan_text p =
+-- the text of a plan that stands on so many handed-in modules and on so many of adapters
+abbrev pub text_over : {τ : Type 0} → (handed_in adapter_modules : ℕ) → PlanView.PlanView τ → List ℕ
+text_over handed_in adapter_modules p =
     codes "plan 1" ++ line_end
-    ++ codes "modules" ++ number (length p.handed_in) ++ number p.adapter_modules ++ line_end
+    ++ codes "modules" ++ number handed_in ++ number adapter_modules ++ line_end
     ++ counts_line p.counts
     ++ numbered import_type_line 0 p.import_types
     ++ numbered import_line 0 p.imports
@@ -354,3 +356,7 @@ plan_text p =
     ++ numbered intrinsic_line 0 p.intrinsics
     ++ flat_map adapter_line (by_number p.adapters)
     ++ flat_map named_lines p.exports
+
+-- the text of a plan
+abbrev pub plan_text : {τ : Type 0} → PlanView.PlanView τ → List ℕ
+plan_text p = text_over (length p.handed_in) p.adapter_modules p

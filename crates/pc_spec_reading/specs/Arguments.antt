@@ -1,5 +1,5 @@
 -- What core instances have under their names, and what the imports of a module are given.
-use Rattle.std.specs.Prelude.{ℕ, Bool, List, [], ◌∷◌, length, filter, Option, Some, None, nat_lt, slice_get}
+use Rattle.std.specs.Prelude.{ℕ, Bool, List, length, map, filter, Option, Some, None, nat_lt, slice_get}
 use Rattle.std.specs.Prelude.{option_and_then, option_map, if◌then◌else◌}
 use Rattle.std.specs.List.{list_all, flat_map}
 use Rattle.std.specs.Str.{bytes_eq}
@@ -10,11 +10,11 @@ use Rattle.pc_types.specs.declared.parsed.CoreEntity.{CoreEntity}
 use Rattle.pc_types.specs.declared.parsed.CoreKind.{CoreKind}
 use Rattle.pc_types.specs.declared.parsed.CoreKind.TheVariants as core
 use Rattle.pc_types.specs.Record.{export_of, index_kind, kind_of, same_kind}
-use Rattle.pc_types.specs.Names.{has_name}
 use Rattle.pc_types.specs.TypeTree.{TypeTree, CoreTree, core_func, core_table, core_memory, core_global, core_tag}
 use Rattle.pc_spec_plan.specs.CoreValue.{CoreValue, exported, by_index, by_name}
 use Rattle.pc_spec_plan.specs.Log.{NamedArgument}
 use Rattle.pc_parsed.specs.Mark.{Mark}
+use Rattle.pc_spec_reading.specs.Once.{each_once}
 use Rattle.pc_spec_reading.specs.Scope.{Scope, CoreInstance, CoreItem, of_module, of_host_module, bag}
 use Rattle.pc_spec_reading.specs.Types.{module_imports, module_exports}
 
@@ -77,15 +77,9 @@ has_instances s args = list_all (λ (a : List ℕ × ℕ). nat_lt a.1 (length s.
 abbrev pub is_of : List ℕ → List ℕ × List ℕ × CoreTree → Bool
 is_of name i = bytes_eq name i.0
 
--- the module names of imports, each where it first stands
-abbrev pub names_once : (seen : List (List ℕ)) → List (List ℕ × List ℕ × CoreTree) → List (List ℕ)
-names_once seen [] = []
-names_once seen (i ∷ is) =
-    if has_name seen i.0 then names_once seen is else i.0 ∷ names_once (i.0 ∷ seen) is
-
 -- the imports of a module type, those of one module name together, where it first stands
 abbrev pub grouped : List (List ℕ × List ℕ × CoreTree) → List (List ℕ × List ℕ × CoreTree)
-grouped imports = flat_map (λ name. filter (is_of name) imports) (names_once [] imports)
+grouped imports = flat_map (λ name. filter (is_of name) imports) (each_once bytes_eq (map (λ i. i.0) imports))
 
 -- the arguments of a module, one for each of its imports
 unfoldable pub static_arguments : List ModuleRecord → Scope → List (List ℕ × ℕ) → ModuleRecord

@@ -1,8 +1,6 @@
 -- Builtins of the canonical ABI. The parts of one are its signature and then what it names, in written order.
-use Rattle.std.specs.Prelude.{ℕ, Bool, true, List, [], ◌∷◌, Option, Some, None, Result, Ok, slice_get, option_map}
-use Rattle.std.specs.Prelude.{option_and_then, is_some}
-use Rattle.std.specs.List.{list_all}
-use Rattle.pc_entity.specs.Lists.{map_all}
+use Rattle.std.specs.Prelude.{ℕ, List, [], ◌∷◌, Option, Some, None, Result, Ok, slice_get, option_map}
+use Rattle.std.specs.Prelude.{option_and_then}
 use Rattle.pc_types.specs.declared.parsed.CoreFuncSig.{CoreFuncSig}
 use Rattle.pc_types.specs.declared.parsed.CoreKind.TheVariants as core
 use Rattle.pc_types.specs.declared.parsed.TypeTable.{TypeTable}
@@ -17,7 +15,7 @@ use Rattle.pc_parsed.specs.declared.canon.CanonOption.{CanonOption}
 use Rattle.pc_parsed.specs.Mark.{Mark, of_type, of_signature}
 use Rattle.pc_spec_reading.specs.Item.{Operand, a_resource, a_stream, a_future, a_flag, the_options}
 use Rattle.pc_spec_reading.specs.Options.{options_of, memory_options}
-use Rattle.pc_spec_reading.specs.Outcome.{Fault, invalid, bad_type, found, held}
+use Rattle.pc_spec_reading.specs.Outcome.{Fault, invalid, bad_type, found, after}
 use Rattle.pc_spec_reading.specs.Scope.{Scope, Moment, add_core, add_entry}
 use Rattle.pc_spec_reading.specs.Types.{type_tree, results_tree, signature_at, known_resource, a_stream_tree, a_future_tree}
 
@@ -46,41 +44,33 @@ optional_options s signature (Some opts) =
     option_map (λ (o : Options Mark). options_part o ∷ []) (options_of s signature opts)
 
 module _ (t : TypeTable) where
-  -- the trees of what an operand names: a resource that is known, a stream type, a future type
-  abbrev pub resource_tree : Scope → ℕ → Option TypeTree
-  resource_tree s n = option_and_then known_resource (type_tree t s n)
+  -- the type of a number as a part, where its tree is of the kind that is asked for: `BadType` where it isn't
+  abbrev pub typed_part : (TypeTree → Option TypeTree) → Scope → ℕ → Result (Part Mark) Fault
+  typed_part of_kind s n =
+      found bad_type (option_and_then of_kind (type_tree t s n)) (λ (tree : TypeTree). Ok (type_part tree))
 
-  -- a stream type, by number
-  abbrev pub stream_tree : Scope → ℕ → Option TypeTree
-  stream_tree s n = option_and_then a_stream_tree (type_tree t s n)
+  -- an operand as a part: a resource that is known, a stream type, a future type, a flag, or options, `Invalid` where an
+  -- index of these is missing
+  abbrev pub part_of : Scope → CoreFuncSig → Operand → Result (Part Mark) Fault
+  part_of s signature (a_resource n) = typed_part known_resource s n
+  part_of s signature (a_stream n) = typed_part a_stream_tree s n
+  part_of s signature (a_future n) = typed_part a_future_tree s n
+  part_of s signature (a_flag is_async) = Ok (flag_part is_async)
+  part_of s signature (the_options opts) =
+      found invalid (options_of s signature opts) (λ (o : Options Mark). Ok (options_part o))
 
-  -- a future type, by number
-  abbrev pub future_tree : Scope → ℕ → Option TypeTree
-  future_tree s n = option_and_then a_future_tree (type_tree t s n)
+  -- operands as parts, or why the first is none
+  abbrev pub parts_from : Scope → CoreFuncSig → List Operand → Result (List (Part Mark)) Fault
+  parts_from s signature [] = Ok []
+  parts_from s signature (o ∷ os) =
+      after (part_of s signature o) (λ (p : Part Mark).
+      after (parts_from s signature os) (λ (ps : List (Part Mark)). Ok (p ∷ ps)))
 
-  -- whether the type that an operand names is of its kind
-  abbrev pub is_typed_operand : Scope → Operand → Bool
-  is_typed_operand s (a_resource n) = is_some (resource_tree s n)
-  is_typed_operand s (a_stream n) = is_some (stream_tree s n)
-  is_typed_operand s (a_future n) = is_some (future_tree s n)
-  is_typed_operand s _ = true
-
-  -- an operand as a part
-  abbrev pub part_of : Scope → CoreFuncSig → Operand → Option (Part Mark)
-  part_of s signature (a_resource n) = option_map type_part (resource_tree s n)
-  part_of s signature (a_stream n) = option_map type_part (stream_tree s n)
-  part_of s signature (a_future n) = option_map type_part (future_tree s n)
-  part_of s signature (a_flag is_async) = Some (flag_part is_async)
-  part_of s signature (the_options opts) = option_map options_part (options_of s signature opts)
-
-  -- a builtin: `BadType` where there is no such signature, a type is of another kind or a resource isn't known; then
-  -- `Invalid` where an index of its options is missing
+  -- a builtin: `BadType` where there is no such signature; then its operands, of which types stand before options
   unfoldable pub read_builtin : Moment → TrampolineKind → (signature : ℕ) → List Operand → Result Moment Fault
   read_builtin now k signature operands =
       found bad_type (signature_at t signature) (λ (s : CoreFuncSig).
-      held bad_type (list_all (is_typed_operand now.scope) operands) (
-      found invalid (map_all (part_of now.scope s) operands) (λ (parts : List (Part Mark)).
-      Ok (add_builtin now k s parts))))
+      after (parts_from now.scope s operands) (λ (parts : List (Part Mark)). Ok (add_builtin now k s parts)))
 
   -- waiting or polling, with that memory: then `Invalid` where there is no such memory
   unfoldable pub read_waitable : Moment → TrampolineKind → (signature memory : ℕ) → Result Moment Fault

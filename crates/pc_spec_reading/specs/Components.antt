@@ -11,7 +11,7 @@ use Rattle.pc_spec_reading.specs.Item.{Item, Items, ArgumentOf, no_items, and_it
 use Rattle.pc_spec_reading.specs.Item.{a_module, a_component}
 use Rattle.pc_spec_reading.specs.Items.{is_typed_argument, argument_value}
 use Rattle.pc_spec_reading.specs.Member.{resource_among}
-use Rattle.pc_spec_reading.specs.Outcome.{Fault, invalid, bad_type, found, held}
+use Rattle.pc_spec_reading.specs.Outcome.{Fault, invalid, bad_type, found, held, after}
 use Rattle.pc_spec_reading.specs.Resource.{resource_paths, registered}
 use Rattle.pc_spec_reading.specs.Scope.{Scope, Moment, chain_of, add_value, with_known}
 use Rattle.pc_spec_reading.specs.Types.{has_entry, tree_if}
@@ -78,6 +78,6 @@ module _ (t : TypeTable) where
   -- where a path doesn't end at one that is known
   unfoldable pub read_return : Moment → List NamedValue → (ty : ℕ) → Result Moment Fault
   read_return now exports ty =
-      found bad_type
+      after
       (registered (resource_among (pack_values exports)) (resource_paths t (entity.Instance ty)) now.scope.known)
       (add_child now exports ty)

@@ -1,6 +1,7 @@
 -- Imports: how those of the root are prepared before its items, and what the item of an import adds.
-use Rattle.std.specs.Prelude.{ℕ, ◌+◌, Bool, true, false, List, [], ◌∷◌, ◌++◌, length, Option, Some, None, Result, Ok}
+use Rattle.std.specs.Prelude.{ℕ, Bool, true, false, List, [], ◌∷◌, ◌++◌, length, Option, Some, None, Result, Ok}
 use Rattle.std.specs.Prelude.{if◌then◌else◌}
+use Rattle.std.specs.List.{fold}
 use Rattle.pc_entity.specs.Lists.{value_of}
 use Rattle.pc_types.specs.declared.error.Unsupported.TheVariants.{ComponentImport}
 use Rattle.pc_types.specs.declared.parsed.Entity.{Entity}
@@ -9,11 +10,10 @@ use Rattle.pc_types.specs.declared.parsed.TypeTable.{TypeTable}
 use Rattle.pc_types.specs.TypeTree.{TypeTree, Path, Identity, imported}
 use Rattle.pc_spec_plan.specs.Log.{needed}
 use Rattle.pc_parsed.specs.declared.payload.ExternName.{ExternName}
-use Rattle.pc_spec_reading.specs.Item.{Items, no_items, and_item, import_item}
+use Rattle.pc_spec_reading.specs.Asked.{import_path}
 use Rattle.pc_spec_reading.specs.Member.{resource_at}
-use Rattle.pc_spec_reading.specs.Outcome.{Fault, invalid, bad_type, unsupported, found, held, Outcome, done, and_then}
-use Rattle.pc_spec_reading.specs.Outcome.{at_item}
-use Rattle.pc_spec_reading.specs.Resource.{ResourcePath, resource_paths, registered, is_known, knowing}
+use Rattle.pc_spec_reading.specs.Outcome.{Fault, invalid, bad_type, unsupported, found, held, after}
+use Rattle.pc_spec_reading.specs.Resource.{ResourcePath, resource_paths, registered, newly, knowing}
 use Rattle.pc_spec_reading.specs.Scope.{Moment, add_value, add_entry, with_known}
 use Rattle.pc_spec_reading.specs.Types.{names_entry, declared_tree, is_plain_type, is_defined_entity}
 use Rattle.pc_spec_reading.specs.Value.{Value, func_value, module_value, instance_value, component_value, type_value}
@@ -51,7 +51,7 @@ resource_path i p = record { import = i; names = p.names }
 
 -- the path of the next import that the host gives
 abbrev pub next_import : Moment → Path
-next_import now = record { import = length now.world.imports; names = [] }
+next_import now = import_path (length now.world.imports)
 
 -- a moment with one more resource that came with an import of the host
 abbrev pub with_imported : Moment → Path → Moment
@@ -66,11 +66,9 @@ importing now i p =
     (resource_path i p))
     (needed (resource_path i p))
 
--- the resources of an import of the host become known by their paths, unless their numbers are
+-- the resources of an import of the host become known by their paths, each number once and none that is known
 unfoldable pub import_resources : Moment → (import : ℕ) → List ResourcePath → Moment
-import_resources now i [] = now
-import_resources now i (p ∷ ps) =
-    import_resources (if is_known now.scope.known p.number then now else importing now i p) i ps
+import_resources now i ps = fold (λ (m : Moment) (p : ResourcePath). importing m i p) now (newly now.scope.known ps)
 
 module _ (t : TypeTable) where
   -- an import that the host gives: the next in the order of the imports, under its name
@@ -88,19 +86,12 @@ module _ (t : TypeTable) where
       if is_defined_entity t e then Ok now
       else give name e (import_resources now (length now.world.imports) (resource_paths t e)))
 
-  -- the imports of the root are prepared in order, each with its place, before the first item is read
-  unfoldable pub prepare_all : (item : ℕ) → Items → Moment → Outcome Moment
-  prepare_all n no_items now = done now
-  prepare_all n (and_item (import_item name e) is) now =
-      and_then (at_item now.scope.component_instance n (prepare name e now)) (prepare_all (n + 1) is)
-  prepare_all n (and_item i is) now = prepare_all (n + 1) is now
-
   -- an argument: `Invalid` where it is of another kind; then its resources become known by their paths, `BadType` where
   -- a path doesn't end at one that is known
   abbrev pub take : Moment → Entity → Value → Result Moment Fault
   take now e v =
       held invalid (is_of_entity e v) (
-      found bad_type (registered (λ names. resource_at names v) (resource_paths t e) now.scope.known)
+      after (registered (λ names. resource_at names v) (resource_paths t e) now.scope.known)
       (λ (known : List (ℕ × Identity)). Ok (add_value (with_known now known) v)))
 
   -- without an argument: `Invalid`, but for a type that is no resource

@@ -4,6 +4,7 @@ pub mod Canonical
 pub mod Section
 pub mod Nest
 pub mod Outcome
+pub mod Once
 pub mod Value
 pub mod World
 pub mod Scope
@@ -11,6 +12,7 @@ pub mod Types
 pub mod Options
 pub mod SameTypes
 pub mod SameValues
+pub mod Asked
 pub mod Arguments
 pub mod Modules
 pub mod Functions
@@ -22,6 +24,10 @@ pub mod Instances
 pub mod Components
 pub mod Imports
 pub mod Rows
+pub mod Guard
 pub mod Total
+pub mod HostTypes
 pub mod Nodes
 pub mod Reading
+pub mod Uncounted
+pub mod Answer

@@ -1,8 +1,7 @@
 -- What the root exports, as nodes. A node is reached before what is under it, and counts 8 in the total; what no plan
 -- can export is refused before it counts.
-use Rattle.std.specs.Prelude.{ℕ, ◌+◌, List, [], ◌∷◌, Option, None, if◌then◌else◌}
+use Rattle.std.specs.Prelude.{ℕ, List, ◌∷◌, Option, None, if◌then◌else◌, Some}
 use Rattle.pc_types.specs.declared.error.Place.TheVariants as place
-use Rattle.pc_types.specs.declared.error.Unsupported.{Unsupported}
 use Rattle.pc_types.specs.declared.error.Unsupported.TheVariants as refusal
 use Rattle.pc_types.specs.declared.types.ComponentExternData.{ComponentExternData}
 use Rattle.pc_types.specs.TypeTree.{TypeTree, Fields, Path, no_fields, and_field, func_of, instance_of, component_of}
@@ -12,8 +11,9 @@ use Rattle.pc_spec_plan.specs.ExportNode.{ExportNode, ExportNodes, NamedNode, no
 use Rattle.pc_spec_plan.specs.Log.{needed}
 use Rattle.pc_parsed.specs.declared.payload.ExternName.{ExternName}
 use Rattle.pc_parsed.specs.Mark.{Mark, of_type}
+use Rattle.pc_spec_reading.specs.HostTypes.{type_at}
 use Rattle.pc_spec_reading.specs.Member.{further}
-use Rattle.pc_spec_reading.specs.Outcome.{Outcome, done, fault, past, and_then, unsupported}
+use Rattle.pc_spec_reading.specs.Outcome.{Outcome, done, fault, past, unsupported, Fault, invalid}
 use Rattle.pc_spec_reading.specs.Value.{Value, Function, Module, Instance, NamedValues, NamedValue, func_value, module_value}
 use Rattle.pc_spec_reading.specs.Value.{instance_value, component_value, type_value, host_function, lifted_function}
 use Rattle.pc_spec_reading.specs.Value.{intrinsic_function, static_module, host_module, made_instance, host_instance}
@@ -23,13 +23,13 @@ use Rattle.pc_spec_reading.specs.World.{World, grown, has_room, logging}
 -- what is reached: something, in the world then; or it is refused; or the total is past
 pub data Reached (A : Type 0) : Type 0 where
   reached : A → World → Reached A
-  refused : Unsupported → Reached A
+  refused : Fault → Reached A
   passed : Reached A
 
 -- goes on with what was reached
 abbrev pub then_reach : {A B : Type 0} → Reached A → (A → World → Reached B) → Reached B
 then_reach (reached x w) go = go x w
-then_reach (refused u) go = refused u
+then_reach (refused f) go = refused f
 then_reach passed go = passed
 
 -- goes on with a total, if it isn't past
@@ -52,15 +52,24 @@ no_data = record { implements = None; external_id = None }
 abbrev pub leaf : ExportNode Mark → World → Reached (ExportNode Mark)
 leaf n w = counting w (reached n)
 
--- a host module, whose path is needed where its node is reached
-abbrev pub host_module_node : Path → TypeTree → World → Reached (ExportNode Mark)
-host_module_node p tree w = counting w (λ v. reached (node.host_module p (of_type tree)) (logging v (needed p)))
+-- what the host gives, whose path is needed where its node is reached
+abbrev pub host_leaf : Path → ExportNode Mark → World → Reached (ExportNode Mark)
+host_leaf p n w = counting w (λ v. reached n (logging v (needed p)))
 
--- a function: one that was lifted. One of the host and an intrinsic are refused
+-- a module of the host
+abbrev pub host_module_node : Path → TypeTree → World → Reached (ExportNode Mark)
+host_module_node p tree w = host_leaf p (node.host_module p (of_type tree)) w
+
+-- a function of the host, with the type that its path has. There always is one, since a path leads along the imports
+abbrev pub host_function_node : Path → Option TypeTree → World → Reached (ExportNode Mark)
+host_function_node p None w = refused invalid
+host_function_node p (Some tree) w = host_leaf p (node.imported_function (of_type tree) p) w
+
+-- a function: one that was lifted, or one of the host. An intrinsic is refused
 abbrev pub function_node : Function → World → Reached (ExportNode Mark)
 function_node (lifted_function tree v o) w = leaf (node.lifted (of_type tree) v o) w
-function_node (host_function p) w = refused refusal.ReexportedFunction
-function_node (intrinsic_function n) w = refused refusal.ReexportedIntrinsic
+function_node (host_function p) w = host_function_node p (type_at w.imports p) w
+function_node (intrinsic_function n) w = refused (unsupported refusal.ReexportedIntrinsic)
 
 -- a module, of either sort
 abbrev pub module_node : Module → World → Reached (ExportNode Mark)
@@ -78,10 +87,10 @@ instance_node tree ns w = reached (node.instance (of_type tree) ns) w
 unfoldable mutual
   -- what a host instance has at a path, by its type: a type, where it is no function, instance, component or module
   pub host_node : Path → TypeTree → World → Reached (ExportNode Mark)
-  host_node p (func_of params result is_async) w = refused refusal.ReexportedFunction
+  host_node p (func_of params result is_async) w = host_function_node p (Some (func_of params result is_async)) w
   host_node p (instance_of fields) w =
       counting w (λ v. then_reach (host_nodes p fields v) (instance_node (instance_of fields)))
-  host_node p (component_of imports exports) w = refused refusal.ComponentImport
+  host_node p (component_of imports exports) w = refused (unsupported refusal.ComponentImport)
   host_node p (module_of imports exports) w = host_module_node p (module_of imports exports) w
   host_node p tree w = leaf (node.type_node (of_type tree)) w
 
@@ -97,14 +106,14 @@ unfoldable mutual
   value_node (func_value f) w = function_node f w
   value_node (module_value m) w = module_node m w
   value_node (instance_value i) w = instance_value_node i w
-  value_node (component_value c) w = refused refusal.ExportedComponent
+  value_node (component_value c) w = refused (unsupported refusal.ExportedComponent)
   value_node (type_value tree) w = leaf (node.type_node (of_type tree)) w
 
   -- an instance with what it exports: the unsafe intrinsics are refused
   pub instance_value_node : Instance → World → Reached (ExportNode Mark)
   instance_value_node (made_instance vs tree) w = counting w (λ v. then_reach (value_nodes vs v) (instance_node tree))
   instance_value_node (host_instance p tree) w = host_node p tree w
-  instance_value_node the_intrinsics w = refused refusal.ReexportedIntrinsics
+  instance_value_node the_intrinsics w = refused (unsupported refusal.ReexportedIntrinsics)
 
   -- named values, in order
   pub value_nodes : NamedValues → World → Reached (ExportNodes Mark)
@@ -119,7 +128,7 @@ Finish = List (NamedNode Mark) × World
 -- a refusal has the number of the root's export as its place
 abbrev pub at_export : {A : Type 0} → (export : ℕ) → Reached A → (A → World → Outcome Finish) → Outcome Finish
 at_export n (reached x w) go = go x w
-at_export n (refused u) go = fault (unsupported u) (place.Export n)
+at_export n (refused f) go = fault f (place.Export n)
 at_export n passed go = past
 
 -- an export of the root with its node
@@ -129,9 +138,3 @@ named_node e n = record { name = e.name.name; extern_data = extern_data e.name; 
 -- a node in front of others
 abbrev pub in_front : NamedNode Mark → Finish → Outcome Finish
 in_front n rest = done (n ∷ rest.0, rest.1)
-
--- the exports of the root in order, from number n on
-unfoldable pub root_nodes : (n : ℕ) → List NamedValue → World → Outcome Finish
-root_nodes n [] w = done ([], w)
-root_nodes n (e ∷ es) w =
-    at_export n (value_node e.value w) (λ x v. and_then (root_nodes (n + 1) es v) (in_front (named_node e x)))

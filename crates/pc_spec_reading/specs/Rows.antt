@@ -1,12 +1,13 @@
 -- One item: each row of the table of items but the instantiation of a component, whose child the driver reads.
-use Rattle.std.specs.Prelude.{ℕ, List, Option, Some, None, Result, Ok, slice_get}
+use Rattle.std.specs.Prelude.{ℕ, List, Option, Result, Ok, Err}
 use Rattle.pc_types.specs.declared.module_record.ModuleRecord.{ModuleRecord}
 use Rattle.pc_types.specs.declared.parsed.TypeTable.{TypeTable}
 use Rattle.pc_types.specs.declared.parsed.WasmValType.{WasmValType}
 use Rattle.pc_types.specs.Table.{is_resource}
 use Rattle.pc_types.specs.TypeTree.{declared}
-use Rattle.pc_spec_plan.specs.CoreValue.{CoreValue, MaybeValue, no_value, a_value}
+use Rattle.pc_spec_plan.specs.CoreValue.{MaybeValue}
 use Rattle.pc_spec_plan.specs.Log.{declared_resource}
+use Rattle.pc_spec_plan.specs.Machine.{chosen}
 use Rattle.pc_parsed.specs.Mark.{Mark}
 use Rattle.pc_spec_reading.specs.Builtins.{read_builtin, read_waitable, read_task_return, read_error_context}
 use Rattle.pc_spec_reading.specs.Builtins.{read_new_thread}
@@ -18,19 +19,9 @@ use Rattle.pc_spec_reading.specs.Item
 use Rattle.pc_spec_reading.specs.Modules.{read_module, read_core_instance, read_core_exports, read_core_alias}
 use Rattle.pc_spec_reading.specs.Outcome.{Fault, invalid, bad_type, found, held}
 use Rattle.pc_spec_reading.specs.Resource.{knowing}
-use Rattle.pc_spec_reading.specs.Scope.{Scope, Moment, add_entry, with_known}
+use Rattle.pc_spec_reading.specs.Scope.{Moment, add_entry, with_known}
 use Rattle.pc_spec_reading.specs.Types.{has_entry}
 use Rattle.pc_spec_reading.specs.World.{resources_declared}
-
--- a value that is there
-abbrev pub option_as_value : Option (CoreValue Mark) → Option (MaybeValue Mark)
-option_as_value None = None
-option_as_value (Some v) = Some (a_value v)
-
--- the core function at an index that may be left out, or nothing where an index is missing
-abbrev pub destructor_of : Scope → Option ℕ → Option (MaybeValue Mark)
-destructor_of s None = Some no_value
-destructor_of s (Some n) = option_as_value (slice_get s.core_funcs n)
 
 -- the next declared resource, which its number stands for from now on
 abbrev pub add_resource : Moment → (id : ℕ) → WasmValType → MaybeValue Mark → Moment
@@ -43,7 +34,7 @@ module _ (t : TypeTable) (ms : List ModuleRecord) where
   unfoldable pub read_resource : Moment → (id : ℕ) → WasmValType → Option ℕ → Result Moment Fault
   read_resource now id representation destructor =
       held bad_type (has_entry t is_resource id) (
-      found invalid (destructor_of now.scope destructor) (λ (d : MaybeValue Mark).
+      found invalid (chosen now.scope.core_funcs destructor) (λ (d : MaybeValue Mark).
       Ok (add_resource now id representation d)))
 
   -- what an item makes of a moment, or why it is stuck
@@ -68,5 +59,5 @@ module _ (t : TypeTable) (ms : List ModuleRecord) where
   read_row now (Item.alias_item k n name) = read_alias now k n name
   read_row now (Item.outer_item k count n) = read_outer now k count n
   read_row now (Item.export_item e) = read_export t now e
-  -- the driver reads it
-  read_row now (Item.instantiate_component_item n args ty) = Ok now
+  -- the driver reads it: it is no row
+  read_row now (Item.instantiate_component_item n args ty) = Err invalid

@@ -6,14 +6,13 @@ use mathlib.Core.Bool.{beq}
 use Rattle.pc_numbers.specs.declared.entity_index.EntityIndex.{EntityIndex}
 use Rattle.pc_types.specs.contracts.encoding.StringEncodingPartialEq.TheImpl as eq_StringEncoding
 use Rattle.pc_types.specs.contracts.parsed.CoreFuncSigPartialEq.TheImpl as eq_CoreFuncSig
-use Rattle.pc_types.specs.declared.trampoline.TrampolineKind.{TrampolineKind}
+use Rattle.pc_types.specs.contracts.trampoline.TrampolineKindPartialEq.TheImpl as eq_TrampolineKind
 use Rattle.pc_types.specs.Record.{index_kind, index_number, same_kind}
 use Rattle.pc_spec_plan.specs.CoreValue.{CoreValue, Options, DataModel, MaybeValue, Parts, Part, ExportedItem, by_index}
 use Rattle.pc_spec_plan.specs.CoreValue.{by_name, exported, lowered, builtin, intrinsic, adapter, flags, helper}
 use Rattle.pc_spec_plan.specs.CoreValue.{options, gc, linear, no_value, a_value, no_parts, and_part, mark_part}
 use Rattle.pc_spec_plan.specs.CoreValue.{number_part, flag_part, value_part, options_part}
 use Rattle.pc_spec_plan.specs.Log.{Entry, made}
-use Rattle.pc_spec_plan.specs.Text.{stem}
 use Rattle.pc_parsed.specs.Mark.{Mark, of_type, of_signature}
 use Rattle.pc_spec_reading.specs.SameTypes.{same_type, same_path}
 
@@ -33,21 +32,17 @@ same_item (by_index a) (by_index b) = same_entity a b
 same_item (by_name n) (by_name m) = bytes_eq n m
 same_item a b = false
 
--- two kinds of trampoline, each of which has a name of its own
-abbrev pub same_trampoline : TrampolineKind → TrampolineKind → Bool
-same_trampoline k l = bytes_eq (stem k) (stem l)
-
 unfoldable mutual
   -- two core values
   pub same_value : CoreValue Mark → CoreValue Mark → Bool
   same_value (exported n i) (exported m j) = (n == m) && same_item i j
   same_value (lowered p t o) (lowered q u r) = same_path p q && same_mark t u && same_options o r
-  same_value (builtin k c ps) (builtin l d qs) = same_trampoline k l && (c == d) && same_parts ps qs
+  same_value (builtin k c ps) (builtin l d qs) = eq_TrampolineKind.ghosts.eq k l && (c == d) && same_parts ps qs
   same_value (intrinsic n) (intrinsic m) = n == m
   same_value (adapter t o u r v) (adapter t2 o2 u2 r2 v2) =
       same_mark t t2 && same_options o o2 && same_mark u u2 && same_options r r2 && same_value v v2
   same_value (flags c) (flags d) = c == d
-  same_value (helper k ps) (helper l qs) = same_trampoline k l && same_parts ps qs
+  same_value (helper k ps) (helper l qs) = eq_TrampolineKind.ghosts.eq k l && same_parts ps qs
   same_value v w = false
 
   -- two sets of options

@@ -119,4 +119,5 @@ add_entry now e = record now { world = logging now.world e }
 -- one more core function, which is an intrinsic
 abbrev pub add_intrinsic : Moment → (place : ℕ) → CoreFuncSig → Moment
 add_intrinsic now place s =
-    add_core (record now { world = with_intrinsic now.world place s }) core.Func (intrinsic place)
+    add_core (record now { world = with_intrinsic now.world (record { place = place; signature = s }) }) core.Func
+    (intrinsic place)

@@ -2,7 +2,6 @@
 -- each export node that is reached.
 use Rattle.std.specs.Prelude.{ℕ, ◌+◌, ◌*◌, max, List, [], ◌∷◌, ◌++◌, length, sum_by, Option, Some, slice_get, unwrap_or}
 use Rattle.pc_types.specs.declared.module_record.ModuleRecord.{ModuleRecord}
-use Rattle.pc_types.specs.declared.parsed.CoreKind.TheVariants as core
 use Rattle.pc_types.specs.declared.parsed.DeclType.{DeclType}
 use Rattle.pc_types.specs.declared.parsed.DeclType.TheVariants as entry
 use Rattle.pc_types.specs.declared.parsed.Entity.{Entity}
@@ -10,25 +9,18 @@ use Rattle.pc_types.specs.declared.parsed.Entity.TheVariants as entity
 use Rattle.pc_types.specs.declared.parsed.TypeTable.{TypeTable}
 use Rattle.pc_types.specs.declared.parsed.ValType.{ValType}
 use Rattle.pc_types.specs.declared.parsed.ValType.TheVariants as val
-use Rattle.pc_types.specs.Record.{entity_count}
 use Rattle.pc_parsed.specs.declared.payload.ItemKind.{ItemKind}
 use Rattle.pc_parsed.specs.declared.payload.ItemKind.TheVariants as item
 use Rattle.pc_parsed.specs.declared.payload.Payload.{Payload}
-use Rattle.pc_parsed.specs.Program.{item_count}
+use Rattle.pc_parsed.specs.Program.{item_count, record_entities}
 use Rattle.pc_spec_reading.specs.Item
 use Rattle.pc_spec_reading.specs.Section.{modules_of}
-
--- the entities of a module record, imported and defined
-abbrev pub entities_of : ModuleRecord → ℕ
-entities_of r =
-    entity_count r core.Func + entity_count r core.Table + entity_count r core.Memory + entity_count r core.Global
-    + entity_count r core.Tag
 
 -- the total before the first item: the entries of the table's two lists, the items of the list, read or not, the
 -- entities of its module records, and the types that were held before
 unfoldable pub counted : TypeTable → (types_held : ℕ) → List Payload → ℕ
 counted t types_held ps =
-    length t.core_funcs + length t.types + sum_by item_count ps + sum_by entities_of (modules_of ps) + types_held
+    length t.core_funcs + length t.types + sum_by item_count ps + sum_by record_entities (modules_of ps) + types_held
 
 -- how many names stand in the exports of an entity, through instances; with those of the entries before
 abbrev pub entity_names : (earlier : List ℕ) → Entity → ℕ
@@ -63,9 +55,9 @@ greatest f (x ∷ xs) = max (f x) (greatest f xs)
 abbrev pub record_imports : ModuleRecord → ℕ
 record_imports r = length r.imports
 
--- What an item weighs: 8, and 1 for each option, argument and export, of which an export item is one itself; for each
--- type number or entity three and three times the entries of the table, which are its types alone; and for four kinds
--- more. An argument or export whose index is that of a type names a type number besides.
+-- What an item weighs: 8, and 1 for each option, argument and export that it has; for each type number or entity that
+-- it names, three and three times the entries of the table, which are its types alone; and for four kinds more. An
+-- argument or export whose index is that of a type names a type number. An export item is an export and has none.
 module _ (t : TypeTable) (ms : List ModuleRecord) where
   -- what a type number weighs
   abbrev pub type_weight : ℕ
@@ -79,18 +71,18 @@ module _ (t : TypeTable) (ms : List ModuleRecord) where
   abbrev pub names_in : Entity → ℕ
   names_in e = entity_names (names_from [] t.types) e
 
-  -- an index counts as a type number where its kind is a type
+  -- an index is a type number where its kind is a type
   abbrev pub index_weight : ItemKind → ℕ
-  index_weight item.Type_ = 1 + type_weight
-  index_weight _ = 1
+  index_weight item.Type_ = type_weight
+  index_weight _ = 0
 
-  -- what an export weighs
+  -- what an item has for an export
   abbrev pub export_weight : Item.ExportOf → ℕ
-  export_weight e = index_weight e.kind
+  export_weight e = 1 + index_weight e.kind
 
-  -- what an argument weighs
+  -- what it has for an argument
   abbrev pub argument_weight : Item.ArgumentOf → ℕ
-  argument_weight a = index_weight a.kind
+  argument_weight a = 1 + index_weight a.kind
 
   -- the type number in a value type, if it is one
   abbrev pub value_weight : Option ValType → ℕ
@@ -120,7 +112,7 @@ module _ (t : TypeTable) (ms : List ModuleRecord) where
   added_weight (Item.instantiate_component_item n args ty) =
       sum_by argument_weight args + type_weight + names_in (entity.Instance ty)
   added_weight (Item.component_exports_item es ty) = sum_by export_weight es + type_weight
-  added_weight (Item.export_item e) = export_weight e
+  added_weight (Item.export_item e) = index_weight e.kind
   added_weight _ = 0
 
   -- what an item weighs

@@ -1,12 +1,11 @@
 -- What the component instances of a reading share: what was done so far, and what is counted.
-use Rattle.std.specs.Prelude.{ℕ, ◌+◌, ◌==◌, Bool, true, List, [], ◌∷◌, ◌++◌, length, Option, Some, None, nat_lt}
-use Rattle.std.specs.Prelude.{if◌then◌else◌}
-use Rattle.std.specs.List.{filter_map, list_any}
+use Rattle.std.specs.Prelude.{ℕ, ◌+◌, ◌==◌, Bool, true, false, List, [], ◌∷◌, ◌++◌, Option, Some, None, nat_lt, count_by}
 use Rattle.pc_types.specs.declared.parsed.CoreFuncSig.{CoreFuncSig}
 use Rattle.pc_types.specs.TypeTree.{TypeTree, Path}
 use Rattle.pc_spec_plan.specs.Log.{Entry, declared_resource}
 use Rattle.pc_parsed.specs.declared.payload.ExternName.{ExternName}
 use Rattle.pc_parsed.specs.Mark.{Mark}
+use Rattle.pc_spec_reading.specs.Once.{with_once}
 
 -- an import of the root that the host gives, with its type as it stood when the import was prepared. A path leads from
 -- here on: its first number is the place of one of these
@@ -53,21 +52,19 @@ has_room (Some total) = nat_lt total full
 abbrev pub logging : World → Entry Mark → World
 logging w e = record w { log = w.log ++ e ∷ [] }
 
--- whether an intrinsic is the one at a place
-abbrev pub is_at : ℕ → AddedIntrinsic → Bool
-is_at place i = place == i.place
+-- whether two intrinsics are one
+abbrev pub same_intrinsic : AddedIntrinsic → AddedIntrinsic → Bool
+same_intrinsic i j = i.place == j.place
 
 -- a world in which an intrinsic was added as a core function: the first signature stands
-abbrev pub with_intrinsic : World → (place : ℕ) → CoreFuncSig → World
-with_intrinsic w place s =
-    if list_any (is_at place) w.intrinsics then w
-    else record w { intrinsics = w.intrinsics ++ record { place = place; signature = s } ∷ [] }
+abbrev pub with_intrinsic : World → AddedIntrinsic → World
+with_intrinsic w i = record w { intrinsics = with_once same_intrinsic w.intrinsics i }
 
--- an entry that declares a resource
-abbrev pub is_declaration : Entry Mark → Option (Entry Mark)
-is_declaration (declared_resource representation destructor c) = Some (declared_resource representation destructor c)
-is_declaration _ = None
+-- whether an entry declares a resource
+abbrev pub is_declaration : Entry Mark → Bool
+is_declaration (declared_resource representation destructor c) = true
+is_declaration _ = false
 
 -- how many resources were declared so far
 abbrev pub resources_declared : World → ℕ
-resources_declared w = length (filter_map is_declaration w.log)
+resources_declared w = count_by is_declaration w.log

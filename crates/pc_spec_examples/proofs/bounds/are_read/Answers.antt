@@ -6,6 +6,14 @@ pub returns-clause-too_many_names : goal.returns-clause-too_many_names
 unfolding on_literals
 returns-clause-too_many_names c = refl
 
+pub returns-clause-below_the_bound : goal.returns-clause-below_the_bound
+unfolding on_literals
+returns-clause-below_the_bound c = refl
+
+pub returns-clause-at_the_bound : goal.returns-clause-at_the_bound
+unfolding on_literals
+returns-clause-at_the_bound c = refl
+
 pub returns-clause-shared_instances : goal.returns-clause-shared_instances
 unfolding on_literals
 returns-clause-shared_instances c = refl

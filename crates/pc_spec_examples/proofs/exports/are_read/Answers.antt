@@ -13,3 +13,11 @@ returns-clause-module_and_type c = refl
 pub returns-clause-host_tree : goal.returns-clause-host_tree
 unfolding on_literals
 returns-clause-host_tree c = refl
+
+pub returns-clause-host_function_inside : goal.returns-clause-host_function_inside
+unfolding on_literals
+returns-clause-host_function_inside c = refl
+
+pub returns-clause-host_function_aliased : goal.returns-clause-host_function_aliased
+unfolding on_literals
+returns-clause-host_function_aliased c = refl

@@ -18,10 +18,6 @@ pub returns-clause-host_component : goal.returns-clause-host_component
 unfolding on_literals
 returns-clause-host_component c = refl
 
-pub returns-clause-host_function_inside : goal.returns-clause-host_function_inside
-unfolding on_literals
-returns-clause-host_function_inside c = refl
-
 pub returns-clause-export_missing : goal.returns-clause-export_missing
 unfolding on_literals
 returns-clause-export_missing c = refl

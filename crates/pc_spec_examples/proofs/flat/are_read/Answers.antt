@@ -6,6 +6,10 @@ pub returns-clause-smallest : goal.returns-clause-smallest
 unfolding on_literals
 returns-clause-smallest c = refl
 
+pub returns-clause-smallest_total : goal.returns-clause-smallest_total
+unfolding on_literals
+returns-clause-smallest_total c = refl
+
 pub returns-clause-empty_root : goal.returns-clause-empty_root
 unfolding on_literals
 returns-clause-empty_root c = refl

@@ -29,3 +29,7 @@ returns-clause-usual_tools c = refl
 pub returns-clause-re_export : goal.returns-clause-re_export
 unfolding on_literals
 returns-clause-re_export c = refl
+
+pub returns-clause-re_export_beside : goal.returns-clause-re_export_beside
+unfolding on_literals
+returns-clause-re_export_beside c = refl
