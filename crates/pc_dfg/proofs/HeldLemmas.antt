@@ -99,6 +99,7 @@ module _ (g h : ComponentDfg) (grows : Grows g h) where
   unfolding HeldExport
   export_stays n (export.LiftedFunction ty f o) held =
       (held_stays f held.0, within g h grows list.options o.0 held.1)
+  export_stays n (export.ImportedFunction ty r) held = within g h grows list.imports r.0 held
   export_stays n (export.ModuleStatic ty m) held = held
   export_stays n (export.ModuleImport ty r) held = within g h grows list.imports r.0 held
   export_stays n (export.Instance ty exports) held = held

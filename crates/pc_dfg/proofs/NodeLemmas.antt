@@ -13,8 +13,8 @@ use Rattle.pc_dfg.specs.Grows.{Grows}
 use Rattle.pc_dfg.specs.Lists as list
 use Rattle.pc_dfg.specs.Lists.{NamedExport}
 use Rattle.pc_dfg.specs.Nodes.{MeansExport, MeansNested, MeansItem, MeansName, ExportsMean, means_lifted}
-use Rattle.pc_dfg.specs.Nodes.{means_static_module, means_host_module, means_instance, means_type, means_no_nodes}
-use Rattle.pc_dfg.specs.Nodes.{means_and_node, means_item}
+use Rattle.pc_dfg.specs.Nodes.{means_imported_function, means_static_module, means_host_module, means_instance}
+use Rattle.pc_dfg.specs.Nodes.{means_type, means_no_nodes, means_and_node, means_item}
 use Rattle.pc_dfg.proofs.GrowLemmas.{kept}
 use Rattle.pc_dfg.proofs.KeptLemmas.{means_kept, options_kept}
 use Rattle.pc_dfg.proofs.UniqueLemmas.{means_unique, options_unique, path_unique}
@@ -24,6 +24,7 @@ module _ (g h : ComponentDfg) (grows : Grows g h) (converted : ℕ → Mark) whe
   mutual
     export_kept : {e : Export} {x : ExportNode Mark} → MeansExport g converted e x → MeansExport h converted e x
     export_kept (means_lifted f o) = means_lifted (means_kept g h grows f) (options_kept g h grows o)
+    export_kept (means_imported_function path) = means_imported_function (kept g h grows list.imports _ _ path)
     export_kept means_static_module = means_static_module
     export_kept (means_host_module path) = means_host_module (kept g h grows list.imports _ _ path)
     export_kept (means_instance nested) = means_instance (nested_kept nested)
@@ -46,6 +47,8 @@ module _ (g : ComponentDfg) (converted : ℕ → Mark) where
         let value = means_unique g a c in
         let options = options_unique g b d in
         λ i. node.lifted (function_mark ty) (value i) (options i)
+    export_unique (means_imported_function {ty = ty} {r = r} {path = p} a) (means_imported_function {path = q} b) =
+        ap (node.imported_function (function_mark ty)) (path_unique g r.0 p q a b)
     export_unique means_static_module means_static_module = refl
     export_unique (means_host_module {ty = ty} {r = r} {path = p} a) (means_host_module {path = q} b) =
         ap (λ path. node.host_module path (mark.Type_ (type.Module ty))) (path_unique g r.0 p q a b)

@@ -1,5 +1,6 @@
 -- A graph with nothing in it.
 use Rattle.std.specs.Prelude.{[], replicate}
+use Rattle.std.specs.FinSet as set
 use Rattle.pc_entity.specs.declared.packed_option.PackedOption.TheVariants as packed
 use Rattle.pc_dfg.specs.declared.dfg.ComponentDfg.{ComponentDfg}
 
@@ -29,4 +30,5 @@ empty_graph = record {
   num_error_context_tables = 0;
   side_effects = [];
   options = [];
+  transparent_adapters = set.empty;
 }

@@ -85,6 +85,7 @@ module _ (g : ComponentDfg) where
   -- the numbers in the nth export
   unfoldable pub HeldExport : ℕ → Export → Type 0
   HeldExport n (export.LiftedFunction ty f o) = IsHeld f × (o.0 < length g.options)
+  HeldExport n (export.ImportedFunction ty r) = r.0 < length g.imports
   HeldExport n (export.ModuleStatic ty m) = Unit {0}
   HeldExport n (export.ModuleImport ty r) = r.0 < length g.imports
   HeldExport n (export.Instance ty exports) = NamesBelow n exports

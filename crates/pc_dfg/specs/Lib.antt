@@ -1,8 +1,10 @@
 -- What the public contracts rest on, in reading order.
+-- the values of an interned list with their numbers
+pub mod Numbered
+-- a graph, and what it means
 pub mod Mapped
 pub mod Empty
 pub mod Pushed
-pub mod Numbered
 pub mod Numbers
 pub mod Lists
 pub mod Means

@@ -31,6 +31,8 @@ mutual
     means_lifted : {ty : TypeFuncIndex} {f : CoreDef} {o : OptionsId} {v : CoreValue Mark} {os : Options Mark}
         → Means g f v → MeansOptions g o.0 os
         → MeansExport g converted (export.LiftedFunction ty f o) (node.lifted (function_mark ty) v os)
+    means_imported_function : {ty : TypeFuncIndex} {r : RuntimeImportIndex} {path : Path} → HasPath g r.0 path
+        → MeansExport g converted (export.ImportedFunction ty r) (node.imported_function (function_mark ty) path)
     means_static_module : {ty : ℕ} {m : StaticModuleIndex}
         → MeansExport g converted (export.ModuleStatic ty m) (node.static_module m.0 (converted ty))
     means_host_module : {ty : TypeModuleIndex} {r : RuntimeImportIndex} {path : Path} → HasPath g r.0 path

@@ -11,7 +11,7 @@ use crate::{
     SideEffect, TableId,
 };
 use pc_entity::{
-    DefinedResourceIndex, EntityIndex, EntityRef, ExportIndex, ImportIndex, MemoryIndex,
+    DefinedResourceIndex, EntityIndex, EntityRef, EntitySet, ExportIndex, ImportIndex, MemoryIndex,
     ModuleInternedTypeIndex, PackedOption, PrimaryMap, ResourceIndex, RuntimeImportIndex, Seq,
     StaticModuleIndex, TableIndex, Text, TextMap, TrampolineIndex,
 };
@@ -66,6 +66,8 @@ pub struct ComponentDfg {
     pub side_effects: Seq<SideEffect>,
     /// The options of lifted and lowered functions, which exports and trampolines name by number.
     pub options: Intern<OptionsId, CanonicalOptions>,
+    /// The adapters that are known to be transparent: what they call can't see the state of the calling thread.
+    pub transparent_adapters: EntitySet<AdapterId>,
 }
 
 impl ComponentDfg {
@@ -99,6 +101,7 @@ impl ComponentDfg {
             num_error_context_tables: 0,
             side_effects: Seq::new(alloc),
             options: Intern::new(alloc),
+            transparent_adapters: EntitySet::new(alloc),
         }
     }
 
@@ -160,13 +163,19 @@ impl Drop for ComponentDfg {
             num_error_context_tables: _,
             side_effects,
             options,
+            transparent_adapters,
         } = self;
         drop_imports(import_types, imports, imported_resources);
         drop_exports(exports, export_items);
         drop_functions(reallocs, callbacks, post_returns);
         drop_places(memories, tables);
         drop_named(trampolines, options);
-        drop_adapters(adapters, adapter_modules, adapter_partitionings);
+        drop_adapters(
+            adapters,
+            adapter_modules,
+            adapter_partitionings,
+            transparent_adapters,
+        );
         drop_effects(instances, resources, side_effects);
     }
 }
@@ -202,6 +211,7 @@ fn drop_adapters(
     _adapters: Intern<AdapterId, Adapter>,
     _adapter_modules: PrimaryMap<AdapterModuleId, (StaticModuleIndex, Seq<CoreDef>)>,
     _adapter_partitionings: PrimaryMap<AdapterId, (AdapterModuleId, EntityIndex)>,
+    _transparent_adapters: EntitySet<AdapterId>,
 ) {}
 
 fn drop_effects(

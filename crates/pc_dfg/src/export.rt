@@ -15,6 +15,11 @@ pub enum Export {
         func: CoreDef,
         options: OptionsId,
     },
+    /// A function of the host.
+    ImportedFunction {
+        ty: TypeFuncIndex,
+        import: RuntimeImportIndex,
+    },
     /// A core module that was handed in, with its type as a number of the type table: the one type that isn't converted
     /// yet.
     ModuleStatic {

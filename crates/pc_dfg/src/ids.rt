@@ -1,4 +1,5 @@
-//! The numbers of what a graph holds. They order nothing but the list that they number.
+//! The ids of what a graph holds. Where an index of a plan says when something is made, an id says only where it
+//! stands in its list.
 
 ghost use Rattle.std.proofs.Common.{refl, rules};
 

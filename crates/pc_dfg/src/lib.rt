@@ -3,7 +3,8 @@
 //!
 //! A graph stands between the reading of a component and its plan. Nothing in it says when a slot is filled or an
 //! options entry is made, so later passes may add to it; only instances and resources have an order, by the list of
-//! side effects. It stands on `pc_info` for what a core instance's item is known by.
+//! side effects. So the numbers in it are ids of its own, which say where an entry stands in its list, and equal
+//! entries of most lists share one. It stands on `pc_info` for what a core instance's item is known by.
 #![tactic(auto)]
 
 pub mod adapter;

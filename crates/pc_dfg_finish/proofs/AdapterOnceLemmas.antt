@@ -7,11 +7,12 @@ use Rattle.pc_spec_plan.specs.Counts.{makes_instance}
 use Rattle.pc_spec_plan.specs.PlanView as plan
 use Rattle.pc_dfg.specs.declared.dfg.ComponentDfg.{ComponentDfg}
 use Rattle.pc_dfg_linearize.specs.declared.state.Finish.{Finish}
-use Rattle.pc_dfg_finish.specs.Apart.{MakesAdapters, module_of}
+use Rattle.pc_info.specs.Slots.{MakesAdapters}
+use Rattle.pc_dfg_finish.specs.Apart.{module_of}
 use Rattle.pc_dfg_linearize.specs.Numbers.{number_at}
 use Rattle.pc_dfg_linearize.specs.Plan.{steps_view}
-use Rattle.pc_dfg_linearize.specs.Slots.{AtMostOne}
-use Rattle.pc_dfg_linearize.specs.Stages.{IsSound}
+use Rattle.pc_info.specs.Slots.{AtMostOne}
+use Rattle.pc_dfg_linearize.specs.Sound.{IsSound}
 use Rattle.pc_dfg_finish.proofs.SealedLemmas.{one_place}
 use Rattle.pc_dfg_finish.proofs.StandingLemmas.{adapters_behind}
 

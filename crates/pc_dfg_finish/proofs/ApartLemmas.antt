@@ -25,7 +25,8 @@ use Rattle.pc_dfg.specs.Ordered.{IsOrdered}
 use Rattle.pc_dfg.specs.Told.{AreInterned, IsTold, Unsaid}
 use Rattle.pc_dfg.proofs.SameLemmas.{defs_same, options_same, slots_same, trampoline_signed}
 use Rattle.pc_dfg_linearize.specs.declared.state.Finish.{Finish}
-use Rattle.pc_dfg_finish.specs.Apart.{AreApart, IsOfAdapters}
+use Rattle.pc_info.specs.Apart.{AreApart}
+use Rattle.pc_dfg_finish.specs.Apart.{IsOfAdapters}
 use Rattle.pc_dfg_linearize.specs.Closed.{Fits}
 use Rattle.pc_dfg_linearize.specs.Numbers.{number_at}
 use Rattle.pc_dfg_linearize.specs.Once.{Fills, Origin, number_in_run, of_instance, of_module}

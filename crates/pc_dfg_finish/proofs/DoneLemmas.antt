@@ -31,7 +31,7 @@ use Rattle.pc_dfg_linearize.specs.Once.{IsUsedBy}
 use Rattle.pc_dfg_linearize.specs.Parts.{HasNumber}
 use Rattle.pc_dfg_linearize.specs.Represented.{AreNamed}
 use Rattle.pc_dfg_linearize.specs.Wired.{IsWired}
-use Rattle.pc_dfg_linearize.specs.Stages.{IsSound}
+use Rattle.pc_dfg_linearize.specs.Sound.{IsSound}
 use Rattle.pc_dfg_finish.proofs.NextLemmas.{next_held, next_resource}
 use Rattle.pc_dfg_linearize.proofs.StepNameLemmas.{named_later}
 use Rattle.pc_dfg_finish.proofs.StageLemmas.{ends_next, stages_next}
@@ -61,7 +61,7 @@ zip_last R (w ∷ xs) x (y ∷ ys) zip =
     }
 
 -- what is made of the items up to the next place
-made_next : {A B : Type 0} (h : A → Option B) (xs : List A) (i : ℕ) (x : A) → slice_get xs i ≡ Some x
+pub made_next : {A B : Type 0} (h : A → Option B) (xs : List A) (i : ℕ) (x : A) → slice_get xs i ≡ Some x
     → length (filter_map h (take (i + 1) xs)) ≡ length (filter_map h (take i xs)) + length (if_any (h x))
 made_next {A} {B} h xs i x at =
     let all = ap (λ l. length (filter_map h l)) (take-next xs i x at)
@@ -187,6 +187,15 @@ module _ (g : ComponentDfg) (ordered : IsOrdered g) (i : ℕ) (f : Finish) (done
       fills = it.fills done.fills;
       represents = it.represents done.represents;
       are_steps = sound_next.are_steps;
+      passed =
+          it.passed
+          (record {
+            counts = done.counts;
+            fills = done.fills;
+            represents = done.represents;
+            are_steps = done.are_steps;
+          })
+          done.passed;
       stages = stages_next g f new (ids_in g e) it.adds done.stages done.ends done.counts done.fills it.stay sound_next
           it.here it.only;
       ends = ends_next g f new (ids_in g e) it.adds;

@@ -1,6 +1,7 @@
 -- A side effect whose arguments have their numbers is done by its step.
 use Rattle.std.proofs.Common.{◌≡◌, ◌<◌, ◌+◌, ◌++◌, ℕ, List, [], ◌∷◌, length, map, All, Option, Some, refl, sym}
 use Rattle.std.proofs.Common.{ap, subst, ◌∙◌, arith}
+use Rattle.std.specs.Option.{option_to_list}
 use Rattle.std.specs.Prelude.{option_map, slice_get}
 use Rattle.std.specs.List.{AllZip, Contains, flat_map}
 use Rattle.std.proofs.lemmas.List.{append-nil}
@@ -47,7 +48,7 @@ use Rattle.pc_dfg_linearize.specs.Grouped.{IsGrouped}
 use Rattle.pc_dfg_linearize.specs.Made.{IsDone, IsNext, Makes, Prepares, PreparesAny, instance_in, with_instance}
 use Rattle.pc_dfg_linearize.specs.Made.{with_resource}
 use Rattle.pc_dfg_linearize.specs.Parts.{HasNumber, in_def, number_of}
-use Rattle.pc_dfg_linearize.specs.Slots.{definitions_in}
+use Rattle.pc_info.specs.Slots.{definitions_in}
 use Rattle.pc_dfg_linearize.specs.Plan.{Extends, slot_count}
 use Rattle.pc_dfg_linearize.specs.Reached.{Reached, all_linked}
 use Rattle.pc_dfg_linearize.specs.Wired.{IsWired, Occurs}
@@ -56,6 +57,8 @@ use Rattle.pc_dfg_linearize.specs.Steps.{IsConvertible}
 use Rattle.pc_dfg_linearize.proofs.AllLemmas.{all_cons, all_one}
 use Rattle.pc_dfg_finish.proofs.ArgumentLemmas.{all_can_still}
 use Rattle.pc_dfg_linearize.proofs.CountLemmas.{CountsOne, counts_more}
+use Rattle.pc_dfg_linearize.proofs.SoundLemmas.{continues_sound, none_more, passes}
+use Rattle.pc_dfg_linearize.specs.Sound.{HasPassed, IsSound}
 use Rattle.pc_dfg_linearize.proofs.FillLemmas.{instance_fills, resource_fills}
 use Rattle.pc_dfg_finish.proofs.HereLemmas.{finish_with}
 use Rattle.pc_dfg_finish.proofs.InstanceLemmas.{instance_reached}
@@ -264,6 +267,33 @@ module _ (g : ComponentDfg) (ordered : IsOrdered g) (grouped : IsGrouped g) (old
         all_convertible g new (in_instance x)
         (all_can_still g old new prepares.numbers.continues (in_instance x) can) prepares.numbers.here
 
+    -- the plan is sound with it
+    instance_sound : IsSound g new → IsSound g made
+    instance_sound sound = record {
+      counts = counts_more new made (init.InstantiateModule m (Some c)) (instance_counts new m c) sound.counts;
+      fills = instance_fills new sound.fills made.steps;
+      represents = represents_aside g new sound.represents prepares.numbers.continues.fits made.steps made.instances
+          made.counts new.resources (names_front new.steps (init.InstantiateModule m (Some c) ∷ []));
+      are_steps = instance_steps g new sound.counts sound.fills sound.are_steps x m c prepares.is convertible
+          (λ y k at. instance_number g old new prepares.numbers.continues m c y ∙ at)
+          (instance_fills new sound.fills made.steps);
+    }
+
+    instance_passed : IsSound g old → HasPassed g old → HasPassed g made
+    instance_passed sound passed =
+        let continues = prepares.numbers.continues in
+        let now = continues_sound g old new continues sound in
+        passes g new made
+        (record {
+          stay = λ y k has. number_aside new made.steps made.instances made.counts new.resources y ∙ has;
+          more = init.InstantiateModule m (Some c) ∷ [];
+          steps = refl;
+          made = record { 0 = new.counts.instances } ∷ [];
+          instances = refl;
+        })
+        (instance_sound now) (none_more (length new.options)) (none_more (length new.trampolines))
+        (continues.passed sound passed)
+
     -- so the instance is made
     pub instance_done : IsDone g old made (effect.Instance i c)
     instance_done =
@@ -284,6 +314,7 @@ module _ (g : ComponentDfg) (ordered : IsOrdered g) (grouped : IsGrouped g) (old
               (continues.are_steps before filled are) x m c prepares.is convertible
               (λ y k at. instance_number g old new continues m c y ∙ at)
               (instance_fills new (continues.fills filled) made.steps);
+          passed = instance_passed;
           adds = subst (λ ds. AddsEffect old made (flat_map (in_def g) ds)) (sym in_it)
               (adds_instance g old new continues x m c prepares.is);
           only = subst (λ ds. OnlyFromThese g old made (flat_map (in_def g) ds)) (sym in_it)
@@ -372,6 +403,34 @@ module _ (g : ComponentDfg) (ordered : IsOrdered g) (grouped : IsGrouped g) (old
         all_convertible g new (if_any x.dtor)
         (all_can_still g old new prepares.numbers.continues (if_any x.dtor) can) prepares.numbers.here
 
+    -- the plan is sound with it
+    resource_sound : IsSound g new → IsSound g declared
+    resource_sound sound = record {
+      counts = counts_more new declared (init.Resource resource) (resource_counts new resource) sound.counts;
+      fills = resource_fills new sound.fills declared.steps declared.resources;
+      represents = represents_aside g new sound.represents prepares.numbers.continues.fits declared.steps new.instances
+          new.counts declared.resources (names_front new.steps (init.Resource resource ∷ []));
+      are_steps = resource_steps g new sound.counts sound.fills sound.are_steps resource x.dtor prepares.is
+          convertible_destructor (λ y k at. resource_number g old new prepares.numbers.continues resource y ∙ at)
+          (resource_fills new sound.fills declared.steps declared.resources);
+    }
+
+    resource_passed : IsSound g old → HasPassed g old → HasPassed g declared
+    resource_passed sound passed =
+        let continues = prepares.numbers.continues in
+        let now = continues_sound g old new continues sound in
+        passes g new declared
+        (record {
+          stay = λ y k has.
+              number_aside new declared.steps new.instances new.counts declared.resources y ∙ has;
+          more = init.Resource resource ∷ [];
+          steps = refl;
+          made = [];
+          instances = sym (append-nil new.instances);
+        })
+        (resource_sound now) (none_more (length new.options)) (none_more (length new.trampolines))
+        (continues.passed sound passed)
+
     -- so the resource is declared
     pub resource_done : IsDone g old declared (effect.Resource n)
     resource_done =
@@ -392,6 +451,7 @@ module _ (g : ComponentDfg) (ordered : IsOrdered g) (grouped : IsGrouped g) (old
               (continues.are_steps before filled are) resource x.dtor prepares.is convertible_destructor
               (λ y k at. resource_number g old new continues resource y ∙ at)
               (resource_fills new (continues.fills filled) declared.steps declared.resources);
+          passed = resource_passed;
           adds = subst (λ ds. AddsEffect old declared (flat_map (in_def g) ds)) (sym in_resource_here)
               (adds_resource g old new continues resource x.dtor prepares.is);
           only = subst (λ ds. OnlyFromThese g old declared (flat_map (in_def g) ds)) (sym in_resource_here)
@@ -404,7 +464,7 @@ module _ (g : ComponentDfg) (ordered : IsOrdered g) (grouped : IsGrouped g) (old
               names_front new.steps (init.Resource resource ∷ []) k (adds_keep old new continues.steps k named);
           named = λ t k inside number.
               names_last new.steps (init.Resource resource) k
-              (subst (λ z. Contains (if_any (option_map def_view z)) (plan.trampoline k)) (sym prepares.is)
+              (subst (λ z. Contains (option_to_list (option_map def_view z)) (plan.trampoline k)) (sym prepares.is)
               (destructor_named g new x.dtor t k
               (subst (λ ds. Contains (flat_map (in_def g) ds) (id.Trampoline t)) in_resource_here inside) number));
           here = subst (λ ds. All (HasNumber declared) (flat_map (in_def g) ds)) (sym in_resource_here)

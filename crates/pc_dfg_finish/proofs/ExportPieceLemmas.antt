@@ -18,7 +18,7 @@ use Rattle.pc_dfg_linearize.specs.Converted.{def_in}
 use Rattle.pc_dfg_finish.specs.Exports.{Exports, IsConverted, Target, in_export, in_exports}
 use Rattle.pc_dfg_linearize.specs.Numbers.{number_at, numbered}
 use Rattle.pc_dfg_linearize.specs.Parts.{HasNumber, in_def, number_of}
-use Rattle.pc_dfg_linearize.specs.Standing.{an_options_entry, named_by, named_in_export}
+use Rattle.pc_info.specs.Standing.{an_options_entry, named_by, named_in_export}
 use Rattle.pc_dfg_linearize.specs.Steps.{piece_of}
 use Rattle.pc_dfg_finish.proofs.LiftedLemmas.{exported_numbered, made_of, zip_on}
 use Rattle.pc_dfg_linearize.proofs.TakeLemmas.{none_in, one_in}
@@ -41,6 +41,7 @@ module _ (g : ComponentDfg) (types : List (Option TypeModuleIndex)) (h : Finish)
             (subst (λ y. Contains (an_options_entry o' ∷ []) (piece_of y m)) same
             (0, omega arith, ap (λ n. an_options_entry (unwrap_or n 0)) number))
       ])
+  item_names (export.ImportedFunction ty r) e' z m is inside at = absurd (none_in z inside)
   item_names (export.ModuleStatic ty k) e' z m is inside at = absurd (none_in z inside)
   item_names (export.ModuleImport ty r) e' z m is inside at = absurd (none_in z inside)
   item_names (export.Instance ty es) e' z m is inside at = absurd (none_in z inside)

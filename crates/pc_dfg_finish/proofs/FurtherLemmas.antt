@@ -106,6 +106,7 @@ module _ (g : ComponentDfg) (ordered : IsOrdered g) (grouped : IsGrouped g) wher
         };
         options = ready.1;
       }
+  can_export n (export.ImportedFunction ty r) at = tt
   can_export n (export.ModuleStatic ty m) at = tt
   can_export n (export.ModuleImport ty r) at = tt
   can_export n (export.Instance ty es) at = tt

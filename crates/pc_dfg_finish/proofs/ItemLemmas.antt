@@ -63,6 +63,7 @@ module _ (g : ComponentDfg) (types : List (Option TypeModuleIndex)) (f : Finish)
   pub is_item : (e : Export) (e' : PlanItem) → IsConverted g types f e e' → IsItem e e'
   unfolding IsConverted IsItem
   is_item (export.LiftedFunction ty d o) e' is = subst (IsItem (export.LiftedFunction ty d o)) (sym is) refl
+  is_item (export.ImportedFunction ty r) e' is = subst (IsItem (export.ImportedFunction ty r)) (sym is) (refl, refl)
   is_item (export.ModuleStatic ty m) e' is = subst (IsItem (export.ModuleStatic ty m)) (sym is) refl
   is_item (export.ModuleImport ty r) e' is = subst (IsItem (export.ModuleImport ty r)) (sym is) (refl, refl)
   is_item (export.Instance ty es) e' is =
@@ -74,6 +75,7 @@ module _ (g : ComponentDfg) (types : List (Option TypeModuleIndex)) (f : Finish)
   unfolding IsConverted HeldExport
   one_behind n (export.LiftedFunction ty d o) e' is held =
       subst (λ x. is_behind_its_parts n x ≡ true) (sym is) refl
+  one_behind n (export.ImportedFunction ty r) e' is held = subst (λ x. is_behind_its_parts n x ≡ true) (sym is) refl
   one_behind n (export.ModuleStatic ty m) e' is held = subst (λ x. is_behind_its_parts n x ≡ true) (sym is) refl
   one_behind n (export.ModuleImport ty r) e' is held = subst (λ x. is_behind_its_parts n x ≡ true) (sym is) refl
   one_behind n (export.Instance ty es) e' is held =

@@ -35,6 +35,7 @@ mod ApartLemmas
 -- where the steps stand
 mod PieceLemmas
 mod SealedLemmas
+mod RiseLemmas
 mod StandingLemmas
 mod ExportPieceLemmas
 mod AdapterOnceLemmas

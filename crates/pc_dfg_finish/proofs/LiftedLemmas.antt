@@ -25,7 +25,7 @@ use Rattle.pc_dfg_finish.specs.Exports.{Exports, IsConverted, IsExportable, Targ
 use Rattle.pc_dfg_linearize.specs.Numbers.{number_at}
 use Rattle.pc_dfg_linearize.specs.Once.{Fills}
 use Rattle.pc_dfg_linearize.specs.Parts.{HasNumber, in_def, number_of, options_id}
-use Rattle.pc_dfg_linearize.specs.Slots.{HasOptions}
+use Rattle.pc_info.specs.Slots.{HasOptions}
 use Rattle.pc_dfg_linearize.proofs.AllLemmas.{all_at}
 use Rattle.pc_dfg_linearize.proofs.PartLemmas.{all_one}
 use Rattle.pc_dfg_finish.proofs.UsedLemmas.{NoOptions, no_def}
@@ -80,6 +80,7 @@ module _ (g : ComponentDfg) (types : List (Option TypeModuleIndex)) (h : Finish)
       let number = has.options in
       let same = ap entry_of is ∙ ap (λ n. unwrap_or n 0) number.1 in
       subst (λ n. n < length h.options) (sym same) (fills.options.below k.0 number.0 number.1)
+  below fills ty f o (export.ImportedFunction ty' r) is has = absurd (cc is)
   below fills ty f o (export.ModuleStatic ty' m) is has = absurd (cc is)
   below fills ty f o (export.ModuleImport ty' r) is has = absurd (cc is)
   below fills ty f o (export.Instance ty' es) is has = let same = is.1 in absurd (cc same)
@@ -95,6 +96,8 @@ module _ (g : ComponentDfg) (types : List (Option TypeModuleIndex)) (h : Finish)
             let same : o.0 ≡ k = ap number_in (only_in (id.Options o) (options_id k) last) in
             (ty, d, ap (λ n. export.LiftedFunction ty d (record { 0 = n })) same)
       ]
+  names_options (export.ImportedFunction ty r) k inside =
+      absurd (All-contains NoOptions [] (options_id k) (All-nil NoOptions) inside)
   names_options (export.ModuleStatic ty m) k inside =
       absurd (All-contains NoOptions [] (options_id k) (All-nil NoOptions) inside)
   names_options (export.ModuleImport ty r) k inside =
@@ -134,6 +137,7 @@ module _ (g : ComponentDfg) (types : List (Option TypeModuleIndex)) (h : Finish)
               | inl part ↦ All-contains (HasNumber h) (in_def g d) x has.func part
               | inr last ↦ subst (HasNumber h) (only_in (id.Options o) x last) has.options
             ]
+        by (export.ImportedFunction ty r) has within = none within
         by (export.ModuleStatic ty m) has within = none within
         by (export.ModuleImport ty r) has within = none within
         by (export.Instance ty es) has within = none within

@@ -30,7 +30,7 @@ use Rattle.pc_dfg_linearize.specs.Parts.{HasNumber, in_def, in_entry, in_model, 
 use Rattle.pc_dfg_linearize.specs.Parts.{options_id, parts, slot_id}
 use Rattle.pc_dfg_linearize.specs.Ready.{Leads}
 use Rattle.pc_dfg_linearize.specs.Represented.{Represents}
-use Rattle.pc_dfg_linearize.specs.Slots.{TakesLowering}
+use Rattle.pc_info.specs.Slots.{TakesLowering}
 use Rattle.pc_dfg_linearize.proofs.PartLemmas.{all_each, all_one}
 use Rattle.pc_dfg_linearize.proofs.RepresentedLemmas.{copied_parts}
 use Rattle.pc_dfg_finish.proofs.SlotUseLemmas.{IsDirect, copied_view, direct_defs, direct_in_slot}

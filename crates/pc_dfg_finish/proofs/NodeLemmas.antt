@@ -36,7 +36,7 @@ use Rattle.pc_dfg.specs.Lists.{NamedExport}
 use Rattle.pc_dfg.specs.Means.{Means, MeansOptions}
 use Rattle.pc_dfg.specs.Nodes.{ExportsMean, MeansExport, MeansItem, MeansName, MeansNested, means_and_node}
 use Rattle.pc_dfg.specs.Nodes.{means_host_module, means_instance, means_item, means_lifted, means_no_nodes}
-use Rattle.pc_dfg.specs.Nodes.{means_static_module, means_type}
+use Rattle.pc_dfg.specs.Nodes.{means_imported_function, means_static_module, means_type}
 use Rattle.pc_dfg.specs.Ordered.{IsOrdered}
 use Rattle.pc_dfg_linearize.specs.declared.state.Finish.{Finish}
 use Rattle.pc_dfg_linearize.specs.Converted.{def_in}
@@ -128,6 +128,9 @@ module _ (g : ComponentDfg) (ms : List ModuleTranslation) (types : List (Option 
   unfolding IsConverted HeldExport HoldsEntry
   item_stands trees stand n same (export.LiftedFunction ty d o) at y is (means_lifted {v = v} {os = os} means options) =
       ap (λ z. export_node p s (export_view trees z)) is ∙ lifted_node n ty d o v os at means options
+  item_stands trees stand n same (export.ImportedFunction ty r) at y is (means_imported_function {path = path} there) =
+      let found = path_here wired reached extends ordered.held r.0 path there in
+      ap (λ z. export_node p s (export_view trees z)) is ∙ rw found refl
   item_stands trees stand n same (export.ModuleStatic ty m) at y is means_static_module =
       ap (λ z. export_node p s (export_view trees z)) is ∙ static_node n ty m at
   item_stands trees stand n same (export.ModuleImport ty r) at y is (means_host_module {path = path} there) =

@@ -3,14 +3,17 @@ use Rattle.std.proofs.Common.{◌≤◌, ◌+◌, ◌<◌, ◌⊎◌, ℕ, lengt
 use Rattle.std.proofs.lemmas.List.{length-map, length-take-le}
 use Rattle.pc_dfg.specs.declared.dfg.ComponentDfg.{ComponentDfg}
 use Rattle.pc_dfg.specs.declared.instance.Resource.{Resource}
-use Rattle.pc_dfg.specs.declared.instance.SideEffect.{SideEffect}
+use Rattle.pc_dfg.specs.declared.ids.InstanceId.{InstanceId}
+use Rattle.pc_dfg.specs.declared.instance.SideEffect.TheVariants as effect
+use Rattle.pc_numbers.specs.declared.runtime.DefinedResourceIndex.{DefinedResourceIndex}
+use Rattle.pc_numbers.specs.declared.runtime.RuntimeComponentInstanceIndex.{RuntimeComponentInstanceIndex}
 use Rattle.pc_dfg.specs.Ordered.{IsOrdered, declared_by, made_before, made_by}
 use Rattle.pc_dfg_linearize.specs.declared.state.Finish.{Finish}
 use Rattle.pc_dfg_linearize.specs.Closed.{Continues}
 use Rattle.pc_dfg_linearize.specs.Full.{HasTooMany, of_resources}
 use Rattle.pc_dfg_linearize.specs.Made.{DoneBefore, IsNext, declared_before}
 use Rattle.pc_dfg_linearize.specs.Outgrown.{Outgrows}
-use Rattle.pc_dfg_finish.proofs.DoneLemmas.{made_at_most}
+use Rattle.pc_dfg_finish.proofs.DoneLemmas.{made_at_most, made_next}
 use Rattle.pc_dfg_linearize.proofs.FullLemmas.{instances_too_many}
 
 module _ (g : ComponentDfg) where
@@ -18,12 +21,6 @@ module _ (g : ComponentDfg) where
   pub outgrows_before : (old new : Finish) → Continues g old new → Outgrows g new → Outgrows g old
   outgrows_before old new later full fills made =
       full (later.fills fills) (omega (arith, made, ap length later.instances))
-
-  -- it does where there are too many core instances
-  pub instances_outgrow : (old new : Finish) → Continues g old new
-      → (4294967294 ≤ new.counts.instances) ⊎ (4294967294 ≤ length new.instances) → Outgrows g old
-  instances_outgrow old new later full =
-      outgrows_before old new later (λ fills made. instances_too_many g new later.fits fills made full)
 
   module _ (ordered : IsOrdered g) where
     -- no more core instances were made than the graph has
@@ -39,13 +36,25 @@ module _ (g : ComponentDfg) where
         let all = ordered.resources.all in
         omega (arith, most, all)
 
-    -- too many resources were declared
-    pub resources_outgrow : (old new : Finish) (e : SideEffect) → IsNext g old e → Continues g old new
-        → 4294967294 ≤ length new.resources → HasTooMany g
-    resources_outgrow old new e next later full =
-        let within = declared_within next.place in
+    -- there are too many core instances, and one is still to be made
+    pub instances_outgrow : (old new : Finish) (i : InstanceId) (c : RuntimeComponentInstanceIndex)
+        → IsNext g old (effect.Instance i c) → Continues g old new
+        → (4294967294 ≤ new.counts.instances) ⊎ (4294967294 ≤ length new.instances) → Outgrows g old
+    instances_outgrow old new i c next later full fills made =
+        let within = made_within (next.place + 1) in
+        let more = made_next made_by g.side_effects next.place (effect.Instance i c) next.at in
+        let before = next.instances in
+        instances_too_many g new later.fits (later.fills fills)
+        (omega (arith, within, more, before, ap length later.instances)) full
+
+    -- too many resources were declared, and one is still to be
+    pub resources_outgrow : (old new : Finish) (n : DefinedResourceIndex) → IsNext g old (effect.Resource n)
+        → Continues g old new → 4294967294 ≤ length new.resources → HasTooMany g
+    resources_outgrow old new n next later full =
+        let within = declared_within (next.place + 1) in
+        let more = made_next declared_by g.side_effects next.place (effect.Resource n) next.at in
         let declared = next.resources in
-        of_resources (omega (arith, full, within, declared, ap length later.resources))
+        of_resources (omega (arith, full, within, more, declared, ap length later.resources))
 
     -- where side effects were done, what outgrows the graph says that it has too many entries
     pub done_too_many : (i : ℕ) (f : Finish) → DoneBefore g i f → Outgrows g f → HasTooMany g

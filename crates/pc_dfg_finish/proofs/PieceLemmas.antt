@@ -23,10 +23,10 @@ use Rattle.pc_dfg_linearize.specs.Numbers.{number_at}
 use Rattle.pc_dfg_linearize.specs.Parts.{HasNumber, in_def, in_entry, in_model, in_part, in_slot, in_trampoline, maybe_slot}
 use Rattle.pc_dfg_linearize.specs.Parts.{number_of, options_id, parts, slot_id, slot_numbers}
 use Rattle.pc_dfg_linearize.specs.Ready.{Leads, here, through}
-use Rattle.pc_dfg_linearize.specs.Slots.{TakesLowering, TakesOptions, TakesSlot}
-use Rattle.pc_dfg_linearize.specs.Stages.{IsSound}
-use Rattle.pc_dfg_linearize.specs.Standing.{LeadsTo, Needs, a_slot, an_instance, by_need, of_adapters, of_lowering}
-use Rattle.pc_dfg_linearize.specs.Standing.{of_options, of_part, of_slot, of_trampoline, to_itself}
+use Rattle.pc_info.specs.Slots.{TakesLowering, TakesOptions, TakesSlot}
+use Rattle.pc_dfg_linearize.specs.Sound.{IsSound}
+use Rattle.pc_info.specs.Standing.{LeadsTo, Needs, a_slot, an_instance, by_need, of_adapters, of_lowering}
+use Rattle.pc_info.specs.Standing.{of_options, of_part, of_slot, of_trampoline, to_itself}
 use Rattle.pc_dfg_linearize.specs.Steps.{piece_of}
 use Rattle.pc_dfg_finish.specs.Whole.{component_of}
 use Rattle.pc_dfg_linearize.proofs.EntryLemmas.{slot_number}

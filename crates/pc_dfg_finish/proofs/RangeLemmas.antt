@@ -35,8 +35,8 @@ use Rattle.pc_dfg_linearize.specs.Parts.{HasNumber, in_entry, in_model, in_part,
 use Rattle.pc_dfg_linearize.specs.Parts.{options_id, slot_id, slot_numbers}
 use Rattle.pc_dfg_linearize.specs.Plan.{slot_count}
 use Rattle.pc_dfg_linearize.specs.Represented.{IsCopyOf, Represents}
-use Rattle.pc_dfg_linearize.specs.Slots.{AtMostOne, TakesLowering, TakesOptions, TakesSlot, model_memory, model_realloc}
-use Rattle.pc_dfg_linearize.specs.Slots.{options_slot}
+use Rattle.pc_info.specs.Slots.{AtMostOne, TakesLowering, TakesOptions, TakesSlot, model_memory, model_realloc}
+use Rattle.pc_info.specs.Slots.{options_slot}
 use Rattle.pc_dfg_linearize.proofs.FillLemmas.{mapped_back}
 use Rattle.pc_dfg_linearize.proofs.RepresentedLemmas.{copied_parts, options_parts}
 use Rattle.pc_dfg_finish.proofs.SlotUseLemmas.{copied_view, slot_number, slot_part, slots_renumbered}

@@ -27,10 +27,10 @@ use Rattle.pc_dfg_linearize.specs.Entries.{options_in, parts_in}
 use Rattle.pc_dfg_finish.specs.Exports.{Target}
 use Rattle.pc_dfg_linearize.specs.Parts.{HasNumber, number_of, options_id}
 use Rattle.pc_dfg_linearize.specs.Plan.{slot_count, steps_view}
-use Rattle.pc_dfg_linearize.specs.Stages.{IsLater, IsSound}
-use Rattle.pc_dfg_linearize.specs.Standing.{LeadsTo, Needs, Piece, by_need}
-use Rattle.pc_dfg_linearize.specs.Standing.{named_by, of_adapters, of_lowering, of_options}
-use Rattle.pc_dfg_linearize.specs.Standing.{of_part, of_slot, of_trampoline, to_itself}
+use Rattle.pc_dfg_linearize.specs.Sound.{IsLater, IsSound}
+use Rattle.pc_info.specs.Standing.{LeadsTo, Needs, Piece, by_need}
+use Rattle.pc_info.specs.Standing.{named_by, of_adapters, of_lowering, of_options}
+use Rattle.pc_info.specs.Standing.{of_part, of_slot, of_trampoline, to_itself}
 use Rattle.pc_dfg_linearize.specs.Steps.{IsThere}
 use Rattle.pc_dfg_finish.specs.Whole.{component_of}
 use Rattle.pc_dfg_linearize.proofs.CountLemmas.{one}

@@ -20,22 +20,23 @@ use Rattle.pc_dfg.specs.Numbers.{slots_of}
 use Rattle.pc_dfg.specs.Told.{AreInterned}
 use Rattle.pc_dfg_linearize.specs.declared.id.Id.TheVariants as id
 use Rattle.pc_dfg_linearize.specs.declared.state.Finish.{Finish}
-use Rattle.pc_dfg_finish.specs.Apart.{FillsWith, TellsSlots}
+use Rattle.pc_info.specs.Slots.{FillsWith}
+use Rattle.pc_dfg_finish.specs.Apart.{TellsSlots}
 use Rattle.pc_dfg_linearize.specs.Converted.{adapter_def, def_in}
 use Rattle.pc_dfg_linearize.specs.Numbers.{number_at}
 use Rattle.pc_dfg_linearize.specs.Once.{Fills, Origin, number_in_run, of_instance, of_module}
 use Rattle.pc_dfg_linearize.specs.Parts.{HasNumber, number_of, slot_numbers}
 use Rattle.pc_dfg_linearize.specs.Plan.{steps_view}
 use Rattle.pc_dfg_linearize.specs.Ready.{IsReadyDef}
-use Rattle.pc_dfg_linearize.specs.Slots.{AtMostOne}
-use Rattle.pc_dfg_linearize.specs.Stages.{IsSound}
+use Rattle.pc_info.specs.Slots.{AtMostOne}
+use Rattle.pc_dfg_linearize.specs.Sound.{IsSound}
 use Rattle.pc_dfg_linearize.specs.Steps.{IsConvertible}
 use Rattle.pc_dfg_linearize.proofs.DefLemmas.{numbered_module}
 use Rattle.pc_dfg_finish.proofs.DistinctLemmas.{distinct_slots, item_tells}
 use Rattle.pc_dfg_linearize.proofs.FillLemmas.{in_run}
 use Rattle.pc_dfg_linearize.proofs.NoteLemmas as noted
 use Rattle.pc_dfg_finish.proofs.SealedLemmas.{contained_at, counted_early, fills_it, one_place}
-use Rattle.pc_dfg_finish.proofs.StageLemmas.{later_refl}
+use Rattle.pc_dfg_linearize.proofs.SoundLemmas.{later_refl}
 
 -- what a definition is, by the numbers of the graph: an adapter is an item of the instance of its module
 data Shape : Type 0 where

@@ -52,7 +52,7 @@ use Rattle.pc_dfg_linearize.specs.Parts.{HasNumber, in_def, in_entry, in_model, 
 use Rattle.pc_dfg_linearize.specs.Parts.{number_of, options_id, parts, slot_id, slot_numbers}
 use Rattle.pc_dfg_linearize.specs.Ready.{Leads}
 use Rattle.pc_dfg_linearize.specs.Represented.{IsCopyOf, Represents}
-use Rattle.pc_dfg_linearize.specs.Slots.{TakesSlot, model_memory, model_realloc, options_slot}
+use Rattle.pc_info.specs.Slots.{TakesSlot, model_memory, model_realloc, options_slot}
 use Rattle.pc_dfg_linearize.proofs.PartLemmas.{all_each, all_one}
 use Rattle.pc_dfg_linearize.proofs.RepresentedLemmas.{copied_parts, options_parts}
 use Rattle.pc_dfg_linearize.proofs.TakeLemmas.{none_in, one_in, signed_names}
@@ -248,6 +248,7 @@ module _ (g : ComponentDfg) where
   unfolding IsDirect
   direct_export (export.LiftedFunction ty d o) =
       All-append IsDirect (in_def g d) (id.Options o ∷ []) (direct_def d) (all_one IsDirect (id.Options o) tt)
+  direct_export (export.ImportedFunction ty r) = All-nil IsDirect
   direct_export (export.ModuleStatic ty m) = All-nil IsDirect
   direct_export (export.ModuleImport ty r) = All-nil IsDirect
   direct_export (export.Instance ty es) = All-nil IsDirect

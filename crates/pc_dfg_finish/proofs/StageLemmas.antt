@@ -1,6 +1,7 @@
 -- The steps of a plan come in stages, each of which ends with that of a side effect.
 use Rattle.std.proofs.Common.{◌≡◌, ◌++◌, ◌⊎◌, inl, inr, ℕ, zero, suc, List, [], ◌∷◌, length, map, All, Option, None}
 use Rattle.std.proofs.Common.{Some, option_map, true, false, true≢false, refl, sym, ap, subst, ◌∙◌}
+use Rattle.std.specs.Option.{option_to_list}
 use Rattle.std.specs.Prelude.{slice_get}
 use Rattle.std.specs.List.{Contains, flat_map}
 use Rattle.std.proofs.lemmas.List.{append-nil, append_assoc, length-map, map-append}
@@ -21,52 +22,24 @@ use Rattle.pc_dfg_linearize.specs.declared.id.Id.{Id}
 use Rattle.pc_dfg_linearize.specs.declared.id.Id.TheVariants as id
 use Rattle.pc_dfg_linearize.specs.declared.state.Finish.{Finish}
 use Rattle.pc_dfg_linearize.specs.Arguments.{CanNumber, IsNumbered, OnlyFromThese}
-use Rattle.pc_dfg_linearize.specs.Closed.{Continues, CountsSteps}
+use Rattle.pc_dfg_linearize.specs.Closed.{Continues}
+use Rattle.pc_dfg_linearize.specs.Sound.{CountsSteps}
 use Rattle.pc_dfg_linearize.specs.Converted.{def_in}
 use Rattle.pc_dfg_linearize.specs.Made.{instance_in, with_instance, with_resource}
 use Rattle.pc_dfg_linearize.specs.Once.{Fills, Stay}
 use Rattle.pc_dfg_linearize.specs.Parts.{HasNumber, in_def, number_of}
 use Rattle.pc_dfg_linearize.specs.Plan.{steps_view}
-use Rattle.pc_dfg_linearize.specs.Slots.{step_definitions}
-use Rattle.pc_dfg_linearize.specs.Stages.{AddsEffect, EndsWithEffect, IsLater, IsSound, IsStage}
-use Rattle.pc_dfg_linearize.specs.Standing.{is_side_effect, named_by}
+use Rattle.pc_info.specs.Slots.{step_definitions}
+use Rattle.pc_dfg_linearize.specs.Stages.{AddsEffect, EndsWithEffect, IsStage}
+use Rattle.pc_dfg_linearize.specs.Sound.{IsLater, IsSound}
+use Rattle.pc_info.specs.Standing.{is_side_effect, named_by}
 use Rattle.pc_dfg_linearize.specs.Steps.{IsConvertible, piece_of}
 use Rattle.pc_dfg_linearize.proofs.FillLemmas.{mapped_back, pushed_back}
 use Rattle.pc_dfg_linearize.proofs.AllLemmas.{all_at}
 use Rattle.pc_dfg_linearize.proofs.OneStepLemmas.{instance_definitions, is_effect}
+use Rattle.pc_dfg_linearize.proofs.SoundLemmas.{continues_later, later_refl, later_then}
 use Rattle.pc_dfg_linearize.proofs.TakeLemmas.{none_in}
 use Rattle.pc_dfg_linearize.proofs.ThereLemmas.{defs_name}
-
--- a plan is later than itself, and than those than which an earlier one is
-pub later_refl : (f : Finish) → IsLater f f
-later_refl f = record {
-  stay = λ y n at. at;
-  more = [];
-  steps = sym (append-nil f.steps);
-  made = [];
-  instances = sym (append-nil f.instances);
-}
-
-pub later_then : (a b c : Finish) → IsLater a b → IsLater b c → IsLater a c
-later_then a b c first second = record {
-  stay = λ y n at. second.stay y n (first.stay y n at);
-  more = first.more ++ second.more;
-  steps = second.steps ∙ ap (λ l. l ++ second.more) first.steps ∙ append_assoc a.steps first.more second.more;
-  made = first.made ++ second.made;
-  instances =
-      second.instances ∙ ap (λ l. l ++ second.made) first.instances
-      ∙ append_assoc a.instances first.made second.made;
-}
-
--- a plan that was made further is later
-pub continues_later : (g : ComponentDfg) (a b : Finish) → Continues g a b → IsLater a b
-continues_later g a b continues = record {
-  stay = continues.stay;
-  more = continues.steps.more;
-  steps = continues.steps.is;
-  made = [];
-  instances = continues.instances ∙ sym (append-nil a.instances);
-}
 
 pub adds_later : (a b : Finish) (ids : List Id) → Stay a b → AddsEffect a b ids → IsLater a b
 adds_later a b ids stay adds = record {
@@ -225,7 +198,7 @@ module _ (g : ComponentDfg) (old new : Finish) (continues : Continues g old new)
 
   destructor_names : (o : Option CoreDef) (y : Id) (n : ℕ) → Contains (flat_map (in_def g) (if_any o)) y
       → number_of new y ≡ Some n
-      → Contains (flat_map named_by (if_any (option_map def_view (option_map (def_in g new) o)))) (piece_of y n)
+      → Contains (flat_map named_by (option_to_list (option_map def_view (option_map (def_in g new) o)))) (piece_of y n)
   destructor_names None y n inside at = absurd (none_in y inside)
   destructor_names (Some d) y n inside at = defs_name g new (d ∷ []) y n inside at
 
@@ -239,7 +212,7 @@ module _ (g : ComponentDfg) (old new : Finish) (continues : Continues g old new)
     are_quiet = continues.steps.quiet;
     effect = refl;
     names = λ y n inside at.
-        subst (λ z. Contains (flat_map named_by (if_any (option_map def_view z))) (piece_of y n)) (sym is)
+        subst (λ z. Contains (flat_map named_by (option_to_list (option_map def_view z))) (piece_of y n)) (sym is)
         (destructor_names o y n inside (sym (resource_number r y) ∙ at));
     made = [];
     instances = continues.instances ∙ sym (append-nil old.instances);

@@ -21,16 +21,17 @@ use Rattle.pc_dfg_linearize.specs.declared.id.Id.{Id}
 use Rattle.pc_dfg_linearize.specs.declared.id.Id.TheVariants as id
 use Rattle.pc_dfg_linearize.specs.declared.state.Finish.{Finish}
 use Rattle.pc_dfg_linearize.specs.Arguments.{OnlyFromThese}
-use Rattle.pc_dfg_linearize.specs.Closed.{CountsSteps}
+use Rattle.pc_dfg_linearize.specs.Sound.{CountsSteps}
 use Rattle.pc_dfg_finish.specs.Exports.{Target}
 use Rattle.pc_dfg_linearize.specs.Numbers.{number_at}
 use Rattle.pc_dfg_linearize.specs.Once.{Alike, AreGiven, Fills, Origin, number_in_run, of_instance, of_module, unsigned}
 use Rattle.pc_dfg_linearize.specs.Parts.{HasNumber, number_of, slot_id, slot_numbers}
 use Rattle.pc_dfg_linearize.specs.Plan.{slot_count, steps_view}
 use Rattle.pc_dfg_linearize.specs.Ready.{Leads}
-use Rattle.pc_dfg_linearize.specs.Stages.{EndsWithEffect, IsLater, IsSound, IsStage}
-use Rattle.pc_dfg_linearize.specs.Standing.{IsEffectAt, IsLedTo, IsMadeLate, LeadsTo, Makes, Piece, a_lowering, a_slot}
-use Rattle.pc_dfg_linearize.specs.Standing.{an_instance, is_side_effect, named_in, named_in_export}
+use Rattle.pc_dfg_linearize.specs.Stages.{EndsWithEffect, IsStage}
+use Rattle.pc_dfg_linearize.specs.Sound.{IsLater, IsSound}
+use Rattle.pc_info.specs.Standing.{IsEffectAt, IsLedTo, IsMadeLate, LeadsTo, Makes, Piece, a_lowering, a_slot}
+use Rattle.pc_info.specs.Standing.{an_instance, is_side_effect, named_in, named_in_export}
 use Rattle.pc_dfg_linearize.specs.Steps.{IsThere, piece_of}
 use Rattle.pc_dfg_finish.specs.Whole.{component_of}
 use Rattle.pc_dfg_linearize.proofs.EntryLemmas.{slot_number}
@@ -38,7 +39,8 @@ use Rattle.pc_dfg_linearize.proofs.FillLemmas.{in_run, mapped_back}
 use Rattle.pc_dfg_finish.proofs.PieceLemmas.{piece_leads, slot_piece}
 use Rattle.pc_dfg_finish.proofs.SealedLemmas.{counted_early, counted_late, early_or_late, fills_it, sealed}
 use Rattle.pc_dfg_finish.proofs.SealedLemmas.{one_place, view_later}
-use Rattle.pc_dfg_finish.proofs.StageLemmas.{adds_later, front_length, later_refl, later_then, view_added}
+use Rattle.pc_dfg_finish.proofs.StageLemmas.{adds_later, front_length, view_added}
+use Rattle.pc_dfg_linearize.proofs.SoundLemmas.{later_refl, later_then}
 use Rattle.pc_dfg_linearize.proofs.ThereLemmas.{KeepsInstances, run_stays}
 
 -- what is made by a step of its own has its number where that step stands, and not before

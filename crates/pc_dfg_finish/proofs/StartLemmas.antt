@@ -1,5 +1,5 @@
 -- A plan with nothing in it: no side effect was done, and its run is at the start.
-use Rattle.std.proofs.Common.{◌≡◌, ℕ, zero, suc, List, [], ◌∷◌, length, Option, None, Some, refl, arith}
+use Rattle.std.proofs.Common.{◌≡◌, ◌<◌, ℕ, zero, suc, List, [], ◌∷◌, length, Option, None, Some, refl, arith}
 use Rattle.std.specs.Prelude.{option_and_then, option_map, replicate, slice_get}
 use Rattle.std.specs.List.{AllZip}
 use Rattle.std.proofs.lemmas.List.{length-replicate}
@@ -173,6 +173,10 @@ module _ (g : ComponentDfg) where
       owned = λ k n at. absurd (none-some n at);
       carry = λ i s at. absurd (none-some s at);
       there = λ s inside. absurd (none_in s inside);
+    };
+    passed = record {
+      options = λ n (below : n < 0). absurd (omega (arith, below));
+      trampolines = λ n (below : n < 0). absurd (omega (arith, below));
     };
     stages = λ i s at. absurd (none-some s at);
     ends = λ i s at. absurd (none-some s at);

@@ -19,7 +19,7 @@ use Rattle.pc_dfg_linearize.specs.Once.{Alike, IsUsedBy, unsigned}
 use Rattle.pc_dfg_linearize.specs.Parts.{HasNumber, in_def}
 use Rattle.pc_dfg_linearize.specs.Ready.{Leads}
 use Rattle.pc_dfg_linearize.specs.Represented.{Represents}
-use Rattle.pc_dfg_linearize.specs.Slots.{IsTrampoline, StepsName}
+use Rattle.pc_info.specs.Slots.{IsTrampoline, StepsName}
 use Rattle.pc_dfg_finish.proofs.LiftedLemmas.{made_of, zip_on}
 use Rattle.pc_dfg_linearize.proofs.PartLemmas.{all_one}
 use Rattle.pc_dfg_linearize.proofs.StepNameLemmas.{NoTrampoline, def_named, no_trampoline}
@@ -53,6 +53,7 @@ module _ (g : ComponentDfg) where
           | inl within ↦ subst (IsTrampoline n) (sym is) (def_named g h d t n within at)
           | inr last ↦ absurd (no_trampoline (id.Options o ∷ []) t (all_one NoTrampoline (id.Options o) tt) last)
         ]
+    item_named t n at (export.ImportedFunction ty r) e' inside is = absurd (none_in (id.Trampoline t) inside)
     item_named t n at (export.ModuleStatic ty m) e' inside is = absurd (none_in (id.Trampoline t) inside)
     item_named t n at (export.ModuleImport ty r) e' inside is = absurd (none_in (id.Trampoline t) inside)
     item_named t n at (export.Instance ty es) e' inside is = absurd (none_in (id.Trampoline t) inside)

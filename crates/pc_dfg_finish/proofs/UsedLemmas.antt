@@ -25,7 +25,7 @@ use Rattle.pc_dfg_linearize.specs.Parts.{HasNumber, in_def, in_entry, in_model, 
 use Rattle.pc_dfg_linearize.specs.Parts.{parts, slot_id}
 use Rattle.pc_dfg_linearize.specs.Ready.{Leads, here, through}
 use Rattle.pc_dfg_linearize.specs.Represented.{Represents}
-use Rattle.pc_dfg_linearize.specs.Slots.{TakesOptions}
+use Rattle.pc_info.specs.Slots.{TakesOptions}
 use Rattle.pc_dfg_linearize.proofs.PartLemmas.{all_each, all_one}
 use Rattle.pc_dfg_linearize.proofs.RepresentedLemmas.{copied_parts}
 use Rattle.pc_dfg_linearize.proofs.TakeLemmas.{parts_take}

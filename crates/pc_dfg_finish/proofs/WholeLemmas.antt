@@ -38,19 +38,22 @@ use Rattle.pc_dfg.specs.Told.{AreInterned, IsTold, Unsaid}
 use Rattle.pc_dfg_linearize.specs.declared.id.Id.{Id}
 use Rattle.pc_dfg_linearize.specs.declared.id.Id.TheVariants as id
 use Rattle.pc_dfg_linearize.specs.declared.state.Finish.{Finish}
-use Rattle.pc_dfg_finish.specs.Apart.{AreApart, IsOfAdapters}
+use Rattle.pc_info.specs.Apart.{AreApart}
+use Rattle.pc_dfg_finish.specs.Apart.{IsOfAdapters}
 use Rattle.pc_dfg_linearize.specs.Arguments.{OnlyFromThese}
-use Rattle.pc_dfg_linearize.specs.Closed.{CountsSteps}
+use Rattle.pc_dfg_linearize.specs.Sound.{CountsSteps}
 use Rattle.pc_dfg_finish.specs.Exports.{Exports, GoesFurther, Target, in_exports}
 use Rattle.pc_dfg_linearize.specs.Entries.{options_in}
-use Rattle.pc_dfg_finish.specs.Finishes.{Does, Finishes, IsOptionsOf, IsTrampolineOf, IsUsed, StandsForOne}
+use Rattle.pc_dfg_finish.specs.Finishes.{Does, Finishes, IsOptionsOf, IsTrampolineOf, StandsForOne}
+use Rattle.pc_info.specs.Slots.{IsUsed}
 use Rattle.pc_dfg_linearize.specs.Made.{DoneBefore, declared_before, ids_in, ids_in_all}
 use Rattle.pc_dfg_finish.specs.ModuleTypes.{module_mark}
 use Rattle.pc_dfg_linearize.specs.Parts.{HasNumber, number_of, options_id, slot_id}
 use Rattle.pc_dfg_linearize.specs.Plan.{Extends, counted_slots, slot_count, steps_view}
-use Rattle.pc_dfg_linearize.specs.Slots.{HasOptions, UsesLowering, UsesSlot, UsesTrampoline, slots_in}
-use Rattle.pc_dfg_linearize.specs.Stages.{IsSound}
-use Rattle.pc_dfg_linearize.specs.Standing.{IsMadeLate, Makes, Piece, is_side_effect}
+use Rattle.pc_info.specs.Slots.{HasOptions, UsesLowering, UsesSlot, UsesTrampoline, slots_in}
+use Rattle.pc_dfg_linearize.specs.Sound.{IsSound}
+use Rattle.pc_info.specs.Standing.{AreNumberedBehind, IsMadeLate, Makes, Piece, a_trampoline, an_options_entry}
+use Rattle.pc_info.specs.Standing.{is_side_effect}
 use Rattle.pc_dfg_finish.specs.Unnumbered.{unnumbered, unnumbered_options}
 use Rattle.pc_dfg_finish.specs.Whole.{component_of, translation_of}
 use Rattle.pc_dfg_linearize.specs.Wired.{IsWired}
@@ -67,7 +70,9 @@ use Rattle.pc_dfg_finish.proofs.RangeLemmas.{trampoline_within_options, trampoli
 use Rattle.pc_dfg_finish.proofs.SharedLemmas.{shared_options}
 use Rattle.pc_dfg_finish.proofs.SlotApartLemmas.{slots_apart}
 use Rattle.pc_dfg_finish.proofs.SlotUseLemmas.{IsDirect, slot_number, direct_defs, direct_exports, used_slot}
-use Rattle.pc_dfg_finish.proofs.StageLemmas.{continues_later, stages_still}
+use Rattle.pc_dfg_finish.proofs.StageLemmas.{stages_still}
+use Rattle.pc_dfg_finish.proofs.RiseLemmas.{rises}
+use Rattle.pc_dfg_linearize.proofs.SoundLemmas.{continues_later}
 use Rattle.pc_dfg_finish.proofs.StandingLemmas.{made_late}
 use Rattle.pc_dfg_linearize.proofs.StepNameLemmas.{adds_keep, named_later}
 use Rattle.pc_dfg_finish.proofs.TrampolineUseLemmas.{exported_trampoline, used_trampoline}
@@ -419,6 +424,19 @@ module _ (g : ComponentDfg) (ordered : IsOrdered g) (f : Finish) (done : DoneBef
         (in_exports g g.export_items) only (all_exported g types h names items exports)
         (exported_piece g types h names items exports)
 
+    -- options entries and trampolines have their numbers after what they lead to
+    numbered_behind : AreNumberedBehind whole an_options_entry × AreNumberedBehind whole a_trampoline
+    numbered_behind =
+        rises g h sound
+        (further.continues.passed
+        (record {
+          counts = done.counts;
+          fills = done.fills;
+          represents = done.represents;
+          are_steps = done.are_steps;
+        })
+        done.passed) names items
+
     -- so it is the plan of the graph
     pub whole_finishes : Finishes g (module_mark types) (translation_of g h names items)
     unfolding translation_of
@@ -458,6 +476,8 @@ module _ (g : ComponentDfg) (ordered : IsOrdered g) (f : Finish) (done : DoneBef
       carry = sound.are_steps.carry;
       slots_apart = slots_apart g h sound interned;
       late = late;
+      options_rise = numbered_behind.0;
+      trampolines_rise = numbered_behind.1;
       slots_filled = slots_filled;
       imports_lowered = imports_lowered;
       options_there = options_there;

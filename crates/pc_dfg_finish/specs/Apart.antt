@@ -1,4 +1,4 @@
--- What stands in a plan once, and what the instances of its adapter modules are made with.
+-- What the instances of a plan's adapter modules are made with, and how a graph tells slots apart.
 use Rattle.std.specs.List.{AllZip}
 use Rattle.std.specs.Prelude.{◌≡◌, ℕ, List, None, Some, slice_get}
 use Rattle.pc_entity.specs.Lists.{AreDistinct}
@@ -17,13 +17,6 @@ use Rattle.pc_dfg.specs.declared.dfg.ComponentDfg.{ComponentDfg}
 use Rattle.pc_dfg.specs.Means.{Means}
 use Rattle.pc_dfg.specs.Numbers.{slots_of}
 
--- in this state of a run no value stands twice: in the slots of a kind, as an options entry, as a trampoline
-pub record AreApart (p : plan.PlanView Mark) (s : State Mark) : Type 0 where
-  pub slots : (k : plan.SlotKind) → AreDistinct (machine.slots_of s k)
-  pub options : (m n : ℕ) (v : Options Mark) → options_at p s m ≡ Some v → options_at p s n ≡ Some v → m ≡ n
-  pub trampolines : (m n : ℕ) (v : CoreValue Mark) → resolve p s (plan.trampoline m) ≡ Some v
-      → resolve p s (plan.trampoline n) ≡ Some v → m ≡ n
-
 -- an instance is that of a module of adapters of the graph, with the values of the module's arguments and no others
 pub record IsOfAdapters (g : ComponentDfg) (i : Instantiation Mark) : Type 0 where
   pub place : ℕ
@@ -32,11 +25,6 @@ pub record IsOfAdapters (g : ComponentDfg) (i : Instantiation Mark) : Type 0 whe
   pub values : List (CoreValue Mark)
   pub means : AllZip (Means g) adapters.1 values
   pub is : i ≡ of_static adapters.0.0 values
-
--- a step fills a slot of a kind with a definition
-abbrev pub FillsWith : plan.SlotKind → plan.Definition → plan.Initializer → Type 0
-FillsWith k d (plan.extract l n e) = (l ≡ k) × (e ≡ d)
-FillsWith k d i = ⊥
 
 -- in the slots of a kind an intrinsic has one signature, and no two adapters of a graph are one function of one module
 pub record TellsSlots (g : ComponentDfg) : Type 0 where
@@ -48,8 +36,3 @@ pub record TellsSlots (g : ComponentDfg) : Type 0 where
 -- the core module of a module of adapters
 abbrev pub module_of : StaticModuleIndex × List CoreDef → StaticModuleIndex
 module_of x = x.0
-
--- a step makes an instance of this module of adapters
-abbrev pub MakesAdapters : (core_module : ℕ) → plan.Initializer → Type 0
-MakesAdapters m (plan.instantiate_static n args None) = n ≡ m
-MakesAdapters m i = ⊥

@@ -73,6 +73,7 @@ IsInstance ty names e =
 -- the function of an export, with the number of its options
 abbrev pub function_of : Export → Option (CoreDef × OptionsId)
 function_of (export.LiftedFunction ty d o) = Some (d, o)
+function_of (export.ImportedFunction ty r) = None
 function_of (export.ModuleStatic ty m) = None
 function_of (export.ModuleImport ty r) = None
 function_of (export.Instance ty es) = None
@@ -122,6 +123,7 @@ module _ (g : ComponentDfg) where
   -- an item of the plan is an export of the graph, by the numbers of the plan
   unfoldable pub IsConverted : List (Option TypeModuleIndex) → Finish → Export → PlanItem → Type 0
   IsConverted types f (export.LiftedFunction ty d o) e = e ≡ lifted_in f ty d o
+  IsConverted types f (export.ImportedFunction ty r) e = e ≡ item.ImportedFunction ty r
   IsConverted types f (export.ModuleStatic ty m) e = e ≡ item.ModuleStatic (module_type types ty) m
   IsConverted types f (export.ModuleImport ty r) e = e ≡ item.ModuleImport ty r
   IsConverted types f (export.Instance ty es) e = IsInstance ty es e

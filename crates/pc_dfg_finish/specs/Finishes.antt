@@ -41,10 +41,13 @@ use Rattle.pc_dfg.specs.Means.{Means}
 use Rattle.pc_dfg.specs.Nodes.{ExportsMean}
 use Rattle.pc_dfg.specs.Numbers.{SignedTrampoline, options_entry, trampoline_entry}
 use Rattle.pc_dfg.specs.Told.{IsTold, Unsaid}
-use Rattle.pc_dfg_finish.specs.Apart.{AreApart, FillsWith, IsOfAdapters, MakesAdapters, TellsSlots, module_of}
-use Rattle.pc_dfg_linearize.specs.Slots.{AtMostOne, HasOptions, TakesLowering, TakesOptions, UsesLowering, UsesSlot}
-use Rattle.pc_dfg_linearize.specs.Slots.{UsesTrampoline, slots_in}
-use Rattle.pc_dfg_linearize.specs.Standing.{CarriesNext, IsMadeLate, Makes, Piece, is_side_effect, steps_in}
+use Rattle.pc_info.specs.Apart.{AreApart}
+use Rattle.pc_info.specs.Slots.{FillsWith, MakesAdapters}
+use Rattle.pc_dfg_finish.specs.Apart.{IsOfAdapters, TellsSlots, module_of}
+use Rattle.pc_info.specs.Slots.{AtMostOne, HasOptions, IsUsed, StandsAt, TakesLowering, TakesOptions, UsesLowering}
+use Rattle.pc_info.specs.Slots.{UsesSlot, UsesTrampoline, slots_in}
+use Rattle.pc_info.specs.Standing.{AreNumberedBehind, CarriesNext, IsMadeLate, Makes, Piece, a_trampoline}
+use Rattle.pc_info.specs.Standing.{an_options_entry, is_side_effect, steps_in}
 use Rattle.pc_dfg_finish.specs.Unnumbered.{unnumbered, unnumbered_options}
 use Rattle.pc_dfg_linearize.specs.Wired.{IsWired, Occurs}
 
@@ -71,6 +74,7 @@ pub record Does (p : PlanView Mark) (trace : List (Entry Mark)) (nodes : List (N
 -- an instance has the same names, and finds what is under each
 unfoldable pub IsItem : Export → PlanItem → Type 0
 IsItem (export.LiftedFunction ty f o) (item.LiftedFunction ty' f' o') = ty ≡ ty'
+IsItem (export.ImportedFunction ty r) (item.ImportedFunction ty' r') = (ty ≡ ty') × (r ≡ r')
 IsItem (export.ModuleStatic ty m) (item.ModuleStatic ty' m') = m ≡ m'
 IsItem (export.ModuleImport ty r) (item.ModuleImport ty' r') = (ty ≡ ty') × (r ≡ r')
 IsItem (export.Instance ty es) (item.Instance ty' es') =
@@ -92,18 +96,6 @@ IsTrampolineOf g p n x =
     × (slice_get p.component.trampolines n ≡ Some e.0)
     × (unnumbered (entry_view e.0 x) ≡ unnumbered (trampoline_entry e))
 
--- a trampoline of a plan stands at this place, under this signature
-abbrev pub StandsAt : ComponentTranslation → ModuleInternedTypeIndex → PlanTrampoline → (place : ℕ) → Type 0
-StandsAt p s x n =
-    (slice_get p.component.trampolines n ≡ Some s) × (slice_get p.trampolines n ≡ Some x)
-
--- an exported function or a trampoline of a plan has the options of this number
-unfoldable pub IsUsed : ComponentTranslation → ℕ → Type 0
-IsUsed p n =
-    ((k : ℕ) × (e : PlanItem) × (slice_get p.component.export_items k ≡ Some e) × HasOptions n e)
-    ⊎ ((k : ℕ) × (x : plan.TrampolineEntry Mark)
-    × (slice_get (trampolines_view 0 p.component.trampolines p.trampolines) k ≡ Some x) × TakesOptions n x)
-
 -- a plan is that of a graph, where each module type of the table has this mark
 pub record Finishes (g : ComponentDfg) (converted : ℕ → Mark) (plan : ComponentTranslation) : Type 0 where
   -- with all modules to which the graph is wired it does what the side effects do, and exports what the graph exports
@@ -114,8 +106,8 @@ pub record Finishes (g : ComponentDfg) (converted : ℕ → Mark) (plan : Compon
       (wired : IsWired g ms) (effects : EffectsMean g trace) (exports : ExportsMean g converted nodes) (n : ℕ)
       → n < length plan.trampolines
       → StandsForOne g plan ms (does ms trace nodes wired effects exports).never_stuck.last n
-  -- no slots of a kind, options entries or trampolines have one value there, where the graph tells what values leave
-  -- out
+  -- what the run filled has values of its own there (each slot of a kind, each options entry, each trampoline), where
+  -- the graph tells what values leave out
   pub values_apart : (ms : List ModuleTranslation) (trace : List (Entry Mark)) (nodes : List (NamedNode Mark))
       (wired : IsWired g ms) (effects : EffectsMean g trace) (exports : ExportsMean g converted nodes) (u : Unsaid)
       → IsTold u g → AreApart (view plan ms) (does ms trace nodes wired effects exports).never_stuck.last
@@ -169,6 +161,9 @@ pub record Finishes (g : ComponentDfg) (converted : ℕ → Mark) (plan : Compon
   pub slots_apart : TellsSlots g → (k : SlotKind) (d : Definition) → AtMostOne (FillsWith k d) (steps_in plan)
   pub late : (i : ℕ) (s : Initializer) (x : Piece) → slice_get (steps_in plan) i ≡ Some s → is_side_effect s ≡ false
       → Makes (take i (steps_in plan)) s x → IsMadeLate plan i x
+  -- an options entry has its number after those that it leads to, and so has a trampoline
+  pub options_rise : AreNumberedBehind plan an_options_entry
+  pub trampolines_rise : AreNumberedBehind plan a_trampoline
   -- and what options, trampolines and exports name is there
   pub slots_filled : (k : SlotKind) (n : ℕ) → UsesSlot plan k n → n < slots_in (counts_view plan.component) k
   pub imports_lowered : (n : ℕ) → UsesLowering plan n → n < plan.component.num_lowerings

@@ -22,6 +22,7 @@ module_mark types n = mark.Type_ (def.Module (module_type types n))
 -- the number in the table that the type of a handed-in module has, where such a one is exported
 abbrev pub static_type : Export → Option ℕ
 static_type (export.LiftedFunction ty d o) = None
+static_type (export.ImportedFunction ty r) = None
 static_type (export.ModuleStatic ty m) = Some ty
 static_type (export.ModuleImport ty r) = None
 static_type (export.Instance ty es) = None

@@ -194,6 +194,10 @@ fn item_of(
         Export::LiftedFunction { ty, func, options } => {
             lifted(alloc, graph, finish, *ty, func, *options)
         }
+        Export::ImportedFunction { ty, import } => Ok(pc_info::Export::ImportedFunction {
+            ty: *ty,
+            import: *import,
+        }),
         Export::ModuleStatic { ty, index } => Ok(pc_info::Export::ModuleStatic {
             ty: types.at(*ty),
             index: *index,

@@ -28,15 +28,16 @@ use Rattle.pc_dfg_linearize.specs.Closed.{Closed, Fits, HasValue, Valued}
 use Rattle.pc_dfg_linearize.specs.Converted.{def_in, export_in}
 use Rattle.pc_dfg_linearize.specs.Parts.{HasNumber, in_def, in_slot, number_of, parts, slot_id, slot_numbers}
 use Rattle.pc_dfg_linearize.specs.Represented.{AreNamed}
-use Rattle.pc_dfg_linearize.specs.Slots.{step_definitions}
+use Rattle.pc_info.specs.Slots.{step_definitions}
 use Rattle.pc_dfg_linearize.specs.Plan.{slot_count}
 use Rattle.pc_dfg_linearize.specs.Ready.{CanClose, IsReadyDef, IsReadySlot}
 use Rattle.pc_dfg_linearize.specs.Wired.{in_a_slot}
-use Rattle.pc_dfg_linearize.specs.Standing.{is_side_effect}
+use Rattle.pc_info.specs.Standing.{is_side_effect}
 use Rattle.pc_dfg_linearize.proofs.DefLemmas.{def_resolves}
 use Rattle.pc_dfg_linearize.proofs.EntryLemmas.{slot_number}
 use Rattle.pc_dfg_linearize.proofs.FillLemmas.{slot_fills}
 use Rattle.pc_dfg_linearize.proofs.GrownLemmas.{continues_step}
+use Rattle.pc_dfg_linearize.proofs.SoundLemmas.{none_more}
 use Rattle.pc_dfg_linearize.proofs.KindLemmas.{slot_kind_fits}
 use Rattle.pc_dfg_linearize.proofs.NoteLemmas.{notes_here, notes_numbered, notes_only, slot_noted}
 use Rattle.pc_dfg_linearize.proofs.SlotLemmas.{slot_counts, slot_fits, slot_goes}
@@ -109,7 +110,8 @@ closed_slot g f k n i d held at ready numbered fits fresh view =
           (λ is. represents_slot g f is k n i within fresh (slot_parts_there g f k n d at numbered)
           (slot_named g f k n i d at view))
           (λ c h h' is. slot_steps g f c h is k n i d at (record { ready = ready; numbered = numbered }) within view
-          (notes_stay f new (slot_id k n) (slot_count f k) noted fresh) h');
+          (notes_stay f new (slot_id k n) (slot_count f k) noted fresh) h')
+          (none_more (length f.options)) (none_more (length f.trampolines));
       here = notes_here f new (slot_id k n) (slot_count f k) noted;
       only = notes_only f new (slot_id k n) (slot_count f k) noted g;
       goes = λ ms wired valued s trace reached.

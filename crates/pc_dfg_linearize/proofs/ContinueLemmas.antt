@@ -11,7 +11,8 @@ use Rattle.pc_dfg.specs.declared.dfg.ComponentDfg.{ComponentDfg}
 use Rattle.pc_dfg_linearize.specs.declared.state.Finish.{Finish}
 use Rattle.pc_dfg_linearize.specs.Closed.{Continues, Fits}
 use Rattle.pc_dfg_linearize.specs.Reached.{Gains, GoesOn}
-use Rattle.pc_dfg_linearize.specs.Standing.{is_side_effect}
+use Rattle.pc_info.specs.Standing.{is_side_effect}
+use Rattle.pc_dfg_linearize.proofs.SoundLemmas.{continues_sound}
 
 -- an instance without a component instance
 abbrev Unowned : RuntimeInstance Mark → Type 0
@@ -56,6 +57,7 @@ module _ (g : ComponentDfg) where
     fills = λ h. h;
     represents = λ h. h;
     are_steps = λ c h is. is;
+    passed = λ sound passed. passed;
   }
 
   pub continues_then : (a b c : Finish) → Continues g a b → Continues g b c → Continues g a c
@@ -75,6 +77,7 @@ module _ (g : ComponentDfg) where
     fills = λ h. second.fills (first.fills h);
     represents = λ h. second.represents (first.represents h);
     are_steps = λ c h is. second.are_steps (first.counts c) (first.fills h) (first.are_steps c h is);
+    passed = λ sound passed. second.passed (continues_sound g a b first sound) (first.passed sound passed);
   }
 
   module _ (ms : List ModuleTranslation) where

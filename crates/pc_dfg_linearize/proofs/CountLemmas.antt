@@ -8,7 +8,7 @@ use Rattle.pc_spec_plan.specs.PlanView as plan
 use Rattle.pc_info.specs.declared.initializer.GlobalInitializer.{GlobalInitializer}
 use Rattle.pc_info.specs.Definitions.{initializer_view}
 use Rattle.pc_dfg_linearize.specs.declared.state.Finish.{Finish}
-use Rattle.pc_dfg_linearize.specs.Closed.{CountsSteps}
+use Rattle.pc_dfg_linearize.specs.Sound.{CountsSteps}
 use Rattle.pc_dfg_linearize.specs.Plan.{slot_count, steps_view}
 
 -- what a test counts of one step

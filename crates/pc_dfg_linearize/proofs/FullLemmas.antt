@@ -1,5 +1,5 @@
 -- A plan whose numbers are given once has no more of them than the graph has entries.
-use Rattle.std.proofs.Common.{◌≡◌, ◌<◌, ◌≤◌, ◌+◌, ◌++◌, ℕ, zero, suc, List, length, map, sum_by, Option, None, Some}
+use Rattle.std.proofs.Common.{◌≡◌, ◌<◌, ◌≤◌, ◌+◌, ◌++◌, ◌∷◌, [], ℕ, zero, suc, List, length, map, sum_by, Option, None, Some}
 use Rattle.std.proofs.Common.{option_map, ◌⊎◌, inl, inr, ap, subst, ◌∙◌, arith}
 use Rattle.std.specs.Prelude.{option_and_then, slice_get}
 use Rattle.std.specs.List.{Contains}
@@ -18,8 +18,13 @@ use Rattle.pc_dfg_linearize.specs.Closed.{Fits}
 use Rattle.pc_dfg_linearize.specs.Full.{HasTooMany, of_instances, of_options, of_slots, of_trampolines}
 use Rattle.pc_dfg_linearize.specs.Numbers.{number_at}
 use Rattle.pc_dfg_linearize.specs.Once.{AreGiven, Fills, Origin, number_in_run, of_instance, of_module}
+use Rattle.pc_dfg_linearize.specs.Outgrown.{IsLeftOver}
+use Rattle.pc_dfg_linearize.specs.Parts.{number_of, slot_numbers}
 use Rattle.pc_dfg_linearize.specs.Plan.{slot_count}
+use Rattle.pc_dfg_linearize.specs.Ready.{CanClose, IsReadySlot}
 use Rattle.pc_dfg_linearize.proofs.FillLemmas.{in_run, mapped_back}
+use Rattle.pc_dfg_linearize.proofs.LoweringLemmas.{lowering_can}
+use Rattle.pc_dfg_linearize.proofs.ModuleLemmas.{module_can}
 use Rattle.pc_dfg_linearize.proofs.SumLemmas.{below_itself, below_more, below_one, below_other, is_below, sum_less, sum_ones}
 
 -- 1 for a number that is there and below another one, else 0
@@ -52,6 +57,16 @@ as_many ns (suc n) each =
     let P : ℕ → Type 0 = λ m. m ≤ sum_by (given_below m) ns in
     subst P (omega arith) last
 
+given_none : (n : ℕ) → given_below n None < 1
+unfolding given_below
+given_none n = omega arith
+
+-- and where an entry has no number, the list is longer
+longer : (ns : List (Option ℕ)) (n : ℕ) → ((k : ℕ) → k < n → Contains ns (Some k)) → Contains ns None → n < length ns
+longer ns n each none =
+    let less = sum_less (given_below n) (λ (o : Option ℕ). 1) (given_one n) ns None none (given_none n) in
+    omega (arith, as_many ns n each, less, sum_ones (λ (o : Option ℕ). 1) (λ o. omega arith) ns)
+
 -- so the list is no shorter
 no_shorter : (ns : List (Option ℕ)) (n : ℕ) → ((k : ℕ) → k < n → Contains ns (Some k)) → n ≤ length ns
 no_shorter ns n each = omega (arith, as_many ns n each, sum_ones (given_below n) (given_one n) ns)
@@ -71,6 +86,22 @@ number_contains ns k n is = at_contains ns k (Some n) (joined_back (slice_get ns
 pub count_within : (ns : List (Option ℕ)) (count : ℕ) → AreGiven (number_at ns) count → count ≤ length ns
 count_within ns count given =
     no_shorter ns count (λ n below. let k = given.given n below in number_contains ns k.0 n k.1)
+
+-- an entry that has no number
+none_there : (ns : List (Option ℕ)) (k : ℕ) → k < length ns → number_at ns k ≡ None → slice_get ns k ≡ Some None
+none_there [] k within none = absurd (omega (arith, within))
+none_there (o ∷ ns) zero within none = ap (λ m. Some m) none
+none_there (o ∷ ns) (suc k) within none = none_there ns k (omega (arith, within)) none
+
+none_contained : (ns : List (Option ℕ)) (k : ℕ) → k < length ns → number_at ns k ≡ None → Contains ns None
+none_contained ns k within none = at_contains ns k None (none_there ns k within none)
+
+-- a list has more entries than there are numbers, where an entry has none
+count_below : (ns : List (Option ℕ)) (count : ℕ) → AreGiven (number_at ns) count → (k : ℕ) → k < length ns
+    → number_at ns k ≡ None → count < length ns
+count_below ns count given k within none =
+    longer ns count (λ n below. let j = given.given n below in number_contains ns j.0 n j.1)
+    (none_contained ns k within none)
 
 -- the numbers of all core instances of the run
 run_numbers : Finish → List (Option ℕ)
@@ -98,52 +129,88 @@ run_within f given =
     (λ n below. let x = given.given n below in run_contains f x.0 n x.1) in
     omega (arith, all, length-append (map v f.instances) f.numbers.adapter_modules, length-map f.instances v)
 
+-- and fewer where a module of adapters has no instance yet
+run_below : (f : Finish) → AreGiven (number_in_run f) f.counts.instances → (k : ℕ)
+    → k < length f.numbers.adapter_modules → number_at f.numbers.adapter_modules k ≡ None
+    → f.counts.instances < length f.instances + length f.numbers.adapter_modules
+unfolding run_numbers
+run_below f given k within none =
+    let v : RuntimeInstanceIndex → Option ℕ = λ m. Some m.0 in
+    let all = longer (run_numbers f) f.counts.instances
+    (λ n below. let x = given.given n below in run_contains f x.0 n x.1)
+    (Contains-append_right (map v f.instances) f.numbers.adapter_modules None
+    (none_contained f.numbers.adapter_modules k within none)) in
+    omega (arith, all, length-append (map v f.instances) f.numbers.adapter_modules, length-map f.instances v)
+
 module _ (g : ComponentDfg) (f : Finish) (fits : Fits g f) (fills : Fills f) where
-  -- no more slots are filled than the graph has entries for
-  slots_within : (k : plan.SlotKind) → slot_count f k ≤ length (slots_of g k)
+  -- fewer slots are filled than the graph has entries for, where one isn't
+  slots_below : (k : plan.SlotKind) (n : ℕ) → n < length (slots_of g k) → number_at (slot_numbers f k) n ≡ None
+      → slot_count f k < length (slots_of g k)
   unfolding slots_of
-  slots_within plan.memory =
+  slots_below plan.memory n within none =
       let same = length-map g.memories memory_def in
-      omega (arith, same, fits.memories, count_within f.numbers.memories f.counts.memories (fills.slots plan.memory))
-  slots_within plan.table =
+      let below = count_below f.numbers.memories f.counts.memories (fills.slots plan.memory) n
+      (omega (arith, same, within, fits.memories)) none in
+      omega (arith, same, fits.memories, below)
+  slots_below plan.table n within none =
       let same = length-map g.tables table_def in
-      omega (arith, same, fits.tables, count_within f.numbers.tables f.counts.tables (fills.slots plan.table))
-  slots_within plan.realloc =
-      omega (arith, fits.reallocs, count_within f.numbers.reallocs f.counts.reallocs (fills.slots plan.realloc))
-  slots_within plan.callback =
-      omega (arith, fits.callbacks, count_within f.numbers.callbacks f.counts.callbacks (fills.slots plan.callback))
-  slots_within plan.post_return =
-      let count = count_within f.numbers.post_returns f.counts.post_returns (fills.slots plan.post_return) in
-      omega (arith, fits.post_returns, count)
+      let below = count_below f.numbers.tables f.counts.tables (fills.slots plan.table) n
+      (omega (arith, same, within, fits.tables)) none in
+      omega (arith, same, fits.tables, below)
+  slots_below plan.realloc n within none =
+      let below = count_below f.numbers.reallocs f.counts.reallocs (fills.slots plan.realloc) n
+      (omega (arith, within, fits.reallocs)) none in
+      omega (arith, fits.reallocs, below)
+  slots_below plan.callback n within none =
+      let below = count_below f.numbers.callbacks f.counts.callbacks (fills.slots plan.callback) n
+      (omega (arith, within, fits.callbacks)) none in
+      omega (arith, fits.callbacks, below)
+  slots_below plan.post_return n within none =
+      let below = count_below f.numbers.post_returns f.counts.post_returns (fills.slots plan.post_return) n
+      (omega (arith, within, fits.post_returns)) none in
+      omega (arith, fits.post_returns, below)
 
-  -- where the slots of a kind are full, the graph has too many entries
-  slots_too_many : (k : plan.SlotKind) → 4294967294 ≤ slot_count f k → HasTooMany g
-  slots_too_many k full =
-      let within = slots_within k in
-      of_slots k (omega (arith, full, within))
+  -- where the slots of a kind are full, and one isn't filled, the graph has too many entries
+  slots_too_many : (made : ℕ) (k : plan.SlotKind) (n : ℕ) → IsReadySlot g made k n
+      → number_at (slot_numbers f k) n ≡ None → 4294967294 ≤ slot_count f k → HasTooMany g
+  slots_too_many made k n can none full =
+      let below = slots_below k n (slice_get_within (slots_of g k) n can.0 can.1) none in
+      of_slots k (omega (arith, full, below))
 
-  -- and so it has where there are too many core instances
-  pub instances_too_many : length f.instances ≤ length g.instances
+  -- and so it has where there are too many core instances, and one is still to be made
+  pub instances_too_many : length f.instances < length g.instances
       → (4294967294 ≤ f.counts.instances) ⊎ (4294967294 ≤ length f.instances) → HasTooMany g
   instances_too_many made (inl counted) =
       of_instances (omega (arith, counted, made, fits.adapter_modules, run_within f fills.instances))
   instances_too_many made (inr listed) = of_instances (omega (arith, listed, made))
 
-  -- or where the list of an id is full
-  pub full_too_many : length f.instances ≤ length g.instances → (x : Id) → IsFull f x → HasTooMany g
-  unfolding IsFull
-  full_too_many made (id.Memory n) full = slots_too_many plan.memory full
-  full_too_many made (id.Table n) full = slots_too_many plan.table full
-  full_too_many made (id.Realloc n) full = slots_too_many plan.realloc full
-  full_too_many made (id.Callback n) full = slots_too_many plan.callback full
-  full_too_many made (id.PostReturn n) full = slots_too_many plan.post_return full
-  full_too_many made (id.Options o) full =
-      of_options (omega (arith, full, fits.options, count_within f.numbers.options (length f.options) fills.options))
-  full_too_many made (id.Lowering t) full =
-      let count = count_within f.numbers.lowerings f.counts.lowerings fills.lowerings in
-      of_trampolines (omega (arith, full, fits.lowerings, count))
-  full_too_many made (id.Trampoline t) full =
-      let count = count_within f.numbers.trampolines (length f.trampolines) fills.trampolines in
-      of_trampolines (omega (arith, full, fits.trampolines, count))
-  full_too_many made (id.Intrinsic s i) full = absurd full
-  full_too_many made (id.AdapterModule m) full = instances_too_many made (inl full)
+  -- or where the list is full in which an id is to get its number
+  left_too_many : length f.instances ≤ length g.instances → (x : Id) → number_of f x ≡ None
+      → CanClose g (length f.instances) x → IsFull f x → HasTooMany g
+  unfolding IsFull number_of CanClose
+  left_too_many made (id.Memory n) none can full = slots_too_many (length f.instances) plan.memory n.0 can none full
+  left_too_many made (id.Table n) none can full = slots_too_many (length f.instances) plan.table n.0 can none full
+  left_too_many made (id.Realloc n) none can full = slots_too_many (length f.instances) plan.realloc n.0 can none full
+  left_too_many made (id.Callback n) none can full = slots_too_many (length f.instances) plan.callback n.0 can none full
+  left_too_many made (id.PostReturn n) none can full = slots_too_many (length f.instances) plan.post_return n.0 can none full
+  left_too_many made (id.Options o) none can full =
+      let below = count_below f.numbers.options (length f.options) fills.options o.0
+      (omega (arith, can, fits.options)) none in
+      of_options (omega (arith, full, fits.options, below))
+  left_too_many made (id.Lowering t) none can full =
+      let within = lowering_can g (length f.instances) t can in
+      let below = count_below f.numbers.lowerings f.counts.lowerings fills.lowerings t.0
+      (omega (arith, within, fits.lowerings)) none in
+      of_trampolines (omega (arith, full, fits.lowerings, below))
+  left_too_many made (id.Trampoline t) none can full =
+      let below = count_below f.numbers.trampolines (length f.trampolines) fills.trampolines t.0
+      (omega (arith, can, fits.trampolines)) none in
+      of_trampolines (omega (arith, full, fits.trampolines, below))
+  left_too_many made (id.Intrinsic s i) none can full = absurd full
+  left_too_many made (id.AdapterModule m) none can full =
+      let within = module_can g (length f.instances) m can in
+      let below = run_below f fills.instances m.0 (omega (arith, within, fits.adapter_modules)) none in
+      of_instances (omega (arith, full, made, fits.adapter_modules, below))
+
+  pub full_too_many : length f.instances ≤ length g.instances → (x : Id) → IsLeftOver g f x → HasTooMany g
+  full_too_many made x left = left_too_many made x left.fresh left.can left.full

@@ -1,5 +1,5 @@
 -- A run that goes on while the plan is made further without a side effect.
-use Rattle.std.proofs.Common.{◌≡◌, ℕ, Bool, false, List, [], ◌∷◌, ◌++◌, length, map, take, Option, None}
+use Rattle.std.proofs.Common.{◌≡◌, ◌≤◌, ◌+◌, ℕ, Bool, false, List, [], ◌∷◌, ◌++◌, length, map, take, Option, None}
 use Rattle.std.proofs.Common.{Some, refl, sym, ap, ◌∙◌}
 use Rattle.std.specs.Prelude.{slice_get, count_by, is_some}
 use Rattle.std.proofs.lemmas.List.{append-nil, map-append}
@@ -16,16 +16,18 @@ use Rattle.pc_info.specs.Definitions.{initializer_view}
 use Rattle.pc_dfg.specs.declared.dfg.ComponentDfg.{ComponentDfg}
 use Rattle.pc_dfg_linearize.specs.declared.id.Id.{Id}
 use Rattle.pc_dfg_linearize.specs.declared.state.Finish.{Finish}
-use Rattle.pc_dfg_linearize.specs.Closed.{AddsSteps, Continues, CountsSteps, Fits}
+use Rattle.pc_dfg_linearize.specs.Closed.{AddsSteps, Continues, Fits}
+use Rattle.pc_dfg_linearize.specs.Sound.{CountsSteps, HasPassed, IsSound}
 use Rattle.pc_dfg_linearize.specs.Numbers.{number_at}
 use Rattle.pc_dfg_linearize.specs.Once.{Fills, Stay}
 use Rattle.pc_dfg_linearize.specs.Parts.{HasNumber}
 use Rattle.pc_dfg_linearize.specs.Plan.{Extends, steps_view}
 use Rattle.pc_dfg_linearize.specs.Represented.{Represents}
 use Rattle.pc_dfg_linearize.specs.Reached.{all_linked, Filled, Gains, Grown, Placed, Reached, Resolves}
-use Rattle.pc_dfg_linearize.specs.Standing.{is_side_effect}
+use Rattle.pc_info.specs.Standing.{is_side_effect}
 use Rattle.pc_dfg_linearize.specs.Steps.{AreSteps}
 use Rattle.pc_dfg_linearize.proofs.CountLemmas.{CountsOne, counts_more}
+use Rattle.pc_dfg_linearize.proofs.SoundLemmas.{passes}
 use Rattle.pc_dfg_linearize.proofs.GainLemmas.{gains_nothing, options_kept, resolve_kept}
 use Rattle.pc_dfg_linearize.proofs.StepLemmas.{IsCounted, is_within_counts, run_more, trace_more}
 
@@ -141,8 +143,9 @@ module _ (g : ComponentDfg) (f h : Finish) where
       → ((y : Id) → HasNumber f y → HasNumber h y) → Stay f h → Fits g h → h.instances ≡ f.instances
       → h.resources ≡ f.resources
       → (Fills f → Fills h) → (Represents g f → Represents g h)
-      → (CountsSteps f → Fills f → Fills h → AreSteps g f → AreSteps g h) → Continues g f h
-  continues_step i one quiet numbered stay fits instances resources fills represents are = record {
+      → (CountsSteps f → Fills f → Fills h → AreSteps g f → AreSteps g h) → length h.options ≤ length f.options + 1
+      → length h.trampolines ≤ length f.trampolines + 1 → Continues g f h
+  continues_step i one quiet numbered stay fits instances resources fills represents are options trampolines = record {
     counts = counts_more f h i one;
     numbered = numbered;
     stay = stay;
@@ -158,7 +161,45 @@ module _ (g : ComponentDfg) (f h : Finish) where
     fills = fills;
     represents = represents;
     are_steps = λ c h is. are c h (fills h) is;
+    passed = λ sound passed.
+        passes g f h
+        (record {
+          stay = stay;
+          more = i ∷ [];
+          steps = one.steps;
+          made = [];
+          instances = instances ∙ sym (append-nil f.instances);
+        })
+        (record {
+          counts = counts_more f h i one sound.counts;
+          fills = fills sound.fills;
+          represents = represents sound.represents;
+          are_steps = are sound.counts sound.fills (fills sound.fills) sound.are_steps;
+        })
+        options trampolines passed;
   }
+
+  -- and without a step it was what it was
+  pub passed_still : Stay f h → h.steps ≡ f.steps → h.instances ≡ f.instances → (CountsSteps f → CountsSteps h)
+      → (Fills f → Fills h) → (Represents g f → Represents g h) → (Fills f → AreSteps g f → AreSteps g h)
+      → length h.options ≤ length f.options + 1 → length h.trampolines ≤ length f.trampolines + 1 → IsSound g f
+      → HasPassed g f → HasPassed g h
+  passed_still stay steps instances counts fills represents are options trampolines sound passed =
+      passes g f h
+      (record {
+        stay = stay;
+        more = [];
+        steps = steps ∙ sym (append-nil f.steps);
+        made = [];
+        instances = instances ∙ sym (append-nil f.instances);
+      })
+      (record {
+        counts = counts sound.counts;
+        fills = fills sound.fills;
+        represents = represents sound.represents;
+        are_steps = are sound.fills sound.are_steps;
+      })
+      options trampolines passed
 
   -- no steps are none that are side effects
   pub no_steps : h.steps ≡ f.steps → AddsSteps f h

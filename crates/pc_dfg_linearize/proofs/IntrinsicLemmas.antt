@@ -29,7 +29,8 @@ use Rattle.pc_dfg_linearize.specs.Represented.{AreSigned}
 use Rattle.pc_dfg_linearize.specs.Wired.{Occurs}
 use Rattle.pc_dfg_linearize.proofs.FillLemmas.{intrinsic_fills}
 use Rattle.pc_dfg_linearize.proofs.NoteLemmas.{intrinsic_noted, notes_here, notes_numbered, notes_only}
-use Rattle.pc_dfg_linearize.proofs.GrownLemmas.{grown_still, no_steps, placed_stays}
+use Rattle.pc_dfg_linearize.proofs.SoundLemmas.{none_more}
+use Rattle.pc_dfg_linearize.proofs.GrownLemmas.{grown_still, no_steps, passed_still, placed_stays}
 use Rattle.pc_dfg_linearize.proofs.RepresentedLemmas.{notes_stay, represents_still}
 use Rattle.pc_dfg_linearize.proofs.StepsLemmas.{steps_still}
 use Rattle.pc_dfg_linearize.proofs.StepNameLemmas.{none_named}
@@ -145,6 +146,20 @@ module _ (g : ComponentDfg) (f : Finish) (i : UnsafeIntrinsic) (signature : Modu
             steps_still g f with_signature
             (notes_stay f with_signature (id.Intrinsic signature i) (intrinsic_place i) given fresh) refl refl
             same_slots refl h (intrinsic_fills f h signature i) is;
+        passed =
+            passed_still g f with_signature
+            (notes_stay f with_signature (id.Intrinsic signature i) (intrinsic_place i) given fresh) refl refl
+            (λ c.
+            record { instances = c.instances; lowerings = c.lowerings; slots = c.slots; resources = c.resources })
+            (λ fills. intrinsic_fills f fills signature i)
+            (λ is. represents_still g f with_signature
+            (notes_stay f with_signature (id.Intrinsic signature i) (intrinsic_place i) given fresh) is
+            (id.Intrinsic signature i) (intrinsic_place i) given (All-nil (HasNumber f)) refl refl refl refl refl
+            (signed is.intrinsics occurs) (λ n named. named) (none_named f f.steps))
+            (λ h is. steps_still g f with_signature
+            (notes_stay f with_signature (id.Intrinsic signature i) (intrinsic_place i) given fresh) refl refl
+            same_slots refl h (intrinsic_fills f h signature i) is)
+            (none_more (length f.options)) (none_more (length f.trampolines));
       };
       here = notes_here f with_signature (id.Intrinsic signature i) (intrinsic_place i) given;
       only = notes_only f with_signature (id.Intrinsic signature i) (intrinsic_place i) given g;

@@ -20,6 +20,7 @@ mod StackLemmas
 pub mod NoteLemmas
 pub mod FillLemmas
 pub mod FullLemmas
+pub mod SoundLemmas
 pub mod TakeLemmas
 pub mod StepNameLemmas
 pub mod RepresentedLemmas

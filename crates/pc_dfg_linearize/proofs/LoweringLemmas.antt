@@ -42,6 +42,7 @@ use Rattle.pc_dfg_linearize.specs.Plan.{Extends, counted_slots, slot_count}
 use Rattle.pc_dfg_linearize.specs.Ready.{CanClose, IsLowering, LowersImport}
 use Rattle.pc_dfg_linearize.specs.Reached.{all_linked, Filled, Gains}
 use Rattle.pc_dfg_linearize.proofs.CountLemmas.{CountsOne}
+use Rattle.pc_dfg_linearize.proofs.SoundLemmas.{none_more}
 use Rattle.pc_dfg_linearize.proofs.GrownLemmas.{continues_step, grown_step, placed_stays, resolves_stay}
 use Rattle.pc_dfg_linearize.proofs.FillLemmas.{lowering_fills}
 use Rattle.pc_dfg_linearize.proofs.NoteLemmas.{lowering_noted, notes_here, notes_numbered, notes_only}
@@ -183,7 +184,8 @@ module _ (g : ComponentDfg) (f : Finish) (t : TrampolineIndex) (x : SignedTrampo
         is.intrinsics (names_front f.steps (init.LowerImport (record { 0 = f.counts.lowerings }) r ∷ []))
         (none_named f with_lowering.steps))
         (λ c h h' is. lowering_steps g f c h is t.0 r
-        (notes_stay f with_lowering (id.Lowering t) f.counts.lowerings noted fresh) h');
+        (notes_stay f with_lowering (id.Lowering t) f.counts.lowerings noted fresh) h')
+        (none_more (length f.options)) (none_more (length f.trampolines));
     here = notes_here f with_lowering (id.Lowering t) f.counts.lowerings noted;
     only = notes_only f with_lowering (id.Lowering t) f.counts.lowerings noted g;
     goes = λ ms wired valued s trace reached.

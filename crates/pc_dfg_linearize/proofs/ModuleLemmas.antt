@@ -45,6 +45,7 @@ use Rattle.pc_dfg_linearize.proofs.CountLemmas.{CountsOne, count_by-push}
 use Rattle.pc_dfg_linearize.proofs.DefLemmas.{adapters_at, def_resolves}
 use Rattle.pc_dfg_linearize.proofs.EntryLemmas.{all_front, all_back}
 use Rattle.pc_dfg_linearize.proofs.GainLemmas.{before_stays}
+use Rattle.pc_dfg_linearize.proofs.SoundLemmas.{none_more}
 use Rattle.pc_dfg_linearize.proofs.GrownLemmas.{continues_step, grown_step, resolves_stay}
 use Rattle.pc_dfg_linearize.proofs.FillLemmas.{module_fills}
 use Rattle.pc_dfg_linearize.proofs.NoteLemmas.{module_noted, notes_here, notes_numbered, notes_only}
@@ -279,7 +280,8 @@ module _ (g : ComponentDfg) (f : Finish) (m : AdapterModuleId) (x : StaticModule
         f.counts.instances noted all refl refl refl refl refl is.intrinsics (names_front f.steps (made_by ∷ []))
         module_named)
         (λ c h h' is. module_steps g f c h is m.0 x at (module_convertible ready all) module_within
-        (notes_stay f with_module (id.AdapterModule m) f.counts.instances noted fresh) h');
+        (notes_stay f with_module (id.AdapterModule m) f.counts.instances noted fresh) h')
+        (none_more (length f.options)) (none_more (length f.trampolines));
     here = notes_here f with_module (id.AdapterModule m) f.counts.instances noted;
     only = notes_only f with_module (id.AdapterModule m) f.counts.instances noted g;
     goes = λ ms wired valued s trace reached.

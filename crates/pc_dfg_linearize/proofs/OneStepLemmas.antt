@@ -1,6 +1,7 @@
 -- A plan with one step more has the steps of its graph.
 use Rattle.std.proofs.Common.{◌≡◌, ◌<◌, ◌++◌, ◌⊎◌, inl, inr, ℕ, List, [], ◌∷◌, length, map, All, Option, None, Some}
 use Rattle.std.proofs.Common.{option_map, true, refl, sym, ap, subst, ◌∙◌}
+use Rattle.std.specs.Option.{option_to_list}
 use Rattle.std.specs.Prelude.{slice_get}
 use Rattle.std.specs.List.{Contains, flat_map}
 use Rattle.std.proofs.lemmas.List.{append-nil}
@@ -25,15 +26,15 @@ use Rattle.pc_dfg.specs.Names.{if_any, in_instance}
 use Rattle.pc_dfg.specs.Numbers.{slots_of}
 use Rattle.pc_dfg_linearize.specs.declared.state.Finish.{Finish}
 use Rattle.pc_dfg_linearize.specs.Added.{add_lowering, add_module, add_slot}
-use Rattle.pc_dfg_linearize.specs.Closed.{CountsSteps}
+use Rattle.pc_dfg_linearize.specs.Sound.{CountsSteps}
 use Rattle.pc_dfg_linearize.specs.Converted.{def_in}
 use Rattle.pc_dfg_linearize.specs.Made.{instance_in, with_instance, with_resource}
 use Rattle.pc_dfg_linearize.specs.Numbers.{number_at}
 use Rattle.pc_dfg_linearize.specs.Once.{Fills, Stay}
 use Rattle.pc_dfg_linearize.specs.Parts.{slot_numbers}
 use Rattle.pc_dfg_linearize.specs.Plan.{slot_count, steps_view}
-use Rattle.pc_dfg_linearize.specs.Slots.{step_definitions}
-use Rattle.pc_dfg_linearize.specs.Standing.{CarriesNext, Piece, is_side_effect, named_by, named_in}
+use Rattle.pc_info.specs.Slots.{step_definitions}
+use Rattle.pc_info.specs.Standing.{CarriesNext, Piece, is_side_effect, named_by, named_in}
 use Rattle.pc_dfg_linearize.specs.Steps.{AreSteps, IsConvertible, IsModuleOf, IsOwned, IsSlotOf, IsThere}
 use Rattle.pc_dfg_linearize.proofs.AllLemmas.{all_one}
 use Rattle.pc_dfg_linearize.proofs.FillLemmas.{pushed_back}
@@ -221,7 +222,7 @@ module _ (g : ComponentDfg) (f : Finish) (counts : CountsSteps f) (fills : Fills
     still_slots k e n at = inl at
 
     destructor_names : (p : Option CoreDef) → All (IsConvertible g f) (if_any p) → (y : Piece)
-        → Contains (flat_map named_by (if_any (option_map def_view (option_map (def_in g f) p)))) y → IsThere f y
+        → Contains (flat_map named_by (option_to_list (option_map def_view (option_map (def_in g f) p)))) y → IsThere f y
     destructor_names None all y names = absurd (none_in y names)
     destructor_names (Some d) all y names = defs_there g f fills (d ∷ []) all y names
 
@@ -230,4 +231,4 @@ module _ (g : ComponentDfg) (f : Finish) (counts : CountsSteps f) (fills : Fills
         steps_one g f (with_resource f r) stay [] (sym (append-nil f.instances)) (init.Resource r) refl fills fills' are
         still_slots (λ e n at. inl at) (λ k n at. inl at) tt
         (λ y names. destructor_names o can y
-        (subst (λ z. Contains (flat_map named_by (if_any (option_map def_view z))) y) is names))
+        (subst (λ z. Contains (flat_map named_by (option_to_list (option_map def_view z))) y) is names))

@@ -28,7 +28,8 @@ use Rattle.pc_dfg_linearize.specs.Once.{Notes}
 use Rattle.pc_dfg_linearize.specs.Parts.{HasNumber, in_entry, number_of, parts, slot_numbers}
 use Rattle.pc_dfg_linearize.specs.Plan.{Extends, Kept}
 use Rattle.pc_dfg_linearize.specs.Reached.{Filled, Resolves}
-use Rattle.pc_dfg_linearize.proofs.GrownLemmas.{grown_still, no_steps, placed_stays}
+use Rattle.pc_dfg_linearize.proofs.SoundLemmas.{none_more, one_more}
+use Rattle.pc_dfg_linearize.proofs.GrownLemmas.{grown_still, no_steps, passed_still, placed_stays}
 use Rattle.pc_dfg_linearize.proofs.FillLemmas.{options_fills}
 use Rattle.pc_dfg_linearize.proofs.NoteLemmas.{notes_here, notes_numbered, notes_only, options_noted}
 use Rattle.pc_dfg_linearize.proofs.NumberLemmas.{number_back}
@@ -145,6 +146,16 @@ module _ (g : ComponentDfg) (f : Finish) (o : OptionsId) (x : CanonicalOptions) 
       are_steps = λ c h is.
           steps_still g f with_options (notes_stay f with_options (id.Options o) (length f.options) noted fresh) refl
           refl same_slots refl h (options_fills f h o.0 (options_in f x) options_within fresh) is;
+      passed =
+          passed_still g f with_options (notes_stay f with_options (id.Options o) (length f.options) noted fresh) refl
+          refl
+          (λ c. record { instances = c.instances; lowerings = c.lowerings; slots = c.slots; resources = c.resources })
+          (λ fills. options_fills f fills o.0 (options_in f x) options_within fresh)
+          (λ is. represents_options g f is fits o.0 x at fresh all)
+          (λ h is. steps_still g f with_options
+          (notes_stay f with_options (id.Options o) (length f.options) noted fresh) refl refl same_slots refl h
+          (options_fills f h o.0 (options_in f x) options_within fresh) is)
+          (one_more f.options (options_in f x)) (none_more (length f.trampolines));
     };
     here = notes_here f with_options (id.Options o) (length f.options) noted;
     only = notes_only f with_options (id.Options o) (length f.options) noted g;

@@ -13,11 +13,11 @@ use Rattle.pc_dfg_linearize.specs.declared.id.Id.{Id}
 use Rattle.pc_dfg_linearize.specs.declared.id.Task.{Task}
 use Rattle.pc_dfg_linearize.specs.declared.id.Task.TheVariants as task
 use Rattle.pc_dfg_linearize.specs.declared.state.Finish.{Finish}
-use Rattle.pc_dfg_linearize.specs.Added.{IsFull}
 use Rattle.pc_dfg_linearize.specs.Closed.{Closed, Continues, Fits, Valued}
 use Rattle.pc_dfg_linearize.specs.Grouped.{IsGrouped}
 use Rattle.pc_dfg_linearize.specs.Once.{OnlyFrom}
-use Rattle.pc_dfg_linearize.specs.Outgrown.{Outgrows}
+use Rattle.pc_dfg_linearize.specs.Added.{IsFull}
+use Rattle.pc_dfg_linearize.specs.Outgrown.{IsLeftOver, Outgrows}
 use Rattle.pc_dfg_linearize.specs.Parts.{HasNumber, number_of, parts}
 use Rattle.pc_dfg_linearize.specs.Reached.{GoesOn}
 use Rattle.pc_dfg_linearize.specs.Ready.{CanClose, IsReady, Leads, here, through}
@@ -294,12 +294,19 @@ module _ (g : ComponentDfg) (ordered : IsOrdered g) (grouped : IsGrouped g) wher
           goes = λ ms wired value. end.goes ms wired;
         }
 
+-- an id that can be closed but for the list of its numbers, which is full, is left over
+pub left_over : (g : ComponentDfg) (f : Finish) (t : Task) (x : Id) → CanTake g f t → t ≡ task.Close x → IsFull f x
+    → IsLeftOver g f (id_of t)
+left_over g f t x can is full =
+    subst (λ u. CanTake g f u → IsLeftOver g f (id_of u)) (sym is)
+    (λ close. record { fresh = close.0; can = close.1; full = full }) can
+
 -- where a list is full on the way, the graph has too many entries
 pub ongoing_full : (g : ComponentDfg) (old f : Finish) (root x : Id) (tasks : List Task)
-    → Ongoing g old f root tasks → IsFull f x → Outgrows g old
-ongoing_full g old f root x tasks on full fills made =
+    → Ongoing g old f root tasks → IsLeftOver g f x → Outgrows g old
+ongoing_full g old f root x tasks on left fills made =
     let later = on.continues in
-    full_too_many g f later.fits (later.fills fills) (omega (arith, made, ap length later.instances)) x full
+    full_too_many g f later.fits (later.fills fills) (omega (arith, made, ap length later.instances)) x left
 
 -- nothing is on an empty stack
 pub emptied : (tasks : List Task) → length tasks ≡ 0 → tasks ≡ []

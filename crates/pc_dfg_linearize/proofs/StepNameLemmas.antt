@@ -1,6 +1,7 @@
 -- The steps of a plan name the trampolines that definitions of the graph depend on.
 use Rattle.std.proofs.Common.{◌≡◌, ◌++◌, inl, inr, ℕ, List, [], ◌∷◌, map, All, Option, None, Some}
 use Rattle.std.proofs.Common.{option_map, refl, sym, ap, subst, ◌∙◌, arith}
+use Rattle.std.specs.Option.{option_to_list}
 use Rattle.std.specs.Prelude.{slice_get, unwrap_or}
 use Rattle.std.specs.List.{Contains, flat_map}
 use Rattle.std.proofs.lemmas.Grind.{flat_map-append}
@@ -35,7 +36,7 @@ use Rattle.pc_dfg_linearize.specs.Once.{Stay}
 use Rattle.pc_dfg_linearize.specs.Parts.{HasNumber, in_def, in_entry, in_model, in_part, in_trampoline, maybe_slot, number_of}
 use Rattle.pc_dfg_linearize.specs.Parts.{options_id, slot_id}
 use Rattle.pc_dfg_linearize.specs.Represented.{AreNamed, Keeps}
-use Rattle.pc_dfg_linearize.specs.Slots.{StepsName, definitions_in}
+use Rattle.pc_info.specs.Slots.{StepsName, definitions_in}
 use Rattle.pc_dfg_linearize.proofs.PartLemmas.{all_each, all_one}
 use Rattle.pc_dfg_linearize.proofs.TakeLemmas.{none_in, one_in}
 
@@ -210,6 +211,6 @@ module _ (g : ComponentDfg) (f : Finish) where
   -- and so does that of a destructor
   pub destructor_named : (o : Option CoreDef) (t : TrampolineIndex) (n : ℕ)
       → Contains (flat_map (in_def g) (if_any o)) (id.Trampoline t) → number_at f.numbers.trampolines t.0 ≡ Some n
-      → Contains (if_any (option_map def_view (option_map (def_in g f) o))) (plan.trampoline n)
+      → Contains (option_to_list (option_map def_view (option_map (def_in g f) o))) (plan.trampoline n)
   destructor_named None t n inside at = absurd (none_in (id.Trampoline t) inside)
   destructor_named (Some d) t n inside at = defs_named (d ∷ []) t n inside at

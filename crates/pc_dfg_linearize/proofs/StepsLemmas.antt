@@ -23,7 +23,7 @@ use Rattle.pc_dfg_linearize.specs.Once.{Fills, Stay}
 use Rattle.pc_dfg_linearize.specs.Parts.{HasNumber, in_def, slot_numbers}
 use Rattle.pc_dfg_linearize.specs.Plan.{steps_view}
 use Rattle.pc_dfg_linearize.specs.Ready.{IsReadyDef}
-use Rattle.pc_dfg_linearize.specs.Standing.{CarriesNext, Piece, named_in}
+use Rattle.pc_info.specs.Standing.{CarriesNext, Piece, named_in}
 use Rattle.pc_dfg_linearize.specs.Steps.{AreSteps, IsConvertible, IsInstanceStep, IsModuleOf, IsOwned, IsSlotOf, IsThere}
 use Rattle.pc_dfg_linearize.proofs.FillLemmas.{pushed_back}
 use Rattle.pc_dfg_linearize.proofs.TakeLemmas.{none_in, one_in}

@@ -25,7 +25,7 @@ use Rattle.pc_dfg_linearize.specs.declared.state.Finish.{Finish}
 use Rattle.pc_dfg_linearize.specs.Entries.{GraphPart, GraphParts, head_in, list_in, part_in, parts_in}
 use Rattle.pc_dfg_linearize.specs.Numbers.{number_at, numbered}
 use Rattle.pc_dfg_linearize.specs.Parts.{in_part, in_trampoline, options_id}
-use Rattle.pc_dfg_linearize.specs.Slots.{TakesOptions}
+use Rattle.pc_info.specs.Slots.{TakesOptions}
 
 -- the one item of a list
 pub one_in : {A : Type 0} (x y : A) → Contains (x ∷ []) y → x ≡ y

@@ -25,8 +25,8 @@ use Rattle.pc_dfg_linearize.specs.Converted.{adapter_def, def_in}
 use Rattle.pc_dfg_linearize.specs.Once.{Fills, Origin, Stay, number_in_run, of_instance, of_module}
 use Rattle.pc_dfg_linearize.specs.Parts.{HasNumber, in_def, number_of, slot_id}
 use Rattle.pc_dfg_linearize.specs.Ready.{IsReadyDef}
-use Rattle.pc_dfg_linearize.specs.Standing.{Piece, a_lowering, a_slot, a_trampoline, an_instance, an_intrinsic}
-use Rattle.pc_dfg_linearize.specs.Standing.{an_options_entry, named_by}
+use Rattle.pc_info.specs.Standing.{Piece, a_lowering, a_slot, a_trampoline, an_instance, an_intrinsic}
+use Rattle.pc_info.specs.Standing.{an_options_entry, named_by}
 use Rattle.pc_dfg_linearize.specs.Steps.{IsConvertible, IsThere, piece_of}
 use Rattle.pc_dfg_linearize.proofs.DefLemmas.{numbered_module}
 use Rattle.pc_dfg_linearize.proofs.EntryLemmas.{slot_number}

@@ -32,7 +32,8 @@ use Rattle.pc_dfg_linearize.specs.Parts.{HasNumber, in_trampoline, number_of, pa
 use Rattle.pc_dfg_linearize.specs.Plan.{Extends, Kept}
 use Rattle.pc_dfg_linearize.specs.Reached.{Filled, Resolves}
 use Rattle.pc_dfg_linearize.proofs.GainLemmas.{behind_map}
-use Rattle.pc_dfg_linearize.proofs.GrownLemmas.{grown_still, no_steps, placed_stays}
+use Rattle.pc_dfg_linearize.proofs.SoundLemmas.{none_more, one_more}
+use Rattle.pc_dfg_linearize.proofs.GrownLemmas.{grown_still, no_steps, passed_still, placed_stays}
 use Rattle.pc_dfg_linearize.proofs.FillLemmas.{trampoline_fills}
 use Rattle.pc_dfg_linearize.proofs.NoteLemmas.{notes_here, notes_numbered, notes_only, trampoline_noted}
 use Rattle.pc_dfg_linearize.proofs.NumberLemmas.{number_back}
@@ -191,6 +192,16 @@ module _ (g : ComponentDfg) (f : Finish) (t : TrampolineIndex) (x : SignedTrampo
           steps_still g f with_trampoline
           (notes_stay f with_trampoline (id.Trampoline t) (length f.trampolines) noted fresh) refl refl same_slots refl
           h (trampoline_fills f h t.0 x.0 y trampoline_within fresh) before;
+      passed =
+          passed_still g f with_trampoline
+          (notes_stay f with_trampoline (id.Trampoline t) (length f.trampolines) noted fresh) refl refl
+          (λ c. record { instances = c.instances; lowerings = c.lowerings; slots = c.slots; resources = c.resources })
+          (λ fills. trampoline_fills f fills t.0 x.0 y trampoline_within fresh)
+          (λ before. represents_trampoline g f before fits t.0 x y at is fresh all)
+          (λ h before. steps_still g f with_trampoline
+          (notes_stay f with_trampoline (id.Trampoline t) (length f.trampolines) noted fresh) refl refl same_slots refl
+          h (trampoline_fills f h t.0 x.0 y trampoline_within fresh) before)
+          (none_more (length f.options)) (one_more f.trampolines y);
     };
     here = notes_here f with_trampoline (id.Trampoline t) (length f.trampolines) noted;
     only = notes_only f with_trampoline (id.Trampoline t) (length f.trampolines) noted g;

@@ -1,8 +1,6 @@
 -- What becomes of a plan when an id gets its number, and with it all that it leads to.
 use Rattle.std.specs.Prelude.{◌≡◌, ℕ, ◌++◌, false, List, length, Some, slice_get, All}
-use Rattle.std.specs.Prelude.{count_by}
 use Rattle.pc_spec_plan.specs.CoreValue.{CoreValue, Options}
-use Rattle.pc_spec_plan.specs.Counts.{makes_instance, lowers_import, fills, declares_resource}
 use Rattle.pc_spec_plan.specs.PlanView as plan
 use Rattle.pc_trampoline.specs.declared.part.Mark.{Mark}
 use Rattle.pc_info.specs.declared.initializer.GlobalInitializer.{GlobalInitializer}
@@ -18,10 +16,10 @@ use Rattle.pc_dfg_linearize.specs.declared.id.Id.TheVariants as id
 use Rattle.pc_dfg_linearize.specs.declared.state.Finish.{Finish}
 use Rattle.pc_dfg_linearize.specs.Once.{Fills, OnlyFrom, Stay}
 use Rattle.pc_dfg_linearize.specs.Parts.{HasNumber}
-use Rattle.pc_dfg_linearize.specs.Plan.{slot_count, steps_view}
 use Rattle.pc_dfg_linearize.specs.Reached.{GoesOn}
 use Rattle.pc_dfg_linearize.specs.Represented.{Represents}
-use Rattle.pc_dfg_linearize.specs.Standing.{is_side_effect}
+use Rattle.pc_info.specs.Standing.{is_side_effect}
+use Rattle.pc_dfg_linearize.specs.Sound.{CountsSteps, HasPassed, IsSound}
 use Rattle.pc_dfg_linearize.specs.Steps.{AreSteps}
 use Rattle.pc_dfg_linearize.specs.Wired.{IsWired}
 
@@ -63,13 +61,6 @@ pub record AddsSteps (old new : Finish) : Type 0 where
   pub is : new.steps ≡ old.steps ++ more
   pub quiet : All (λ i. is_side_effect (initializer_view i) ≡ false) more
 
--- each count is the number of steps of its kind
-pub record CountsSteps (f : Finish) : Type 0 where
-  pub instances : count_by makes_instance (steps_view f) ≡ f.counts.instances
-  pub lowerings : count_by lowers_import (steps_view f) ≡ f.counts.lowerings
-  pub slots : (k : plan.SlotKind) → count_by (fills k) (steps_view f) ≡ slot_count f k
-  pub resources : count_by declares_resource (steps_view f) ≡ length f.resources
-
 -- the plan was made further, without a side effect
 pub record Continues (g : ComponentDfg) (old new : Finish) : Type 0 where
   pub counts : CountsSteps old → CountsSteps new
@@ -82,6 +73,7 @@ pub record Continues (g : ComponentDfg) (old new : Finish) : Type 0 where
   pub fills : Fills old → Fills new
   pub represents : Represents g old → Represents g new
   pub are_steps : CountsSteps old → Fills old → AreSteps g old → AreSteps g new
+  pub passed : IsSound g old → HasPassed g old → HasPassed g new
 
 -- an id has its number, and only what it leads to got one
 pub record Closed (g : ComponentDfg) (old new : Finish) (x : Id) : Type 0 where

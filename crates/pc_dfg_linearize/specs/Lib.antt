@@ -1,8 +1,6 @@
 -- What the public contract rests on, in reading order.
 pub mod Grouped
 pub mod Wired
-pub mod Slots
-pub mod Standing
 pub mod Full
 -- How the contracts within the crate say what is made.
 pub mod Numbers
@@ -16,6 +14,7 @@ pub mod Reached
 pub mod Once
 pub mod Represented
 pub mod Steps
+pub mod Sound
 pub mod Outgrown
 pub mod Closed
 pub mod Work

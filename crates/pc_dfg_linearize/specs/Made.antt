@@ -26,7 +26,8 @@ use Rattle.pc_dfg.specs.Ordered.{made_before, made_by, declared_by}
 use Rattle.pc_dfg_linearize.specs.declared.id.Id.{Id}
 use Rattle.pc_dfg_linearize.specs.declared.state.Finish.{Finish}
 use Rattle.pc_dfg_linearize.specs.Arguments.{NumbersAll, OnlyFromThese, host_in}
-use Rattle.pc_dfg_linearize.specs.Closed.{CountsSteps, Fits}
+use Rattle.pc_dfg_linearize.specs.Closed.{Fits}
+use Rattle.pc_dfg_linearize.specs.Sound.{CountsSteps, HasPassed, IsSound}
 use Rattle.pc_dfg_linearize.specs.Converted.{def_in}
 use Rattle.pc_dfg_linearize.specs.Once.{Fills, IsUsedBy, Stay}
 use Rattle.pc_dfg_linearize.specs.Parts.{HasNumber, in_def}
@@ -34,7 +35,7 @@ use Rattle.pc_dfg_linearize.specs.Plan.{steps_view}
 use Rattle.pc_dfg_linearize.specs.Reached.{Reached}
 use Rattle.pc_dfg_linearize.specs.Represented.{AreNamed, Keeps, Represents}
 use Rattle.pc_dfg_linearize.specs.Stages.{AddsEffect, EndsWithEffect, IsStage}
-use Rattle.pc_dfg_linearize.specs.Standing.{is_side_effect}
+use Rattle.pc_info.specs.Standing.{is_side_effect}
 use Rattle.pc_dfg_linearize.specs.Steps.{AreSteps}
 use Rattle.pc_dfg_linearize.specs.Wired.{IsWired}
 
@@ -110,6 +111,7 @@ pub record IsDone (g : ComponentDfg) (old new : Finish) (e : SideEffect) : Type 
   pub fills : Fills old → Fills new
   pub represents : Represents g old → Represents g new
   pub are_steps : CountsSteps old → Fills old → AreSteps g old → AreSteps g new
+  pub passed : IsSound g old → HasPassed g old → HasPassed g new
   pub adds : AddsEffect old new (ids_in g e)
   pub only : OnlyFromThese g old new (ids_in g e)
   pub numbered : (y : Id) → HasNumber old y → HasNumber new y
@@ -129,6 +131,7 @@ pub record DoneBefore (g : ComponentDfg) (i : ℕ) (f : Finish) : Type 0 where
   pub fills : Fills f
   pub represents : Represents g f
   pub are_steps : AreSteps g f
+  pub passed : HasPassed g f
   -- each side effect's step ends a stage of the plan, and no other step stands behind them all
   pub stages : (i : ℕ) (s : plan.Initializer) → slice_get (steps_view f) i ≡ Some s → is_side_effect s ≡ true
       → IsStage g f i s

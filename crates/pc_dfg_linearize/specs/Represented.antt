@@ -18,7 +18,7 @@ use Rattle.pc_dfg_linearize.specs.declared.state.Finish.{Finish}
 use Rattle.pc_dfg_linearize.specs.Entries.{options_in, parts_in}
 use Rattle.pc_dfg_linearize.specs.Numbers.{number_at}
 use Rattle.pc_dfg_linearize.specs.Parts.{HasNumber, parts}
-use Rattle.pc_dfg_linearize.specs.Slots.{StepsName}
+use Rattle.pc_info.specs.Slots.{StepsName}
 use Rattle.pc_dfg_linearize.specs.Wired.{Occurs}
 
 -- a trampoline of the plan is a copy of an entry of the graph, under its signature

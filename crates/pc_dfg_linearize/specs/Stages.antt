@@ -8,21 +8,12 @@ use Rattle.pc_dfg.specs.declared.dfg.ComponentDfg.{ComponentDfg}
 use Rattle.pc_dfg_linearize.specs.declared.id.Id.{Id}
 use Rattle.pc_dfg_linearize.specs.declared.state.Finish.{Finish}
 use Rattle.pc_dfg_linearize.specs.Arguments.{OnlyFromThese}
-use Rattle.pc_dfg_linearize.specs.Closed.{CountsSteps}
 use Rattle.pc_dfg_linearize.specs.Once.{Fills, Stay}
 use Rattle.pc_dfg_linearize.specs.Parts.{HasNumber, number_of}
 use Rattle.pc_dfg_linearize.specs.Plan.{steps_view}
-use Rattle.pc_dfg_linearize.specs.Represented.{Represents}
-use Rattle.pc_dfg_linearize.specs.Standing.{is_side_effect, named_in}
-use Rattle.pc_dfg_linearize.specs.Steps.{AreSteps, piece_of}
-
--- a plan has all that another one has, and maybe more
-pub record IsLater (old new : Finish) : Type 0 where
-  pub stay : Stay old new
-  pub more : List GlobalInitializer
-  pub steps : new.steps ≡ old.steps ++ more
-  pub made : List RuntimeInstanceIndex
-  pub instances : new.instances ≡ old.instances ++ made
+use Rattle.pc_dfg_linearize.specs.Sound.{CountsSteps, IsLater, IsSound}
+use Rattle.pc_info.specs.Standing.{is_side_effect, named_in}
+use Rattle.pc_dfg_linearize.specs.Steps.{piece_of}
 
 -- steps that are no side effects were added, and then one that is: it names all of these ids
 pub record AddsEffect (old new : Finish) (ids : List Id) : Type 0 where
@@ -41,13 +32,6 @@ abbrev pub EndsWithEffect : List plan.Initializer → Type 0
 EndsWithEffect steps =
     (i : ℕ) (s : plan.Initializer) → slice_get steps i ≡ Some s → is_side_effect s ≡ false
     → (j : ℕ) × (t : plan.Initializer) × (i < j) × (slice_get steps j ≡ Some t) × (is_side_effect t ≡ true)
-
--- a plan in which each step is of the graph
-pub record IsSound (g : ComponentDfg) (f : Finish) : Type 0 where
-  pub counts : CountsSteps f
-  pub fills : Fills f
-  pub represents : Represents g f
-  pub are_steps : AreSteps g f
 
 -- the side effect at this place ends a stage: what it names, and only what that leads to, has got its numbers there
 pub record IsStage (g : ComponentDfg) (f : Finish) (place : ℕ) (s : plan.Initializer) : Type 0 where

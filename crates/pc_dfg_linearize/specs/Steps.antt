@@ -17,8 +17,8 @@ use Rattle.pc_dfg_linearize.specs.Numbers.{number_at}
 use Rattle.pc_dfg_linearize.specs.Parts.{HasNumber, in_def, slot_numbers}
 use Rattle.pc_dfg_linearize.specs.Plan.{slot_count, steps_view}
 use Rattle.pc_dfg_linearize.specs.Ready.{IsReadyDef}
-use Rattle.pc_dfg_linearize.specs.Standing.{CarriesNext, Piece, a_lowering, a_slot, a_trampoline, an_instance, an_intrinsic}
-use Rattle.pc_dfg_linearize.specs.Standing.{an_options_entry, is_side_effect, named_in}
+use Rattle.pc_info.specs.Standing.{CarriesNext, Piece, a_lowering, a_slot, a_trampoline, an_instance, an_intrinsic}
+use Rattle.pc_info.specs.Standing.{an_options_entry, is_side_effect, named_in}
 
 -- the piece of the plan that an id has become, by its number there
 unfoldable pub piece_of : Id → ℕ → Piece

@@ -8,10 +8,9 @@ ghost use Rattle.std.specs.Prelude.{◌≡◌, ◌∷◌, [], Err, IfOk, OnOk, l
 ghost use Rattle.pc_dfg.specs.Held.{AreHeld};
 ghost use Rattle.pc_dfg.specs.Ordered.{IsOrdered};
 ghost use Rattle.pc_dfg_linearize.specs.declared.error.FinishError.TheVariants as refusal;
-ghost use Rattle.pc_dfg_linearize.specs.Added.{IsFull};
 ghost use Rattle.pc_dfg_linearize.specs.Closed.{Closed, Fits};
 ghost use Rattle.pc_dfg_linearize.specs.Grouped.{IsGrouped};
-ghost use Rattle.pc_dfg_linearize.specs.Outgrown.{Outgrows};
+ghost use Rattle.pc_dfg_linearize.specs.Outgrown.{IsLeftOver, Outgrows};
 ghost use Rattle.pc_dfg_linearize.specs.Ready.{IsReady};
 ghost use Rattle.pc_dfg_linearize.specs.Stack.{CanTake, Takes, id_of};
 
@@ -46,7 +45,7 @@ fn take(
     requires fits { Fits graph.now finish.old }
     ensures taken { OnOk result
         (Takes graph.now finish.old finish.new tasks.old.items tasks.new.items task) }
-    ensures full { result ≡ Err refusal.TooMany → IsFull finish.old (id_of task) }
+    ensures full { result ≡ Err refusal.TooMany → IsLeftOver graph.now finish.old (id_of task) }
 {
     match task {
         Task::Open(id) => Ok(open(graph, finish, tasks, id)?),

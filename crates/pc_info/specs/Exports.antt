@@ -36,6 +36,7 @@ nested_view trees (e ∷ es) = with_export e (slice_get trees (number_of e)) (ne
 -- the tree of an item, where these trees stand before it
 abbrev pub export_view : List (plan.PlanExport Mark) → Export → plan.PlanExport Mark
 export_view trees (export.LiftedFunction ty func options) = plan.lifted (function_mark ty) (def_view func) options.0
+export_view trees (export.ImportedFunction ty r) = plan.imported_function (function_mark ty) r.0
 export_view trees (export.ModuleStatic ty index) = plan.static_module index.0 (mark.Type_ (type.Module ty))
 export_view trees (export.ModuleImport ty r) = plan.host_module r.0 (mark.Type_ (type.Module ty))
 export_view trees (export.Instance ty exports) =

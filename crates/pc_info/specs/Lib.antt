@@ -6,3 +6,6 @@ pub mod Options
 pub mod Modules
 pub mod Exports
 pub mod View
+pub mod Slots
+pub mod Standing
+pub mod Apart

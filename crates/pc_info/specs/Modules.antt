@@ -1,6 +1,9 @@
 -- How the plan machine sees the core modules of a plan: the handed-in ones, which have no adapter records, and then the
 -- adapter modules, which have some.
-use Rattle.std.specs.Prelude.{ℕ, ◌+◌, Bool, true, false, List, [], ◌∷◌, ◌++◌, map, filter, if◌then◌else◌}
+use Rattle.std.specs.Prelude.{◌≡◌, ℕ, ◌+◌, Bool, true, false, List, [], ◌∷◌, ◌++◌, map, filter, All}
+use Rattle.std.specs.Prelude.{if◌then◌else◌, None}
+use Rattle.std.specs.FinSet as set
+use Rattle.pc_entity.specs.declared.packed_option.PackedOption.TheVariants as packed
 use Rattle.pc_spec_plan.specs.PlanView as plan
 use Rattle.pc_types.specs.declared.module_record.ModuleRecord.{ModuleRecord}
 use Rattle.pc_types.specs.declared.type_index.TypeFuncIndex.{TypeFuncIndex}
@@ -24,6 +27,22 @@ is_adapter_module m = has_some m.adapters
 abbrev pub is_handed_in : ModuleTranslation → Bool
 is_handed_in m = if has_some m.adapters then false else true
 
+-- a module with these adapters, of which no fact is recorded: none of its imports is known, none of what it defines is
+-- known to those that import it, and no imported function has a representative
+abbrev pub without_facts : ModuleRecord → List AdapterRecord → ModuleTranslation
+without_facts r adapters = record {
+  «module» = r;
+  adapters = adapters;
+  known_imported_functions = record { items = []; default = None };
+  known_imported_globals = record { items = []; default = None };
+  known_imported_memories = record { items = []; default = None };
+  known_imported_tables = record { items = []; default = None };
+  globals_known_to_importers = set.empty;
+  memories_known_to_importers = set.empty;
+  tables_known_to_importers = set.empty;
+  imported_func_vmctx_representative = record { items = []; default = packed.None };
+}
+
 -- a module of the plan, as it was handed in
 abbrev pub module_view : ModuleTranslation → ModuleRecord
 module_view m = m.module
@@ -31,6 +50,15 @@ module_view m = m.module
 -- the modules that were handed in
 abbrev pub handed_in_view : List ModuleTranslation → List ModuleRecord
 handed_in_view modules = map module_view (filter is_handed_in modules)
+
+-- modules stand in order: first those that were handed in, which have these records, and then those of adapters
+pub record StandInOrder (records : List ModuleRecord) (modules : List ModuleTranslation) : Type 0 where
+  pub handed_in : List ModuleTranslation
+  pub adapters : List ModuleTranslation
+  pub are : modules ≡ handed_in ++ adapters
+  pub have : map module_view handed_in ≡ records
+  pub none : All (λ m. is_adapter_module m ≡ false) handed_in
+  pub some : All (λ m. is_adapter_module m ≡ true) adapters
 
 -- a function type as a mark
 abbrev pub function_mark : TypeFuncIndex → Mark

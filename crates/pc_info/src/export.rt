@@ -16,6 +16,11 @@ pub enum Export {
         func: CoreDef,
         options: OptionsIndex,
     },
+    /// A function of the host.
+    ImportedFunction {
+        ty: TypeFuncIndex,
+        import: RuntimeImportIndex,
+    },
     /// A core module that was handed in.
     ModuleStatic {
         ty: TypeModuleIndex,

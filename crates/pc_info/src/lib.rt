@@ -9,6 +9,7 @@ pub mod component;
 pub mod core_def;
 pub mod export;
 pub mod initializer;
+pub mod known;
 pub mod module;
 pub mod options;
 pub mod trampoline;
@@ -20,6 +21,7 @@ pub use initializer::{
     ExtractCallback, ExtractMemory, ExtractPostReturn, ExtractRealloc, ExtractTable,
     GlobalInitializer, InstantiateModule, Resource,
 };
+pub use known::{KnownEntity, KnownFunc, KnownGlobal};
 pub use module::{AdapterRecord, ModuleTranslation, SideRecord};
 pub use options::{CanonicalOptions, CanonicalOptionsDataModel, LinearMemoryOptions};
 pub use pc_trampoline::{FixedEncoding, Mark, Transcode, Trap};

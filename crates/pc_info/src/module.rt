@@ -1,16 +1,116 @@
 //! The core modules of a plan.
 
-use pc_entity::{FuncIndex, ModuleInternedTypeIndex, RuntimeComponentInstanceIndex, Seq};
+ghost use Rattle.std.specs.Prelude.{◌≡◌};
+ghost use Rattle.pc_info.specs.Modules.{without_facts};
+
+use crate::known::{KnownEntity, KnownFunc, KnownGlobal};
+use pc_entity::{
+    DefinedGlobalIndex, DefinedMemoryIndex, DefinedTableIndex, EntitySet, FuncIndex, GlobalIndex,
+    MemoryIndex, ModuleInternedTypeIndex, PackedOption, RuntimeComponentInstanceIndex,
+    SecondaryMap, Seq, TableIndex,
+};
 use pc_types::{ModuleRecord, StringEncoding, TypeFuncIndex};
+use std::alloc::Global;
 
 /// A core module that a plan instantiates: one that was handed in, or one of adapters.
-#[derive(Drop)]
+///
+/// Behind its record and its adapters stand facts that hold of each of its instances. A compiler may use them, and a
+/// plan means the same without them.
 pub struct ModuleTranslation {
     /// What the module imports, defines and exports.
     pub module: ModuleRecord,
     /// What is said of its adapters. A module that was handed in has none.
     pub adapters: Seq<AdapterRecord>,
+    /// The imported functions that are known.
+    pub known_imported_functions: SecondaryMap<FuncIndex, Option<KnownFunc>>,
+    /// The imported globals that are known.
+    pub known_imported_globals: SecondaryMap<GlobalIndex, Option<KnownGlobal>>,
+    /// The imported memories that are known.
+    pub known_imported_memories: SecondaryMap<MemoryIndex, Option<KnownEntity<DefinedMemoryIndex>>>,
+    /// The imported tables that are known.
+    pub known_imported_tables: SecondaryMap<TableIndex, Option<KnownEntity<DefinedTableIndex>>>,
+    /// The globals that each module that imports them knows.
+    pub globals_known_to_importers: EntitySet<DefinedGlobalIndex>,
+    /// The memories that each module that imports them knows.
+    pub memories_known_to_importers: EntitySet<DefinedMemoryIndex>,
+    /// The tables that each module that imports them knows.
+    pub tables_known_to_importers: EntitySet<DefinedTableIndex>,
+    /// For an imported function the first one that has the same context in each instance.
+    pub imported_func_vmctx_representative: SecondaryMap<FuncIndex, PackedOption<FuncIndex>>,
 }
+
+impl ModuleTranslation {
+    /// A module with these adapters, of which no fact is recorded. It takes no memory.
+    pub fn new(
+        alloc: Global,
+        core_module: ModuleRecord,
+        adapters: Seq<AdapterRecord>,
+    ) -> ModuleTranslation
+        ensures { result ≡ without_facts core_module adapters }
+    {
+        ModuleTranslation {
+            module: core_module,
+            adapters,
+            known_imported_functions: SecondaryMap::new(alloc, None),
+            known_imported_globals: SecondaryMap::new(alloc, None),
+            known_imported_memories: SecondaryMap::new(alloc, None),
+            known_imported_tables: SecondaryMap::new(alloc, None),
+            globals_known_to_importers: EntitySet::new(alloc),
+            memories_known_to_importers: EntitySet::new(alloc),
+            tables_known_to_importers: EntitySet::new(alloc),
+            imported_func_vmctx_representative: SecondaryMap::new(alloc, PackedOption::None),
+        }
+    }
+}
+
+// By hand, since a derived drop of so many lists is proved anew, and slowly, in each crate that lets a module go.
+impl Drop for ModuleTranslation {
+    fn drop(self) {
+        let ModuleTranslation {
+            module,
+            adapters,
+            known_imported_functions,
+            known_imported_globals,
+            known_imported_memories,
+            known_imported_tables,
+            globals_known_to_importers,
+            memories_known_to_importers,
+            tables_known_to_importers,
+            imported_func_vmctx_representative,
+        } = self;
+        drop_module(module, adapters);
+        drop_functions(known_imported_functions, imported_func_vmctx_representative);
+        drop_entities(
+            known_imported_globals,
+            known_imported_memories,
+            known_imported_tables,
+        );
+        drop_definitions(
+            globals_known_to_importers,
+            memories_known_to_importers,
+            tables_known_to_importers,
+        );
+    }
+}
+
+fn drop_module(_module: ModuleRecord, _adapters: Seq<AdapterRecord>) {}
+
+fn drop_functions(
+    _known: SecondaryMap<FuncIndex, Option<KnownFunc>>,
+    _representatives: SecondaryMap<FuncIndex, PackedOption<FuncIndex>>,
+) {}
+
+fn drop_entities(
+    _globals: SecondaryMap<GlobalIndex, Option<KnownGlobal>>,
+    _memories: SecondaryMap<MemoryIndex, Option<KnownEntity<DefinedMemoryIndex>>>,
+    _tables: SecondaryMap<TableIndex, Option<KnownEntity<DefinedTableIndex>>>,
+) {}
+
+fn drop_definitions(
+    _globals: EntitySet<DefinedGlobalIndex>,
+    _memories: EntitySet<DefinedMemoryIndex>,
+    _tables: EntitySet<DefinedTableIndex>,
+) {}
 
 /// A function of an adapter module: it lifts its callee and lowers it again. Positions are places among the module's
 /// imports.

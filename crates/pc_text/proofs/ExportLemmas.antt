@@ -73,6 +73,7 @@ behind_at n (x ∷ xs) (suc k) e h at =
 abbrev inside : Trees → (path : List ℕ) → Export → List ℕ
 inside trees path (export.Instance ty exports) = nested_lines path (nested_view trees exports.definitions)
 inside trees path (export.LiftedFunction ty func options) = []
+inside trees path (export.ImportedFunction ty r) = []
 inside trees path (export.ModuleStatic ty index) = []
 inside trees path (export.ModuleImport ty r) = []
 inside trees path (export.Type_ ty) = []
@@ -94,6 +95,8 @@ unfolding node_line
 export_lines_are trees path meta (export.LiftedFunction ty func options) =
     grouped-4 (codes "export") path (codes " lifted ") (definition (def_view func)) (codes " options")
     (number options.0) (extern_data meta) line_end
+export_lines_are trees path meta (export.ImportedFunction ty r) =
+    grouped-2 (codes "export") path (codes " imported") (number r.0) (extern_data meta) line_end
 export_lines_are trees path meta (export.ModuleStatic ty index) =
     grouped-2 (codes "export") path (codes " module-static") (number index.0) (extern_data meta) line_end
 export_lines_are trees path meta (export.ModuleImport ty r) =
@@ -108,6 +111,7 @@ inside-take : (trees : Trees) (n : ℕ) (path : List ℕ) (e : Export) → is_be
 inside-take trees n path (export.Instance ty exports) h =
     ap (nested_lines path) (nested-take trees n exports.definitions h)
 inside-take trees n path (export.LiftedFunction ty func options) h = refl
+inside-take trees n path (export.ImportedFunction ty r) h = refl
 inside-take trees n path (export.ModuleStatic ty index) h = refl
 inside-take trees n path (export.ModuleImport ty r) h = refl
 inside-take trees n path (export.Type_ ty) h = refl
@@ -145,6 +149,7 @@ opened_lines trees path (export.Instance ty exports) os =
     ap (λ (p : List ℕ). nested_lines p (nested_view trees exports.definitions) ++ left_lines trees p os)
     (take-length path)
 opened_lines trees path (export.LiftedFunction ty func options) os = refl
+opened_lines trees path (export.ImportedFunction ty r) os = refl
 opened_lines trees path (export.ModuleStatic ty index) os = refl
 opened_lines trees path (export.ModuleImport ty r) os = refl
 opened_lines trees path (export.Type_ ty) os = refl
@@ -161,6 +166,7 @@ opened_last (export.Instance ty exports) n os o =
     let r : Open = record { left = exports.definitions; path = n } in
     reverse-append (os ++ o ∷ []) (r ∷ []) ∙ ap (λ (rest : List Open). r ∷ rest) (reverse-append os (o ∷ []))
 opened_last (export.LiftedFunction ty func options) n os o = flipped os o
+opened_last (export.ImportedFunction ty r) n os o = flipped os o
 opened_last (export.ModuleStatic ty index) n os o = flipped os o
 opened_last (export.ModuleImport ty r) n os o = flipped os o
 opened_last (export.Type_ ty) n os o = flipped os o
@@ -170,6 +176,7 @@ opened_few : (e : Export) (path : ℕ) (os : List Open) → length (opened e pat
 unfolding opened
 opened_few (export.Instance ty exports) n os = omega arith
 opened_few (export.LiftedFunction ty func options) n os = omega arith
+opened_few (export.ImportedFunction ty r) n os = omega arith
 opened_few (export.ModuleStatic ty index) n os = omega arith
 opened_few (export.ModuleImport ty r) n os = omega arith
 opened_few (export.Type_ ty) n os = omega arith
@@ -181,6 +188,7 @@ unfolding opened IsOpen
 opened_stays n k path (export.Instance ty exports) os behind le is =
     (names_below-more k n exports.definitions le behind, omega arith, is)
 opened_stays n k path (export.LiftedFunction ty func options) os behind le is = is
+opened_stays n k path (export.ImportedFunction ty r) os behind le is = is
 opened_stays n k path (export.ModuleStatic ty index) os behind le is = is
 opened_stays n k path (export.ModuleImport ty r) os behind le is = is
 opened_stays n k path (export.Type_ ty) os behind le is = is

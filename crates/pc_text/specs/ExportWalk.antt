@@ -14,6 +14,7 @@ use Rattle.pc_text.specs.declared.export.Open.{Open}
 abbrev pub item_text : Export → List ℕ
 item_text (export.LiftedFunction ty func options) =
     codes " lifted " ++ definition (def_view func) ++ codes " options" ++ number options.0
+item_text (export.ImportedFunction ty r) = codes " imported" ++ number r.0
 item_text (export.ModuleStatic ty index) = codes " module-static" ++ number index.0
 item_text (export.ModuleImport ty r) = codes " module-import" ++ number r.0
 item_text (export.Instance ty exports) = codes " instance"
@@ -27,6 +28,7 @@ node_line path meta e = codes "export" ++ path ++ item_text e ++ extern_data met
 unfoldable pub opened : Export → (path : ℕ) → List Open
 opened (export.Instance ty exports) n = record { left = exports.definitions; path = n } ∷ []
 opened (export.LiftedFunction ty func options) n = []
+opened (export.ImportedFunction ty r) n = []
 opened (export.ModuleStatic ty index) n = []
 opened (export.ModuleImport ty r) n = []
 opened (export.Type_ ty) n = []

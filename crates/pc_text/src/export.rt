@@ -43,6 +43,10 @@ fn put_item(out: &mut Vec<u8>, export: &Export) -> Result<(), NoMemory>
 {
     match export {
         Export::LiftedFunction { func, options, .. } => put_lifted(out, func, *options),
+        Export::ImportedFunction { import, .. } => {
+            put(out, " imported")?;
+            put_key(out, *import)
+        }
         Export::ModuleStatic { index, .. } => {
             put(out, " module-static")?;
             put_key(out, *index)

@@ -50,7 +50,6 @@ fn word(kind: Unsupported) -> &'static str
         Unsupported::StartSection => "start-section",
         Unsupported::ComponentValue => "component-value",
         Unsupported::ComponentImport => "component-import",
-        Unsupported::ReexportedFunction => "reexported-function",
         Unsupported::ReexportedIntrinsic => "reexported-intrinsic",
         Unsupported::ReexportedIntrinsics => "reexported-intrinsics",
         Unsupported::ExportedComponent => "exported-component",

@@ -28,8 +28,8 @@ returns-clause-done c =
 
 pub returns-clause-full : goal.returns-clause-full
 returns-clause-full c is =
-    instances_outgrow c.args.graph.now c.args.finish.now c.instantiation_of.new.finish
-    c.in_ok-instantiation.ensures.prepares.numbers.continues (c.push_instance.ensures.full is)
+    instances_outgrow c.args.graph.now c.requires.ordered c.args.finish.now c.instantiation_of.new.finish
+    c.args.instance c.args.owner c.requires.next c.in_ok-instantiation.ensures.prepares.numbers.continues (c.push_instance.ensures.full is)
 
 pub returns-in_err-instantiation-clause-full : goal.returns-in_err-instantiation-clause-full
 returns-in_err-instantiation-clause-full c is =

@@ -12,7 +12,7 @@ use Rattle.pc_info.specs.declared.options.CanonicalOptions.{CanonicalOptions as 
 use Rattle.pc_info.specs.Definitions.{def_view, initializer_view}
 use Rattle.pc_info.specs.Options.{options_view}
 use Rattle.pc_info.specs.View.{trampolines_view}
-use Rattle.pc_dfg_linearize.specs.Slots.{TakesLowering, TakesOptions, TakesSlot, options_slot, step_definitions}
+use Rattle.pc_info.specs.Slots.{TakesLowering, TakesOptions, TakesSlot, options_slot, step_definitions}
 
 -- what a plan has under a number
 pub data Piece : Type 0 where
@@ -94,6 +94,10 @@ module _ (p : ComponentTranslation) where
   -- what one of these pieces leads to
   abbrev pub IsLedTo : List Piece → Piece → Type 0
   IsLedTo xs y = (x : Piece) × Contains xs x × LeadsTo x y
+
+  -- what a piece of a kind leads to of that kind has no larger number
+  abbrev pub AreNumberedBehind : (ℕ → Piece) → Type 0
+  AreNumberedBehind kind = (m n : ℕ) → LeadsTo (kind m) (kind n) → n ≤ m
 
   -- a side effect stands at this place
   abbrev pub IsEffectAt : ℕ → plan.Initializer → Type 0

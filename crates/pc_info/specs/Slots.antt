@@ -1,8 +1,11 @@
 -- What uses the slots, lowerings and trampolines of a plan.
 use Rattle.std.specs.Prelude.{◌≡◌, ◌⊎◌, ℕ, List, [], ◌∷◌, map, Contains, Option, None, Some, slice_get}
 use Rattle.std.specs.List.{flat_map}
+use Rattle.std.specs.Option.{option_to_list}
+use Rattle.pc_numbers.specs.declared.module_entity.ModuleInternedTypeIndex.{ModuleInternedTypeIndex}
 use Rattle.pc_spec_plan.specs.PlanView as plan
 use Rattle.pc_trampoline.specs.declared.part.Mark.{Mark}
+use Rattle.pc_trampoline.specs.View.{PlanTrampoline}
 use Rattle.pc_info.specs.declared.component.ComponentTranslation.{ComponentTranslation}
 use Rattle.pc_info.specs.declared.export.Export.{Export as PlanItem}
 use Rattle.pc_info.specs.declared.export.Export.TheVariants as item
@@ -11,7 +14,6 @@ use Rattle.pc_info.specs.declared.options.CanonicalOptions.{CanonicalOptions as 
 use Rattle.pc_info.specs.Definitions.{def_view, initializer_view}
 use Rattle.pc_info.specs.Options.{options_view}
 use Rattle.pc_info.specs.View.{trampolines_view}
-use Rattle.pc_dfg.specs.Names.{if_any}
 
 -- how many slots of a kind are counted
 abbrev pub slots_in : plan.Counts → plan.SlotKind → ℕ
@@ -64,6 +66,18 @@ TakesOptions n (plan.lowers r s ty o) = o ≡ n
 TakesOptions n (plan.builtin k symbol c ps) = Contains ps (plan.options n)
 TakesOptions n (plan.helper k symbol ps) = Contains ps (plan.options n)
 
+-- an exported function or a trampoline of a plan has the options of this number
+unfoldable pub IsUsed : ComponentTranslation → ℕ → Type 0
+IsUsed p n =
+    ((k : ℕ) × (e : PlanItem) × (slice_get p.component.export_items k ≡ Some e) × HasOptions n e)
+    ⊎ ((k : ℕ) × (x : plan.TrampolineEntry Mark)
+    × (slice_get (trampolines_view 0 p.component.trampolines p.trampolines) k ≡ Some x) × TakesOptions n x)
+
+-- a trampoline of a plan stands at this place, under this signature
+abbrev pub StandsAt : ComponentTranslation → ModuleInternedTypeIndex → PlanTrampoline → (place : ℕ) → Type 0
+StandsAt p s x n =
+    (slice_get p.component.trampolines n ≡ Some s) × (slice_get p.trampolines n ≡ Some x)
+
 -- a trampoline is the lowering of this number
 abbrev pub TakesLowering : ℕ → plan.TrampolineEntry Mark → Type 0
 TakesLowering n (plan.lowers r s ty o) = r ≡ n
@@ -81,7 +95,7 @@ step_definitions (plan.instantiate_static m args c) = args
 step_definitions (plan.instantiate_import r args c) = map (λ (a : plan.NamedDefinition). a.definition) args
 step_definitions (plan.lower_import n r) = []
 step_definitions (plan.extract k n d) = d ∷ []
-step_definitions (plan.declare_resource n rep destructor c) = if_any destructor
+step_definitions (plan.declare_resource n rep destructor c) = option_to_list destructor
 
 -- the definitions that a step of a plan names, as they are seen
 abbrev pub definitions_in : GlobalInitializer → List plan.Definition
@@ -101,6 +115,16 @@ unfoldable pub UsesTrampoline : ComponentTranslation → ℕ → Type 0
 UsesTrampoline p n =
     StepsName p.component.initializers n
     ⊎ ((k : ℕ) × (e : PlanItem) × (slice_get p.component.export_items k ≡ Some e) × IsTrampoline n e)
+
+-- a step fills a slot of a kind with a definition
+abbrev pub FillsWith : plan.SlotKind → plan.Definition → plan.Initializer → Type 0
+FillsWith k d (plan.extract l n e) = (l ≡ k) × (e ≡ d)
+FillsWith k d i = ⊥
+
+-- a step makes an instance of this module of adapters
+abbrev pub MakesAdapters : (core_module : ℕ) → plan.Initializer → Type 0
+MakesAdapters m (plan.instantiate_static n args None) = n ≡ m
+MakesAdapters m i = ⊥
 
 -- at most one item of a list is such
 abbrev pub AtMostOne : {A : Type 0} → (A → Type 0) → List A → Type 0
