@@ -1,5 +1,5 @@
 -- From the end of what is built to the end of the nested reading.
-use Rattle.std.proofs.Common.{◌≡◌, ℕ, List, None, sym, ◌∙◌, inl, inr}
+use Rattle.std.proofs.Common.{◌≡◌, ◌<◌, ℕ, List, None, sym, ◌∙◌, inl, inr}
 use Rattle.pc_types.specs.declared.error.Error.{Error}
 use Rattle.pc_types.specs.declared.error.Error.TheVariants as error
 use Rattle.pc_types.specs.declared.error.Place.{Place}
@@ -16,6 +16,7 @@ use Rattle.pc_inline_state.specs.Points.{IsFullSomewhere}
 use Rattle.pc_inline_state.specs.Tables.{tables_of}
 use Rattle.pc_inline_state.specs.Today.{built_reading}
 use Rattle.pc_inline_stack.proofs.TodayLemmas.{reading_today}
+use Rattle.pc_spec_reading.specs.Guard.{everything}
 
 -- the fault of an outcome that isn't what isn't built
 abbrev not_unbuilt : {A : Type 0} → Outcome A → Type 0
@@ -24,8 +25,8 @@ not_unbuilt {A} o = (p : Place) → o ≡ fault (unsupported unsupported_.NotBui
 module _ (t : TypeTable) (ms : List ModuleRecord) (limit : ℕ) (body : Items) where
   -- an end that isn't where something isn't built is that of the nested reading
   same_end : (o : Outcome Reading) → not_unbuilt o → built_reading t ms limit body ≡ o
-      → reading_of t ms limit None body ≡ o
-  same_end o other is = elim (reading_today t ms limit body) as (λ _. reading_of t ms limit None body ≡ o) [
+      → reading_of everything t ms limit None body ≡ o
+  same_end o other is = elim (reading_today t ms limit body) as (λ _. reading_of everything t ms limit None body ≡ o) [
     | inl same ↦ sym same ∙ is
     | inr ends ↦ absurd (other ends.0 (sym is ∙ ends.1))
   ]
@@ -35,36 +36,37 @@ module _ (t : TypeTable) (ms : List ModuleRecord) (limit : ℕ) (body : Items) w
   both_end o other is = (is, same_end o other is)
 
   -- what is done as far as it is built is the nested reading
-  pub done_today : (r : Reading) → built_reading t ms limit body ≡ done r → reading_of t ms limit None body ≡ done r
+  pub done_today : (r : Reading) → built_reading t ms limit body ≡ done r
+      → reading_of everything t ms limit None body ≡ done r
   done_today r is = same_end (done r) (λ q is. let x : ⊥ = cc in x) is
 
   -- the error that is answered is the reading's
-  pub end_today : (st : State) → (IsFullSomewhere (tables_of st) → HasNoRoom t ms limit body st.types) → (e : Error)
-      → IsBuiltEnd t ms limit body st e → IsFault t ms limit body st.types e
-  end_today st room (error.Invalid p) h = both_end (fault invalid p) (λ q is. let x : ⊥ = cc in x) h
-  end_today st room (error.BadType p) h = both_end (fault bad_type p) (λ q is. let x : ⊥ = cc in x) h
-  end_today st room error.TooManyInstances h = both_end over (λ q is. let x : ⊥ = cc in x) h
-  end_today st room error.TooMany h = room h
-  end_today st room error.NoMemory h = tt
-  end_today st room (error.Unsupported unsupported_.NotBuilt p) h = h
-  end_today st room (error.Unsupported unsupported_.Module p) h = both_end _ (λ q is. let x : ⊥ = cc in x) h
-  end_today st room (error.Unsupported unsupported_.ThreadSpawn p) h = both_end _ (λ q is. let x : ⊥ = cc in x) h
-  end_today st room (error.Unsupported unsupported_.ContextGetType p) h = both_end _ (λ q is. let x : ⊥ = cc in x) h
-  end_today st room (error.Unsupported unsupported_.ContextSetType p) h = both_end _ (λ q is. let x : ⊥ = cc in x) h
-  end_today st room (error.Unsupported unsupported_.StreamForward p) h = both_end _ (λ q is. let x : ⊥ = cc in x) h
-  end_today st room (error.Unsupported unsupported_.FutureForward p) h = both_end _ (λ q is. let x : ⊥ = cc in x) h
-  end_today st room (error.Unsupported unsupported_.StartSection p) h = both_end _ (λ q is. let x : ⊥ = cc in x) h
-  end_today st room (error.Unsupported unsupported_.ComponentValue p) h = both_end _ (λ q is. let x : ⊥ = cc in x) h
-  end_today st room (error.Unsupported unsupported_.ComponentImport p) h = both_end _ (λ q is. let x : ⊥ = cc in x) h
-  end_today st room (error.Unsupported unsupported_.ReexportedFunction p) h = both_end _ (λ q is. let x : ⊥ = cc in x) h
-  end_today st room (error.Unsupported unsupported_.ReexportedIntrinsic p) h =
+  pub end_today : (st : State) (n : ℕ)
+      → (IsFullSomewhere (tables_of st) × (0 < limit) → HasNoRoom t ms limit body n) → (e : Error)
+      → IsBuiltEnd t ms limit body st e → IsFault t ms limit body n e
+  end_today st n room (error.Invalid p) h = both_end (fault invalid p) (λ q is. let x : ⊥ = cc in x) h
+  end_today st n room (error.BadType p) h = both_end (fault bad_type p) (λ q is. let x : ⊥ = cc in x) h
+  end_today st n room error.TooManyInstances h = both_end over (λ q is. let x : ⊥ = cc in x) h
+  end_today st n room error.TooMany h = room h
+  end_today st n room error.NoMemory h = tt
+  end_today st n room (error.Unsupported unsupported_.NotBuilt p) h = h
+  end_today st n room (error.Unsupported unsupported_.Module p) h = both_end _ (λ q is. let x : ⊥ = cc in x) h
+  end_today st n room (error.Unsupported unsupported_.ThreadSpawn p) h = both_end _ (λ q is. let x : ⊥ = cc in x) h
+  end_today st n room (error.Unsupported unsupported_.ContextGetType p) h = both_end _ (λ q is. let x : ⊥ = cc in x) h
+  end_today st n room (error.Unsupported unsupported_.ContextSetType p) h = both_end _ (λ q is. let x : ⊥ = cc in x) h
+  end_today st n room (error.Unsupported unsupported_.StreamForward p) h = both_end _ (λ q is. let x : ⊥ = cc in x) h
+  end_today st n room (error.Unsupported unsupported_.FutureForward p) h = both_end _ (λ q is. let x : ⊥ = cc in x) h
+  end_today st n room (error.Unsupported unsupported_.StartSection p) h = both_end _ (λ q is. let x : ⊥ = cc in x) h
+  end_today st n room (error.Unsupported unsupported_.ComponentValue p) h = both_end _ (λ q is. let x : ⊥ = cc in x) h
+  end_today st n room (error.Unsupported unsupported_.ComponentImport p) h = both_end _ (λ q is. let x : ⊥ = cc in x) h
+  end_today st n room (error.Unsupported unsupported_.ReexportedIntrinsic p) h =
       both_end _ (λ q is. let x : ⊥ = cc in x) h
-  end_today st room (error.Unsupported unsupported_.ReexportedIntrinsics p) h =
+  end_today st n room (error.Unsupported unsupported_.ReexportedIntrinsics p) h =
       both_end _ (λ q is. let x : ⊥ = cc in x) h
-  end_today st room (error.Unsupported unsupported_.ExportedComponent p) h = both_end _ (λ q is. let x : ⊥ = cc in x) h
-  end_today st room (error.Malformed p) h = absurd h
-  end_today st room (error.BadTable p) h = absurd h
-  end_today st room (error.BadIntrinsics p) h = absurd h
-  end_today st room (error.UnknownIntrinsic p) h = absurd h
-  end_today st room (error.DefinedTwice p) h = absurd h
-  end_today st room (error.BadOptions p) h = absurd h
+  end_today st n room (error.Unsupported unsupported_.ExportedComponent p) h = both_end _ (λ q is. let x : ⊥ = cc in x) h
+  end_today st n room (error.Malformed p) h = absurd h
+  end_today st n room (error.BadTable p) h = absurd h
+  end_today st n room (error.BadIntrinsics p) h = absurd h
+  end_today st n room (error.UnknownIntrinsic p) h = absurd h
+  end_today st n room (error.DefinedTwice p) h = absurd h
+  end_today st n room (error.BadOptions p) h = absurd h

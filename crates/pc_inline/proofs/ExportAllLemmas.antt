@@ -2,7 +2,7 @@
 use Rattle.std.proofs.Common.{◌≡◌, ◌⊎◌, inl, inr, ◌<◌, ◌≤◌, ◌+◌, ◌*◌, ℕ, zero, suc, Bool, true, false, ◌||◌, List, []}
 use Rattle.std.proofs.Common.{◌∷◌, ◌++◌, length, map, take, drop, get_or, Option, None, Some, Result, Ok, Err, refl, sym, ap}
 use Rattle.std.proofs.Common.{subst, ◌∙◌, arith, append-nil, append_assoc, true≢false, if◌then◌else◌}
-use Rattle.std.specs.Prelude.{⊤, OnOk, slice_get}
+use Rattle.std.specs.Prelude.{⊤, OnOk, slice_get, not}
 use Rattle.std.specs.Result.{IsErrAnd}
 use Rattle.std.specs.Str.{bytes_eq}
 use Rattle.std.proofs.lemmas.List.{drop_all, length-append}
@@ -43,12 +43,13 @@ use Rattle.pc_inline.specs.Exports.{NumbersExports}
 use Rattle.pc_inline_state.specs.Frames.{FuncStands}
 use Rattle.pc_inline.specs.Inlines.{export_name}
 use Rattle.pc_inline_state.specs.Tables.{Keeps, tables_of}
-use Rattle.pc_inline_state.specs.Today.{built_exports, is_root_kind}
+use Rattle.pc_inline_state.specs.Today.{built_exports, is_root_kind, is_host, today}
 use Rattle.pc_inline_state.specs.Worlds.{HasNoExports}
 use Rattle.pc_inline_state.proofs.AddsLemmas.{adds_refl, adds_weaken}
 use Rattle.pc_inline.proofs.ExportAddsLemmas.{adds_all, adds_export}
 use Rattle.pc_inline_state.proofs.StateLemmas.{keeps_refl, keeps_trans}
 use Rattle.pc_inline_state.proofs.ZipLemmas.{both_missing, both_there, zip_at}
+use Rattle.pc_spec_reading.specs.Reading.{root_exports}
 
 -- a name that none of the entries has isn't found
 name_absent : {V : Type 0} (name : List ℕ) (es : List (List ℕ × V)) → has_name (names_of es) name ≡ false
@@ -102,13 +103,13 @@ or_first true b h = refl
 or_first false b h = absurd (true≢false (sym h))
 
 -- another kind isn't built
-kind_refused : (k : ItemKind) → (k ≡ kind.Func → ⊥) → is_root_kind k ≡ false
-kind_refused kind.Func other = absurd (other refl)
-kind_refused kind.Module other = refl
-kind_refused kind.Value other = refl
-kind_refused kind.Type_ other = refl
-kind_refused kind.Instance other = refl
-kind_refused kind.Component other = refl
+kind_refused : (s : Scope) (k : ItemKind) (n : ℕ) → (k ≡ kind.Func → ⊥) → is_root_kind s k n ≡ false
+kind_refused s kind.Func n other = absurd (other refl)
+kind_refused s kind.Module n other = refl
+kind_refused s kind.Value n other = refl
+kind_refused s kind.Type_ n other = refl
+kind_refused s kind.Instance n other = refl
+kind_refused s kind.Component n other = refl
 
 -- an error has no value of which something holds
 err_on_ok : {A E : Type 0} (r : Result A E) (P : E → Type 0) (X : Type 0) → IsErrAnd r P → OnOk r X
@@ -140,18 +141,23 @@ module _ (t : TypeTable) (ms : List ModuleRecord) where
 
     unbuilt_here : (e.1 ≡ kind.Func → ⊥)
         → built_exports t s (named_item e ∷ rest) n w ≡ fault (unsupported NotBuilt) (place.Export n)
-    unfolding built_exports
-    unbuilt_here other = rw (kind_refused e.1 other) refl
+    unfolding root_exports today
+    unbuilt_here other = rw (kind_refused s e.1 e.2 other) refl
+
+    -- what is read of the exports from a function on, whether or not it is one of the host
+    abbrev function_or : (is_of_host : Bool) → Function → Outcome Finish
+    function_or b x =
+        if not b then at_export n (function_node x w) behind_node else fault (unsupported NotBuilt) (place.Export n)
 
     module _ (func : e.1 ≡ kind.Func) where
       missing_here : slice_get s.funcs e.2 ≡ None
           → built_exports t s (named_item e ∷ rest) n w ≡ built_exports t s rest n w
-      unfolding built_exports exported_value value_at
+      unfolding root_exports today exported_value value_at
       missing_here none = rw (func, none) refl
 
       function_here : (x : Function) → slice_get s.funcs e.2 ≡ Some x
-          → built_exports t s (named_item e ∷ rest) n w ≡ at_export n (function_node x w) behind_node
-      unfolding built_exports exported_value value_at value_node
+          → built_exports t s (named_item e ∷ rest) n w ≡ function_or (is_host x) x
+      unfolding root_exports today exported_value value_at value_node
       function_here x there = rw (func, there) refl
 
   module _ (es : List (ExternName × ItemKind × ℕ)) (old : State) (f : Frame) where
@@ -173,7 +179,7 @@ module _ (t : TypeTable) (ms : List ModuleRecord) where
 
     all_exported : (i n : ℕ) (st : State) → ExportedSoFar t ms es i n old f st → length es ≤ i
         → Exports t ms es old st f (Ok tt)
-    unfolding Exports ExportsEnd built_exports
+    unfolding Exports ExportsEnd root_exports
     all_exported i n st far end s w root =
         let here = far.goes s w root in
         let all : map named_item (drop i es) ≡ [] = ap (map named_item) (drop_all i es end) in
@@ -244,7 +250,7 @@ module _ (t : TypeTable) (ms : List ModuleRecord) where
 
       kind_unbuilt : (e.1 ≡ kind.Func → ⊥)
           → Exports t ms es old st f (Err (error.Unsupported NotBuilt (place.Export n)))
-      unfolding Exports ExportsEnd built_exports
+      unfolding Exports ExportsEnd root_exports
       kind_unbuilt other s w root =
           let here = here_on s w root in
           here.2 ∙ ap (λ o. and_then o (behind t ms here.0)) (unbuilt_here s e rest n w other)
@@ -307,7 +313,7 @@ module _ (t : TypeTable) (ms : List ModuleRecord) where
 
             node_of : (s : Scope) (w : World) (nodes : List (NamedNode Mark)) (x : Function)
                 → ExportsFunc t ms new f s w nodes e.0 n x (Ok tt) → (node : ExportNode Mark)
-                × (function_node x w ≡ reached node w)
+                × (is_host x ≡ false) × (function_node x w ≡ reached node w)
                 × RootStands t ms new f s w (nodes ++ node_named t ms e.0 node ∷ [])
             unfolding ExportsFunc
             node_of s w nodes x made = made
@@ -333,21 +339,22 @@ module _ (t : TypeTable) (ms : List ModuleRecord) where
                   let x = function_at s w here.0 here.1 in
                   let y = node_of s w here.0 x.0 (made f s w here.0 x.0 here.1 x.2) in (
                     here.0 ++ node_named t ms e.0 y.0 ∷ [],
-                    y.2,
+                    y.3,
                     here.2 ∙ ap (λ o. and_then o (behind t ms here.0)) (function_here s e rest n w func x.0 x.1)
-                        ∙ ap (λ r. and_then (at_export n r (behind_node s e rest n w)) (behind t ms here.0)) y.1
+                        ∙ ap (λ b. and_then (function_or s e rest n w b x.0) (behind t ms here.0)) y.1
+                        ∙ ap (λ r. and_then (at_export n r (behind_node s e rest n w)) (behind t ms here.0)) y.2
                         ∙ behind_more here.0 (node_named t ms e.0 y.0) (built_exports t s rest (n + 1) w),
                   );
             }
 
             fails_at : (s : Scope) (w : World) (nodes : List (NamedNode Mark)) (x : Function) (o : Outcome Finish)
-                → o ≡ and_then (at_export n (function_node x w) (behind_node s e rest n w)) (behind t ms nodes)
+                → o ≡ and_then (function_or s e rest n w (is_host x) x) (behind t ms nodes)
                 → (r : Error)
                 → ExportsFunc t ms new f s w nodes e.0 n x (Err r) → ExportsEnd t ms new f s w [] o (Err r)
             unfolding ExportsFunc ExportsEnd
             fails_at s w nodes x o at (error.Unsupported u p) h =
-                at ∙ ap (λ r. and_then (at_export n r (behind_node s e rest n w)) (behind t ms nodes)) h.0
-                ∙ ap (fault (unsupported u)) (sym h.1)
+                at ∙ ap (λ b. and_then (function_or s e rest n w b x) (behind t ms nodes)) h.2
+                ∙ (λ j. fault (unsupported (sym h.0 j)) (sym h.1 j))
             fails_at s w nodes x o at error.TooMany h = h
             fails_at s w nodes x o at error.NoMemory h = tt
             fails_at s w nodes x o at (error.Invalid p) h = absurd h

@@ -5,6 +5,7 @@ use Rattle.std.specs.Result.{IsErrAnd}
 use Rattle.pc_types.specs.declared.error.Error.{Error}
 use Rattle.pc_types.specs.declared.error.Error.TheVariants as error
 use Rattle.pc_types.specs.declared.error.Place.TheVariants as place
+use Rattle.pc_types.specs.declared.error.Unsupported.TheVariants.{NotBuilt}
 use Rattle.pc_types.specs.declared.module_record.ModuleRecord.{ModuleRecord}
 use Rattle.pc_types.specs.declared.parsed.TypeTable.{TypeTable}
 use Rattle.pc_spec_plan.specs.ExportNode.{ExportNode, NamedNode}
@@ -54,9 +55,15 @@ module _ (t : TypeTable) (ms : List ModuleRecord) (st : State) (f : Frame) (s : 
   exports_refused : (e : ItemError) → ReachesNode t ms st f s w nodes x (Err e)
       → ExportsFunc t ms st f s w nodes name n x (Err (error_of e (place.Export n)))
   unfolding ReachesNode ExportsFunc
-  exports_refused (item_error.Fault (item_fault.Unsupported u)) h = (h, refl)
-  exports_refused (item_error.Fault item_fault.Invalid) h = absurd h
-  exports_refused (item_error.Fault item_fault.BadType) h = absurd h
+  exports_refused (item_error.Fault (item_fault.Unsupported u)) h =
+      let is : item_fault.Unsupported u ≡ item_fault.Unsupported NotBuilt = h.0 in
+      (cc, refl, h.1)
+  exports_refused (item_error.Fault item_fault.Invalid) h =
+      let is : item_fault.Invalid ≡ item_fault.Unsupported NotBuilt = h.0 in
+      let x : ⊥ = cc in absurd x
+  exports_refused (item_error.Fault item_fault.BadType) h =
+      let is : item_fault.BadType ≡ item_fault.Unsupported NotBuilt = h.0 in
+      let x : ⊥ = cc in absurd x
   exports_refused item_error.TooMany h = h
   exports_refused item_error.NoMemory h = tt
 
@@ -157,12 +164,13 @@ exports_made : (t : TypeTable) (ms : List ModuleRecord) (st : State) (name : Ext
 unfolding ReachesNode ExportsFunc
 exports_made t ms st name item label d label_is d_is g rest put grows ordered n f s w nodes x h =
     let made : exported t ms st (label, (item, d)) ≡ g = sym (rest ∙ (λ j. record st.graph { exports = put j })) in
-    let stands = h.2 in
-    let root = h.3 in
+    let stands = h.3 in
+    let root = h.4 in
     let below = item_below st.graph (λ m. function_mark (record { 0 = 0 })) item.0 _
     (stands.means (λ m. function_mark (record { 0 = 0 }))) in (
       h.0,
       h.1,
+      h.2,
       subst (λ y. RootStands t ms (record st { graph = y }) f s w (nodes ++ node_named t ms name h.0 ∷ [])) made
           (root_named t ms st (label, (item, d)) (subst (graph.Grows st.graph) (sym made) grows) f s w nodes root
           (subst IsOrdered (sym made) (ordered below root.sound.ordered)) (node_named t ms name h.0)

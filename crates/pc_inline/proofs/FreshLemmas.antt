@@ -19,7 +19,8 @@ use Rattle.pc_inline_state.specs.declared.state.State.{State}
 use Rattle.pc_inline_state.specs.Frames.{neither}
 use Rattle.pc_inline_state.specs.Points.{PointStands}
 use Rattle.pc_inline_state.specs.Typed.{AreNumbers}
-use Rattle.pc_inline_state.specs.Worlds.{AreUsed, HasItems, HoldsTypes, IsPlain, WorldStands, paths_needed}
+use Rattle.pc_inline_state.specs.Worlds.{AreUsed, HasItems, HoldsTypes, IsPlain, WorldStands}
+use Rattle.pc_spec_reading.specs.Asked.{paths_needed}
 use Rattle.pc_inline.proofs.RootLemmas.{first_moment, first_world}
 
 -- the graph of a root that has begun

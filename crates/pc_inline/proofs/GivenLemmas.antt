@@ -19,9 +19,10 @@ use Rattle.pc_types.specs.declared.types.ComponentExtern.{ComponentExtern}
 use Rattle.pc_types.specs.Table.{is_func}
 use Rattle.pc_types.specs.TypeTree.{Path, TypeTree}
 use Rattle.pc_parsed.specs.declared.payload.ExternName.{ExternName}
+use Rattle.pc_spec_reading.specs.Asked.{import_path}
 use Rattle.pc_spec_reading.specs.Imports.{import_resources, prepare, with_given}
 use Rattle.pc_spec_reading.specs.Outcome.{bad_type}
-use Rattle.pc_spec_reading.specs.Resource.{resource_paths}
+use Rattle.pc_spec_reading.specs.Resource.{newly, resource_paths}
 use Rattle.pc_spec_reading.specs.SameTypes.{same_path}
 use Rattle.pc_spec_reading.specs.Scope.{Moment}
 use Rattle.pc_spec_reading.specs.Types.{has_entry, type_tree}
@@ -39,11 +40,12 @@ use Rattle.pc_inline_state.specs.Frames.{SameNames}
 use Rattle.pc_inline_state.specs.Points.{Steps}
 use Rattle.pc_inline_state.specs.Stands.{Stands}
 use Rattle.pc_inline_state.specs.Tables.{Tables}
-use Rattle.pc_inline_state.specs.Today.{built_prepare, is_built_entity}
-use Rattle.pc_inline_state.specs.Worlds.{AreUsed, import_path, path_of}
+use Rattle.pc_inline_state.specs.Today.{built_prepare, is_built_entity, today}
+use Rattle.pc_inline_state.specs.Worlds.{AreUsed, path_of}
 use Rattle.pc_inline_items.proofs.BagLemmas.{names_again, names_push}
 use Rattle.pc_inline_canon.proofs.CoreInstanceLemmas.{found_in_push}
 use Rattle.pc_inline_canon.proofs.StepLemmas.{steps_stuck}
+use Rattle.pc_spec_reading.specs.Reading.{prepared}
 
 -- arguments with one more, of which the first of a name counts on both sides
 pub argument_given : (ms : List ModuleRecord) (b : Tables) (xs : List (List ℕ × DefinitionId))
@@ -120,21 +122,21 @@ not_prepared entity.Value isnt = refl
 module _ (t : TypeTable) (ms : List ModuleRecord) (st : State) (f : Frame) (name : ExternName) where
   -- only imports of functions are built
   pub prepare_unbuilt : (e : Entity) (f' : Frame) → ((x : ℕ) → e ≡ entity.Func x → ⊥)
-      → Steps t ms (built_prepare t ms name e) st f st f' (Err (item_error.Fault (item_fault.Unsupported NotBuilt)))
-  unfolding built_prepare
+      → Steps t ms (built_prepare t name e) st f st f' (Err (item_error.Fault (item_fault.Unsupported NotBuilt)))
+  unfolding prepared today
   prepare_unbuilt e f' isnt =
       steps_stuck t ms _ st f st f' (item_fault.Unsupported NotBuilt) (λ now at. rw (not_prepared e isnt) refl)
 
   -- the type is no function type
   pub prepare_untyped : (ty : ℕ) (now : Moment) → has_entry t is_func ty ≡ false
-      → built_prepare t ms name (entity.Func ty) now ≡ Err bad_type
-  unfolding built_prepare prepare
+      → built_prepare t name (entity.Func ty) now ≡ Err bad_type
+  unfolding prepared today prepare
   prepare_untyped ty now isnt = rw isnt refl
 
   -- it is one, and the host gives a function
   pub prepare_given : (ty : ℕ) (now : Moment) (tree : TypeTree) → has_entry t is_func ty ≡ true
       → type_tree t now.scope ty ≡ Some tree
-      → built_prepare t ms name (entity.Func ty) now
+      → built_prepare t name (entity.Func ty) now
       ≡ Ok (with_given now name tree (func_value (host_function (import_path (length now.world.imports)))))
-  unfolding built_prepare prepare resource_paths import_resources
+  unfolding prepared today prepare resource_paths import_resources newly
   prepare_given ty now tree typed is = rw (typed, is) refl

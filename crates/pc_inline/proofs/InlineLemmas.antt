@@ -28,12 +28,12 @@ use Rattle.pc_inline_state.specs.declared.frame.Frame.{Frame}
 use Rattle.pc_inline_state.specs.declared.state.State.{State}
 use Rattle.pc_inline_stack.specs.Begins.{Begins}
 use Rattle.pc_inline.specs.Roots.{BeginsBody, InlinesBody, InlinesRoot, IsBuiltEnd}
-use Rattle.pc_inline_state.specs.Fresh.{IsFresh}
 use Rattle.pc_inline.specs.Roots.{IsLong, RootBegun, RootStarts, first_total}
+use Rattle.pc_inline_state.specs.Fresh.{IsFresh}
 use Rattle.pc_inline_stack.specs.Driving.{EndsRun, Runs, reading_from}
 use Rattle.pc_inline.specs.Exporting.{Exports, ExportsEnd, RootStands}
 use Rattle.pc_inline.specs.Exports.{NumbersExports}
-use Rattle.pc_inline_state.specs.Points.{IsPoint, PointStands, full_instances}
+use Rattle.pc_inline_state.specs.Points.{IsPoint, PointStands}
 use Rattle.pc_inline_stack.specs.Reads.{AreItems, Ends, Passes, Prepared}
 use Rattle.pc_inline_state.specs.Tables.{Keeps, tables_of}
 use Rattle.pc_inline_state.specs.Today.{built_enter, built_exports, built_prepare_all, built_root}
@@ -73,8 +73,9 @@ module _ (t : TypeTable) (ms : List ModuleRecord) (limit : ℕ) where
         reading_over t ms limit body
         (subst (λ (x : ComponentDfg). limit ≤ x.num_runtime_component_instances) fresh.graph begins.0)
     unbegun body error.TooMany begins =
-        full_instances (subst (λ (x : ComponentDfg). 4294967295 ≤ x.num_runtime_component_instances) (sym begins.1)
-        begins.0)
+        let le : 4294967295 ≤ 0 =
+        subst (λ (x : ComponentDfg). 4294967295 ≤ x.num_runtime_component_instances) fresh.graph begins.0 in
+        absurd (omega (arith, le))
     unbegun body error.NoMemory begins = tt
     unbegun body (error.Invalid p) begins = absurd begins
     unbegun body (error.BadType p) begins = absurd begins
@@ -95,7 +96,7 @@ module _ (t : TypeTable) (ms : List ModuleRecord) (limit : ℕ) (bodies : List T
   abbrev pub IsRead : Translation → State → Frame → Type 0
   IsRead root st f =
       Each root (λ body. (now : Moment) × PointStands t ms st f now × (now.world.total ≡ None)
-      × (built_root t ms limit None body ≡ done now))
+      × (built_root t ms limit None body ≡ done now) × (0 < limit))
 
   module _ (root : Translation) (old : State) (f : Frame) (st : State) (g : Frame) (ls : List LocalInitializer)
       (is : ls ≡ root.initializers) (among : old.bodies.now ≡ bodies) (below : 0 < limit)
@@ -126,15 +127,16 @@ module _ (t : TypeTable) (ms : List ModuleRecord) (limit : ℕ) (bodies : List T
         → Each root (λ body. BeginsBody t ms limit body st (Ok g))
     unfolding BeginsBody
     root_begun r prepared body stands =
-        let total = first_total t ms body in
         record {
           within = below;
           uncounted = starts body stands r prepared None None (root_begins t ms limit body below);
-          counted = elim (counted_begins t ms limit body below)
-              as (λ _. IsLong t ms limit body
-              ⊎ ((total < full) × RootStarts t ms limit body (Some 0) (Some total) st g)) [
+          counted = λ n. elim (counted_begins t ms limit body below n)
+              as (λ _. IsLong t ms limit body n
+              ⊎ ((first_total t ms body n < full)
+              × RootStarts t ms limit body (Some n) (Some (first_total t ms body n)) st g)) [
                 | inl long ↦ inl long
-                | inr room ↦ inr (room.0, starts body stands r prepared (Some 0) (Some total) room.1)
+                | inr room ↦
+                    inr (room.0, starts body stands r prepared (Some n) (Some (first_total t ms body n)) room.1)
               ];
         }
 
@@ -143,8 +145,8 @@ module _ (t : TypeTable) (ms : List ModuleRecord) (limit : ℕ) (bodies : List T
         → Each root (λ body. IsBuiltEnd t ms limit body st e)
     unfolding Passes
     root_unprepared e prepared body stands =
-        root_fails t ms limit body st g (from_start t ms limit body None) e (root_begins t ms limit body below)
-        (ends_then t ms limit body st g (built_prepare_all t ms 0 body first_moment) (reading_from t ms limit body) e
+        root_fails t ms limit body below st g (from_start t ms limit body None) e (root_begins t ms limit body below)
+        (ends_then t ms limit body st g (built_prepare_all t 0 body first_moment) (reading_from t ms limit body) e
         (prepared body first_moment (items_there body stands) at))
 
   -- an error at the beginning is that of each body
@@ -191,6 +193,7 @@ module _ (t : TypeTable) (ms : List ModuleRecord) (limit : ℕ) (bodies : List T
             ends.2,
             subst (λ o. HasGrown o ends.0.world.total) start.is_total grows,
             start.reads ∙ ends.1,
+            (has_begun body stands).within,
           )
 
       -- or they weren't
@@ -199,7 +202,8 @@ module _ (t : TypeTable) (ms : List ModuleRecord) (limit : ℕ) (bodies : List T
       unfolding Runs EndsRun
       root_unread e runs body stands =
           let start = (has_begun body stands).uncounted in
-          root_fails t ms limit body st f (reading_from t ms limit body start.now) e start.reads
+          root_fails t ms limit body (has_begun body stands).within st f (reading_from t ms limit body start.now) e
+          start.reads
           (runs body start.now (items_here body stands) start.stands start.is_total)
 
   module _ (root : Translation) (old : State) (f : Frame) (is_read : IsRead root old f) where
@@ -211,15 +215,15 @@ module _ (t : TypeTable) (ms : List ModuleRecord) (limit : ℕ) (bodies : List T
         ((here.0.scope, here.0.world, root_stands t ms old f here.0 here.1 here.2), here.1.unexported)
 
     module _ (st : State) where
-      ends_root : (body : Items) (now : Moment) → built_root t ms limit None body ≡ done now
+      ends_root : (body : Items) (now : Moment) → 0 < limit → built_root t ms limit None body ≡ done now
           → (r : Result ⊤ Error) → OnOk r (NumbersExports st.graph)
           → ExportsEnd t ms st f now.scope now.world [] (built_exports t now.scope (exports_in body) 0 now.world) r
           → InlinesBody t ms limit body st r
       unfolding InlinesBody
-      ends_root body now is (Ok end) numbers ends =
+      ends_root body now below is (Ok end) numbers ends =
           root_read t ms limit body st f now (reading_is t ms limit body (done now) is) numbers ends
-      ends_root body now is (Err e) numbers ends =
-          exports_fail t ms limit body st f now e (reading_is t ms limit body (done now) is) ends
+      ends_root body now below is (Err e) numbers ends =
+          exports_fail t ms limit body below st f now e (reading_is t ms limit body (done now) is) ends
 
       -- the root exports, and is instantiated
       pub root_exports : (es : List (ExternName × ItemKind × ℕ)) → es ≡ root.exports → (r : Result ⊤ Error)
@@ -228,7 +232,7 @@ module _ (t : TypeTable) (ms : List ModuleRecord) (limit : ℕ) (bodies : List T
       root_exports es are r numbers exports body stands =
           let here = is_read body stands in
           let now = here.0 in
-          ends_root body now here.3 r numbers
+          ends_root body now here.4 here.3 r numbers
           (subst (λ xs. ExportsEnd t ms st f now.scope now.world [] (built_exports t now.scope xs 0 now.world) r)
           (ap (map named_item) are ∙ stands.exports)
           (exports now.scope now.world (root_stands t ms old f now here.1 here.2)))

@@ -94,9 +94,9 @@ module _ {t : TypeTable} {a b : State} (types : Converts t a b)
 pub prepare_unconverted : (t : TypeTable) (ms : List ModuleRecord) (st st' : State) (f f' : Frame) (name : ExternName)
     (e : Entity) (ty : ℕ) → e ≡ entity.Func ty → (r : Result ⊤ ItemError) (x : ItemError) → IsErrAnd r (λ y. y ≡ x)
     → LacksRoomOr item_fault.BadType (has_entry t is_func ty ≡ false) st' x
-    → Steps t ms (built_prepare t ms name e) st f st' f' r
+    → Steps t ms (built_prepare t name e) st f st' f' r
 prepare_unconverted t ms st st' f f' name e ty func r x same lacks =
-    subst (λ y. Steps t ms (built_prepare t ms name y) st f st' f' r) (sym func)
+    subst (λ y. Steps t ms (built_prepare t name y) st f st' f' r) (sym func)
     (steps_passed t ms _ st f st' f' r x same
     (steps_lacking t ms _ st f st' f' item_fault.BadType _ x lacks
     (λ now at none. prepare_untyped t ms st f name ty now none)))

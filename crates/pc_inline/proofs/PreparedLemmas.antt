@@ -2,6 +2,7 @@
 use Rattle.std.proofs.Common.{◌≡◌, ◌<◌, ◌+◌, Ok, ℕ, true, List, [], ◌∷◌, ◌++◌, length, Option, Some, None, Vec, Global}
 use Rattle.std.proofs.Common.{refl, sym, ap, subst, ◌∙◌, arith}
 use Rattle.std.specs.Prelude.{slice_get}
+use Rattle.std.specs.Prelude.{⊤}
 use Rattle.std.proofs.lemmas.List.{length-append}
 use Rattle.pc_entity.specs.FirstValues.{with_first}
 use Rattle.pc_types_lists.specs.Trees.{HasTree}
@@ -18,6 +19,7 @@ use Rattle.pc_types.specs.declared.types.TypeDef.TheVariants as type
 use Rattle.pc_types.specs.Table.{is_func}
 use Rattle.pc_types.specs.TypeTree.{Identity, TypeTree}
 use Rattle.pc_parsed.specs.declared.payload.ExternName.{ExternName}
+use Rattle.pc_spec_reading.specs.Asked.{import_path}
 use Rattle.pc_spec_reading.specs.Imports.{with_given}
 use Rattle.pc_spec_reading.specs.Scope.{Moment}
 use Rattle.pc_spec_reading.specs.Types.{has_entry}
@@ -31,10 +33,11 @@ use Rattle.pc_inline_state.specs.declared.state.State.{State}
 use Rattle.pc_inline_state.specs.Points.{PointStands, Steps}
 use Rattle.pc_inline_state.specs.Prepares.{Converts}
 use Rattle.pc_inline_state.specs.Stands.{Stands}
+use Rattle.pc_inline_state.specs.Stands.{stands, stands_host}
 use Rattle.pc_inline_state.specs.Today.{built_prepare}
-use Rattle.pc_inline_state.specs.Worlds.{AreUsed, import_path}
+use Rattle.pc_inline_state.specs.Worlds.{AreUsed}
+use Rattle.pc_inline_state.specs.Worlds.{EffectStands, ImportStands, WorldStands, slot_kind}
 use Rattle.pc_inline_canon.proofs.StepLemmas.{steps_on}
-use Rattle.std.specs.Prelude.{⊤}
 use Rattle.pc_entity.proofs.Growing.{append_kept, kept_refl, slice_get-append_seam}
 use Rattle.pc_types.specs.declared.parsed.CoreKind.{CoreKind}
 use Rattle.pc_spec_plan.specs.PlanView as plan
@@ -45,10 +48,8 @@ use Rattle.pc_dfg.specs.Grows as graph
 use Rattle.pc_dfg.specs.Numbers.{slots_of}
 use Rattle.pc_dfg.proofs.AllLemmas.{all_more}
 use Rattle.pc_inline_state.specs.declared.definition.Definition.TheVariants as definition
-use Rattle.pc_inline_state.specs.Stands.{stands, stands_host}
 use Rattle.pc_inline_state.specs.Tables.{IsItem, Keeps, tables_of}
-use Rattle.pc_inline_state.specs.Typed.{Holds}
-use Rattle.pc_inline_state.specs.Worlds.{EffectStands, ImportStands, WorldStands, slot_kind}
+use Rattle.pc_inline_state.specs.Holds.{Holds}
 use Rattle.pc_inline.specs.Given.{GivesImport, function_import}
 use Rattle.pc_inline.proofs.GivenLemmas.{argument_given, prepare_given, used_given}
 use Rattle.pc_inline_canon.proofs.KeptLemmas.{frame_kept, is_item_kept}
@@ -101,7 +102,7 @@ module _ (t : TypeTable) (ms : List ModuleRecord) (st : State) (f : Frame) (name
       given_import = record {
         name = refl;
         extern_data = meta;
-        typed = λ who. subst (λ d. HasTree st.types who d tree) (sym typed) (has who);
+        typed = λ who any. subst (λ d. HasTree st.types who d tree) (sym typed) (has who);
       }
 
       given_world : (w : World) → WorldStands st.types st.graph w
@@ -208,7 +209,7 @@ pub prepare_steps : (t : TypeTable) (ms : List ModuleRecord) (before : State) (f
     → (n : TypeFuncIndex) → has_entry t is_func ty ≡ true → IsEntry st.types t ty (type.ComponentFunc n)
     → (x : List ℕ × ComponentExtern) → x ≡ function_import name n → (id : DefinitionId) → GivesImport st x end id
     → Keeps (tables_of st) (tables_of end) → f' ≡ record f { arguments = with_first f.arguments (name.name, id) }
-    → (r : ⊤) → Steps t ms (built_prepare t ms name e) before f end f' (Ok r)
+    → (r : ⊤) → Steps t ms (built_prepare t name e) before f end f' (Ok r)
 prepare_steps t ms before f st end f' name e ty func converts n typed entry x is id given keeps framed r =
     steps_on t ms _ before f end f' r (λ now at.
     let known : st.types.resources.known ≡ [] = ap (λ k. k.known) (converts.grows.resources ∙ at.here) in
@@ -231,7 +232,7 @@ prepare_steps t ms before f st end f' name e ty func converts n typed entry x is
       stands = subst (λ s. PointStands t ms s f' next) (sym same)
           (subst (λ g. PointStands t ms (given_to t ms st f name import end.used given.number) g next) (sym framed)
           after);
-      done = ap (λ y. built_prepare t ms name y now) func
+      done = ap (λ y. built_prepare t name y now) func
           ∙ prepare_given t ms st f name ty now tree.0 typed
           (scope_tree t ms before f now at st.types converts.grows.resources ty typed ∙ tree.1);
     })

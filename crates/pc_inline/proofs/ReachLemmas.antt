@@ -8,7 +8,7 @@ use Rattle.pc_entity.proofs.Growing.{slice_get-append_seam}
 use Rattle.pc_dfg.specs.declared.ids.OptionsId.{OptionsId}
 use Rattle.pc_numbers.specs.declared.runtime.ExportIndex.{ExportIndex}
 use Rattle.pc_numbers.specs.declared.runtime.ImportIndex.{ImportIndex}
-use Rattle.pc_types.specs.declared.error.Unsupported.TheVariants.{ReexportedFunction}
+use Rattle.pc_types.specs.declared.error.Unsupported.TheVariants.{NotBuilt}
 use Rattle.pc_types.specs.declared.module_record.ModuleRecord.{ModuleRecord}
 use Rattle.pc_types.specs.declared.parsed.CoreKind.{CoreKind}
 use Rattle.pc_types.specs.declared.parsed.CoreKind.TheVariants as core
@@ -20,7 +20,7 @@ use Rattle.pc_types_lists.specs.Types.{Types}
 use Rattle.pc_types.specs.declared.type_index.TypeFuncIndex.{TypeFuncIndex}
 use Rattle.pc_types.specs.TypeTree.{Identity, TypeTree}
 use Rattle.pc_spec_plan.specs.CoreValue as value
-use Rattle.pc_spec_plan.specs.CoreValue.{CoreValue, map_options, map_value}
+use Rattle.pc_spec_plan.specs.CoreValue.{CoreValue}
 use Rattle.pc_spec_plan.specs.ExportNode as node
 use Rattle.pc_spec_plan.specs.ExportNode.{ExportNode, NamedNode}
 use Rattle.pc_spec_plan.specs.PlanView as plan
@@ -59,7 +59,8 @@ use Rattle.pc_inline_state.specs.Refused.{LacksRoom}
 use Rattle.pc_inline_state.specs.Slots.{EntryStands}
 use Rattle.pc_inline_state.specs.Stands.{CoreStands, IsFunc, ItemStands, OptionsStand}
 use Rattle.pc_inline_state.specs.Tables.{IsItem, Keeps, tables_of}
-use Rattle.pc_inline_state.specs.Typed.{Holds, Numbered}
+use Rattle.pc_inline_state.specs.Holds.{Holds, Numbered}
+use Rattle.pc_inline_state.specs.Typed.{anyhow}
 use Rattle.pc_inline_state.specs.Worlds.{HasItems}
 use Rattle.pc_inline_canon.proofs.CoreInstanceLemmas.{found_in_push, item_held}
 use Rattle.pc_inline_state.proofs.GrowthLemmas.{graph_grown}
@@ -70,6 +71,7 @@ use Rattle.pc_inline_state.proofs.StateLemmas.{types_refl}
 use Rattle.pc_inline_canon.proofs.ThereLemmas.{LiftedAs, lifted_there}
 use Rattle.pc_inline_canon.proofs.WorldLemmas.{world_still}
 use Rattle.pc_inline_state.proofs.ZipLemmas.{zip_more}
+use Rattle.pc_inline_state.specs.Today.{is_host}
 
 -- a leaf is reached, where no total is counted
 leaf_reached : (n : ExportNode Mark) (w : World) → w.total ≡ None → leaf n w ≡ reached n w
@@ -79,12 +81,12 @@ leaf_reached n w none =
 
 -- a function type as a number and whole
 typed : (types : Types) (ty : TypeFuncIndex) (tree : TypeTree)
-    → ((who : ResourceIndex → Identity) → HasTree types who (type.ComponentFunc ty) tree) → Numbered types
+    → ((who : ResourceIndex → Identity) → HasTree types who (type.ComponentFunc ty) tree) → Numbered types anyhow
 unfolding Holds
 typed types ty tree holds = record {
   number = function_mark ty;
   whole = of_type tree;
-  holds = holds;
+  holds = λ who any. holds who;
 }
 
 module _ (st : State) (f : Frame) (s : Scope) (w : World) (nodes : List (NamedNode Mark)) (x : Function)
@@ -102,11 +104,11 @@ module _ (st : State) (f : Frame) (s : Scope) (w : World) (nodes : List (NamedNo
   reaches_lacking (Ok n) is lacks = absurd (let x : ⊥ = cc in x)
   reaches_lacking (Err e) is lacks = lacks_node e lacks
 
-  -- a function of the host is refused
+  -- a function of the host isn't exported yet
   pub reaches_host : (i : ImportIndex) → x ≡ host_function (record { import = i.0; names = [] })
-      → ReachesNode t ms st f s w nodes x (Err (item_error.Fault (item_fault.Unsupported ReexportedFunction)))
+      → ReachesNode t ms st f s w nodes x (Err (item_error.Fault (item_fault.Unsupported NotBuilt)))
   unfolding ReachesNode
-  reaches_host i is = ap (λ y. function_node y w) is
+  reaches_host i is = (refl, ap is_host is)
 
 -- An export item at the end of the graph's.
 module _ (t : TypeTable) (ms : List ModuleRecord) (st : State) (ty : TypeFuncIndex) (d : CoreDef) (o : OptionsId) where
@@ -213,6 +215,7 @@ module _ (t : TypeTable) (ms : List ModuleRecord) (st : State) (ty : TypeFuncInd
         unfolding ReachesNode
         reaches_lifted = (
           node.lifted (of_type tree) callee os,
+          ap is_host function,
           ap (λ y. function_node y w) function
               ∙ leaf_reached (node.lifted (of_type tree) callee os) w root.total,
           node_there,

@@ -5,7 +5,7 @@ use Rattle.std.specs.Result.{IsErr, IsErrAnd}
 use Rattle.std.proofs.lemmas.Option.{same_Some}
 use Rattle.pc_numbers.specs.declared.runtime.ExportIndex.{ExportIndex}
 use Rattle.pc_numbers.specs.declared.runtime.ImportIndex.{ImportIndex}
-use Rattle.pc_types.specs.declared.error.Unsupported.TheVariants.{ReexportedFunction}
+use Rattle.pc_types.specs.declared.error.Unsupported.TheVariants.{NotBuilt}
 use Rattle.pc_types.specs.declared.module_record.ModuleRecord.{ModuleRecord}
 use Rattle.pc_types.specs.declared.parsed.TypeTable.{TypeTable}
 use Rattle.pc_types.specs.declared.type_index.TypeFuncIndex.{TypeFuncIndex}
@@ -110,13 +110,13 @@ module _ {t : TypeTable} {ms : List ModuleRecord} {old : State} {n : DefinitionI
       reaches_lacking (record st { graph = h }) f s w nodes x t ms r is
       (list_lacks list.export_items st h grows q y was full r same)
 
-  -- a function that wasn't lifted is one of the host, which is refused
+  -- a function that wasn't lifted is one of the host, which isn't exported yet
   pub host_reaches : {d : Definition} → slice_get old.definitions n.0 ≡ Some d
       → ((ty : TypeFuncIndex) (fn : CoreId) (o : Options) → d ≡ definition.LiftedFunc ty fn o → ⊥) → (f : Frame)
       (s : Scope) (w : World) (nodes : List (NamedNode Mark)) (x : Function) → RootStands t ms old f s w nodes
       → FuncStands ms (tables_of old) n x
       → ReachesNode t ms old f s w nodes x
-      (Err (item_error.Fault (item_fault.Unsupported ReexportedFunction)))
+      (Err (item_error.Fault (item_fault.Unsupported NotBuilt)))
   host_reaches {d = d} at isnt f s w nodes x root is =
       let host = unlifted_there ms (tables_of old) n d x at isnt is in
       reaches_host old f s w nodes x t ms host.0 host.1

@@ -1,5 +1,5 @@
 -- How few entries and types a root has.
-use Rattle.std.proofs.Common.{◌≡◌, ◌<◌, ◌≤◌, ◌+◌, ◌*◌, ◌⊎◌, ℕ, List, length, sum_by, Some, Result, Ok, Err, refl, sym}
+use Rattle.std.proofs.Common.{◌≡◌, ◌<◌, ◌≤◌, ◌+◌, ◌*◌, ◌⊎◌, ℕ, zero, suc, List, length, sum_by, Some, Result, Ok, Err, refl, sym}
 use Rattle.std.proofs.Common.{ap, subst, ◌∙◌, inl, inr, arith}
 use Rattle.std.specs.Prelude.{⊤, OnOk}
 use Rattle.std.specs.Result.{IsErrAnd}
@@ -10,9 +10,13 @@ use Rattle.pc_types.specs.declared.error.Error.{Error}
 use Rattle.pc_types.specs.declared.error.Error.TheVariants as error
 use Rattle.pc_types.specs.declared.module_record.ModuleRecord.{ModuleRecord}
 use Rattle.pc_types.specs.declared.parsed.TypeTable.{TypeTable}
-use Rattle.pc_types_lists.specs.Types.{Types}
+use Rattle.pc_types.specs.declared.types.TypeKind.{TypeKind}
+use Rattle.pc_types.specs.declared.types.TypeKind.TheVariants as kind
+use Rattle.pc_types_lists.specs.Adds.{AddsTypes}
+use Rattle.pc_types_lists.specs.Types.{Types, held, types_held}
 use Rattle.pc_parsed.specs.declared.payload.ExternName.{ExternName}
 use Rattle.pc_parsed.specs.declared.payload.ItemKind.{ItemKind}
+use Rattle.pc_spec_reading.specs.Answer.{IsPast}
 use Rattle.pc_spec_reading.specs.Item.{Items, exports_in}
 use Rattle.pc_spec_reading.specs.Outcome.{done}
 use Rattle.pc_spec_reading.specs.Scope.{Moment}
@@ -30,11 +34,11 @@ use Rattle.pc_dfg.specs.Numbers.{slots_of}
 use Rattle.pc_dfg.specs.Pushed.{with_component_instance}
 use Rattle.pc_inline_state.specs.declared.frame.Frame.{Frame}
 use Rattle.pc_inline_state.specs.declared.state.State.{State}
-use Rattle.pc_inline_state.specs.Adds.{Adds, AddsTypes, imports_in, item_count}
+use Rattle.pc_inline_state.specs.Adds.{Adds, imports_in, item_count}
 use Rattle.pc_inline_stack.specs.Begins.{Begins}
-use Rattle.pc_inline.specs.Roots.{BegunHasFew, EndsWith, HasAtMost, HasFew, IsLong, IsLongOrHasFew}
+use Rattle.pc_inline.specs.Roots.{BegunHasFew, EndsWith, HasAtMost, HasFew, HasNothing, IsLong, IsLongOrHasFew}
 use Rattle.pc_inline_state.specs.Fresh.{IsFresh}
-use Rattle.pc_inline.specs.Roots.{RootBegun, RootHasFew, first_total}
+use Rattle.pc_inline.specs.Roots.{RootBegun, RootHasFew, RootHasFewFrom, first_total}
 use Rattle.pc_inline_state.specs.Fresh.{counted_tables}
 use Rattle.pc_inline_stack.specs.Driving.{Counts, EndsIn, reading_from}
 use Rattle.pc_inline.specs.Inlines.{HasNoRoom}
@@ -190,9 +194,10 @@ module _ (t : TypeTable) where
       }
 
   -- a total that bounds it
-  few_of : (total functions entries : ℕ) (old : Types) (x : Tables) → total < full → 8 * functions ≤ total
-      → entries < total → HasAtMost t functions entries old x → HasFew t total old x
-  few_of total functions entries old x below few fewer most = record {
+  few_of : (counted total functions entries : ℕ) (old : Types) (x : Tables) → total < full
+      → counted + 8 * functions ≤ total → counted + entries < total → HasAtMost t functions entries old x
+      → HasFew t counted total old x
+  few_of counted total functions entries old x below few fewer most = record {
     below = below;
     functions = functions;
     few_functions = few;
@@ -202,17 +207,30 @@ module _ (t : TypeTable) where
   }
 
   module _ (ms : List ModuleRecord) (limit : ℕ) (bodies : List Translation) (root : Translation) (old : Types) where
-    -- a total bounds what a root has in which nothing was prepared
+    -- a total bounds what a root has in which nothing was prepared, where a root may begin
     pub few_unbegun : (x : Tables) → HasAtMost t 0 0 old x → BegunHasFew t ms limit bodies root old x
-    few_unbegun x most body stands = inr (1, few_of 1 0 0 old x (omega arith) (omega arith) (omega arith) most)
+    few_unbegun x most body stands n = by limit refl
+      where
+        by : (l : ℕ) → l ≡ limit → IsLongOrHasFew t ms limit body n old x
+        by zero is = inr (inr (omega (arith, is), most))
+        by (suc l) is =
+            elim (counted_begins t ms limit body (omega (arith, is)) n)
+            as (λ _. IsLongOrHasFew t ms limit body n old x) [
+              | inl long ↦ inl long
+              | inr room ↦
+                  inr (inl (
+                    first_total t ms body n,
+                    few_of n (first_total t ms body n) 0 0 old x room.0 (omega arith) (omega arith) most,
+                  ))
+            ]
 
     abbrev imports : ℕ
     imports = sum_by imports_in root.initializers
 
     module _ (body : Items) (stands : BodyStands bodies no_names root body) where
       -- the first total bounds its imports and items
-      enough : 8 * imports + 8 * item_count body < first_total t ms body
-      enough =
+      enough : (n : ℕ) → n + (8 * imports + 8 * item_count body) < first_total t ms body n
+      enough n =
           let one = weight_of_items t ms body in
           let two = weight_of_imports t ms bodies no_names root.initializers body stands.items in
           omega (arith, one, two)
@@ -228,37 +246,43 @@ module _ (t : TypeTable) where
     -- and one whose imports were prepared, or some of them
     pub few_begun : 0 < limit → (x : Tables) → HasAtMost t imports (4 * imports) old x
         → BegunHasFew t ms limit bodies root old x
-    few_begun below x most body stands =
-        elim (counted_begins t ms limit body below) as (λ _. IsLongOrHasFew t ms limit body old x) [
+    few_begun below x most body stands n =
+        elim (counted_begins t ms limit body below n) as (λ _. IsLongOrHasFew t ms limit body n old x) [
           | inl long ↦ inl long
           | inr room ↦
-              let le = enough body stands in
-              inr (
-                first_total t ms body,
-                few_of (first_total t ms body) imports (4 * imports) old x room.0 (omega (arith, le))
+              let le = enough body stands n in
+              inr (inl (
+                first_total t ms body n,
+                few_of n (first_total t ms body n) imports (4 * imports) old x room.0 (omega (arith, le))
                     (omega (arith, le)) most,
-              )
+              ))
         ]
 
     -- an error of the root, where a total bounds what it has
     pub few_failed : (x : Tables) (r : Result ⊤ Error) (e : Error) → IsErrAnd r (λ y. y ≡ e)
         → BegunHasFew t ms limit bodies root old x → RootHasFew t ms limit bodies root old x r
-    few_failed x (Ok y) e is few body stands = absurd is
-    few_failed x (Err y) e is few body stands =
-        elim (few body stands) as (λ _. IsLong t ms limit body
-        ⊎ ((total : ℕ) × OnOk {T = ⊤} (Err y) (EndsWith t ms limit body total) × HasFew t total old x)) [
+    few_failed x (Ok y) e is few body stands n = absurd is
+    few_failed x (Err y) e is few body stands n =
+        elim (few body stands n) as (λ _. RootHasFewFrom t ms limit body n old x (Err y)) [
           | inl long ↦ inl long
-          | inr h ↦ inr (h.0, tt, h.1)
+          | inr h ↦ inr (by h)
         ]
+      where
+        by : ((total : ℕ) × HasFew t n total old x) ⊎ HasNothing t limit old x
+            → ((total : ℕ) × OnOk {T = ⊤} (Err y) (EndsWith t ms limit body n total) × HasFew t n total old x)
+            ⊎ (OnOk {T = ⊤} (Err y) ⊥ × HasNothing t limit old x)
+        by (inl h) = inl (h.0, tt, h.1)
+        by (inr nothing) = inr (tt, nothing)
 
     -- what a root has whose items were read, or some of them: its total bounds them, and its exports too
-    pub record HasRun (body : Items) (x : Tables) (r : Result Frame Error) : Type 0 where
+    pub record HasRun (body : Items) (counted : ℕ) (x : Tables) (r : Result Frame Error) : Type 0 where
       pub total : ℕ
       pub items : ℕ
       pub below : total < full
-      pub few : 8 * imports + 8 * items < total
+      pub few : counted + (8 * imports + 8 * items) < total
       pub most : HasAtMost t (imports + items) (4 * imports + 4 * items) old x
-      pub ends : OnOk r (EndsWith t ms limit body total × (8 * imports + 8 * item_count body < total))
+      pub ends : OnOk r (EndsWith t ms limit body counted total
+          × (counted + (8 * imports + 8 * item_count body) < total))
 
     module _ (st : State) (f : Frame) (among : st.bodies.now ≡ bodies)
         (begun : (body : Items) → BodyStands bodies no_names root body → RootBegun t ms limit body st f)
@@ -275,30 +299,32 @@ module _ (t : TypeTable) where
             let le = more.2 in
             omega (arith, last_one, le)
 
-        total_at : (now : Moment) (n total : ℕ) → now.world.total ≡ Some n → 8 * imports + 8 * item_count body < n
-            → built_root t ms limit (Some 0) body ≡ reading_from t ms limit body now → (r : Result Frame Error)
+        total_at : (c : ℕ) (now : Moment) (n total : ℕ) → now.world.total ≡ Some n
+            → c + (8 * imports + 8 * item_count body) < n
+            → built_root t ms limit (Some c) body ≡ reading_from t ms limit body now → (r : Result Frame Error)
             → EndsIn t ms limit total (reading_from t ms limit body now) r
-            → OnOk r (EndsWith t ms limit body total × (8 * imports + 8 * item_count body < total))
+            → OnOk r (EndsWith t ms limit body c total × (c + (8 * imports + 8 * item_count body) < total))
         unfolding EndsIn
-        total_at now n total is le reads (Ok g) ends =
+        total_at c now n total is le reads (Ok g) ends =
             let more = end_total now ends.0 n total is ends.1 ends.2 in
             ((ends.0, reads ∙ ends.1, ends.2), omega (arith, le, more))
-        total_at now n total is le reads (Err e) ends = tt
+        total_at c now n total is le reads (Err e) ends = tt
 
-        has_run : (r : Result Frame Error) → Counts t ms limit root.initializers st f st' r
-            → IsLong t ms limit body ⊎ HasRun body (tables_of st') r
+        has_run : (r : Result Frame Error) → Counts t ms limit root.initializers st f st' r → (c : ℕ)
+            → IsLong t ms limit body c ⊎ HasRun body c (tables_of st') r
         unfolding Counts
-        has_run r counts =
-            elim (begun body stands).counted as (λ _. IsLong t ms limit body ⊎ HasRun body (tables_of st') r) [
+        has_run r counts c =
+            elim ((begun body stands).counted c)
+            as (λ _. IsLong t ms limit body c ⊎ HasRun body c (tables_of st') r) [
               | inl long ↦ inl long
               | inr room ↦
                   let start = room.1 in
                   let there = subst (λ bs. ItemsStand bs no_names root.initializers body) (sym among) stands.items in
-                  elim (counts body start.now (first_total t ms body) there start.stands start.is_total room.0)
-                  as (λ _. IsLong t ms limit body ⊎ HasRun body (tables_of st') r) [
+                  elim (counts body start.now (first_total t ms body c) there start.stands start.is_total room.0)
+                  as (λ _. IsLong t ms limit body c ⊎ HasRun body c (tables_of st') r) [
                     | inl long ↦ inl (start.reads ∙ long)
                     | inr k ↦
-                        let le = enough body stands in
+                        let le = enough body stands c in
                         let few = k.few in
                         inr (record {
                           total = k.total;
@@ -307,8 +333,8 @@ module _ (t : TypeTable) where
                           few = omega (arith, le, few);
                           most = most_more imports (4 * imports) k.items (4 * k.items) old (tables_of st)
                               (tables_of st') most k.adds;
-                          ends = total_at start.now (first_total t ms body) k.total start.is_total le start.reads r
-                              k.ends;
+                          ends = total_at c start.now (first_total t ms body c) k.total start.is_total le start.reads
+                              r k.ends;
                         })
                   ]
             ]
@@ -316,16 +342,16 @@ module _ (t : TypeTable) where
       -- an item is refused
       pub few_unread : (e : Error) → Counts t ms limit root.initializers st f st' (Err e)
           → BegunHasFew t ms limit bodies root old (tables_of st')
-      few_unread e counts body stands =
-          elim (has_run body stands (Err e) counts) as (λ _. IsLongOrHasFew t ms limit body old (tables_of st')) [
+      few_unread e counts body stands n =
+          elim (has_run body stands (Err e) counts n) as (λ _. IsLongOrHasFew t ms limit body n old (tables_of st')) [
             | inl long ↦ inl long
             | inr h ↦
                 let few = h.few in
-                inr (
+                inr (inl (
                   h.total,
-                  few_of h.total (imports + h.items) (4 * imports + 4 * h.items) old (tables_of st') h.below
+                  few_of n h.total (imports + h.items) (4 * imports + 4 * h.items) old (tables_of st') h.below
                       (omega (arith, few)) (omega (arith, few)) h.most,
-                )
+                ))
           ]
 
       -- the root exports
@@ -333,50 +359,133 @@ module _ (t : TypeTable) where
           → (es : List (ExternName × ItemKind × ℕ)) → es ≡ root.exports → (x : Tables)
           → Adds t 0 (4 * length es) (tables_of st') x → (r : Result ⊤ Error)
           → RootHasFew t ms limit bodies root old x r
-      few_exported g counts es are x exported r body stands =
-          elim (has_run body stands (Ok g) counts) as (λ _. IsLong t ms limit body
-          ⊎ ((total : ℕ) × OnOk r (EndsWith t ms limit body total) × HasFew t total old x)) [
+      few_exported g counts es are x exported r body stands n =
+          elim (has_run body stands (Ok g) counts n) as (λ _. RootHasFewFrom t ms limit body n old x r) [
             | inl long ↦ inl long
             | inr h ↦
                 let few = h.few in
                 let more = h.ends.1 in
                 let there = exports_there body stands in
                 let many = ap (λ xs. length xs) are in
-                inr (
+                inr (inl (
                   h.total,
                   on_ok r h.ends.0,
-                  few_of h.total (imports + h.items + 0) (4 * imports + 4 * h.items + 4 * length es) old x h.below
+                  few_of n h.total (imports + h.items + 0) (4 * imports + 4 * h.items + 4 * length es) old x h.below
                       (omega (arith, few)) (omega (arith, few, more, there, many))
                       (most_more (imports + h.items) (4 * imports + 4 * h.items) 0 (4 * length es) old (tables_of st') x
                       h.most exported),
-                )
+                ))
           ]
 
--- a list that is full is one of the builder's, or the reading is past
+-- so many of a kind are held at the most
+held_most : (types : Types) (k : TypeKind) → held types k ≤ types_held types
+held_most types kind.Func = omega arith
+held_most types kind.Tuple = omega arith
+held_most types kind.Record = omega arith
+held_most types kind.Variant = omega arith
+held_most types kind.List = omega arith
+held_most types kind.Option = omega arith
+held_most types kind.Result = omega arith
+held_most types kind.Flags = omega arith
+held_most types kind.Enum = omega arith
+held_most types kind.ResourceTable = omega arith
+held_most types kind.FutureTable = omega arith
+held_most types kind.StreamTable = omega arith
+held_most types kind.ErrorContextTable = omega arith
+held_most types kind.Instance = omega arith
+held_most types kind.Component = omega arith
+held_most types kind.Module = omega arith
+held_most types kind.Signature = omega arith
+
+-- and no more than twice as many are added as functions
+held_added : (n : ℕ) (old new : Types) → AddsTypes n old new → (k : TypeKind) → held new k ≤ held old k + 2 * n
+held_added n old new adds kind.Func = let few = adds.funcs in omega (arith, few)
+held_added n old new adds kind.Tuple = let few = adds.tuples in omega (arith, few)
+held_added n old new adds kind.Signature = let few = adds.signatures in omega (arith, few)
+held_added n old new adds kind.Record =
+    let is : length new.records ≡ length old.records =
+    ap (λ b. length b.records) adds.rest in omega (arith, is)
+held_added n old new adds kind.Variant =
+    let is : length new.variants ≡ length old.variants =
+    ap (λ b. length b.variants) adds.rest in omega (arith, is)
+held_added n old new adds kind.List =
+    let is : length new.lists ≡ length old.lists =
+    ap (λ b. length b.lists) adds.rest in omega (arith, is)
+held_added n old new adds kind.Option =
+    let is : length new.options ≡ length old.options =
+    ap (λ b. length b.options) adds.rest in omega (arith, is)
+held_added n old new adds kind.Result =
+    let is : length new.results ≡ length old.results =
+    ap (λ b. length b.results) adds.rest in omega (arith, is)
+held_added n old new adds kind.Flags =
+    let is : length new.flags ≡ length old.flags =
+    ap (λ b. length b.flags) adds.rest in omega (arith, is)
+held_added n old new adds kind.Enum =
+    let is : length new.enums ≡ length old.enums =
+    ap (λ b. length b.enums) adds.rest in omega (arith, is)
+held_added n old new adds kind.ResourceTable =
+    let is : length new.resource_tables ≡ length old.resource_tables =
+    ap (λ b. length b.resource_tables) adds.rest in omega (arith, is)
+held_added n old new adds kind.FutureTable =
+    let is : length new.future_tables ≡ length old.future_tables =
+    ap (λ b. length b.future_tables) adds.rest in omega (arith, is)
+held_added n old new adds kind.StreamTable =
+    let is : length new.stream_tables ≡ length old.stream_tables =
+    ap (λ b. length b.stream_tables) adds.rest in omega (arith, is)
+held_added n old new adds kind.ErrorContextTable =
+    let is : length new.error_context_tables ≡ length old.error_context_tables =
+    ap (λ b. length b.error_context_tables) adds.rest in omega (arith, is)
+held_added n old new adds kind.Instance =
+    let is : length new.instances ≡ length old.instances =
+    ap (λ b. length b.instances) adds.rest in omega (arith, is)
+held_added n old new adds kind.Component =
+    let is : length new.components ≡ length old.components =
+    ap (λ b. length b.components) adds.rest in omega (arith, is)
+held_added n old new adds kind.Module =
+    let is : length new.modules ≡ length old.modules =
+    ap (λ b. length b.modules) adds.rest in omega (arith, is)
+
+-- no list of types is full where a total bounds what was added, and begins with all that was held
+never_full : (counted total n : ℕ) (old new : Types) → total < full → counted + 8 * n ≤ total
+    → counted < total → types_held old ≤ counted → AddsTypes n old new → (k : TypeKind)
+    → held new k ≡ 4294967294 → ⊥
+never_full counted total n old new below few fewer start adds k is =
+    let most = held_most old k in
+    let more = held_added n old new adds k in
+    omega (arith, below, few, fewer, start, most, more, is)
+
+-- where a list is full the reading is past
 pub no_room : (t : TypeTable) (ms : List ModuleRecord) (limit : ℕ) (body : Items) (old : Types) (st : State)
-    → IsLongOrHasFew t ms limit body old (tables_of st) → IsFullSomewhere (tables_of st)
-    → HasNoRoom t ms limit body st.types
-no_room t ms limit body old st few is_full =
-    elim few as (λ _. HasNoRoom t ms limit body st.types) [
-      | inl long ↦ inr (past_read t ms limit body long)
-      | inr h ↦ by h.1.below h.1.few_entries h.1.most is_full
+    → ((counted : ℕ) → IsLongOrHasFew t ms limit body counted old (tables_of st))
+    → IsFullSomewhere (tables_of st) × (0 < limit) → HasNoRoom t ms limit body (types_held old)
+no_room t ms limit body old st few is_full plain counted start =
+    elim (few counted) as (λ _. IsPast t ms limit counted body) [
+      | inl long ↦ past_read t ms limit body counted long
+      | inr h ↦ absurd (by h)
     ]
   where
-    by : {n m total : ℕ} → total < full → m < total → HasAtMost t n m old (tables_of st)
-        → IsFullSomewhere (tables_of st) → HasNoRoom t ms limit body st.types
-    by below few most (full_types h) = inl h
-    by below few most (full_graph l h) = absurd (let le = most.lists l in omega (arith, below, few, h, le))
-    by below few most (full_instances h) = absurd (let le = most.begun in omega (arith, below, few, h, le))
-    by below few most (full_cores h) = absurd (let le = most.cores in omega (arith, below, few, h, le))
-    by below few most (full_definitions h) = absurd (let le = most.definitions in omega (arith, below, few, h, le))
-    by below few most (full_closures h) = absurd (let le = most.closures in omega (arith, below, few, h, le))
-    by below few most (full_exports h) = absurd (let le = most.instances in omega (arith, below, few, h, le))
+    never : {n m total : ℕ} → total < full → counted + 8 * n ≤ total → counted + m < total
+        → HasAtMost t n m old (tables_of st) → IsFullSomewhere (tables_of st) → ⊥
+    never {n} {m} {total} below functions few most (full_types h) =
+        never_full counted total n old st.types below functions (omega (arith, few)) start (most.types plain) h.0 h.1
+    never below functions few most (full_graph l h) = let le = most.lists l in omega (arith, below, few, h, le)
+    never below functions few most (full_instances h) = let le = most.begun in omega (arith, below, few, h, le)
+    never below functions few most (full_cores h) = let le = most.cores in omega (arith, below, few, h, le)
+    never below functions few most (full_definitions h) =
+        let le = most.definitions in omega (arith, below, few, h, le)
+    never below functions few most (full_closures h) = let le = most.closures in omega (arith, below, few, h, le)
+    never below functions few most (full_exports h) = let le = most.instances in omega (arith, below, few, h, le)
+
+    by : ((total : ℕ) × HasFew t counted total old (tables_of st)) ⊎ HasNothing t limit old (tables_of st) → ⊥
+    by (inl h) = never h.1.below h.1.few_functions h.1.few_entries h.1.most is_full.0
+    by (inr nothing) = let none = nothing.0 in let some = is_full.1 in omega (arith, none, some)
 
 -- the counts of tables change no list
-pub counted_few : (g : ComponentDfg) (types : Types) (n : ℕ) → ((l : ListName) → length (entries_of g l) < n)
-    → (l : ListName) → length (entries_of (counted_tables g types) l) < n
-counted_few g types n few l =
-    subst (λ k. k < n) (sym (same_lists g g.num_runtime_component_instances (length types.future_tables)
+pub counted_few : (g : ComponentDfg) (types : Types) (start n : ℕ)
+    → ((l : ListName) → start + length (entries_of g l) < n)
+    → (l : ListName) → start + length (entries_of (counted_tables g types) l) < n
+counted_few g types start n few l =
+    subst (λ k. start + k < n) (sym (same_lists g g.num_runtime_component_instances (length types.future_tables)
     (length types.stream_tables) (length types.error_context_tables) l)) (few l)
 
 -- the builder that is handed back has the types that were added, whichever resources were known before

@@ -20,7 +20,8 @@ use Rattle.pc_inline.specs.Exporting.{RootStands}
 use Rattle.pc_inline.specs.Exports.{NameStands, NodeStands}
 use Rattle.pc_inline_state.specs.Prepares.{Prepares}
 use Rattle.pc_inline_state.specs.Tables.{tables_of}
-use Rattle.pc_inline_state.specs.Typed.{number_of, whole_of}
+use Rattle.pc_inline_state.specs.Holds.{number_of, whole_of}
+use Rattle.pc_inline_state.specs.Typed.{anyhow}
 use Rattle.pc_inline_canon.proofs.KeptLemmas.{frame_kept}
 use Rattle.pc_inline_canon.proofs.MarkLemmas.{node_twice, still}
 use Rattle.pc_inline_canon.proofs.WorldLemmas.{world_still}
@@ -32,9 +33,9 @@ module _ (old new : Types) (g h : ComponentDfg) (types : builder.Grows old new) 
   node_still n x s = record {
     numbered = map_node (still old new types) s.numbered;
     means = λ converted. subst (MeansItem h converted n)
-        (sym (node_twice (still old new types) (number_of new) s.numbered))
+        (sym (node_twice (still old new types) (number_of new anyhow) s.numbered))
         (item_kept g h grows converted (s.means converted));
-    is = node_twice (still old new types) (whole_of new) s.numbered ∙ s.is;
+    is = node_twice (still old new types) (whole_of new anyhow) s.numbered ∙ s.is;
   }
 
   -- and under its name

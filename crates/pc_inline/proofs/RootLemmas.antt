@@ -12,7 +12,7 @@ use Rattle.pc_types.specs.declared.parsed.TypeTable.{TypeTable}
 use Rattle.pc_spec_reading.specs.Item.{Items, exports_in}
 use Rattle.pc_spec_reading.specs.Nodes.{Finish}
 use Rattle.pc_spec_reading.specs.Outcome.{Outcome, and_then, done, over}
-use Rattle.pc_spec_reading.specs.Reading.{begun_in, result_of}
+use Rattle.pc_spec_reading.specs.Reading.{begun_in, result_of, read_root, reading_of, finishing}
 use Rattle.pc_spec_reading.specs.Scope.{Moment}
 use Rattle.pc_spec_reading.specs.Value.{outermost}
 use Rattle.pc_spec_reading.specs.World.{World, full, new_world}
@@ -63,43 +63,38 @@ world_counted types g w total s = record {
 module _ (t : TypeTable) (ms : List ModuleRecord) (limit : ℕ) (body : Items) where
   -- what is read of a root that begins with a total
   abbrev pub from_start : Option ℕ → Outcome Moment
-  from_start total = and_then (built_prepare_all t ms 0 body (moment_with total)) (reading_from t ms limit body)
+  from_start total = and_then (built_prepare_all t 0 body (moment_with total)) (reading_from t ms limit body)
 
   module _ (below : 0 < limit) where
     -- the reading of a root that begins
     pub root_begins : built_root t ms limit None body ≡ from_start None
-    unfolding built_root
+    unfolding read_root
     root_begins = rw (lt-ltb 0 limit below) refl
 
-    root_long : nat_lt (0 + first_total t ms body) full ≡ false → IsLong t ms limit body
-    unfolding built_root
-    root_long none = rw (lt-ltb 0 limit below, none) refl
+    root_long : (n : ℕ) → nat_lt (first_total t ms body n) full ≡ false → IsLong t ms limit body n
+    unfolding read_root
+    root_long n none = rw (lt-ltb 0 limit below, none) refl
 
-    root_counts : nat_lt (0 + first_total t ms body) full ≡ true
-        → built_root t ms limit (Some 0) body ≡ from_start (Some (0 + first_total t ms body))
-    unfolding built_root
-    root_counts room = rw (lt-ltb 0 limit below, room) refl
+    root_counts : (n : ℕ) → nat_lt (first_total t ms body n) full ≡ true
+        → built_root t ms limit (Some n) body ≡ from_start (Some (first_total t ms body n))
+    unfolding read_root
+    root_counts n room = rw (lt-ltb 0 limit below, room) refl
 
-    -- the same counted from nothing, where the total isn't too much already
-    pub counted_begins : IsLong t ms limit body
-        ⊎ ((first_total t ms body < full)
-        × (built_root t ms limit (Some 0) body ≡ from_start (Some (first_total t ms body))))
-    counted_begins = by (nat_lt (0 + first_total t ms body) full) refl
+    -- the same where the total is counted and isn't too much already
+    pub counted_begins : (n : ℕ) → IsLong t ms limit body n
+        ⊎ ((first_total t ms body n < full)
+        × (built_root t ms limit (Some n) body ≡ from_start (Some (first_total t ms body n))))
+    counted_begins n = by (nat_lt (first_total t ms body n) full) refl
       where
-        by : (b : Bool) → nat_lt (0 + first_total t ms body) full ≡ b → IsLong t ms limit body
-            ⊎ ((first_total t ms body < full)
-            × (built_root t ms limit (Some 0) body ≡ from_start (Some (first_total t ms body))))
-        by false none = inl (root_long none)
-        by true room =
-            let is : 0 + first_total t ms body ≡ first_total t ms body = omega arith in
-            inr (
-              subst (λ n. n < full) is (ltb-true (0 + first_total t ms body) full room),
-              root_counts room ∙ ap (λ n. from_start (Some n)) is,
-            )
+        by : (b : Bool) → nat_lt (first_total t ms body n) full ≡ b → IsLong t ms limit body n
+            ⊎ ((first_total t ms body n < full)
+            × (built_root t ms limit (Some n) body ≡ from_start (Some (first_total t ms body n))))
+        by false none = inl (root_long n none)
+        by true room = inr (ltb-true (first_total t ms body n) full room, root_counts n room)
 
   -- no root begins where the limit is 0
   pub reading_over : limit ≤ 0 → built_reading t ms limit body ≡ over
-  unfolding built_reading built_root
+  unfolding reading_of read_root
   reading_over none =
       let is : limit ≡ 0 = omega (arith, none) in
       rw (is) refl
@@ -107,7 +102,7 @@ module _ (t : TypeTable) (ms : List ModuleRecord) (limit : ℕ) (body : Items) w
   -- the reading of a root that is this outcome
   pub reading_is : (o : Outcome Moment) → built_root t ms limit None body ≡ o
       → built_reading t ms limit body ≡ and_then o (built_result t body)
-  unfolding built_reading
+  unfolding reading_of
   reading_is o is = ap (λ x. and_then x (built_result t body)) is
 
   -- an error of an outcome is one of what goes on after it
@@ -128,48 +123,48 @@ module _ (t : TypeTable) (ms : List ModuleRecord) (limit : ℕ) (body : Items) w
   ends_then st f o go (error.BadOptions p) ends = absurd ends
 
   -- and one of the reading
-  pub root_fails : (st : State) (f : Frame) (o : Outcome Moment) (e : Error) → built_root t ms limit None body ≡ o
-      → Ends t ms st f o (Err e) → IsBuiltEnd t ms limit body st e
+  pub root_fails : 0 < limit → (st : State) (f : Frame) (o : Outcome Moment) (e : Error)
+      → built_root t ms limit None body ≡ o → Ends t ms st f o (Err e) → IsBuiltEnd t ms limit body st e
   unfolding Ends
-  root_fails st f o (error.Invalid p) is ends = reading_is _ (is ∙ ends)
-  root_fails st f o (error.BadType p) is ends = reading_is _ (is ∙ ends)
-  root_fails st f o (error.Unsupported u p) is ends = reading_is _ (is ∙ ends)
-  root_fails st f o error.TooManyInstances is ends = reading_is _ (is ∙ ends)
-  root_fails st f o error.TooMany is ends = ends
-  root_fails st f o error.NoMemory is ends = tt
-  root_fails st f o (error.Malformed p) is ends = absurd ends
-  root_fails st f o (error.BadTable p) is ends = absurd ends
-  root_fails st f o (error.BadIntrinsics p) is ends = absurd ends
-  root_fails st f o (error.UnknownIntrinsic p) is ends = absurd ends
-  root_fails st f o (error.DefinedTwice p) is ends = absurd ends
-  root_fails st f o (error.BadOptions p) is ends = absurd ends
+  root_fails below st f o (error.Invalid p) is ends = reading_is _ (is ∙ ends)
+  root_fails below st f o (error.BadType p) is ends = reading_is _ (is ∙ ends)
+  root_fails below st f o (error.Unsupported u p) is ends = reading_is _ (is ∙ ends)
+  root_fails below st f o error.TooManyInstances is ends = reading_is _ (is ∙ ends)
+  root_fails below st f o error.TooMany is ends = (ends, below)
+  root_fails below st f o error.NoMemory is ends = tt
+  root_fails below st f o (error.Malformed p) is ends = absurd ends
+  root_fails below st f o (error.BadTable p) is ends = absurd ends
+  root_fails below st f o (error.BadIntrinsics p) is ends = absurd ends
+  root_fails below st f o (error.UnknownIntrinsic p) is ends = absurd ends
+  root_fails below st f o (error.DefinedTwice p) is ends = absurd ends
+  root_fails below st f o (error.BadOptions p) is ends = absurd ends
 
   -- an error of the exports is one of the reading
-  pub exports_fail : (st : State) (f : Frame) (now : Moment) (e : Error)
+  pub exports_fail : 0 < limit → (st : State) (f : Frame) (now : Moment) (e : Error)
       → built_reading t ms limit body ≡ built_result t body now
       → ExportsEnd t ms st f now.scope now.world [] (built_exports t now.scope (exports_in body) 0 now.world) (Err e)
       → IsBuiltEnd t ms limit body st e
-  unfolding ExportsEnd built_result
-  exports_fail st f now (error.Unsupported u p) is ends =
+  unfolding ExportsEnd finishing
+  exports_fail below st f now (error.Unsupported u p) is ends =
       is ∙ ap (λ x. and_then x (λ (f : Finish). done (result_of f.0 f.1))) ends
-  exports_fail st f now error.TooMany is ends = ends
-  exports_fail st f now error.NoMemory is ends = tt
-  exports_fail st f now (error.Invalid p) is ends = absurd ends
-  exports_fail st f now (error.BadType p) is ends = absurd ends
-  exports_fail st f now error.TooManyInstances is ends = absurd ends
-  exports_fail st f now (error.Malformed p) is ends = absurd ends
-  exports_fail st f now (error.BadTable p) is ends = absurd ends
-  exports_fail st f now (error.BadIntrinsics p) is ends = absurd ends
-  exports_fail st f now (error.UnknownIntrinsic p) is ends = absurd ends
-  exports_fail st f now (error.DefinedTwice p) is ends = absurd ends
-  exports_fail st f now (error.BadOptions p) is ends = absurd ends
+  exports_fail below st f now error.TooMany is ends = (ends, below)
+  exports_fail below st f now error.NoMemory is ends = tt
+  exports_fail below st f now (error.Invalid p) is ends = absurd ends
+  exports_fail below st f now (error.BadType p) is ends = absurd ends
+  exports_fail below st f now error.TooManyInstances is ends = absurd ends
+  exports_fail below st f now (error.Malformed p) is ends = absurd ends
+  exports_fail below st f now (error.BadTable p) is ends = absurd ends
+  exports_fail below st f now (error.BadIntrinsics p) is ends = absurd ends
+  exports_fail below st f now (error.UnknownIntrinsic p) is ends = absurd ends
+  exports_fail below st f now (error.DefinedTwice p) is ends = absurd ends
+  exports_fail below st f now (error.BadOptions p) is ends = absurd ends
 
   -- the root was read and exports
   pub root_read : (st : State) (f : Frame) (now : Moment) → built_reading t ms limit body ≡ built_result t body now
       → NumbersExports st.graph
       → ExportsEnd t ms st f now.scope now.world [] (built_exports t now.scope (exports_in body) 0 now.world) (Ok tt)
       → RootRead t ms limit body st
-  unfolding ExportsEnd built_result ExportsStand
+  unfolding ExportsEnd finishing ExportsStand
   root_read st f now is numbers ends = record {
     result = result_of ends.0 now.world;
     outcome = is ∙ ap (λ x. and_then x (λ (f : Finish). done (result_of f.0 f.1))) ends.1;

@@ -2,6 +2,7 @@
 use Rattle.std.proofs.Common.{◌≡◌, ◌≤◌, ◌+◌, ℕ, zero, suc, Bool, true, false, List, [], ◌∷◌, Option, None, Some, Result}
 use Rattle.std.proofs.Common.{Ok, Err, refl, sym, subst, ◌∙◌, if◌then◌else◌, arith}
 use Rattle.std.specs.Prelude.{IfOk, length, nat_lt}
+use Rattle.std.specs.List.{fold}
 use Rattle.pc_types.specs.declared.error.Place.TheVariants as place
 use Rattle.pc_types.specs.declared.error.Unsupported.TheVariants.{NotBuilt}
 use Rattle.pc_types.specs.declared.module_record.ModuleRecord.{ModuleRecord}
@@ -10,22 +11,23 @@ use Rattle.pc_types.specs.declared.parsed.Entity.TheVariants as entity
 use Rattle.pc_types.specs.declared.parsed.TypeTable.{TypeTable}
 use Rattle.pc_types.specs.TypeTree.{Identity}
 use Rattle.pc_parsed.specs.declared.payload.ExternName.{ExternName}
-use Rattle.pc_spec_reading.specs.Components.{Call, read_call, read_return}
+use Rattle.pc_spec_reading.specs.Components.{Call, read_return}
 use Rattle.pc_spec_reading.specs.Imports.{import_resources, importing, prepare}
 use Rattle.pc_spec_reading.specs.Item.{ArgumentOf, Item, Items, and_item, exports_in, import_item}
 use Rattle.pc_spec_reading.specs.Item.{instantiate_component_item, no_items}
 use Rattle.pc_spec_reading.specs.Items.{exports_at}
 use Rattle.pc_spec_reading.specs.Outcome.{Fault, Outcome, and_then, at_item, bad_type, done, fault, found, held, over, past}
 use Rattle.pc_spec_reading.specs.Outcome.{unsupported}
-use Rattle.pc_spec_reading.specs.Reading.{Enter, Return, beginning, begun_in, instantiate, returning}
-use Rattle.pc_spec_reading.specs.Resource.{ResourcePath, is_known, resource_paths}
+use Rattle.pc_spec_reading.specs.Reading.{Enter, Return, beginning, begun_in, instantiate, returning, read_item}
+use Rattle.pc_spec_reading.specs.Reading.{read_items, read_body, read_child, enter_at, prepared, prepare_all}
+use Rattle.pc_spec_reading.specs.Resource.{ResourcePath, newly, resource_paths}
 use Rattle.pc_spec_reading.specs.Scope.{Moment}
 use Rattle.pc_spec_reading.specs.Total.{body_weight}
 use Rattle.pc_spec_reading.specs.Types.{declared_tree, names_entry}
 use Rattle.pc_spec_reading.specs.Value.{Component, Value, closed}
 use Rattle.pc_spec_reading.specs.World.{World, grown, has_room}
-use Rattle.pc_inline_state.specs.Today.{built_body, built_child, built_enter, built_item, built_items, built_prepare}
-use Rattle.pc_inline_state.specs.Today.{built_prepare_all, built_row, is_built_call}
+use Rattle.pc_inline_state.specs.Today.{built_enter, built_item, built_items, built_prepare}
+use Rattle.pc_inline_state.specs.Today.{built_prepare_all, built_row, today, built_call}
 use Rattle.pc_inline_stack.proofs.RowLemmas.{return_keeps, row_keeps}
 
 -- what goes on and is done was done before
@@ -98,11 +100,11 @@ module _ (t : TypeTable) (ms : List ModuleRecord) where
 
   module _ (enter : Enter) (child : ChildGrows enter) where
     instance_grows : (n component : ℕ) (args : List ArgumentOf) (ty : ℕ) (now last : Moment)
-        → instantiate t ms enter n component args ty now ≡ done last → Grows now last
+        → instantiate (today t) t ms enter n component args ty now ≡ done last → Grows now last
     unfolding instantiate
     instance_grows n component args ty now last is =
         let c = now.scope.component_instance in
-        let called = then_done (at_item c n (read_call t now.scope component args ty)) _ last is in
+        let called = then_done (at_item c n (built_call t now.scope component args ty)) _ last is in
         let entered = then_done (enter called.0 now.scope.known now.world) _ last called.2 in
         let back = item_done c n (read_return t (record now { world = entered.0.world }) entered.0.exports ty) last
         entered.2 in
@@ -118,21 +120,15 @@ module _ (t : TypeTable) (ms : List ModuleRecord) where
         (grown_refl now.world.total)
 
     item_grows : (n : ℕ) (i : Item) (now last : Moment) → built_item t ms enter n i now ≡ done last → Grows now last
-    unfolding built_item
-    item_grows n (instantiate_component_item component args ty) now last is = by (is_built_call t args) is
-      where
-        by : (b : Bool)
-            → (if b then instantiate t ms enter n component args ty now
-            else fault (unsupported NotBuilt) (place.Reading now.scope.component_instance n)) ≡ done last
-            → Grows now last
-        by true is = instance_grows n component args ty now last is
-        by false is = let x : ⊥ = cc in absurd x
+    unfolding read_item
+    item_grows n (instantiate_component_item component args ty) now last is =
+        instance_grows n component args ty now last is
     item_grows n i now last is = row_grows n i now last is
 
     -- the items of a body
     pub items_grow : (is : Items) (n : ℕ) (now last : Moment) → built_items t ms enter n is now ≡ done last
         → Grows now last
-    unfolding built_items
+    unfolding read_items
     items_grow no_items n now last is = subst (Grows now) (same_done now last is) (grown_refl now.world.total)
     items_grow (and_item i is) n now last read =
         let next = then_done (built_item t ms enter n i now) (built_items t ms enter (n + 1) is) last read in
@@ -140,28 +136,28 @@ module _ (t : TypeTable) (ms : List ModuleRecord) where
         (items_grow is (n + 1) next.0 last next.2)
 
   module _ (limit : ℕ) where
-    returned : (body : Items) (last : Moment) (r : Return) → returning t ms limit body last ≡ done r
+    returned : (body : Items) (last : Moment) (r : Return) → returning t body last ≡ done r
         → record { exports = exports_at t last.scope (exports_in body); world = last.world } ≡ r
     returned body last r is = same_done _ r is
 
     body_grows : (enter : Enter) → ChildGrows enter → (k : Component) (args : List (List ℕ × Value))
-        (known : List (ℕ × Identity)) (w : World) (r : Return) → built_child t ms limit enter k args known w ≡ done r
+        (known : List (ℕ × Identity)) (w : World) (r : Return) → read_child (today t) t ms limit enter k args known w ≡ done r
         → HasGrown w.total r.world.total
-    unfolding built_body
+    unfolding read_body
     body_grows enter child (closed body chain) args known w r is =
         let begins = begins_grow limit (body_weight t ms body) w (λ v.
-        and_then (built_items t ms enter 0 body (begun_in args known chain w.begun v)) (returning t ms limit body)) r is
+        and_then (built_items t ms enter 0 body (begun_in args known chain w.begun v)) (returning t body)) r is
         in
         let v = begins.0 in
         let read = then_done (built_items t ms enter 0 body (begun_in args known chain w.begun v))
-        (returning t ms limit body) r begins.2 in
+        (returning t body) r begins.2 in
         let grows = items_grow enter child body 0 (begun_in args known chain w.begun v) read.0 read.1 in
         grown_trans w.total v.total r.world.total begins.1
         (subst (λ (x : Return). HasGrown v.total x.world.total) (returned body read.0 r read.2) grows)
 
     -- a child, however deep
     pub child_grows : (levels : ℕ) → ChildGrows (built_enter t ms limit levels)
-    unfolding built_enter
+    unfolding enter_at
     child_grows zero c known w r is = absurd (not_over r is)
     child_grows (suc levels) c known w r is =
         body_grows (built_enter t ms limit levels) (child_grows levels) c.component c.arguments known w r is
@@ -184,21 +180,18 @@ module _ (old : Moment) where
 -- resources that come with an import
 resources_count : (now : Moment) (i : ℕ) (ps : List ResourcePath) → IsCountedAs now (import_resources now i ps)
 unfolding import_resources
-resources_count now i [] = (refl, refl)
-resources_count now i (p ∷ ps) =
-    by (is_known now.scope.known p.number) (resources_count now i ps) (resources_count (importing now i p) i ps)
+resources_count now i ps = each (newly now.scope.known ps) now
   where
-    by : (b : Bool) → IsCountedAs now (import_resources now i ps)
-        → IsCountedAs now (import_resources (importing now i p) i ps)
-        → IsCountedAs now (import_resources (if b then now else importing now i p) i ps)
-    by true known unknown = known
-    by false known unknown = unknown
+    each : (ps : List ResourcePath) (now : Moment)
+        → IsCountedAs now (fold (λ (m : Moment) (p : ResourcePath). importing m i p) now ps)
+    each [] now = (refl, refl)
+    each (p ∷ ps) now = each ps (importing now i p)
 
 module _ (t : TypeTable) (ms : List ModuleRecord) where
   -- an import that is prepared
-  prepare_counts : (name : ExternName) (e : Entity) (now last : Moment) → built_prepare t ms name e now ≡ Ok last
+  prepare_counts : (name : ExternName) (e : Entity) (now last : Moment) → built_prepare t name e now ≡ Ok last
       → IsCountedAs now last
-  unfolding built_prepare prepare
+  unfolding prepared today prepare
   prepare_counts name (entity.Func n) now last is =
       let i = length now.world.imports in
       let known = import_resources now i (resource_paths t (entity.Func n)) in
@@ -209,13 +202,13 @@ module _ (t : TypeTable) (ms : List ModuleRecord) where
   prepare_counts name e now last is = absurd (not_ok (unsupported NotBuilt) last is)
 
   -- the imports of a root
-  pub prepared_counts : (is : Items) (n : ℕ) (now last : Moment) → built_prepare_all t ms n is now ≡ done last
+  pub prepared_counts : (is : Items) (n : ℕ) (now last : Moment) → built_prepare_all t n is now ≡ done last
       → IsCountedAs now last
-  unfolding built_prepare_all
+  unfolding prepare_all
   prepared_counts no_items n now last is = subst (IsCountedAs now) (same_done now last is) (refl, refl)
   prepared_counts (and_item (import_item name e) is) n now last read =
       let c = now.scope.component_instance in
-      let next = then_done (at_item c n (built_prepare t ms name e now)) (built_prepare_all t ms (n + 1) is) last read
+      let next = then_done (at_item c n (built_prepare t name e now)) (built_prepare_all t (n + 1) is) last read
       in
       let one = prepare_counts name e now next.0 (item_done c n _ next.0 next.1) in
       let rest = prepared_counts is (n + 1) next.0 last next.2 in

@@ -1,6 +1,6 @@
 -- The exports of the root while they are made, against the nodes of the reading.
 use Rattle.std.specs.Prelude.{◌≡◌, ◌≤◌, ◌*◌, ⊤, ℕ, true, List, [], ◌∷◌, ◌++◌, length, map, take, drop, Result, Ok, Err}
-use Rattle.std.specs.Prelude.{None, OnOk}
+use Rattle.std.specs.Prelude.{None, OnOk, false}
 use Rattle.std.specs.List.{AllZip}
 use Rattle.pc_numbers.specs.declared.runtime.ExportIndex.{ExportIndex}
 use Rattle.pc_types.specs.declared.error.Error.{Error}
@@ -14,7 +14,7 @@ use Rattle.pc_parsed.specs.declared.payload.ExternName.{ExternName}
 use Rattle.pc_parsed.specs.declared.payload.ItemKind.{ItemKind}
 use Rattle.pc_parsed.specs.Mark.{Mark}
 use Rattle.pc_spec_plan.specs.ExportNode.{ExportNode, NamedNode}
-use Rattle.pc_spec_reading.specs.Nodes.{Finish, extern_data, function_node, reached, refused}
+use Rattle.pc_spec_reading.specs.Nodes.{Finish, extern_data, function_node, reached}
 use Rattle.pc_spec_reading.specs.Outcome.{Outcome, and_then, done, fault, unsupported}
 use Rattle.pc_spec_reading.specs.Scope.{Scope}
 use Rattle.pc_spec_reading.specs.Section.{named_item}
@@ -31,8 +31,9 @@ use Rattle.pc_inline_state.specs.Frames.{FrameStands}
 use Rattle.pc_inline.specs.Inlines.{export_name}
 use Rattle.pc_inline_state.specs.Points.{IsFullSomewhere, IsSoundState}
 use Rattle.pc_inline_state.specs.Tables.{Keeps, tables_of}
-use Rattle.pc_inline_state.specs.Today.{built_exports}
+use Rattle.pc_inline_state.specs.Today.{built_exports, is_host}
 use Rattle.pc_inline_state.specs.Worlds.{WorldStands}
+use Rattle.pc_types.specs.declared.error.Unsupported.TheVariants.{NotBuilt}
 
 module _ (t : TypeTable) (ms : List ModuleRecord) where
   -- the root after its items, in a world in which no total is counted, with the nodes of its exports so far
@@ -43,14 +44,14 @@ module _ (t : TypeTable) (ms : List ModuleRecord) where
     pub total : w.total ≡ None
     pub exports : AllZip (NameStands st.types st.graph) st.graph.exports nodes
 
-  -- the answer at a function that is exported is its node, or its refusal
+  -- the answer at a function that is exported is its node, or that one of the host isn't exported yet
   unfoldable pub ReachesNode : State → Frame → Scope → World → List (NamedNode Mark) → Function
       → Result ExportIndex ItemError → Type 0
   ReachesNode new f s w nodes x (Ok n) =
-      (node : ExportNode Mark) × (function_node x w ≡ reached node w) × NodeStands new.types new.graph n.0 node
-      × RootStands new f s w nodes
-  ReachesNode new f s w nodes x (Err (item_error.Fault (item_fault.Unsupported u))) = function_node x w ≡ refused u
-  ReachesNode new f s w nodes x (Err (item_error.Fault k)) = ⊥
+      (node : ExportNode Mark) × (is_host x ≡ false) × (function_node x w ≡ reached node w)
+      × NodeStands new.types new.graph n.0 node × RootStands new f s w nodes
+  ReachesNode new f s w nodes x (Err (item_error.Fault k)) =
+      (k ≡ item_fault.Unsupported NotBuilt) × (is_host x ≡ true)
   ReachesNode new f s w nodes x (Err item_error.TooMany) = IsFullSomewhere (tables_of new)
   ReachesNode new f s w nodes x (Err item_error.NoMemory) = Unit {0}
 
@@ -58,14 +59,14 @@ module _ (t : TypeTable) (ms : List ModuleRecord) where
   abbrev pub node_named : ExternName → ExportNode Mark → NamedNode Mark
   node_named name node = record { name = name.name; extern_data = extern_data name; node = node }
 
-  -- a function is exported under a name, or refused as the export of a number
+  -- a function is exported under a name, or it is one of the host, refused as the export of a number
   unfoldable pub ExportsFunc : State → Frame → Scope → World → List (NamedNode Mark) → ExternName → (number : ℕ)
       → Function → Result ⊤ Error → Type 0
   ExportsFunc new f s w nodes name n x (Ok end) =
-      (node : ExportNode Mark) × (function_node x w ≡ reached node w)
+      (node : ExportNode Mark) × (is_host x ≡ false) × (function_node x w ≡ reached node w)
       × RootStands new f s w (nodes ++ node_named name node ∷ [])
   ExportsFunc new f s w nodes name n x (Err (error.Unsupported u p)) =
-      (function_node x w ≡ refused u) × (p ≡ place.Export n)
+      (u ≡ NotBuilt) × (p ≡ place.Export n) × (is_host x ≡ true)
   ExportsFunc new f s w nodes name n x (Err error.TooMany) = IsFullSomewhere (tables_of new)
   ExportsFunc new f s w nodes name n x (Err error.NoMemory) = Unit {0}
   ExportsFunc new f s w nodes name n x (Err e) = ⊥

@@ -1,6 +1,6 @@
 -- What an instantiation answers: the graph that stands for the reading, or why there is none.
-use Rattle.std.specs.Prelude.{◌≡◌, ◌⊎◌, ℕ, List, length, None, Result, Ok, Err}
-use Rattle.pc_types_lists.specs.Types.{IsFull, Types}
+use Rattle.std.specs.Prelude.{◌≡◌, ◌≤◌, ℕ, true, List, length, None, Result, Ok, Err}
+use Rattle.pc_types_lists.specs.Types.{Types, types_held}
 use Rattle.pc_types.specs.declared.error.Error.{Error}
 use Rattle.pc_types.specs.declared.error.Error.TheVariants as error
 use Rattle.pc_types.specs.declared.error.Unsupported.TheVariants.{NotBuilt}
@@ -8,6 +8,7 @@ use Rattle.pc_types.specs.declared.module_record.ModuleRecord.{ModuleRecord}
 use Rattle.pc_types.specs.declared.parsed.TypeTable.{TypeTable}
 use Rattle.pc_parsed.specs.declared.payload.ExternName.{ExternName}
 use Rattle.pc_parsed.specs.declared.payload.ItemKind.{ItemKind}
+use Rattle.pc_spec_reading.specs.Answer.{IsPast}
 use Rattle.pc_spec_reading.specs.Item.{Items}
 use Rattle.pc_spec_reading.specs.Outcome.{Outcome, bad_type, done, fault, invalid, over, unsupported}
 use Rattle.pc_spec_reading.specs.Reading.{Reading, reading_of}
@@ -15,9 +16,10 @@ use Rattle.pc_spec_reading.specs.World.{World}
 use Rattle.pc_dfg.specs.declared.dfg.ComponentDfg.{ComponentDfg}
 use Rattle.pc_dfg.specs.Ordered.{IsOrdered}
 use Rattle.pc_inline.specs.Exports.{ExportsStand, NumbersExports}
+use Rattle.pc_inline_state.specs.Plain.{is_plain_table}
 use Rattle.pc_inline_state.specs.Today.{built_reading}
-use Rattle.pc_inline_stack.specs.Totals.{IsPast}
 use Rattle.pc_inline_state.specs.Worlds.{HasItems, HoldsTypes, IsPlain, WorldStands}
+use Rattle.pc_spec_reading.specs.Guard.{everything}
 
 -- the name of an export
 abbrev pub export_name : ExternName × ItemKind × ℕ → List ℕ
@@ -56,33 +58,37 @@ pub record GraphStands (ms : List ModuleRecord) (types : Types) (g : ComponentDf
 pub record StandsForReading (t : TypeTable) (ms : List ModuleRecord) (limit : ℕ) (body : Items) (types : Types)
     (g : ComponentDfg) : Type 0 where
   pub result : Reading
-  pub outcome : reading_of t ms limit None body ≡ done result
+  pub outcome : reading_of everything t ms limit None body ≡ done result
   -- so it is as far as it is built: each item was
   pub built : built_reading t ms limit body ≡ done result
   pub stands : GraphStands ms types g result
 
--- the builder is full, or the total of the reading is too much
-abbrev pub HasNoRoom : TypeTable → List ModuleRecord → (limit : ℕ) → Items → Types → Type 0
-HasNoRoom t ms limit body types = IsFull types ⊎ IsPast t ms limit body
+-- the total of the reading is too much, wherever it begins that counts the types that were held before. The types of
+-- functions that aren't over primitives are not counted yet
+abbrev pub HasNoRoom : TypeTable → List ModuleRecord → (limit : ℕ) → Items → (held : ℕ) → Type 0
+HasNoRoom t ms limit body held =
+    is_plain_table t ≡ true → (counted : ℕ) → held ≤ counted → IsPast t ms limit counted body
 
 -- the reading ends so, and as far as it is built it does too
 abbrev pub EndsAs : TypeTable → List ModuleRecord → (limit : ℕ) → Items → Outcome Reading → Type 0
-EndsAs t ms limit body o = (built_reading t ms limit body ≡ o) × (reading_of t ms limit None body ≡ o)
+EndsAs t ms limit body o = (built_reading t ms limit body ≡ o) × (reading_of everything t ms limit None body ≡ o)
 
--- the reading ends with this fault at its place; or as far as it is built it ends where something isn't built
-abbrev pub IsFault : TypeTable → List ModuleRecord → (limit : ℕ) → Items → Types → Error → Type 0
-IsFault t ms limit body types (error.Invalid p) = EndsAs t ms limit body (fault invalid p)
-IsFault t ms limit body types (error.BadType p) = EndsAs t ms limit body (fault bad_type p)
-IsFault t ms limit body types (error.Unsupported NotBuilt p) =
+-- the reading ends with this fault at its place; or as far as it is built it ends where something isn't built. So many
+-- types were held before
+abbrev pub IsFault : TypeTable → List ModuleRecord → (limit : ℕ) → Items → (held : ℕ) → Error → Type 0
+IsFault t ms limit body held (error.Invalid p) = EndsAs t ms limit body (fault invalid p)
+IsFault t ms limit body held (error.BadType p) = EndsAs t ms limit body (fault bad_type p)
+IsFault t ms limit body held (error.Unsupported NotBuilt p) =
     built_reading t ms limit body ≡ fault (unsupported NotBuilt) p
-IsFault t ms limit body types (error.Unsupported u p) = EndsAs t ms limit body (fault (unsupported u) p)
-IsFault t ms limit body types error.TooManyInstances = EndsAs t ms limit body over
-IsFault t ms limit body types error.TooMany = HasNoRoom t ms limit body types
-IsFault t ms limit body types error.NoMemory = Unit {0}
-IsFault t ms limit body types e = ⊥
+IsFault t ms limit body held (error.Unsupported u p) = EndsAs t ms limit body (fault (unsupported u) p)
+IsFault t ms limit body held error.TooManyInstances = EndsAs t ms limit body over
+IsFault t ms limit body held error.TooMany = HasNoRoom t ms limit body held
+IsFault t ms limit body held error.NoMemory = Unit {0}
+IsFault t ms limit body held e = ⊥
 
--- the answer is the graph that stands for the reading, or the reading's end; want of memory is free
-unfoldable pub Inlines : TypeTable → List ModuleRecord → (limit : ℕ) → Items → Types → Result ComponentDfg Error
-    → Type 0
-Inlines t ms limit body types (Ok g) = StandsForReading t ms limit body types g
-Inlines t ms limit body types (Err e) = IsFault t ms limit body types e
+-- the answer is the graph that stands for the reading, or the reading's end; want of memory is free. The builder held
+-- these types before, and holds those now
+unfoldable pub Inlines : TypeTable → List ModuleRecord → (limit : ℕ) → Items → (old new : Types)
+    → Result ComponentDfg Error → Type 0
+Inlines t ms limit body old new (Ok g) = StandsForReading t ms limit body new g
+Inlines t ms limit body old new (Err e) = IsFault t ms limit body (types_held old) e

@@ -1,6 +1,7 @@
 -- How the instantiation of a root begins and ends.
 use Rattle.std.specs.Prelude.{◌≡◌, ◌<◌, ◌≤◌, ◌+◌, ◌*◌, ◌⊎◌, ⊤, ℕ, true, List, length, Option, None, Some, Result}
 use Rattle.std.specs.Prelude.{Ok, Err, OnOk, sum_by}
+use Rattle.pc_types_lists.specs.Adds.{AddsTypes}
 use Rattle.pc_types_lists.specs.Types.{Types}
 use Rattle.pc_types.specs.declared.error.Error.{Error}
 use Rattle.pc_types.specs.declared.error.Error.TheVariants as error
@@ -17,7 +18,7 @@ use Rattle.pc_local.specs.Standing.{BodyStands, no_names}
 use Rattle.pc_dfg.specs.Lists.{ListName, entries_of}
 use Rattle.pc_inline_state.specs.declared.frame.Frame.{Frame}
 use Rattle.pc_inline_state.specs.declared.state.State.{State}
-use Rattle.pc_inline_state.specs.Adds.{AddsTypes, imports_in}
+use Rattle.pc_inline_state.specs.Adds.{imports_in}
 use Rattle.pc_inline_stack.specs.Driving.{reading_from}
 use Rattle.pc_inline.specs.Exports.{ExportsStand, NumbersExports}
 use Rattle.pc_inline.specs.Inlines.{last_world}
@@ -36,13 +37,13 @@ pub record RootRead (t : TypeTable) (ms : List ModuleRecord) (limit : ℕ) (body
   pub exports : ExportsStand st.types st.graph result.nodes
   pub numbers : NumbersExports st.graph
 
--- the reading as far as it is built ends so, or a list is full
+-- the reading as far as it is built ends so, or a list is full where the root has begun
 abbrev pub IsBuiltEnd : TypeTable → List ModuleRecord → (limit : ℕ) → Items → State → Error → Type 0
 IsBuiltEnd t ms limit body st (error.Invalid p) = built_reading t ms limit body ≡ fault invalid p
 IsBuiltEnd t ms limit body st (error.BadType p) = built_reading t ms limit body ≡ fault bad_type p
 IsBuiltEnd t ms limit body st (error.Unsupported u p) = built_reading t ms limit body ≡ fault (unsupported u) p
 IsBuiltEnd t ms limit body st error.TooManyInstances = built_reading t ms limit body ≡ over
-IsBuiltEnd t ms limit body st error.TooMany = IsFullSomewhere (tables_of st)
+IsBuiltEnd t ms limit body st error.TooMany = IsFullSomewhere (tables_of st) × (0 < limit)
 IsBuiltEnd t ms limit body st error.NoMemory = Unit {0}
 IsBuiltEnd t ms limit body st e = ⊥
 
@@ -67,21 +68,21 @@ pub record RootStarts (t : TypeTable) (ms : List ModuleRecord) (limit : ℕ) (bo
   pub is_total : now.world.total ≡ total
   pub begun : now.world.begun ≡ 1
 
--- the total of a reading that is counted from nothing, when the root has begun
-abbrev pub first_total : TypeTable → List ModuleRecord → Items → ℕ
-first_total t ms body = 1 + (body_weight t ms body + prepared_weight t ms body)
+-- the total of a reading that begins with this one, when the root has begun
+abbrev pub first_total : TypeTable → List ModuleRecord → Items → (counted : ℕ) → ℕ
+first_total t ms body counted = counted + (1 + (body_weight t ms body + prepared_weight t ms body))
 
--- the total of the reading as far as it is built, counted from nothing, is too much before its exports
-abbrev pub IsLong : TypeTable → List ModuleRecord → (limit : ℕ) → Items → Type 0
-IsLong t ms limit body = built_root t ms limit (Some 0) body ≡ past
+-- the total of the reading as far as it is built, which begins with this one, is too much before its exports
+abbrev pub IsLong : TypeTable → List ModuleRecord → (limit : ℕ) → Items → (counted : ℕ) → Type 0
+IsLong t ms limit body counted = built_root t ms limit (Some counted) body ≡ past
 
--- a root has begun and its imports have been prepared, whether or not the total is counted
+-- a root has begun and its imports have been prepared, whether or not the total is counted, and wherever it begins
 pub record RootBegun (t : TypeTable) (ms : List ModuleRecord) (limit : ℕ) (body : Items) (st : State) (f : Frame)
     : Type 0 where
   pub within : 0 < limit
   pub uncounted : RootStarts t ms limit body None None st f
-  pub counted : IsLong t ms limit body
-      ⊎ ((first_total t ms body < full) × RootStarts t ms limit body (Some 0) (Some (first_total t ms body)) st f)
+  pub counted : (n : ℕ) → IsLong t ms limit body n
+      ⊎ ((first_total t ms body n < full) × RootStarts t ms limit body (Some n) (Some (first_total t ms body n)) st f)
 
 -- the root has begun as it is read, or its reading ends so
 unfoldable pub BeginsBody : TypeTable → List ModuleRecord → (limit : ℕ) → Items → State → Result Frame Error → Type 0
@@ -98,37 +99,52 @@ pub record HasAtMost (t : TypeTable) (functions entries : ℕ) (old : Types) (ne
   pub instances : length new.instances ≤ entries
   pub begun : new.graph.num_runtime_component_instances ≤ entries + 1
 
--- a total bounds what was added
-pub record HasFew (t : TypeTable) (total : ℕ) (old : Types) (new : Tables) : Type 0 where
+-- a total that begins with another bounds what was added
+pub record HasFew (t : TypeTable) (counted total : ℕ) (old : Types) (new : Tables) : Type 0 where
   pub below : total < full
   pub functions : ℕ
-  pub few_functions : 8 * functions ≤ total
+  pub few_functions : counted + 8 * functions ≤ total
   pub entries : ℕ
-  pub few_entries : entries < total
+  pub few_entries : counted + entries < total
   pub most : HasAtMost t functions entries old new
 
--- the total of the reading is too much, or some total bounds what was added
-abbrev pub IsLongOrHasFew : TypeTable → List ModuleRecord → (limit : ℕ) → Items → (old : Types) → (new : Tables)
-    → Type 0
-IsLongOrHasFew t ms limit body old new = IsLong t ms limit body ⊎ ((total : ℕ) × HasFew t total old new)
+-- no root may begin, and nothing was added
+abbrev pub HasNothing : TypeTable → (limit : ℕ) → (old : Types) → (new : Tables) → Type 0
+HasNothing t limit old new = (limit ≤ 0) × HasAtMost t 0 0 old new
 
--- whatever body the root stands for
+-- the total of the reading is too much, or some total bounds what was added, or nothing was
+abbrev pub IsLongOrHasFew : TypeTable → List ModuleRecord → (limit : ℕ) → Items → (counted : ℕ) → (old : Types)
+    → (new : Tables) → Type 0
+IsLongOrHasFew t ms limit body counted old new =
+    IsLong t ms limit body counted ⊎ (((total : ℕ) × HasFew t counted total old new) ⊎ HasNothing t limit old new)
+
+-- whatever body the root stands for, and wherever the total begins
 abbrev pub BegunHasFew : TypeTable → List ModuleRecord → (limit : ℕ) → (bodies : List Translation) → Translation
     → (old : Types) → (new : Tables) → Type 0
 BegunHasFew t ms limit bodies root old new =
-    (body : Items) → BodyStands bodies no_names root body → IsLongOrHasFew t ms limit body old new
+    (body : Items) → BodyStands bodies no_names root body → (counted : ℕ)
+    → IsLongOrHasFew t ms limit body counted old new
 
--- in this total the reading as far as it is built ends, counted from nothing, when the items of the root have been read
-abbrev pub EndsWith : TypeTable → List ModuleRecord → (limit : ℕ) → Items → (total : ℕ) → Type 0
-EndsWith t ms limit body total =
-    (last : Moment) × (built_root t ms limit (Some 0) body ≡ done last) × (last.world.total ≡ Some total)
+-- in this total the reading as far as it is built ends when the items of the root have been read, where it begins with
+-- that one
+abbrev pub EndsWith : TypeTable → List ModuleRecord → (limit : ℕ) → Items → (counted total : ℕ) → Type 0
+EndsWith t ms limit body counted total =
+    (last : Moment) × (built_root t ms limit (Some counted) body ≡ done last) × (last.world.total ≡ Some total)
 
 -- where the root is done, that total is the one of its reading
+abbrev pub RootHasFewFrom : TypeTable → List ModuleRecord → (limit : ℕ) → Items → (counted : ℕ) → (old : Types)
+    → (new : Tables) → Result ⊤ Error → Type 0
+RootHasFewFrom t ms limit body counted old new r =
+    IsLong t ms limit body counted
+    ⊎ (((total : ℕ) × OnOk r (EndsWith t ms limit body counted total) × HasFew t counted total old new)
+    ⊎ (OnOk r ⊥ × HasNothing t limit old new))
+
+-- so it is whatever body the root stands for, and wherever the total begins
 abbrev pub RootHasFew : TypeTable → List ModuleRecord → (limit : ℕ) → (bodies : List Translation) → Translation
     → (old : Types) → (new : Tables) → Result ⊤ Error → Type 0
 RootHasFew t ms limit bodies root old new r =
-    (body : Items) → BodyStands bodies no_names root body → IsLong t ms limit body
-    ⊎ ((total : ℕ) × OnOk r (EndsWith t ms limit body total) × HasFew t total old new)
+    (body : Items) → BodyStands bodies no_names root body → (counted : ℕ)
+    → RootHasFewFrom t ms limit body counted old new r
 
 -- what the beginning of a root gives, its imports among it: so much was added, and its reading has begun or ends so
 pub record BeginsRoot (t : TypeTable) (ms : List ModuleRecord) (limit : ℕ) (root : Translation) (old new : State)

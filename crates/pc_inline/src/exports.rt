@@ -28,7 +28,7 @@ use pc_inline_state::{
 use pc_parsed::{ExternName, ItemKind};
 use pc_types::{Error, Place, Unsupported};
 
-/// The export item of a function: one that was lifted. A function of the host is refused.
+/// The export item of a function: one that was lifted. One of the host isn't exported yet.
 pub(crate) fn reach_node(
     context: &Context<'_>,
     state: &mut State<'_>,
@@ -46,7 +46,7 @@ pub(crate) fn reach_node(
         → ReachesNode context.now.table.now context.now.modules state.new f s w nodes x result }
 {
     let Definition::LiftedFunc { ty, func, options } = state.definitions[func] else {
-        return Err(ItemError::Fault(ItemFault::Unsupported(Unsupported::ReexportedFunction)));
+        return Err(ItemError::Fault(ItemFault::Unsupported(Unsupported::NotBuilt)));
     };
     let options = options_entry(context, state, options)?;
     let func = state.cores[func].try_clone(context.alloc)?;

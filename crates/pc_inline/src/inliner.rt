@@ -1,6 +1,6 @@
 //! The root: it begins, its imports are prepared, its items are read in order, and it exports.
 
-ghost use Rattle.std.specs.Prelude.{◌≡◌, ◌*◌, None, true, map, sum_by, IfOk};
+ghost use Rattle.std.specs.Prelude.{◌≡◌, ◌*◌, ℕ, None, true, map, sum_by, IfOk};
 ghost use Rattle.std.specs.List.{list_all};
 ghost use Rattle.pc_types.specs.Names.{distinct_names};
 ghost use Rattle.pc_types.specs.Record.{is_sound};
@@ -139,13 +139,14 @@ pub fn inline_run(
     requires stands { (body : Items) × BodyStands program.now.components no_names program.now.root body }
     requires distinct { distinct_names (map export_name program.now.root.exports) ≡ true }
     ensures inlines { (body : Items) → BodyStands program.now.components no_names program.now.root body
-        → Inlines table.now program.now.modules limit body types.new result }
+        → Inlines table.now program.now.modules limit body types.old types.new result }
     ensures few { (body : Items) → BodyStands program.now.components no_names program.now.root body
-        → IfOk result (CountsGraph table.now program.now.modules limit body types.old types.new) }
+        → (counted : ℕ)
+        → IfOk result (CountsGraph table.now program.now.modules limit counted body types.old types.new) }
     ensures keeps { KeepsTypes types.old types.new }
     ensures adds { (body : Items) → BodyStands program.now.components no_names program.now.root body
-        → is_plain_table table.now ≡ true
-        → GainsFew table.now program.now.modules limit body types.old types.new }
+        → is_plain_table table.now ≡ true → (counted : ℕ)
+        → GainsFew table.now program.now.modules limit counted body types.old types.new }
 {
     let modules = CoreModules::new(alloc, program.modules.as_slice())?;
     let context = Context {

@@ -70,7 +70,7 @@ pub(crate) fn prepare(
     ensures adds { Adds context.now.table.now 1 4 (tables_of state.old) (tables_of state.new) }
     ensures same { frame.new.component_instance ≡ frame.old.component_instance }
     ensures steps { Steps context.now.table.now context.now.modules
-        (built_prepare context.now.table.now context.now.modules name.now entity)
+        (built_prepare context.now.table.now name.now entity)
         state.old frame.old state.new frame.new result }
 {
     let Entity::Func(ty) = entity else {

@@ -38,7 +38,8 @@ use Rattle.pc_inline_state.specs.Found.{ArgumentStands, ArgumentsStand}
 use Rattle.pc_inline_state.specs.Points.{IsSoundState, PointStands}
 use Rattle.pc_inline_state.specs.Stands.{CoreStands}
 use Rattle.pc_inline_state.specs.Tables.{IsItem, is_entity, is_trampoline, tables_of}
-use Rattle.pc_inline_state.specs.Typed.{Numbered, number_of, whole_of}
+use Rattle.pc_inline_state.specs.Holds.{Numbered, number_of, whole_of}
+use Rattle.pc_inline_state.specs.Typed.{anyhow}
 use Rattle.pc_inline_state.specs.Worlds.{EffectStands, HasItems, IsStatic, WorldStands}
 use Rattle.pc_inline_state.proofs.GrowthLemmas.{graph_grown}
 use Rattle.pc_inline_canon.proofs.KeptLemmas.{core_kept, frame_kept, is_item_kept}
@@ -58,9 +59,9 @@ found_in_push (z ∷ xs) y (suc p) x h = found_in_push xs y p x h
 -- the values of definitions, with numbers and whole
 record AreNumbered (types : Types) (g : ComponentDfg) (ds : List CoreDef) (vs : List (CoreValue Mark)) : Type 0
   where
-    pub numbered : List (CoreValue (Numbered types))
-    pub means : AllZip (Means g) ds (map (map_value (number_of types)) numbered)
-    pub is : map (map_value (whole_of types)) numbered ≡ vs
+    pub numbered : List (CoreValue (Numbered types anyhow))
+    pub means : AllZip (Means g) ds (map (map_value (number_of types anyhow)) numbered)
+    pub is : map (map_value (whole_of types anyhow)) numbered ≡ vs
 
 are_numbered : (types : Types) (g : ComponentDfg) (ds : List CoreDef) (vs : List (CoreValue Mark))
     → AllZip (CoreStands types g) ds vs → AreNumbered types g ds vs

@@ -43,7 +43,8 @@ use Rattle.pc_inline_state.specs.Stands.{linear_stands, new_member, no_members, 
 use Rattle.pc_inline_state.specs.Stands.{some_stands, stands, stands_component, stands_host, stands_instance, stands_lifted}
 use Rattle.pc_inline_state.specs.Stands.{stands_static}
 use Rattle.pc_inline_state.specs.Tables.{HasEntity, IsItem, Keeps, Tables, is_entity, is_trampoline}
-use Rattle.pc_inline_state.specs.Typed.{number_of, whole_of}
+use Rattle.pc_inline_state.specs.Holds.{number_of, whole_of}
+use Rattle.pc_inline_state.specs.Typed.{anyhow}
 use Rattle.pc_inline_canon.proofs.MarkLemmas.{still, value_twice}
 use Rattle.pc_inline_state.proofs.ZipLemmas.{both_more, zip_more}
 
@@ -52,9 +53,9 @@ pub core_kept : (old new : Types) (g h : ComponentDfg) → builder.Grows old new
     → (d : CoreDef) (v : CoreValue Mark) → CoreStands old g d v → CoreStands new h d v
 core_kept old new g h types grows d v c = record {
   numbered = map_value (still old new types) c.numbered;
-  means = subst (Means h d) (sym (value_twice (still old new types) (number_of new) c.numbered))
+  means = subst (Means h d) (sym (value_twice (still old new types) (number_of new anyhow) c.numbered))
       (means_kept g h grows c.means);
-  is = value_twice (still old new types) (whole_of new) c.numbered ∙ c.is;
+  is = value_twice (still old new types) (whole_of new anyhow) c.numbered ∙ c.is;
 }
 
 -- a component instance that has begun has

@@ -10,13 +10,14 @@ use Rattle.pc_types_lists.specs.Types.{Types}
 use Rattle.pc_spec_plan.specs.CoreValue.{CoreValue}
 use Rattle.pc_spec_plan.specs.Log.{Entry, declared, instances_of, is_effect, trace}
 use Rattle.pc_parsed.specs.Mark.{Mark}
+use Rattle.pc_spec_reading.specs.Asked.{is_declared, needed_path, paths_needed, with_path}
 use Rattle.pc_spec_reading.specs.World.{World, logging}
 use Rattle.pc_dfg.specs.declared.dfg.ComponentDfg.{ComponentDfg}
 use Rattle.pc_dfg.specs.Grows as graph
 use Rattle.pc_dfg.specs.Numbers.{SignedTrampoline}
 use Rattle.pc_inline_state.specs.Today.{is_made}
-use Rattle.pc_inline_state.specs.Worlds.{EffectStands, HasTrampoline, ImportStands, IsDeclared, WorldStands, is_declared}
-use Rattle.pc_inline_state.specs.Worlds.{needed_path, path_of, paths_needed, with_path}
+use Rattle.pc_inline_state.specs.Worlds.{EffectStands, HasTrampoline, ImportStands, IsDeclared, WorldStands}
+use Rattle.pc_inline_state.specs.Worlds.{path_of}
 use Rattle.pc_inline_state.proofs.StateLemmas.{types_refl}
 use Rattle.pc_inline_canon.proofs.WorldLemmas.{declared_still, import_still, trampoline_still}
 use Rattle.pc_inline_state.proofs.ZipLemmas.{zip_more}

@@ -22,6 +22,7 @@ use Rattle.pc_spec_plan.specs.Log as log
 use Rattle.pc_spec_plan.specs.Log.{Entry, made}
 use Rattle.pc_parsed.specs.declared.canon.CanonOption.{CanonOption}
 use Rattle.pc_parsed.specs.Mark.{Mark, of_type}
+use Rattle.pc_spec_reading.specs.Asked.{import_path}
 use Rattle.pc_spec_reading.specs.Functions.{lower_to, making, read_lower}
 use Rattle.pc_spec_reading.specs.Item.{Item, lower_item}
 use Rattle.pc_spec_reading.specs.Options.{options_of}
@@ -51,8 +52,7 @@ use Rattle.pc_inline_state.specs.Slots.{OptionsThere}
 use Rattle.pc_inline_state.specs.Stands.{DefinitionStands, OptionsStand, Stands, stands, stands_component, stands_host}
 use Rattle.pc_inline_state.specs.Stands.{stands_instance, stands_lifted, stands_static}
 use Rattle.pc_inline_state.specs.Tables.{Tables, tables_of}
-use Rattle.pc_inline_state.specs.Worlds.{import_path}
-use Rattle.pc_inline_state.specs.Today.{built_row, is_built, is_made}
+use Rattle.pc_inline_state.specs.Today.{built_row, is_built, is_made, today}
 use Rattle.pc_inline_state.specs.Typed.{AreOfFunction, HasNoFunction}
 use Rattle.pc_inline_canon.specs.Written.{options_in}
 use Rattle.pc_inline_canon.proofs.FrameLemmas.{core_framed, framed_point}
@@ -64,12 +64,13 @@ use Rattle.pc_inline_canon.proofs.ThereLemmas.{options_there}
 use Rattle.pc_inline_canon.proofs.TypeLemmas.{FunctionThere, function_there, no_function}
 use Rattle.pc_inline_canon.proofs.WorldLemmas.{point_kept}
 use Rattle.pc_inline_state.proofs.ZipLemmas.{both_missing, both_there, zip_at}
+use Rattle.pc_spec_reading.specs.Reading.{row}
 
 -- a lower that makes an adapter isn't built
 row_adapts : (t : TypeTable) (ms : List ModuleRecord) (now next : Moment) (i : Item) → is_built t i ≡ true
     → read_row t ms now i ≡ Ok next → list_any is_made next.world.log ≡ true
     → built_row t ms now i ≡ Err (unsupported NotBuilt)
-unfolding built_row
+unfolding row today
 row_adapts t ms now next i built goes some = rw (built, goes, some) refl
 
 -- a test that follows from another

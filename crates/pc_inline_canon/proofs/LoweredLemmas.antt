@@ -33,6 +33,7 @@ use Rattle.pc_trampoline.specs.declared.part.Mark.TheVariants as mark
 use Rattle.pc_trampoline.specs.declared.trampoline.Trampoline.TheVariants as trampoline
 use Rattle.pc_trampoline.specs.Parts.{parts_of}
 use Rattle.pc_parsed.specs.Mark.{Mark, of_type}
+use Rattle.pc_spec_reading.specs.Asked.{import_path}
 use Rattle.pc_spec_reading.specs.Scope.{Moment, add_entry}
 use Rattle.pc_spec_reading.specs.World.{World, logging}
 use Rattle.pc_dfg.specs.declared.core_def.CoreDef.TheVariants as def
@@ -60,8 +61,9 @@ use Rattle.pc_inline_state.specs.Prepares.{Prepares}
 use Rattle.pc_inline_state.specs.Slots.{EntryStands, ModelThere, OptionsThere}
 use Rattle.pc_inline_state.specs.Stands.{CoreStands, IsFunc, ItemStands, OptionsStand, options_stand}
 use Rattle.pc_inline_state.specs.Tables.{IsItem, Keeps, Tables, is_trampoline, tables_of}
-use Rattle.pc_inline_state.specs.Typed.{Holds, Numbered}
-use Rattle.pc_inline_state.specs.Worlds.{EffectStands, HasTrampoline, IsDeclared, IsSigned, WorldStands, import_path}
+use Rattle.pc_inline_state.specs.Holds.{Holds, Numbered}
+use Rattle.pc_inline_state.specs.Typed.{anyhow}
+use Rattle.pc_inline_state.specs.Worlds.{EffectStands, HasTrampoline, IsDeclared, IsSigned, WorldStands}
 use Rattle.pc_inline_state.specs.Worlds.{slot_kind}
 use Rattle.pc_inline_state.proofs.AddsPushLemmas.{changes_few}
 use Rattle.pc_inline_state.proofs.GrowthLemmas.{graph_grown}
@@ -92,12 +94,12 @@ module _ (ms : List ModuleRecord) (b c : Tables) (keeps : Keeps b c) where
 
 -- a function type as a number of the types builder
 typed : (types : Types) (ty : TypeFuncIndex) (tree : TypeTree)
-    → ((who : ResourceIndex → Identity) → HasTree types who (type.ComponentFunc ty) tree) → Numbered types
+    → ((who : ResourceIndex → Identity) → HasTree types who (type.ComponentFunc ty) tree) → Numbered types anyhow
 unfolding Holds
 typed types ty tree func = record {
   number = mark.Type_ (type.ComponentFunc ty);
   whole = of_type tree;
-  holds = func;
+  holds = λ who any. func who;
 }
 
 -- options have the core signature of what is lowered with them

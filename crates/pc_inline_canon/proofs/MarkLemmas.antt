@@ -12,7 +12,8 @@ use Rattle.pc_spec_plan.specs.ExportNode as node
 use Rattle.pc_spec_plan.specs.ExportNode.{ExportNode, ExportNodes, map_node, map_nodes}
 use Rattle.pc_spec_plan.specs.Log.{Entry, Instantiation, NamedArgument, declared, declared_resource, instantiated, made}
 use Rattle.pc_spec_plan.specs.Log.{map_argument, map_entry, map_instantiation, needed, of_host, of_static}
-use Rattle.pc_inline_state.specs.Typed.{Holds, Numbered}
+use Rattle.pc_inline_state.specs.Holds.{Holds, Numbered}
+use Rattle.pc_inline_state.specs.Typed.{anyhow}
 
 module _ {τ υ ω : Type 0} (f : τ → υ) (h : υ → ω) where
   -- both maps in one
@@ -99,6 +100,7 @@ module _ {τ υ ω : Type 0} (f : τ → υ) (h : υ → ω) where
         let a = value_twice v in
         let b = options_twice o in
         λ i. node.lifted (g ty) (a i) (b i)
+    node_twice (node.imported_function ty path) = refl
     node_twice (node.static_module n ty) = refl
     node_twice (node.host_module path ty) = refl
     node_twice (node.instance ty nodes) = let a = nodes_twice nodes in λ i. node.instance (g ty) (a i)
@@ -113,13 +115,13 @@ module _ {τ υ ω : Type 0} (f : τ → υ) (h : υ → ω) where
 
 module _ (old new : Types) (grows : Grows old new) where
   -- what a builder holds it holds when it has grown
-  pub holds_still : (m : Mark) (w : reading.Mark) → Holds old m w → Holds new m w
+  pub holds_still : (m : Mark) (w : reading.Mark) → Holds old anyhow m w → Holds new anyhow m w
   unfolding Holds
-  holds_still (mark.Type_ ty) (reading.of_type tree) h = λ who. tree_grows old new grows who ty tree (h who)
+  holds_still (mark.Type_ ty) (reading.of_type tree) h = λ who any. tree_grows old new grows who ty tree (h who any)
   holds_still (mark.Type_ ty) (reading.of_signature s) h = h
   holds_still (mark.Signature n) (reading.of_type tree) h = h
   holds_still (mark.Signature n) (reading.of_signature s) h = grows.signatures n.0 s h
 
   -- a mark with what it stands for
-  abbrev pub still : Numbered old → Numbered new
+  abbrev pub still : Numbered old anyhow → Numbered new anyhow
   still m = record { number = m.number; whole = m.whole; holds = holds_still m.number m.whole m.holds }

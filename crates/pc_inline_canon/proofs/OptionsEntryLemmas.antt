@@ -40,7 +40,8 @@ use Rattle.pc_inline_state.specs.Slots.{EntryStands, MaybeThere, OptionsThere, S
 use Rattle.pc_inline_state.specs.Stands.{MaybeStands, ModelStands, OptionsStand, gc_stands, linear_stands, options_stand}
 use Rattle.pc_inline_state.specs.Tables.{IsItem, Keeps, Tables, tables_of}
 use Rattle.pc_inline_state.specs.Worlds.{slot_kind}
-use Rattle.pc_inline_state.specs.Typed.{Holds, Numbered, number_of, whole_of}
+use Rattle.pc_inline_state.specs.Holds.{Holds, Numbered, number_of, whole_of}
+use Rattle.pc_inline_state.specs.Typed.{anyhow}
 use Rattle.pc_inline_state.proofs.GrowthLemmas.{graph_grown}
 use Rattle.pc_inline_canon.proofs.HoldsLemmas.{options_put}
 use Rattle.pc_inline_canon.proofs.KeptLemmas.{begun_kept, is_item_kept, maybe_kept}
@@ -70,9 +71,9 @@ module _ (ms : List ModuleRecord) (b c : Tables) (keeps : Keeps b c) where
       let on = still b.types c.types keeps.types in
       record {
         numbered = map_maybe on s.numbered;
-        means = subst (MeansSlot c.graph k n) (sym (maybe_twice on (number_of c.types) s.numbered))
+        means = subst (MeansSlot c.graph k n) (sym (maybe_twice on (number_of c.types anyhow) s.numbered))
             (means_slot_kept k n _ s.means);
-        is = maybe_twice on (whole_of c.types) s.numbered ∙ s.is;
+        is = maybe_twice on (whole_of c.types anyhow) s.numbered ∙ s.is;
       }
 
   -- and so are memory and realloc
@@ -81,8 +82,9 @@ module _ (ms : List ModuleRecord) (b c : Tables) (keeps : Keeps b c) where
       let on = still b.types c.types keeps.types in
       record {
         numbered = map_model on s.numbered;
-        means = subst (MeansModel c.graph m) (sym (model_twice on (number_of c.types) s.numbered)) (by m _ s.means);
-        is = model_twice on (whole_of c.types) s.numbered ∙ s.is;
+        means = subst (MeansModel c.graph m) (sym (model_twice on (number_of c.types anyhow) s.numbered))
+            (by m _ s.means);
+        is = model_twice on (whole_of c.types anyhow) s.numbered ∙ s.is;
       }
     where
       by : (m : plan.ModelEntry) (v : value.DataModel Number) → MeansModel b.graph m v → MeansModel c.graph m v
@@ -142,7 +144,7 @@ linear_slots ms b c m r memory realloc memory_at realloc_at w here v stands =
 
 -- the signature of options as a number of the types builder
 signed : (types : Types) (o : Options) (s : CoreFuncSig) → slice_get types.signatures o.core_type.0 ≡ Some s
-    → Numbered types
+    → Numbered types anyhow
 unfolding Holds
 signed types o s at = record { number = mark.Signature o.core_type; whole = of_signature s; holds = at }
 

@@ -20,20 +20,21 @@ use Rattle.pc_inline_state.specs.Faults.{fault_of, of_push_error}
 use Rattle.pc_inline_state.specs.Points.{Follows, Goes, IsFullSomewhere, PointStands, Steps}
 use Rattle.pc_inline_state.specs.Refused.{LacksRoom}
 use Rattle.pc_inline_state.specs.Tables.{tables_of}
-use Rattle.pc_inline_state.specs.Today.{built_row, is_built, is_made}
+use Rattle.pc_inline_state.specs.Today.{built_row, is_built, is_made, today}
 use Rattle.pc_inline_state.proofs.RefusedLemmas.{push_lacks}
+use Rattle.pc_spec_reading.specs.Reading.{row}
 
 module _ (t : TypeTable) (ms : List ModuleRecord) where
   -- a row that is stuck
   pub row_stuck : (now : Moment) (i : Item) (k : Fault) → is_built t i ≡ true → read_row t ms now i ≡ Err k
       → built_row t ms now i ≡ Err k
-  unfolding built_row
+  unfolding row today
   row_stuck now i k built stuck = rw (built, stuck) refl
 
   -- a row that goes on to a moment in which no adapter was made
   pub row_goes : (now next : Moment) (i : Item) → is_built t i ≡ true → read_row t ms now i ≡ Ok next
       → list_any is_made next.world.log ≡ false → built_row t ms now i ≡ Ok next
-  unfolding built_row
+  unfolding row today
   row_goes now next i built goes none = rw (built, goes, none) refl
 
   module _ (reads : Moment → Result Moment Fault) (st : State) (f : Frame) (st' : State) (f' : Frame) where

@@ -15,11 +15,12 @@ use Rattle.pc_numbers.specs.declared.runtime.ImportIndex.{ImportIndex}
 use Rattle.pc_numbers.specs.declared.runtime.RuntimeImportIndex.{RuntimeImportIndex}
 use Rattle.pc_types.specs.TypeTree.{Path}
 use Rattle.pc_spec_plan.specs.Log.{instances_of, needed, owned_of, trace}
+use Rattle.pc_spec_reading.specs.Asked.{import_path, with_path}
 use Rattle.pc_spec_reading.specs.SameTypes.{same_path}
 use Rattle.pc_spec_reading.specs.World.{World, logging}
 use Rattle.pc_dfg.specs.declared.dfg.ComponentDfg.{ComponentDfg}
 use Rattle.pc_dfg.specs.Grows as graph
-use Rattle.pc_inline_state.specs.Worlds.{AreUsed, EffectStands, WorldStands, import_path, path_of, with_path}
+use Rattle.pc_inline_state.specs.Worlds.{AreUsed, EffectStands, WorldStands, path_of}
 use Rattle.pc_inline_canon.proofs.LogLemmas.{declared_on, paths-push, trace-push, world_on}
 use Rattle.pc_inline_state.proofs.StateLemmas.{types_refl}
 use Rattle.pc_inline_canon.proofs.WorldLemmas.{effect_still}

@@ -19,7 +19,8 @@ use Rattle.pc_inline_state.specs.declared.state.State.{State}
 use Rattle.pc_inline_canon.specs.Hosts.{Uses}
 use Rattle.pc_inline_state.specs.Points.{IsSoundState}
 use Rattle.pc_inline_state.specs.Tables.{IsItem, tables_of}
-use Rattle.pc_inline_state.specs.Worlds.{HasItems, import_path, slot_kind}
+use Rattle.pc_inline_state.specs.Worlds.{HasItems, slot_kind}
+use Rattle.pc_spec_reading.specs.Asked.{import_path}
 use Rattle.pc_inline_state.proofs.GrowthLemmas.{graph_grown}
 use Rattle.pc_inline_canon.proofs.KeptLemmas.{frame_kept, is_item_kept}
 use Rattle.pc_inline_canon.proofs.UsedLemmas.{needed_world, path_known, path_new, used_more}

@@ -11,6 +11,7 @@ use Rattle.pc_spec_plan.specs.CoreValue.{CoreValue}
 use Rattle.pc_spec_plan.specs.Log.{Entry, map_entry, trace}
 use Rattle.pc_trampoline.specs.declared.part.Mark.TheVariants as mark
 use Rattle.pc_parsed.specs.Mark.{Mark, of_type}
+use Rattle.pc_spec_reading.specs.Asked.{is_declared}
 use Rattle.pc_spec_reading.specs.Scope.{Moment}
 use Rattle.pc_spec_reading.specs.World.{HostImport, World}
 use Rattle.pc_dfg.specs.declared.core_def.CoreDef.TheVariants as def
@@ -25,8 +26,9 @@ use Rattle.pc_inline_state.specs.declared.state.State.{State}
 use Rattle.pc_inline_state.specs.Points.{PointStands}
 use Rattle.pc_inline_state.specs.Prepares.{Prepares}
 use Rattle.pc_inline_state.specs.Tables.{tables_of}
-use Rattle.pc_inline_state.specs.Typed.{number_of, whole_of}
-use Rattle.pc_inline_state.specs.Worlds.{EffectStands, HasTrampoline, ImportStands, IsDeclared, WorldStands, is_declared}
+use Rattle.pc_inline_state.specs.Holds.{number_of, whole_of}
+use Rattle.pc_inline_state.specs.Typed.{anyhow}
+use Rattle.pc_inline_state.specs.Worlds.{EffectStands, HasTrampoline, ImportStands, IsDeclared, WorldStands}
 use Rattle.pc_inline_state.specs.Worlds.{path_of}
 use Rattle.pc_inline_canon.proofs.KeptLemmas.{core_kept, frame_kept}
 use Rattle.pc_inline_canon.proofs.MarkLemmas.{entry_twice, holds_still, still}
@@ -37,9 +39,9 @@ module _ (old new : Types) (g h : ComponentDfg) (types : builder.Grows old new) 
   pub effect_still : (e : SideEffect) (x : Entry Mark) → EffectStands old g e x → EffectStands new h e x
   effect_still e x s = record {
     numbered = map_entry (still old new types) s.numbered;
-    means = subst (MeansEffect h e) (sym (entry_twice (still old new types) (number_of new) s.numbered))
+    means = subst (MeansEffect h e) (sym (entry_twice (still old new types) (number_of new anyhow) s.numbered))
         (effect_kept g h grows s.means);
-    is = entry_twice (still old new types) (whole_of new) s.numbered ∙ s.is;
+    is = entry_twice (still old new types) (whole_of new anyhow) s.numbered ∙ s.is;
   }
 
   -- an import is that of the host

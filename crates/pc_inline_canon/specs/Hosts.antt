@@ -10,6 +10,7 @@ use Rattle.pc_types.specs.TypeTree.{TypeTree}
 use Rattle.pc_spec_plan.specs.CoreValue.{Options, lowered}
 use Rattle.pc_spec_plan.specs.Log.{declared, needed}
 use Rattle.pc_parsed.specs.Mark.{Mark, of_type}
+use Rattle.pc_spec_reading.specs.Asked.{import_path}
 use Rattle.pc_spec_reading.specs.Scope.{Moment, add_entry}
 use Rattle.pc_dfg.specs.Means.{HasPath}
 use Rattle.pc_inline_state.specs.declared.definition.CoreId.{CoreId}
@@ -19,7 +20,6 @@ use Rattle.pc_inline_state.specs.declared.state.State.{State}
 use Rattle.pc_inline_state.specs.Points.{PointStands}
 use Rattle.pc_inline_state.specs.Stands.{IsFunc, ItemStands, OptionsStand}
 use Rattle.pc_inline_state.specs.Tables.{tables_of}
-use Rattle.pc_inline_state.specs.Worlds.{import_path}
 
 module _ (t : TypeTable) (ms : List ModuleRecord) (old new : State) where
   -- an import is used, under this number of the graph

@@ -23,16 +23,17 @@ use Rattle.pc_inline_state.specs.Lists.{item_ids, with_item_id}
 use Rattle.pc_inline_state.specs.Points.{Goes, PointStands, StepsItem}
 use Rattle.pc_inline_state.specs.Stands.{Stands}
 use Rattle.pc_inline_state.specs.Tables.{tables_of}
-use Rattle.pc_inline_state.specs.Today.{built_row, is_built, is_built_kind}
+use Rattle.pc_inline_state.specs.Today.{built_row, is_built, is_built_kind, today}
 use Rattle.pc_inline_items.proofs.ItemLemmas.{item_goes, item_kind, item_there}
 use Rattle.pc_inline_items.proofs.MemberLemmas.{built_typed}
 use Rattle.pc_inline_canon.proofs.StepLemmas.{row_stuck, steps_on, steps_stuck}
 use Rattle.pc_inline_state.proofs.ZipLemmas.{both_missing, both_there}
+use Rattle.pc_spec_reading.specs.Reading.{row}
 
 -- an item of a kind that isn't built
 row_unbuilt : (t : TypeTable) (ms : List ModuleRecord) (now : Moment) (i : Item) → is_built t i ≡ false
     → built_row t ms now i ≡ Err (unsupported NotBuilt)
-unfolding built_row
+unfolding row today
 row_unbuilt t ms now i none = rw (none) refl
 
 -- and its step

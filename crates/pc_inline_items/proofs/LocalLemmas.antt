@@ -20,9 +20,10 @@ use Rattle.pc_inline_state.specs.declared.error.ItemFault.TheVariants as item_fa
 use Rattle.pc_inline_state.specs.Points.{Follows, Steps, StepsItem}
 use Rattle.pc_inline_state.specs.Refused.{LacksRoom}
 use Rattle.pc_inline_items.specs.StepsLocal.{StepsLocal}
-use Rattle.pc_inline_state.specs.Today.{built_row}
+use Rattle.pc_inline_state.specs.Today.{built_row, today}
 use Rattle.pc_inline_canon.proofs.PassedLemmas.{passed_lacking, passed_unfed}
 use Rattle.pc_inline_items.proofs.UnbuiltLemmas.{is_built_local, item_same}
+use Rattle.pc_spec_reading.specs.Reading.{row}
 
 -- one of two that are Some
 one_item : (x : Option Item) (i j : Item) → x ≡ Some i → x ≡ Some j → i ≡ j
@@ -65,6 +66,6 @@ module _ (t : TypeTable) (ms : List ModuleRecord) (k : Option ClosureId) (st : S
 pub local_unbuilt : (t : TypeTable) (ms : List ModuleRecord) (k : Option ClosureId) (st : State) (f : Frame)
     (l : LocalInitializer) → is_built_local t l ≡ false
     → StepsLocal t ms k l st f st f (Err (item_error.Fault (item_fault.Unsupported NotBuilt)))
-unfolding StepsLocal Follows built_row
+unfolding StepsLocal Follows row today
 local_unbuilt t ms k st f l no_kind names i stands now at enclosed =
     rw (sym (item_same t stands) ∙ no_kind) refl

@@ -17,7 +17,7 @@ use Rattle.pc_spec_reading.specs.Imports.{is_of_entity, read_import, take_if}
 use Rattle.pc_spec_reading.specs.Instances.{is_of_kind}
 use Rattle.pc_spec_reading.specs.Item.{Item, import_item}
 use Rattle.pc_spec_reading.specs.Outcome.{bad_type, invalid}
-use Rattle.pc_spec_reading.specs.Resource.{registered, resource_paths}
+use Rattle.pc_spec_reading.specs.Resource.{newly, registered, resource_paths, walk}
 use Rattle.pc_spec_reading.specs.Rows.{read_row}
 use Rattle.pc_spec_reading.specs.Scope.{Moment, add_value}
 use Rattle.pc_spec_reading.specs.Types.{is_plain_type, names_entry}
@@ -119,7 +119,7 @@ take_other t now e v other = rw (other) refl
 -- a value of the kind is
 take_value : (t : TypeTable) (now : Moment) (e : Entity) (v : Value) → is_of_entity e v ≡ true
     → resource_paths t e ≡ [] → take_if t now e (Some v) ≡ Ok (add_value now v)
-unfolding registered
+unfolding registered walk newly
 take_value t now e v is none = rw (is, none) refl
 
 module _ (t : TypeTable) (ms : List ModuleRecord) (st : State) (f : Frame) (name : ExternName) (e : Entity) where

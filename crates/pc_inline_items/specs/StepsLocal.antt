@@ -26,7 +26,7 @@ StepsLocal t ms k l st f st' f' r =
 
 -- what preparing makes of an item: an import is prepared, and another item is passed over
 abbrev pub prepare_row : TypeTable → List ModuleRecord → Item → Moment → Result Moment Fault
-prepare_row t ms (import_item name e) now = built_prepare t ms name e now
+prepare_row t ms (import_item name e) now = built_prepare t name e now
 prepare_row t ms i now = Ok now
 
 -- whatever item a local item stands for, it is prepared as the item is

@@ -28,20 +28,21 @@ use Rattle.pc_inline_state.specs.declared.error.ItemError.TheVariants as item_er
 use Rattle.pc_inline_state.specs.declared.error.ItemFault.TheVariants as item_fault
 use Rattle.pc_inline_state.specs.declared.frame.Frame.{Frame}
 use Rattle.pc_inline_state.specs.declared.state.State.{State}
-use Rattle.pc_inline_stack.specs.Calls.{CallStands, CallFollows, Calls, built_call}
+use Rattle.pc_inline_stack.specs.Calls.{CallStands, CallFollows, Calls}
 use Rattle.pc_inline_items.specs.Captures.{IsEnclosed}
 use Rattle.pc_inline_items.specs.Members.{are_built, are_there, members_of}
 use Rattle.pc_inline_state.specs.Definitions.{component_parts}
 use Rattle.pc_inline_state.specs.Frames.{ComponentStands, SameNames}
 use Rattle.pc_inline_state.specs.Stands.{Stands, stands, stands_component}
 use Rattle.pc_inline_state.specs.Tables.{tables_of}
-use Rattle.pc_inline_state.specs.Today.{can_instantiate, is_built_call, is_built_kind}
+use Rattle.pc_inline_state.specs.Today.{built_call, can_instantiate, is_built_call, is_built_kind, today}
 use Rattle.pc_inline_state.specs.declared.kinds.TableKinds.{TableKinds}
 use Rattle.pc_inline_state.specs.Kinds.{kinds_of}
 use Rattle.pc_entity.proofs.Elements.{and_true}
 use Rattle.pc_inline_items.proofs.MemberLemmas.{arguments_all, arguments_lack, built_named, typed_named}
 use Rattle.pc_inline_stack.proofs.EnclosedLemmas.{child_enclosed}
 use Rattle.pc_inline_state.proofs.ZipLemmas.{both_missing, both_there, zip_at}
+use Rattle.pc_spec_reading.specs.Reading.{called}
 
 -- whether arguments are of built kinds, by the names that they are given for
 built_arguments : (xs : List (List ℕ × ItemKind × ℕ))
@@ -64,7 +65,7 @@ call_made : (t : TypeTable) (s : Scope) (n : ℕ) (as_ : List ArgumentOf) (ty : 
     → has_entry t is_instance ty ≡ true → slice_get s.components n ≡ Some c
     → map_all (argument_value t s) as_ ≡ Some vs
     → built_call t s n as_ ty ≡ Ok (record { component = c; arguments = vs })
-unfolding built_call read_call
+unfolding called today read_call
 call_made t s n as_ ty c vs built typed is at given = rw (built, typed, is, at, given) refl
 
 module _ (t : TypeTable) (ms : List ModuleRecord) (st : State) (f : Frame) (n : ℕ) (xs : List (List ℕ × ItemKind × ℕ))
@@ -72,7 +73,7 @@ module _ (t : TypeTable) (ms : List ModuleRecord) (st : State) (f : Frame) (n : 
   -- it isn't
   pub call_unbuilt : is_built_call t (map argument_of xs) ≡ false
       → Calls t ms n (map argument_of xs) ty st f (Err (item_error.Fault (item_fault.Unsupported NotBuilt)))
-  unfolding Calls CallFollows built_call
+  unfolding Calls CallFollows called today
   call_unbuilt not_built now at = rw (not_built) refl
 
   -- no memory
@@ -100,14 +101,14 @@ module _ (t : TypeTable) (ms : List ModuleRecord) (st : State) (f : Frame) (n : 
     -- no instance type
     pub call_untyped : has_entry t is_instance ty ≡ false
         → Calls t ms n (map argument_of xs) ty st f (Err (item_error.Fault item_fault.BadType))
-    unfolding Calls CallFollows built_call read_call
+    unfolding Calls CallFollows called today read_call
     call_untyped other now at = rw (is_built, typed_arguments t xs built, other) refl
 
     module _ (typed : has_entry t is_instance ty ≡ true) where
       -- no such component
       pub call_missing : slice_get f.components n ≡ None
           → Calls t ms n (map argument_of xs) ty st f (Err (item_error.Fault item_fault.Invalid))
-      unfolding Calls CallFollows built_call read_call
+      unfolding Calls CallFollows called today read_call
       call_missing none now at =
           rw (
             is_built,
@@ -121,7 +122,7 @@ module _ (t : TypeTable) (ms : List ModuleRecord) (st : State) (f : Frame) (n : 
         -- an argument is missing
         pub call_lacks : are_there f xs ≡ false
             → Calls t ms n (map argument_of xs) ty st f (Err (item_error.Fault item_fault.Invalid))
-        unfolding Calls CallFollows built_call read_call
+        unfolding Calls CallFollows called today read_call
         call_lacks missing now at =
             let c = both_there _ _ _ id (zip_at (ComponentStands ms (tables_of st)) f.components now.scope.components n
             at.frame.components) there in
@@ -147,7 +148,7 @@ module _ (t : TypeTable) (ms : List ModuleRecord) (st : State) (f : Frame) (n : 
             → option_and_then component_parts (slice_get st.definitions id.0) ≡ Some (s, k)
             → Calls t ms n (map argument_of xs) ty st f
             (Ok (record { body = s; closure = k; arguments = given }))
-        unfolding Calls CallFollows built_call read_call
+        unfolding Calls CallFollows called today read_call
         call_ready all given are s k parts now at =
             let c = both_there _ _ _ id (zip_at (ComponentStands ms (tables_of st)) f.components now.scope.components n
             at.frame.components) there in

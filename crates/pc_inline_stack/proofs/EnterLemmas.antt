@@ -11,15 +11,13 @@ use Rattle.std.proofs.lemmas.Bool.{le-ltb, lt-ltb, ltb-true}
 use Rattle.std.proofs.lemmas.Option.{same_Some}
 use Rattle.pc_numbers.specs.declared.runtime.RuntimeComponentInstanceIndex.{RuntimeComponentInstanceIndex}
 use Rattle.pc_types.specs.declared.error.Place.TheVariants as place
-use Rattle.pc_types.specs.declared.error.Unsupported.TheVariants.{NotBuilt}
 use Rattle.pc_types.specs.declared.module_record.ModuleRecord.{ModuleRecord}
 use Rattle.pc_types.specs.declared.parsed.TypeTable.{TypeTable}
 use Rattle.pc_parsed.specs.declared.payload.ItemKind.{ItemKind}
 use Rattle.pc_spec_reading.specs.Components as reading
-use Rattle.pc_spec_reading.specs.Components.{read_call}
 use Rattle.pc_spec_reading.specs.Item.{ArgumentOf, Items, and_item, instantiate_component_item}
-use Rattle.pc_spec_reading.specs.Outcome.{Fault, Outcome, fault, over, past, unsupported}
-use Rattle.pc_spec_reading.specs.Scope.{Moment, Scope}
+use Rattle.pc_spec_reading.specs.Outcome.{Fault, Outcome, fault, over, past}
+use Rattle.pc_spec_reading.specs.Scope.{Moment}
 use Rattle.pc_spec_reading.specs.Section.{argument_of, named_item}
 use Rattle.pc_spec_reading.specs.Total.{body_weight}
 use Rattle.pc_spec_reading.specs.World.{full, grown, has_room}
@@ -37,22 +35,22 @@ use Rattle.pc_inline_state.specs.declared.frame.Frame.{Frame}
 use Rattle.pc_inline_state.specs.declared.state.State.{State}
 use Rattle.pc_inline_state.specs.Adds.{item_count}
 use Rattle.pc_inline_stack.specs.Begins.{Begins}
-use Rattle.pc_inline_stack.specs.Calls.{CallFollows, CallReads, Calls, built_call}
+use Rattle.pc_inline_stack.specs.Calls.{CallFollows, CallReads, Calls}
 use Rattle.pc_inline_stack.specs.Driving.{reading_from}
 use Rattle.pc_inline_state.specs.Faults.{error_of, fault_of}
 use Rattle.pc_inline_stack.specs.Reads.{Ends, items_from}
 use Rattle.pc_inline_stack.specs.Stacks.{CallerStands, Fails, Grew, IsPast, OpenStands, Reached}
 use Rattle.pc_inline_stack.specs.Stacks.{Reader, Waiting, all_left, child_stands, items_of, reads_on}
 use Rattle.pc_inline_state.specs.Stands.{Stands}
+use Rattle.pc_inline_state.specs.Today.{built_call}
 use Rattle.pc_inline_state.specs.Tables.{Keeps, tables_of}
-use Rattle.pc_inline_state.specs.Today.{is_built_call}
 use Rattle.pc_inline_stack.proofs.BegunLemmas.{begun_graph, begun_keeps, begun_sound, begun_stands, begun_unexported}
 use Rattle.pc_inline_stack.proofs.EnclosedLemmas.{enclosed_kept}
 use Rattle.pc_inline_canon.proofs.KeptLemmas.{stands_kept}
 use Rattle.pc_inline_items.proofs.LocalLemmas.{plain_is}
 use Rattle.pc_inline_stack.proofs.LoopAddsLemmas.{as_many_items}
 use Rattle.pc_inline_stack.proofs.MoveLemmas.{ends_fault, point_of, reached_left, reached_point, this_item, top_open}
-use Rattle.pc_inline_stack.proofs.ResumeLemmas.{begins, begins_over, begins_past, call_refused, call_unbuilt, child_begins}
+use Rattle.pc_inline_stack.proofs.ResumeLemmas.{begins, begins_over, begins_past, call_refused, child_begins}
 use Rattle.pc_inline_stack.proofs.ResumeLemmas.{child_of}
 use Rattle.pc_inline_stack.proofs.ResumeLemmas.{waits_at}
 use Rattle.pc_inline_stack.proofs.StackLemmas.{all_kept, as_deep, grew_ends}
@@ -81,33 +79,6 @@ child_open call c = record {
   body = Some call.body;
   next = 0;
 }
-
-module _ (t : TypeTable) (s : Scope) (n : ℕ) (args : List ArgumentOf) (ty : ℕ) where
-  -- a call that is built and that the reading makes
-  pub call_made : (c : reading.Call) → built_call t s n args ty ≡ Ok c
-      → (is_built_call t args ≡ true) × (read_call t s n args ty ≡ Ok c)
-  unfolding built_call
-  call_made c is = by (is_built_call t args) refl is
-    where
-      by : (b : Bool) → is_built_call t args ≡ b
-          → (if b then read_call t s n args ty else Err (unsupported NotBuilt)) ≡ Ok c
-          → (is_built_call t args ≡ true) × (read_call t s n args ty ≡ Ok c)
-      by true built made = (built, made)
-      by false built made = let x : ⊥ = cc in absurd x
-
-  -- a call that isn't built, or that the reading refuses
-  call_stuck : (k : Fault) → built_call t s n args ty ≡ Err k
-      → ((is_built_call t args ≡ false) × (k ≡ unsupported NotBuilt))
-      ⊎ ((is_built_call t args ≡ true) × (read_call t s n args ty ≡ Err k))
-  unfolding built_call
-  call_stuck k is = by (is_built_call t args) refl is
-    where
-      by : (b : Bool) → is_built_call t args ≡ b
-          → (if b then read_call t s n args ty else Err (unsupported NotBuilt)) ≡ Err k
-          → ((is_built_call t args ≡ false) × (k ≡ unsupported NotBuilt))
-          ⊎ ((is_built_call t args ≡ true) × (read_call t s n args ty ≡ Err k))
-      by true built made = inr (built, made)
-      by false built made = inl (built, cc)
 
 -- the total grows by what a child weighs
 grew_child : (first now : Option ℕ) (weight items left more count : ℕ) → 8 * more ≤ weight
@@ -158,13 +129,8 @@ module _ (t : TypeTable) (ms : List ModuleRecord) (limit : ℕ) (root : Translat
   refused : (k : Fault) → built_call t x.reader.scope component the_args ty ≡ Err k
       → reading_from t ms limit is first ≡ fault k (place.Reading x.reader.scope.component_instance o.next)
   refused k stuck =
-      sym x.same ∙ elim (call_stuck t x.reader.scope component the_args ty k stuck)
-      as (λ _. reads_on t ms limit x.waiting x.reader o.next x.world
-      ≡ fault k (place.Reading x.reader.scope.component_instance o.next)) [
-        | inl other ↦ call_unbuilt t ms limit x.waiting x.reader o.next x.world component the_args ty this_call other.0
-            ∙ ap (λ j. fault j (place.Reading x.reader.scope.component_instance o.next)) (sym other.1)
-        | inr go ↦ call_refused t ms limit x.waiting x.reader o.next x.world component the_args ty this_call go.0 k go.1
-      ]
+      sym x.same
+      ∙ call_refused t ms limit x.waiting x.reader o.next x.world component the_args ty this_call k stuck
 
   -- where nothing more is read
   pub grew_here : Grew first.world.total x.world.total (items + length ks + 1) 0 (item_count is)
@@ -212,10 +178,9 @@ module _ (t : TypeTable) (ms : List ModuleRecord) (limit : ℕ) (root : Translat
         reads_call.stands.body reads_call.stands.chain) 0)
     child_reading deep =
         let c = reads_call in
-        let made = call_made t x.reader.scope component the_args ty c.read c.done in
         let same = as_deep t ms st.bodies.now root (tables_of st) ks o x.waiting x.reader x.all in
-        sym x.same ∙ child_begins t ms limit x.waiting x.reader o.next x.world component the_args ty this_call made.0
-        c.read made.1 c.stands.names c.stands.body c.stands.chain c.stands.is (omega (arith, deep, same))
+        sym x.same ∙ child_begins t ms limit x.waiting x.reader o.next x.world component the_args ty this_call
+        c.read c.done c.stands.names c.stands.body c.stands.chain c.stands.is (omega (arith, deep, same))
 
     -- as many as the limit have begun
     pub child_over : length ks < limit → limit ≤ st.graph.num_runtime_component_instances

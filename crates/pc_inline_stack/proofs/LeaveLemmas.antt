@@ -12,7 +12,7 @@ use Rattle.pc_types.specs.TypeTree.{TypeTree}
 use Rattle.pc_spec_reading.specs.Components.{add_child, read_return}
 use Rattle.pc_spec_reading.specs.Item.{Items, exports_in, no_items}
 use Rattle.pc_spec_reading.specs.Items.{exports_at}
-use Rattle.pc_spec_reading.specs.Resource.{registered}
+use Rattle.pc_spec_reading.specs.Resource.{newly, registered, walk}
 use Rattle.pc_spec_reading.specs.Scope.{Moment, add_value, with_value}
 use Rattle.pc_spec_reading.specs.Section.{named_item}
 use Rattle.pc_spec_reading.specs.Types.{has_entry}
@@ -60,7 +60,7 @@ pub returns : (t : TypeTable) → table_fault t ≡ None → has_no_resource t �
     → (exports : List NamedValue) (ty : ℕ) → has_entry t is_instance ty ≡ true
     → (tree : TypeTree) × (read_return t now exports ty
     ≡ Ok (add_value now (instance_value (made_instance (pack_values exports) tree))))
-unfolding read_return add_child registered
+unfolding read_return add_child registered walk newly
 returns t sound none now exports ty is =
     let tree = instance_tree t sound now.scope ty is in
     (tree.0, rw (no_paths t none (entity.Instance ty), tree.1) refl)

@@ -4,14 +4,14 @@ use Rattle.std.proofs.Common.{ap, ◌∙◌, arith, if◌then◌else◌}
 use Rattle.std.specs.Prelude.{◌-◌, nat_lt}
 use Rattle.pc_types.specs.declared.error.Place.{Place}
 use Rattle.pc_types.specs.declared.error.Place.TheVariants as place
-use Rattle.pc_types.specs.declared.error.Unsupported.TheVariants.{NotBuilt}
 use Rattle.pc_types.specs.declared.module_record.ModuleRecord.{ModuleRecord}
 use Rattle.pc_types.specs.declared.parsed.TypeTable.{TypeTable}
-use Rattle.pc_spec_reading.specs.Components.{Call, read_call, read_return}
+use Rattle.pc_spec_reading.specs.Components.{Call, read_return}
 use Rattle.pc_spec_reading.specs.Item.{ArgumentOf, Item, Items, and_item, exports_in, instantiate_component_item, no_items}
 use Rattle.pc_spec_reading.specs.Items.{exports_at}
-use Rattle.pc_spec_reading.specs.Outcome.{Fault, Outcome, and_then, at_item, done, fault, over, past, unsupported}
-use Rattle.pc_spec_reading.specs.Reading.{Enter, Return, beginning, begun_in, instantiate, returning}
+use Rattle.pc_spec_reading.specs.Outcome.{Fault, Outcome, and_then, at_item, done, fault, over, past}
+use Rattle.pc_spec_reading.specs.Reading.{Enter, Return, beginning, begun_in, returning, read_items, read_body}
+use Rattle.pc_spec_reading.specs.Reading.{read_child, enter_at}
 use Rattle.pc_spec_reading.specs.Scope.{Moment, fresh}
 use Rattle.pc_spec_reading.specs.Total.{body_weight}
 use Rattle.pc_spec_reading.specs.Value.{Chain, closed}
@@ -19,8 +19,8 @@ use Rattle.pc_spec_reading.specs.World.{World, grown, has_room}
 use Rattle.pc_local.specs.Standing.{Names}
 use Rattle.pc_inline_stack.specs.Reads.{items_from}
 use Rattle.pc_inline_stack.specs.Stacks.{Reader, Waiting, going_on, levels, reads_on, resume}
-use Rattle.pc_inline_state.specs.Today.{built_body, built_child, built_enter, built_item, built_items, built_row}
-use Rattle.pc_inline_state.specs.Today.{is_built_call}
+use Rattle.pc_inline_state.specs.Today.{built_enter, built_item, built_items, built_row}
+use Rattle.pc_inline_state.specs.Today.{today, built_call}
 use Rattle.pc_inline_stack.proofs.RowItemLemmas.{call_item, is_instantiation, item_is_row}
 use Rattle.pc_inline_stack.proofs.TodayLemmas.{begun_world, beginning_then, then_then}
 
@@ -100,14 +100,14 @@ module _ (t : TypeTable) (ms : List ModuleRecord) (limit : ℕ) where
 
     -- nothing is read where the items end
     rest_none : items_from n r.body ≡ no_items → built_items t ms enters n (items_from n r.body) here ≡ done here
-    unfolding built_items
+    unfolding read_items
     rest_none none = ap (λ is. built_items t ms enters n is here) none
 
     -- the innermost reads an item
     pub item_on : (i : Item) → items_from n r.body ≡ and_item i (items_from (suc n) r.body)
         → reads_on t ms limit ws r n w
         ≡ resume t ms limit ws r.body (and_then (built_item t ms enters n i here) the_rest)
-    unfolding built_items
+    unfolding read_items
     item_on i at =
         let one : suc n ≡ n + 1 = omega arith in
         ap (λ is. resume t ms limit ws r.body (built_items t ms enters n is here)) at
@@ -138,66 +138,55 @@ module _ (t : TypeTable) (ms : List ModuleRecord) (limit : ℕ) where
     module _ (component : ℕ) (args : List ArgumentOf) (ty : ℕ)
         (at : items_from n r.body
         ≡ and_item (instantiate_component_item component args ty) (items_from (suc n) r.body)) where
-      -- an instantiation that isn't built is refused
-      pub call_unbuilt : is_built_call t args ≡ false
-          → reads_on t ms limit ws r n w ≡ fault (unsupported NotBuilt) (place.Reading number n)
-      call_unbuilt is =
-          item_on (instantiate_component_item component args ty) at
-          ∙ ap (λ o. resume t ms limit ws r.body (and_then o the_rest)) (call_item t ms enters n component args ty here)
-          ∙ ap (λ b. resume t ms limit ws r.body (and_then (if b then instantiate t ms enters n component args ty here
-          else fault (unsupported NotBuilt) (place.Reading number n)) the_rest)) is
-          ∙ resume_fault ws r.body (unsupported NotBuilt) (place.Reading number n)
-
-      call_on : is_built_call t args ≡ true → (x : Result Call Fault) → read_call t r.scope component args ty ≡ x
+      call_on : (x : Result Call Fault) → built_call t r.scope component args ty ≡ x
           → reads_on t ms limit ws r n w
           ≡ resume t ms limit ws r.body (and_then (and_then (at_item number n x) (λ (c : Call).
           and_then (enters c r.scope.known w) (λ (b : Return).
           at_item number n (read_return t (record { scope = r.scope; world = b.world }) b.exports ty)))) the_rest)
-      unfolding instantiate
-      call_on is x read =
+      call_on x read =
           item_on (instantiate_component_item component args ty) at
           ∙ ap (λ o. resume t ms limit ws r.body (and_then o the_rest))
-          (call_item t ms enters n component args ty here ∙ rw (is, read) refl)
+          (call_item t ms enters n component args ty here x read)
 
       -- one whose child can't begin is refused
-      pub call_refused : is_built_call t args ≡ true → (k : Fault) → read_call t r.scope component args ty ≡ Err k
+      pub call_refused : (k : Fault) → built_call t r.scope component args ty ≡ Err k
           → reads_on t ms limit ws r n w ≡ fault k (place.Reading number n)
-      call_refused is k read = call_on is (Err k) read ∙ resume_fault ws r.body k (place.Reading number n)
+      call_refused k read = call_on (Err k) read ∙ resume_fault ws r.body k (place.Reading number n)
 
       -- what is read when its child is done
-      call_waits : is_built_call t args ≡ true → (c : Call) → read_call t r.scope component args ty ≡ Ok c
+      call_waits : (c : Call) → built_call t r.scope component args ty ≡ Ok c
           → reads_on t ms limit ws r n w
           ≡ resume t ms limit ws r.body (and_then (enters c r.scope.known w) (going_on t ms limit ws (waits_at r n ty)))
-      call_waits is c read =
-          call_on is (Ok c) read
+      call_waits c read =
+          call_on (Ok c) read
           ∙ ap (resume t ms limit ws r.body)
           (then_then (enters c r.scope.known w) (λ (b : Return).
           at_item number n (read_return t (record { scope = r.scope; world = b.world }) b.exports ty)) the_rest)
 
       child_reads : (c : Call) (body : Items) (chain : Chain) → c.component ≡ closed body chain → length ws < limit
           → enters c r.scope.known w
-          ≡ built_body t ms limit (built_enter t ms limit (levels t ms limit (waits_at r n ty ∷ ws))) body chain
+          ≡ read_body (today t) t ms limit (built_enter t ms limit (levels t ms limit (waits_at r n ty ∷ ws))) body chain
           c.arguments r.scope.known w
-      unfolding built_enter
+      unfolding enter_at
       child_reads c body chain is deep =
           let one : limit - length ws ≡ suc (limit - suc (length ws)) = omega (arith, deep) in
           ap (λ l. built_enter t ms limit l c r.scope.known w) one
-          ∙ ap (λ x. built_child t ms limit (built_enter t ms limit (levels t ms limit (waits_at r n ty ∷ ws))) x
+          ∙ ap (λ x. read_child (today t) t ms limit (built_enter t ms limit (levels t ms limit (waits_at r n ty ∷ ws))) x
           c.arguments r.scope.known w) is
 
       -- a child begins
-      pub child_begins : is_built_call t args ≡ true → (c : Call) → read_call t r.scope component args ty ≡ Ok c
-          → (names : Names) (body : Items) (chain : Chain) → c.component ≡ closed body chain → length ws < limit
+      pub child_begins : (c : Call) → built_call t r.scope component args ty ≡ Ok c → (names : Names)
+          (body : Items) (chain : Chain) → c.component ≡ closed body chain → length ws < limit
           → reads_on t ms limit ws r n w
           ≡ beginning limit (body_weight t ms body) w
           (reads_on t ms limit (waits_at r n ty ∷ ws) (child_of r w c names body chain) 0)
-      unfolding built_body resume
-      child_begins is c read names body chain closes deep =
+      unfolding read_body resume
+      child_begins c read names body chain closes deep =
           let e = built_enter t ms limit (levels t ms limit (waits_at r n ty ∷ ws)) in
           let begun : World → Outcome Return = λ v.
           and_then (built_items t ms e 0 body (begun_in c.arguments r.scope.known chain w.begun v))
-          (returning t ms limit body) in
-          call_waits is c read
+          (returning t body) in
+          call_waits c read
           ∙ ap (λ o. resume t ms limit ws r.body (and_then o (going_on t ms limit ws (waits_at r n ty))))
           (child_reads c body chain closes deep)
           ∙ ap (resume t ms limit ws r.body)

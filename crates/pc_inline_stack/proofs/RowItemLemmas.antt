@@ -1,15 +1,14 @@
 -- An item as it is built: a row at its place, or the instantiation of a component.
-use Rattle.std.proofs.Common.{◌≡◌, ℕ, Bool, true, false, List, refl, if◌then◌else◌}
-use Rattle.pc_types.specs.declared.error.Place.TheVariants as place
-use Rattle.pc_types.specs.declared.error.Unsupported.TheVariants.{NotBuilt}
+use Rattle.std.proofs.Common.{◌≡◌, ℕ, Bool, true, false, List, Result, ap, refl}
 use Rattle.pc_types.specs.declared.module_record.ModuleRecord.{ModuleRecord}
 use Rattle.pc_types.specs.declared.parsed.TypeTable.{TypeTable}
 use Rattle.pc_spec_reading.specs.Item
 use Rattle.pc_spec_reading.specs.Item.{ArgumentOf}
-use Rattle.pc_spec_reading.specs.Outcome.{at_item, fault, unsupported}
-use Rattle.pc_spec_reading.specs.Reading.{Enter, instantiate}
+use Rattle.pc_spec_reading.specs.Outcome.{Fault, at_item, and_then}
+use Rattle.pc_spec_reading.specs.Reading.{Enter, instantiate, read_item, Return}
 use Rattle.pc_spec_reading.specs.Scope.{Moment}
-use Rattle.pc_inline_state.specs.Today.{built_item, built_row, is_built_call}
+use Rattle.pc_inline_state.specs.Today.{built_item, built_row, built_call}
+use Rattle.pc_spec_reading.specs.Components.{Call, read_return}
 
 -- whether an item instantiates a component
 abbrev pub is_instantiation : Item.Item → Bool
@@ -20,7 +19,7 @@ module _ (t : TypeTable) (ms : List ModuleRecord) (enter : Enter) (n : ℕ) wher
   -- another item is a row at its place
   pub item_is_row : (i : Item.Item) (now : Moment) → is_instantiation i ≡ false
       → built_item t ms enter n i now ≡ at_item now.scope.component_instance n (built_row t ms now i)
-  unfolding built_item built_row
+  unfolding read_item
   item_is_row (Item.import_item a b) now is = refl
   item_is_row Item.intrinsics_import now is = refl
   item_is_row (Item.resource_item a b d) now is = refl
@@ -43,10 +42,15 @@ module _ (t : TypeTable) (ms : List ModuleRecord) (enter : Enter) (n : ℕ) wher
   item_is_row (Item.outer_item a b d) now is = refl
   item_is_row (Item.export_item a) now is = refl
 
-  -- the instantiation of a component, where it is built
-  pub call_item : (component : ℕ) (args : List ArgumentOf) (ty : ℕ) (now : Moment)
+  -- the instantiation of a component, from what its child begins with
+  pub call_item : (component : ℕ) (args : List ArgumentOf) (ty : ℕ) (now : Moment) (x : Result Call Fault)
+      → built_call t now.scope component args ty ≡ x
       → built_item t ms enter n (Item.instantiate_component_item component args ty) now
-      ≡ (if is_built_call t args then instantiate t ms enter n component args ty now
-      else fault (unsupported NotBuilt) (place.Reading now.scope.component_instance n))
-  unfolding built_item
-  call_item component args ty now = refl
+      ≡ and_then (at_item now.scope.component_instance n x) (λ (c : Call).
+      and_then (enter c now.scope.known now.world) (λ (b : Return).
+      at_item now.scope.component_instance n (read_return t (record now { world = b.world }) b.exports ty)))
+  unfolding read_item instantiate
+  call_item component args ty now x called =
+      ap (λ r. and_then (at_item now.scope.component_instance n r) (λ (c : Call).
+      and_then (enter c now.scope.known now.world) (λ (b : Return).
+      at_item now.scope.component_instance n (read_return t (record now { world = b.world }) b.exports ty)))) called

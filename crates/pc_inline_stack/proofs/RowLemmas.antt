@@ -1,10 +1,9 @@
 -- What an item that is built keeps of a moment.
 use Rattle.std.proofs.Common.{◌≡◌, ℕ, Bool, true, false, List, Option, None, Some, Result, Ok, Err, refl}
 use Rattle.std.proofs.Common.{subst, ◌∙◌, if◌then◌else◌}
-use Rattle.std.specs.Prelude.{IfOk, slice_get, option_and_then}
+use Rattle.std.specs.Prelude.{IfOk, slice_get, option_and_then, not}
 use Rattle.std.specs.List.{list_all, list_any}
 use Rattle.pc_entity.specs.Lists.{map_all, value_of}
-use Rattle.pc_types.specs.declared.error.Unsupported.TheVariants.{NotBuilt}
 use Rattle.pc_types.specs.declared.module_record.ModuleRecord.{ModuleRecord}
 use Rattle.pc_types.specs.declared.parsed.CoreFuncSig.{CoreFuncSig}
 use Rattle.pc_types.specs.declared.parsed.CoreKind.{CoreKind}
@@ -30,7 +29,7 @@ use Rattle.pc_spec_reading.specs.Member.{Member, a_host_component, a_value, memb
 use Rattle.pc_spec_reading.specs.Modules.{bag_entry, instantiate_module, read_core_alias}
 use Rattle.pc_spec_reading.specs.Modules.{read_core_exports, read_core_instance, read_module}
 use Rattle.pc_spec_reading.specs.Options.{options_of}
-use Rattle.pc_spec_reading.specs.Outcome.{Fault, after, bad_type, found, held, invalid, unsupported}
+use Rattle.pc_spec_reading.specs.Outcome.{Fault, after, bad_type, found, held, invalid}
 use Rattle.pc_spec_reading.specs.Resource.{registered, resource_paths}
 use Rattle.pc_spec_reading.specs.Rows.{read_row}
 use Rattle.pc_spec_reading.specs.SameValues.{was_made}
@@ -41,8 +40,9 @@ use Rattle.pc_spec_reading.specs.Types.{is_plain_type, names_entry, signature_at
 use Rattle.pc_spec_reading.specs.Value.{Function, Module, NamedValue, Value, closed, component_value}
 use Rattle.pc_spec_reading.specs.Value.{func_value, host_function, host_module, instance_value, intrinsic_function}
 use Rattle.pc_spec_reading.specs.Value.{lifted_function, made_instance, module_value, pack_values, static_module, type_value}
-use Rattle.pc_spec_reading.specs.World.{World, is_at}
-use Rattle.pc_inline_state.specs.Today.{built_row, is_built, is_made, without_adapters}
+use Rattle.pc_inline_state.specs.Today.{built_row, is_built, is_made, today}
+use Rattle.pc_spec_reading.specs.Reading.{row}
+use Rattle.pc_spec_reading.specs.Guard.{let_through}
 
 -- the scopes around the component, its number, the total and how many component instances began are as before
 pub record RowKeeps (now next : Moment) : Type 0 where
@@ -79,14 +79,6 @@ core_number s core.Table v = refl
 core_number s core.Memory v = refl
 core_number s core.Global v = refl
 core_number s core.Tag v = refl
-
-choice_total : (b : Bool) (v w : World) → v.total ≡ w.total → (if b then w else v).total ≡ w.total
-choice_total true v w same = refl
-choice_total false v w same = same
-
-choice_begun : (b : Bool) (v w : World) → v.begun ≡ w.begun → (if b then w else v).begun ≡ w.begun
-choice_begun true v w same = refl
-choice_begun false v w same = same
 
 module _ (old : Moment) where
   same_keeps : RowKeeps old old
@@ -143,8 +135,8 @@ module _ (old : Moment) where
   intrinsic_keeps now place s keeps = record {
     chain = keeps.chain;
     component_instance = keeps.component_instance;
-    total = choice_total (list_any (is_at place) now.world.intrinsics) _ now.world refl ∙ keeps.total;
-    begun = choice_begun (list_any (is_at place) now.world.intrinsics) _ now.world refl ∙ keeps.begun;
+    total = keeps.total;
+    begun = keeps.begun;
   }
 
   choice_keeps : (b : Bool) (x y : Moment) → RowKeeps old x → RowKeeps old y → RowKeeps old (if b then x else y)
@@ -159,6 +151,11 @@ module _ (old : Moment) where
       → Keeping (found f o go)
   found_keeps f None go each = tt
   found_keeps f (Some x) go each = each x
+
+  after_keeps : {A : Type 0} (r : Result A Fault) (go : A → Result Moment Fault) → ((x : A) → Keeping (go x))
+      → Keeping (after r go)
+  after_keeps (Ok x) go each = each x
+  after_keeps (Err f) go each = tt
 
   held_keeps : (f : Fault) (test : Bool) (r : Result Moment Fault) → Keeping r → Keeping (held f test r)
   held_keeps f true r keeps = keeps
@@ -185,7 +182,7 @@ module _ (t : TypeTable) (ms : List ModuleRecord) (now : Moment) where
   import_keeps : (e : Entity) (o : Option Value) → Keeping now (take_if t now e o)
   import_keeps e None = held_keeps now invalid (is_plain_type t e) (Ok now) (same_keeps now)
   import_keeps e (Some v) =
-      held_keeps now invalid (is_of_entity e v) _ (found_keeps now bad_type
+      held_keeps now invalid (is_of_entity e v) _ (after_keeps now
       (registered (λ names. resource_at names v) (resource_paths t e) now.scope.known) _
       (λ known. value_keeps now _ v (known_keeps now now known (same_keeps now))))
 
@@ -252,35 +249,36 @@ module _ (t : TypeTable) (ms : List ModuleRecord) (now : Moment) where
       found_keeps now invalid (value_at t now.scope e.kind e.index) _ (λ v. value_keeps now now v (same_keeps now)))
 
 module _ (t : TypeTable) (ms : List ModuleRecord) (now next : Moment) where
+  -- a moment in which no adapter was made
+  abbrev kept : Moment → Result Moment Fault
+  kept m = let_through (not (list_any is_made m.world.log)) (Ok m)
+
   -- an item that adds something is of a kind that is built
   pub row_built : (i : Item.Item) → built_row t ms now i ≡ Ok next → is_built t i ≡ true
-  unfolding built_row
+  unfolding row today
   row_built i done = by (is_built t i) refl done
     where
       by : (b : Bool) → is_built t i ≡ b
-          → (if b then after (read_row t ms now i) without_adapters else Err (unsupported NotBuilt)) ≡ Ok next
-          → is_built t i ≡ true
+          → let_through b (after (read_row t ms now i) kept) ≡ Ok next → is_built t i ≡ true
       by true is done = is
       by false is done = cc
 
-  after_adapters : (r : Result Moment Fault) → after r without_adapters ≡ Ok next → r ≡ Ok next
-  after_adapters (Err f) is = cc
-  after_adapters (Ok last) is = by (list_any is_made last.world.log) is
+  after_kept : (r : Result Moment Fault) → after r kept ≡ Ok next → r ≡ Ok next
+  after_kept (Err f) is = cc
+  after_kept (Ok last) is = by (list_any is_made last.world.log) is
     where
-      by : (b : Bool) → (if b then Err (unsupported NotBuilt) else Ok last) ≡ Ok next
+      by : (b : Bool) → let_through (not b) (Ok last) ≡ Ok next
           → ◌≡◌ {A = Result Moment Fault} (Ok last) (Ok next)
       by true is = cc
       by false is = is
 
   -- what an item that is built reads
   row_read : (i : Item.Item) → built_row t ms now i ≡ Ok next → read_row t ms now i ≡ Ok next
-  unfolding built_row
+  unfolding row today
   row_read i done = by (is_built t i) done
     where
-      by : (b : Bool)
-          → (if b then after (read_row t ms now i) without_adapters else Err (unsupported NotBuilt)) ≡ Ok next
-          → read_row t ms now i ≡ Ok next
-      by true done = after_adapters (read_row t ms now i) done
+      by : (b : Bool) → let_through b (after (read_row t ms now i) kept) ≡ Ok next → read_row t ms now i ≡ Ok next
+      by true done = after_kept (read_row t ms now i) done
       by false done = cc
 
   -- what an item keeps of a moment
@@ -293,7 +291,7 @@ module _ (t : TypeTable) (ms : List ModuleRecord) (now next : Moment) where
   unfolding read_return add_child
   return_keeps exports ty done =
       subst (λ r. IfOk r (RowKeeps now)) done (
-      found_keeps now bad_type
+      after_keeps now
       (registered (resource_among (pack_values exports)) (resource_paths t (entity.Instance ty)) now.scope.known) _
       (λ known. found_keeps now bad_type (tree_if t is_instance (with_known now known).scope ty) _ (λ tree.
       value_keeps now _ (instance_value (made_instance (pack_values exports) tree))

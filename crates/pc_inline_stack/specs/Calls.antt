@@ -1,17 +1,15 @@
 -- What a child begins with, and what it gives back.
 use Rattle.std.specs.Prelude.{◌≡◌, ◌++◌, ◌∷◌, ⊤, ℕ, true, List, [], length, map, Some, Result, Ok, Err, slice_get}
 use Rattle.std.specs.Prelude.{if◌then◌else◌}
-use Rattle.pc_types.specs.declared.error.Unsupported.TheVariants.{NotBuilt}
 use Rattle.pc_types.specs.declared.module_record.ModuleRecord.{ModuleRecord}
 use Rattle.pc_types.specs.declared.parsed.TypeTable.{TypeTable}
 use Rattle.pc_types.specs.Table.{is_instance}
 use Rattle.pc_parsed.specs.declared.payload.ExternName.{ExternName}
 use Rattle.pc_parsed.specs.declared.payload.ItemKind.{ItemKind}
-use Rattle.pc_spec_reading.specs.Components.{read_call}
 use Rattle.pc_spec_reading.specs.Components as reading
 use Rattle.pc_spec_reading.specs.Item.{ArgumentOf, Items}
 use Rattle.pc_spec_reading.specs.Items.{exports_at}
-use Rattle.pc_spec_reading.specs.Outcome.{Fault, unsupported}
+use Rattle.pc_spec_reading.specs.Outcome.{Fault}
 use Rattle.pc_spec_reading.specs.Scope.{Moment, Scope}
 use Rattle.pc_spec_reading.specs.Section.{named_item}
 use Rattle.pc_spec_reading.specs.Types.{has_entry}
@@ -34,12 +32,7 @@ use Rattle.pc_inline_state.specs.Points.{IsFullSomewhere, PointStands}
 use Rattle.pc_inline_stack.specs.Stacks.{AreBuilt}
 use Rattle.pc_inline_state.specs.Stands.{MembersStand, Stands}
 use Rattle.pc_inline_state.specs.Tables.{Tables, tables_of}
-use Rattle.pc_inline_state.specs.Today.{can_instantiate, is_built_call}
-
-module _ (t : TypeTable) where
-  -- what a child begins with, as far as it is built
-  unfoldable pub built_call : Scope → (component : ℕ) → List ArgumentOf → (ty : ℕ) → Result reading.Call Fault
-  built_call s n args ty = if is_built_call t args then read_call t s n args ty else Err (unsupported NotBuilt)
+use Rattle.pc_inline_state.specs.Today.{can_instantiate, built_call}
 
 module _ (t : TypeTable) (ms : List ModuleRecord) where
   -- a call of the code stands for one of the reading

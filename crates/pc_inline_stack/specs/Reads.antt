@@ -56,4 +56,4 @@ module _ (t : TypeTable) (ms : List ModuleRecord) where
 
   -- the imports of the root are prepared
   abbrev pub Prepared : List LocalInitializer → State → Frame → State → Frame → Result ⊤ Error → Type 0
-  Prepared = Passes (built_prepare_all t ms 0)
+  Prepared = Passes (built_prepare_all t 0)

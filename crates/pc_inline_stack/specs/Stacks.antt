@@ -105,7 +105,7 @@ module _ (t : TypeTable) (ms : List ModuleRecord) (limit : ℕ) where
   -- how all that waits goes on when the items of the innermost have ended so
   unfoldable pub resume : List Waiting → (body : Items) → Outcome Moment → Outcome Moment
   resume [] body o = o
-  resume (w ∷ ws) body o = resume ws w.reader.body (and_then (and_then o (returning t ms limit body)) (going_on ws w))
+  resume (w ∷ ws) body o = resume ws w.reader.body (and_then (and_then o (returning t body)) (going_on ws w))
 
   -- the reading from item number n of the innermost on
   abbrev pub reads_on : List Waiting → Reader → (n : ℕ) → World → Outcome Moment

@@ -1,12 +1,13 @@
 -- How much calls add, one after another.
 use Rattle.std.proofs.Common.{◌≡◌, ℕ, ◌+◌, ◌≤◌, ◌∙◌, length, true, refl, sym, subst, ap, arith}
 use Rattle.pc_types.specs.declared.parsed.TypeTable.{TypeTable}
+use Rattle.pc_types_lists.specs.Adds.{AddsTypes}
 use Rattle.pc_types_lists.specs.Types.{Types}
 use Rattle.pc_types_builder.specs.Few.{AddsFuncs, AddsSignature}
 use Rattle.pc_dfg.specs.Lists as list
 use Rattle.pc_dfg.specs.Lists.{ListName, entries_of}
 use Rattle.pc_inline_state.specs.declared.state.State.{State}
-use Rattle.pc_inline_state.specs.Adds.{Adds, AddsTypes}
+use Rattle.pc_inline_state.specs.Adds.{Adds}
 use Rattle.pc_inline_state.specs.Plain.{is_plain_table}
 use Rattle.pc_inline_state.specs.AddsEach.{AddsEach, everywhere, in_imports, in_options, in_slots, in_trampolines, nowhere}
 use Rattle.pc_inline_state.specs.Prepares.{Converts}

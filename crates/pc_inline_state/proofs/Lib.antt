@@ -5,6 +5,7 @@ mod NumberLemmas
 pub mod StateLemmas
 pub mod RefusedLemmas
 pub mod GrowthLemmas
+pub mod HoldsLemmas
 pub mod AddsPushLemmas
 pub mod AddsLemmas
 mod FewLemmas

@@ -1,26 +1,13 @@
 -- How much a call adds: to the types builder, to the graph and to the tables.
 use Rattle.std.specs.Prelude.{◌≡◌, ◌≤◌, ◌+◌, ℕ, true, length}
 use Rattle.pc_types.specs.declared.parsed.TypeTable.{TypeTable}
-use Rattle.pc_types_lists.specs.Types.{Types}
+use Rattle.pc_types_lists.specs.Adds.{AddsTypes}
 use Rattle.pc_local.specs.declared.item.LocalInitializer.{LocalInitializer}
 use Rattle.pc_local.specs.declared.item.LocalInitializer.TheVariants as local
 use Rattle.pc_spec_reading.specs.Item.{Items, no_items, and_item}
 use Rattle.pc_dfg.specs.Lists.{ListName, entries_of}
 use Rattle.pc_inline_state.specs.Plain.{is_plain_table}
 use Rattle.pc_inline_state.specs.Tables.{Tables}
-
--- at most n function types more, n core signatures and 2 n tuples, and no other type: what n functions over primitives
--- may need
-pub record AddsTypes (n : ℕ) (old new : Types) : Type 0 where
-  pub rest : new ≡ record old {
-    funcs = new.funcs;
-    tuples = new.tuples;
-    signatures = new.signatures;
-    resources = new.resources;
-  }
-  pub funcs : length new.funcs ≤ length old.funcs + n
-  pub tuples : length new.tuples ≤ length old.tuples + (n + n)
-  pub signatures : length new.signatures ≤ length old.signatures + n
 
 -- each list of the graph and each table has at most n entries more, and no more component instances have begun
 pub record AddsEntries (n : ℕ) (old new : Tables) : Type 0 where

@@ -1,4 +1,5 @@
 -- What the contracts of this crate say.
+pub mod Holds
 pub mod Typed
 pub mod Faults
 pub mod Plain

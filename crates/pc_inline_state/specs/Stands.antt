@@ -39,14 +39,15 @@ use Rattle.pc_inline_state.specs.declared.definition.DefinitionId.{DefinitionId}
 use Rattle.pc_inline_state.specs.declared.definition.ExportsId.{ExportsId}
 use Rattle.pc_inline_state.specs.declared.definition.Options.{Options}
 use Rattle.pc_inline_state.specs.Tables.{IsItem, Tables}
-use Rattle.pc_inline_state.specs.Typed.{Numbered, number_of, whole_of}
+use Rattle.pc_inline_state.specs.Holds.{Numbered, number_of, whole_of}
+use Rattle.pc_inline_state.specs.Typed.{anyhow}
 
 -- a definition of the graph has a value of the reading: with numbers for types it is the definition's value, with whole
 -- types the reading's
 pub record CoreStands (types : Types) (g : ComponentDfg) (d : CoreDef) (v : CoreValue Mark) : Type 0 where
-  pub numbered : CoreValue (Numbered types)
-  pub means : Means g d (map_value (number_of types) numbered)
-  pub is : map_value (whole_of types) numbered ≡ v
+  pub numbered : CoreValue (Numbered types anyhow)
+  pub means : Means g d (map_value (number_of types anyhow) numbered)
+  pub is : map_value (whole_of types anyhow) numbered ≡ v
 
 module _ (ms : List ModuleRecord) (b : Tables) where
   -- a core item by number, of a kind

@@ -1,4 +1,4 @@
--- Types and core signatures twice: as numbers of the types builder, and whole, as the reading has them.
+-- Which numbers of the types builder entries and signatures of the table have.
 use Rattle.std.specs.Prelude.{◌≡◌, ◌⊎◌, ℕ, true, false, List, [], Option, None, Some, slice_get}
 use Rattle.pc_numbers.specs.declared.module_entity.ModuleInternedTypeIndex.{ModuleInternedTypeIndex}
 use Rattle.pc_numbers.specs.declared.runtime.ResourceIndex.{ResourceIndex}
@@ -10,10 +10,7 @@ use Rattle.pc_types.specs.Table.{is_func}
 use Rattle.pc_types.specs.TypeTree.{Identity}
 use Rattle.pc_types_lists.specs.Types.{Resources, Types}
 use Rattle.pc_types_builder.specs.Converted.{AreConverted}
-use Rattle.pc_types_builder.specs.Trees.{HasTree, IsEntry}
-use Rattle.pc_trampoline.specs.declared.part.Mark.{Mark}
-use Rattle.pc_trampoline.specs.declared.part.Mark.TheVariants as mark
-use Rattle.pc_parsed.specs.Mark as reading
+use Rattle.pc_types_builder.specs.Trees.{IsEntry}
 use Rattle.pc_spec_reading.specs.Types.{has_entry}
 use Rattle.pc_inline_state.specs.declared.numbers.Numbers.{Numbers}
 
@@ -21,26 +18,9 @@ use Rattle.pc_inline_state.specs.declared.numbers.Numbers.{Numbers}
 abbrev pub no_resources : Resources
 no_resources = record { known = []; current = record { 0 = 0 } }
 
-module _ (types : Types) where
-  -- the builder holds this type, whatever the resources are, or this core signature under the number
-  unfoldable pub Holds : Mark → reading.Mark → Type 0
-  Holds (mark.Type_ ty) (reading.of_type tree) = (who : ResourceIndex → Identity) → HasTree types who ty tree
-  Holds (mark.Signature n) (reading.of_signature s) = slice_get types.signatures n.0 ≡ Some s
-  Holds _ _ = ⊥
-
-  -- a type or a core signature twice: as a number, and whole, as the builder holds it under the number
-  pub record Numbered : Type 0 where
-    pub number : Mark
-    pub whole : reading.Mark
-    pub holds : Holds number whole
-
-  -- as a number
-  abbrev pub number_of : Numbered → Mark
-  number_of m = m.number
-
-  -- whole
-  abbrev pub whole_of : Numbered → reading.Mark
-  whole_of m = m.whole
+-- resource numbers are read in any way
+abbrev pub anyhow : (ResourceIndex → Identity) → Type 0
+anyhow who = Unit {0}
 
 -- the number is that of signature `n` of the table
 abbrev pub IsSignature : Types → TypeTable → ℕ → ModuleInternedTypeIndex → Type 0

@@ -1,7 +1,7 @@
 -- What all component instances share, against the world of the reading.
-use Rattle.std.specs.Prelude.{◌≡◌, ◌<◌, ◌≤◌, ℕ, true, false, Bool, count_by, [], ◌∷◌, ◌++◌, length, List, Option, None}
-use Rattle.std.specs.Prelude.{Some, map, slice_get, replicate, if◌then◌else◌, All, Contains}
-use Rattle.std.specs.List.{AllZip, list_any, filter_map, fold}
+use Rattle.std.specs.Prelude.{◌≡◌, ◌<◌, ◌≤◌, ℕ, false, count_by, [], length, List, Option, None}
+use Rattle.std.specs.Prelude.{Some, map, slice_get, replicate, All, Contains}
+use Rattle.std.specs.List.{AllZip, list_any}
 use Rattle.pc_entity.specs.declared.packed_option.PackedOption.TheVariants as packed
 use Rattle.pc_types_lists.specs.Types.{Types}
 use Rattle.pc_dfg.specs.declared.ids.OptionsId.{OptionsId}
@@ -16,11 +16,12 @@ use Rattle.pc_types.specs.declared.parsed.CoreKind.TheVariants as core
 use Rattle.pc_types.specs.declared.type_index.TypeFuncIndex.{TypeFuncIndex}
 use Rattle.pc_types.specs.declared.types.ComponentExtern.{ComponentExtern}
 use Rattle.pc_types.specs.TypeTree.{Path}
-use Rattle.pc_spec_plan.specs.CoreValue.{CoreValue, lowered, options}
-use Rattle.pc_spec_plan.specs.Log.{Entry, declared, instances_of, map_entry, needed, trace}
+use Rattle.pc_spec_plan.specs.CoreValue.{CoreValue, options}
+use Rattle.pc_spec_plan.specs.Log.{Entry, declared, instances_of, map_entry, trace}
 use Rattle.pc_spec_plan.specs.PlanView as plan
 use Rattle.pc_trampoline.specs.declared.part.Mark.TheVariants as mark
-use Rattle.pc_parsed.specs.Mark.{Mark, of_signature, of_type}
+use Rattle.pc_parsed.specs.Mark.{Mark, of_type}
+use Rattle.pc_spec_reading.specs.Asked.{import_path, is_declared, paths_needed, signature_of}
 use Rattle.pc_spec_reading.specs.Nodes.{extern_data}
 use Rattle.pc_spec_reading.specs.SameTypes.{same_path}
 use Rattle.pc_spec_reading.specs.World.{HostImport, World}
@@ -38,42 +39,16 @@ use Rattle.pc_dfg.specs.Numbers.{SignedTrampoline, slots_of}
 use Rattle.pc_inline_state.specs.Stands.{CoreStands}
 use Rattle.pc_inline_state.specs.Tables.{IsItem}
 use Rattle.pc_inline_state.specs.Today.{is_made}
-use Rattle.pc_inline_state.specs.Typed.{Holds, Numbered, number_of, whole_of}
+use Rattle.pc_inline_state.specs.Holds.{Holds, Numbered, number_of, whole_of}
+use Rattle.pc_inline_state.specs.Typed.{anyhow}
 
--- the path that an entry needs, if it needs one
-abbrev pub needed_path : Entry Mark → Option Path
-needed_path (needed p) = Some p
-needed_path _ = None
-
--- whether an entry says that a host function was lowered, or that a builtin was added
-abbrev pub is_declared : Entry Mark → Bool
-is_declared (declared v) = true
-is_declared _ = false
-
--- paths with one more, unless it is one of them
-abbrev pub with_path : List Path → Path → List Path
-with_path ps p = if list_any (same_path p) ps then ps else ps ++ p ∷ []
-
--- the core signature of a function that was lowered
-abbrev pub signature_of : CoreValue Mark → Option CoreFuncSig
-signature_of (lowered p ty (options c encoding is_async (of_signature s) callback post_return model)) = Some s
-signature_of _ = None
-
--- a trampoline has the core signature of the function that was lowered
+-- a trampoline has the core signature of what is declared
 abbrev pub IsSigned : Types → SignedTrampoline → CoreValue Mark → Type 0
 IsSigned types x v = (s : CoreFuncSig) × (slice_get types.signatures x.0.0 ≡ Some s) × (signature_of v ≡ Some s)
-
--- the paths that a log needs, in order, each once
-unfoldable pub paths_needed : List (Entry Mark) → List Path
-paths_needed log = fold with_path [] (filter_map needed_path log)
 
 -- the path to a host item
 abbrev pub path_of : ImportIndex × List (List ℕ) → Path
 path_of i = record { import = i.0.0; names = i.1 }
-
--- the path of an import itself
-abbrev pub import_path : ℕ → Path
-import_path i = record { import = i; names = [] }
 
 -- the kind of what is in a slot
 abbrev pub slot_kind : plan.SlotKind → CoreKind
@@ -139,15 +114,15 @@ pub record AreUsed (g : ComponentDfg) (used : List (Option RuntimeImportIndex)) 
 module _ (types : Types) (g : ComponentDfg) where
   -- a side effect does what an entry says
   pub record EffectStands (e : SideEffect) (x : Entry Mark) : Type 0 where
-    pub numbered : Entry (Numbered types)
-    pub means : MeansEffect g e (map_entry (number_of types) numbered)
-    pub is : map_entry (whole_of types) numbered ≡ x
+    pub numbered : Entry (Numbered types anyhow)
+    pub means : MeansEffect g e (map_entry (number_of types anyhow) numbered)
+    pub is : map_entry (whole_of types anyhow) numbered ≡ x
 
   -- an import of the root is one that the host gives, its type under its number
   pub record ImportStands (i : List ℕ × ComponentExtern) (h : HostImport) : Type 0 where
     pub name : i.0 ≡ h.name.name
     pub extern_data : i.1.data_ ≡ extern_data h.name
-    pub typed : Holds types (mark.Type_ i.1.ty) (of_type h.import_type)
+    pub typed : Holds types anyhow (mark.Type_ i.1.ty) (of_type h.import_type)
 
   -- a trampoline is declared, and has the core signature of its lowering
   pub record IsDeclared (log : List (Entry Mark)) (k : ℕ) (x : SignedTrampoline) : Type 0 where

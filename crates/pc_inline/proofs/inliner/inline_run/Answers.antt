@@ -15,18 +15,19 @@ inline_root-inlined-requires-clause-stands c =
 
 pub returns-clause-inlines : goal.returns-clause-inlines
 returns-clause-inlines c body stands =
-    run_ends _ _ _ _ (c.in_ok-modules.ensures ∙ c.as_slice.ensures) _ _ _
-    (c.swap.ensures.x_after ∙ c.take_graph-graph.ensures.types) _ _ c.new-state.ensures.bodies body stands _ _
-    c.take_graph-graph.ensures.graph _ c.inline_root-inlined.ensures.few c.inline_root-inlined.ensures.inlines _
-    c.and.ensures
+    run_ends _ _ _ _ (c.in_ok-modules.ensures ∙ c.as_slice.ensures) _ c.inline_root-inlined.new.state _
+    (c.swap.ensures.x_after ∙ c.take_graph-graph.ensures.types) _ _ c.new-state.ensures.bodies body stands
+    c.args.types.now _ c.new-state.result (c.replace-builder.ensures.value ∙ c.forget_resources.ensures)
+    c.new-state.ensures.types _ c.take_graph-graph.ensures.graph _ c.inline_root-inlined.ensures.few
+    c.inline_root-inlined.ensures.inlines _ c.and.ensures
 
 pub returns-clause-few : goal.returns-clause-few
-returns-clause-few c body stands =
+returns-clause-few c body stands counted =
     run_counts _ _ _ _ (c.in_ok-modules.ensures ∙ c.as_slice.ensures) _ c.inline_root-inlined.new.state _
     (c.swap.ensures.x_after ∙ c.take_graph-graph.ensures.types) _ _ c.new-state.ensures.bodies body stands
     c.args.types.now _ c.new-state.result (c.replace-builder.ensures.value ∙ c.forget_resources.ensures)
     c.new-state.ensures.types _ c.take_graph-graph.ensures.graph _ c.inline_root-inlined.ensures.few _
-    c.and.ensures
+    c.and.ensures counted
 
 pub returns-clause-keeps : goal.returns-clause-keeps
 returns-clause-keeps c =
@@ -35,20 +36,21 @@ returns-clause-keeps c =
     c.inline_root-inlined.ensures.keeps (c.swap.ensures.x_after ∙ c.take_graph-graph.ensures.types)
 
 pub returns-clause-adds : goal.returns-clause-adds
-returns-clause-adds c body stands plain =
+returns-clause-adds c body stands plain counted =
     run_gains _ _ _ _ (c.in_ok-modules.ensures ∙ c.as_slice.ensures) _ c.inline_root-inlined.new.state _
     (c.swap.ensures.x_after ∙ c.take_graph-graph.ensures.types) _ _ c.new-state.ensures.bodies body stands
     c.args.types.now _ c.new-state.result (c.replace-builder.ensures.value ∙ c.forget_resources.ensures)
-    c.new-state.ensures.types plain _ c.inline_root-inlined.ensures.adds c.inline_root-inlined.ensures.few
+    c.new-state.ensures.types plain _ c.inline_root-inlined.ensures.adds c.inline_root-inlined.ensures.few counted
 
 pub returns-in_err-modules-clause-inlines : goal.returns-in_err-modules-clause-inlines
-returns-in_err-modules-clause-inlines c body stands = run_unfed _ _ _ body _ _ c.from_residual.ensures.1
+returns-in_err-modules-clause-inlines c body stands = run_unfed _ _ _ body _ _ _ c.from_residual.ensures.1
 
 pub returns-in_err-modules-clause-adds : goal.returns-in_err-modules-clause-adds
-returns-in_err-modules-clause-adds c body stands plain = gains_nothing _ _ _ body _
+returns-in_err-modules-clause-adds c body stands plain counted = gains_nothing _ _ _ body _ counted
 
 pub returns-in_err-numbers-clause-inlines : goal.returns-in_err-numbers-clause-inlines
-returns-in_err-numbers-clause-inlines c body stands = run_unfed _ _ _ body _ _ c.from_residual-in_err-numbers.ensures.1
+returns-in_err-numbers-clause-inlines c body stands =
+    run_unfed _ _ _ body _ _ _ c.from_residual-in_err-numbers.ensures.1
 
 pub returns-in_err-numbers-clause-adds : goal.returns-in_err-numbers-clause-adds
-returns-in_err-numbers-clause-adds c body stands plain = gains_nothing _ _ _ body _
+returns-in_err-numbers-clause-adds c body stands plain counted = gains_nothing _ _ _ body _ counted

@@ -1,4 +1,5 @@
 use Rattle.std.proofs.Common.{Err, ap, refl, sym, subst}
+use Rattle.pc_types_builder.specs.Types.{IsFull}
 use Rattle.pc_types_builder.proofs.TreeLemmas.{converted_grows}
 use Rattle.pc_inline_state.specs.Typed.{AreSignatures}
 use Rattle.pc_inline_state.proofs.NumberLemmas.{signatures_grow, signatures_noted}
@@ -21,7 +22,7 @@ returns-in_err-index-clause-converts c = record {
 pub returns-in_err-index-clause-err : goal.returns-in_err-index-clause-err
 returns-in_err-index-clause-err c =
     type_lacks _ _ _ _ c.from_residual.ensures.1 (λ is. c.in_err-index.ensures.bad (ap Err is))
-    (λ is. (c.in_err-index.ensures.full (ap Err is)).1.full)
+    (λ is. subst IsFull (sym c.in_err-index.ensures.err) (c.in_err-index.ensures.full (ap Err is)).1.full)
 
 pub returns-clause-converts : goal.returns-clause-converts
 returns-clause-converts c = record {
