@@ -14,7 +14,7 @@ use Rattle.pc_tool.specs.declared.words.Command.{Command}
 use Rattle.pc_tool.specs.Answers.{Answers, AnswersSource, Said, status_of, text_of}
 use Rattle.pc_tool.specs.Headline.{IsTextOf, IsFaultText}
 use Rattle.pc_tool.specs.Run.{Ended, GaveTooMuch, IsDue, Tells, WroteFront}
-use Rattle.pc_tool.proofs.RefusalLemmas.{told_has_no_text}
+use Rattle.pc_tool.proofs.RefusalLemmas.{told_has_no_fault}
 
 -- a run that ends so wrote nothing
 abbrev Silent : Status → Type 0
@@ -156,11 +156,14 @@ module _ (c : Command) (left left_new : Option (List ℕ)) (reads reads_new : �
       let whole = said_whole _ _ _ _ _ _ _ said in
       let tells : result ≡ status.Done → Tells (IsTextOf c) left left_new written written_new =
       λ e. made_tells _ _ _ _ _ a answers (whole status.Done (λ w. cc w) e) in
+      let refuses : result ≡ status.Refused → Tells IsFaultText left left_new written written_new =
+      λ e. fault_tells _ _ _ _ _ a answers (whole status.Refused (λ w. cc w) e) in
       record {
         done = λ d same e.
             subst (λ (x : Command). Tells (IsTextOf x) left left_new written written_new) (cc same) (tells e);
-        refused = λ e. fault_tells _ _ _ _ _ a answers (whole status.Refused (λ w. cc w) e);
-        refuses = λ d same told told_is refused e. told_has_no_text c _ _ _ _ told told_is refused (tells e);
+        refused = refuses;
+        completes = λ told told_is input decoded valid e. told_has_no_fault _ _ _ _ told told_is input decoded valid
+            (refuses e);
         usage = λ e. absurd (subst Answered (whole status.Usage (λ w. cc w) e).0 (answered a));
         too_long = λ e. too_long_takes _ _ _ _ _ a answers (whole status.TooLong (λ w. cc w) e);
         gave = λ told told_is.
@@ -187,7 +190,7 @@ module _ (c : Command) (left left_new : Option (List ℕ)) (reads reads_new : �
   silent_ended r not_long gave reads_fall writes_fall quiet shown kept = record {
     done = λ d same e. absurd (subst Silent e quiet);
     refused = λ e. absurd (subst Silent e quiet);
-    refuses = λ d same told told_is refused e. subst Silent e quiet;
+    completes = λ told told_is input decoded valid e. subst Silent e quiet;
     usage = λ e. absurd (subst Silent e quiet);
     too_long = λ e. absurd (subst Silent e quiet);
     gave = λ told told_is. let g = gave told told_is in (g.0, g.1, g.2, λ over. absurd (not_long (g.3.1 over)));
@@ -217,7 +220,7 @@ module _ (left : Option (List ℕ)) (reads : ℕ) (written written_new : Option 
       record {
         done = λ d same e. absurd (cc (is, same));
         refused = λ e. absurd (cc (whole status.Refused (λ w. cc w) e).0);
-        refuses = λ d same told told_is refused e. cc (is, same);
+        completes = λ told told_is input decoded valid e. cc (whole status.Refused (λ w. cc w) e).0;
         usage = λ e. (is, (whole status.Usage (λ w. cc w) e).1);
         too_long = λ e. absurd (cc (whole status.TooLong (λ w. cc w) e).0);
         gave = λ told told_is. (0, omega arith, told_is, λ over. absurd (omega arith));

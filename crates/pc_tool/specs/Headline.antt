@@ -1,10 +1,9 @@
 -- What the texts mean that answer bytes: the text of a plan that does what the nested reading says, or of a fault and
 -- its cause.
-use Rattle.std.specs.Prelude.{◌≡◌, ◌≢◌, ◌⊎◌, ℕ, false, List, Option, Some, None}
+use Rattle.std.specs.Prelude.{◌≡◌, ◌≢◌, ◌⊎◌, ℕ, List, Option, Some, None, Ok}
 use Rattle.serde_json.specs.Data.{Data}
 use Rattle.pc_types.specs.declared.error.Error.{Error}
 use Rattle.pc_types.specs.declared.error.Error.TheVariants as error
-use Rattle.pc_types.specs.declared.error.Place.{Place}
 use Rattle.pc_spec_plan.specs.Text.{plan_text}
 use Rattle.pc_info.specs.declared.component.ComponentTranslation.{ComponentTranslation}
 use Rattle.pc_info.specs.declared.module.ModuleTranslation.{ModuleTranslation}
@@ -12,15 +11,12 @@ use Rattle.pc_info.specs.View.{view}
 use Rattle.pc_offsets.specs.Context.{context_size}
 use Rattle.pc_text.specs.ContextText.{context_text}
 use Rattle.pc_text.specs.FaultText.{fault_text, not_json, bad_form}
-use Rattle.pc_parsed.specs.Program.{is_numbered}
-use Rattle.pc_parsed.specs.StaticFault.{static_fault}
-use Rattle.pc_spec_reading.specs.Outcome.{Fault, Outcome, fault, over}
+use Rattle.pc_spec_reading.specs.Answer.{answer_of}
 use Rattle.pc_spec_reading.specs.Reading.{Reading}
 use Rattle.pc_input.specs.declared.input.Input.{Input}
 use Rattle.pc_input.specs.Input.{input_in, input_of, tree_of}
 use Rattle.pc_input_values.specs.Rules.{plain}
-use Rattle.pc_inline_state.specs.Plain.{is_plain_table}
-use Rattle.pc_translate.specs.Causes.{HasRoot, are_built, built_meaning, meaning}
+use Rattle.pc_translate.specs.Causes.{built_answer}
 use Rattle.pc_translate.specs.Translation.{IsPlanOf, IsRefusalOf}
 use Rattle.pc_tool.specs.declared.words.Command.{Command}
 use Rattle.pc_tool.specs.declared.words.Command.TheVariants as command
@@ -46,30 +42,14 @@ IsPlanFor input plan modules =
 abbrev pub IsErrorOf : Input → Error → Type 0
 IsErrorOf input e = IsRefusalOf input.table input.intrinsics input.tunables.max_component_instances input.payloads e
 
--- what an input's payloads mean
-abbrev pub meaning_of : Input → Option (Outcome Reading)
-meaning_of input = meaning input.table input.intrinsics input.tunables.max_component_instances input.payloads
-
--- the same as far as it is built
-abbrev pub built_meaning_of : Input → Option (Outcome Reading)
-built_meaning_of input =
-    built_meaning input.table input.intrinsics input.tunables.max_component_instances input.payloads
-
--- an input has a reason to be refused
-pub data HasFault (input : Input) : Type 0 where
-  -- a list is too long for its numbers
-  too_long : is_numbered input.table input.payloads ≡ false → HasFault input
-  -- there is a static fault
-  static : {e : Error} → static_fault input.table input.intrinsics input.payloads ≡ Some e → HasFault input
-  -- a function of the table isn't over primitives
-  compound : is_plain_table input.table ≡ false → HasFault input
-  -- the reading ends at a fault, or over the limit
-  faulty : {k : Fault} {p : Place} → meaning_of input ≡ Some (fault k p) → HasFault input
-  endless : meaning_of input ≡ Some over → HasFault input
-  -- an item of the root is of a kind that isn't built
-  later : HasRoot input.intrinsics input.payloads (λ body. are_built input.table body ≡ false) → HasFault input
-  -- an item isn't built where it is read, or an adapter is needed
-  unbuilt : {k : Fault} {p : Place} → built_meaning_of input ≡ Some (fault k p) → HasFault input
+-- an input is valid: a reading is the answer by the order of answers, its total counted, and as far as it is built
+pub record IsValid (input : Input) : Type 0 where
+  pub counted : Reading
+  pub answer : answer_of input.table input.intrinsics input.tunables.max_component_instances 0 input.payloads
+      ≡ Some (Ok counted)
+  pub result : Reading
+  pub built : built_answer input.table input.intrinsics input.tunables.max_component_instances input.payloads
+      ≡ Some (Ok result)
 
 -- a text is the one that a command makes of a plan and its modules
 unfoldable pub Prints : Command → ComponentTranslation → List ModuleTranslation → (text : List ℕ) → Type 0
@@ -112,7 +92,3 @@ pub record IsErrorText (bytes text : List ℕ) : Type 0 where
 abbrev pub IsFaultText : (bytes text : List ℕ) → Type 0
 IsFaultText bytes text =
     (IsNotJson bytes × (text ≡ not_json)) ⊎ ((IsBadForm bytes × (text ≡ bad_form)) ⊎ IsErrorText bytes text)
-
--- bytes have a reason to be refused: they are no JSON, they are no input, or their input has one
-abbrev pub IsRefused : (bytes : List ℕ) → Type 0
-IsRefused bytes = IsNotJson bytes ⊎ (IsBadForm bytes ⊎ ((input : Input) × Decodes bytes input × HasFault input))

@@ -7,7 +7,8 @@ use Rattle.pc_text.specs.UsageText.{usage as usage_text}
 use Rattle.pc_tool.specs.declared.status.Status.{Status}
 use Rattle.pc_tool.specs.declared.status.Status.TheVariants as status
 use Rattle.pc_tool.specs.declared.words.Command.{Command}
-use Rattle.pc_tool.specs.Headline.{IsTextOf, IsFaultText, IsRefused}
+use Rattle.pc_input.specs.declared.input.Input.{Input}
+use Rattle.pc_tool.specs.Headline.{Decodes, IsFaultText, IsTextOf, IsValid}
 
 -- bytes are all that a source had, at most 64 MiB, and none is left; of a source that tells none this says the length
 -- alone
@@ -52,10 +53,10 @@ pub record Ended (words : Option Command) (left left_new : Option (List ℕ)) (r
   -- a run that is done wrote the text which its command makes of the bytes
   pub done : (c : Command) → words ≡ Some c → result ≡ status.Done
       → Tells (IsTextOf c) left left_new written written_new
-  -- one that refused wrote why the bytes have no plan, and bytes with a reason to be refused have none
+  -- one that refused wrote why the bytes have no plan, and bytes that stand for a valid input aren't refused
   pub refused : result ≡ status.Refused → Tells IsFaultText left left_new written written_new
-  pub refuses : (c : Command) → words ≡ Some c → (told : List ℕ) → left ≡ Some told
-      → IsRefused told → result ≢ status.Done
+  pub completes : (told : List ℕ) → left ≡ Some told → (input : Input) → Decodes told input → IsValid input
+      → result ≢ status.Refused
   -- the usage is written only for words that name no command
   pub usage : result ≡ status.Usage → (words ≡ None) × Takes written written_new usage_text
   -- where bytes are told, n of them were given, from the front, and above the limit the answer is that there are too

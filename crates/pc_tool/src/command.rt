@@ -55,7 +55,7 @@ pub fn run<S: Source, W: Sink>(alloc: Global, words: &[String], src: &mut S, out
     ensures no_command { command_of (map string_bytes words.now) ≡ None
         → (src.new ≡ src.old) × ((result ≡ Status.Usage) ⊎ (result ≡ Status.WriteFault)) }
 
-    // Each end has its cause, whatever the command. Its fields: `done`, `refused`, `refuses`, `usage`, `too_long`,
+    // Each end has its cause, whatever the command. Its fields: `done`, `refused`, `completes`, `usage`, `too_long`,
     // `gave`, `read_fault`, `write_fault`, `memory`, `reads_never_fall`, `writes_never_fall`.
     ensures ended { Ended (command_of (map string_bytes words.now))
         (S.left src.old) (S.left src.new) (S.faults src.old) (S.faults src.new)

@@ -4,7 +4,7 @@ use Rattle.std.proofs.Common.{if◌then◌else◌, refl, sym, ap, subst, ◌∙�
 use Rattle.std.specs.Prelude.{slice_get, option_map}
 use Rattle.std.specs.List.{AllZip, filter_map, fold, list_any}
 use Rattle.std.proofs.lemmas.Bool.{eq-eqb}
-use Rattle.std.proofs.lemmas.Option.{none-some, same_Some, slice_get-map}
+use Rattle.std.proofs.lemmas.Option.{none-some, same_Some}
 use Rattle.pc_entity.specs.Lists.{AreDistinct}
 use Rattle.pc_entity.proofs.Elements.{true_and}
 use Rattle.pc_entity.proofs.Naming.{bytes_eq-refl}
@@ -14,18 +14,21 @@ use Rattle.pc_numbers.specs.declared.runtime.RuntimeImportIndex.{RuntimeImportIn
 use Rattle.pc_types.specs.declared.module_record.ModuleRecord.{ModuleRecord}
 use Rattle.pc_types.specs.TypeTree.{Path}
 use Rattle.pc_spec_plan.specs.Log.{Entry}
-use Rattle.pc_spec_plan.specs.PlanView.{RuntimeImport}
 use Rattle.pc_info.specs.declared.component.ComponentTranslation.{ComponentTranslation}
 use Rattle.pc_info.specs.View.{import_type_view, import_view, view}
 use Rattle.pc_trampoline.specs.declared.part.Mark.{Mark}
+use Rattle.pc_trampoline.specs.declared.part.Mark.TheVariants as mark
 use Rattle.pc_parsed.specs.Mark as reading
+use Rattle.pc_spec_reading.specs.Asked.{needed_path, paths_needed, with_path}
 use Rattle.pc_spec_reading.specs.Reading.{Reading}
 use Rattle.pc_spec_reading.specs.SameTypes.{same_names, same_path}
 use Rattle.pc_dfg.specs.declared.dfg.ComponentDfg.{ComponentDfg}
 use Rattle.pc_dfg_finish.specs.Finishes.{Finishes}
 use Rattle.pc_inline.specs.Inlines.{GraphStands}
+use Rattle.pc_inline_state.proofs.HoldsLemmas.{holds_so}
+use Rattle.pc_inline_state.specs.Holds.{ReadsAs}
 use Rattle.pc_inline_state.specs.Worlds as world
-use Rattle.pc_inline_state.specs.Worlds.{ImportStands, needed_path, paths_needed, with_path}
+use Rattle.pc_inline_state.specs.Worlds.{ImportStands}
 use Rattle.pc_translate.proofs.ListLemmas.{push_place, zip_mapped}
 use Rattle.pc_translate.specs.Asked.{AsksHost, IsImport, path_of}
 use Rattle.pc_translate.specs.Planning.{as_handed_in}
@@ -92,21 +95,19 @@ module _ (types : Types) (ms : List ModuleRecord) (g : ComponentDfg) (r : Readin
   paths_are : map path_of (map import_view plan.component.imports) ≡ paths_needed r.log
   paths_are = paths_of plan.component.imports ∙ ap (map world.path_of) finished.imports ∙ stands.world.imports
 
-  -- the path at a place
-  path_at : (n : ℕ) (i : RuntimeImport) → slice_get (map import_view plan.component.imports) n ≡ Some i
-      → slice_get (paths_needed r.log) n ≡ Some (path_of i)
-  path_at n i at =
-      ap (λ ps. slice_get ps n) (sym paths_are) ∙ slice_get-map path_of (map import_view plan.component.imports) n
-      ∙ ap (option_map path_of) at
-
   pub asks_host : AsksHost types (view plan (map as_handed_in ms)) r
   asks_host = record {
-    import_types = subst (λ xs. AllZip (IsImport types) (map import_type_view xs) r.imports) (sym finished.import_types)
-        (zip_mapped (ImportStands types g) (IsImport types) import_type_view
-        (λ x h s. record { name = s.name; extern_data = s.extern_data; typed = s.typed }) g.import_types r.imports
-        stands.world.import_types);
+    import_types = subst (λ xs. AllZip (IsImport types r.imported_resources) (map import_type_view xs) r.imports)
+        (sym finished.import_types)
+        (zip_mapped (ImportStands types g) (IsImport types r.imported_resources) import_type_view
+        (λ x h s. record {
+          name = s.name;
+          extern_data = s.extern_data;
+          typed = holds_so types (ReadsAs r.imported_resources) (mark.Type_ x.1.ty) (reading.of_type h.import_type)
+              s.typed;
+        })
+        g.import_types r.imports stands.world.import_types);
     imports = paths_are;
-    once = λ i j x at_i at_j. once_each r.log i j (path_of x) (path_at i x at_i) (path_at j x at_j);
     resources = ap (λ (rs : List RuntimeImportIndex). map (λ n. option_map path_of (slice_get
         (map import_view plan.component.imports) n)) (map (λ (r : RuntimeImportIndex). r.0) rs))
         (finished.imported_resources ∙ stands.plain.imported_resources)

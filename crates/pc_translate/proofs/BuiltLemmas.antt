@@ -1,5 +1,5 @@
 -- Local items are of kinds that are built where the items are for which they stand.
-use Rattle.std.proofs.Common.{◌≡◌, ◌&&◌, ◌⊎◌, inl, inr, ℕ, Bool, true, false, List, [], ◌∷◌, map, Option, None, Some}
+use Rattle.std.proofs.Common.{◌≡◌, ◌&&◌, ℕ, Bool, true, false, List, [], ◌∷◌, map, Option, None, Some}
 use Rattle.std.proofs.Common.{refl, sym, ap, subst, ◌∙◌, true≢false, if◌then◌else◌}
 use Rattle.std.specs.Prelude.{is_some}
 use Rattle.std.specs.List.{list_all}
@@ -8,6 +8,7 @@ use Rattle.pc_types.specs.declared.error.Error.{Error}
 use Rattle.pc_types.specs.declared.parsed.Entity.{Entity}
 use Rattle.pc_types.specs.declared.parsed.Entity.TheVariants as entity
 use Rattle.pc_types.specs.declared.parsed.TypeTable.{TypeTable}
+use Rattle.pc_types.specs.Table.{is_some_and}
 use Rattle.pc_parsed.specs.declared.canon.CanonItem.{CanonItem}
 use Rattle.pc_parsed.specs.declared.canon.CanonItem.TheVariants as canon
 use Rattle.pc_parsed.specs.declared.payload.ItemKind.TheVariants as kind
@@ -29,7 +30,9 @@ use Rattle.pc_local.specs.Standing.{stands_module, stands_nested, stands_plain}
 use Rattle.pc_spec_reading.specs.Section.{argument_of, named_item}
 use Rattle.pc_inline_state.specs.Plain.{is_plain_table}
 use Rattle.pc_inline_state.specs.Today.{can_instantiate, has_no_resource, is_built_import, is_built_item, is_built_kind}
-use Rattle.pc_translate.specs.Causes.{CanBeRead, HasCause, HasOwnCause, HasRoot, are_built}
+use Rattle.pc_translate.proofs.AnswerLemmas.{built_none}
+use Rattle.pc_translate.specs.Causes.{CanBeRead, HasCause, HasOwnCause, HasRoot, are_built, built_answer, built_meaning}
+use Rattle.pc_translate.specs.Causes.{is_built_input}
 use Rattle.pc_inline_state.specs.Kinds.{import_kind, kinds_of}
 use Rattle.pc_translate.specs.Planning.{is_built_local}
 
@@ -127,12 +130,7 @@ root_built : (t : TypeTable) (exposed : Option (List ℕ)) (ps : List Payload) (
 root_built t exposed ps program b stands is =
     (stands.body, stands.nests, items_built t program.components _ _ _ stands.root.items ∙ is)
 
--- what a conjunction that fails has as its cause
-and_fails : (a b : Bool) → (a && b) ≡ false → (a ≡ false) ⊎ (b ≡ false)
-and_fails true b h = inr h
-and_fails false b h = inl refl
-
--- and what one that holds tells
+-- what a conjunction that holds tells
 and_holds : (a b : Bool) → (a && b) ≡ true → (a ≡ true) × (b ≡ true)
 and_holds true b h = (refl, h)
 and_holds false b h = absurd (true≢false (sym h))
@@ -156,20 +154,11 @@ module _ (t : TypeTable) (exposed : Option (List ℕ)) (ps : List Payload) (prog
   -- where it fails, that is the cause
   pub is_unbuilt : (is_plain_table t && list_all (is_built_local (kinds_of t)) program.root.initializers) ≡ false
       → (e : Error) → e ≡ not_built → HasOwnCause t exposed ps e
-  unfolding HasOwnCause
-  is_unbuilt fails e is limit types =
-      subst (λ (x : Error). HasCause t exposed limit ps types x) (sym is)
-      (inl (
-        record {
-          numbered = numbered;
-          sound = sound;
-          unbuilt = the_one (and_fails (is_plain_table t)
-              (list_all (is_built_local (kinds_of t)) program.root.initializers) fails);
-        },
-        refl,
-      ))
-    where
-      the_one : (is_plain_table t ≡ false) ⊎ (list_all (is_built_local (kinds_of t)) program.root.initializers ≡ false)
-          → (is_plain_table t ≡ false) ⊎ HasRoot exposed ps (λ body. are_built t body ≡ false)
-      the_one (inl table) = inl table
-      the_one (inr items) = inr (root_is false items)
+  unfolding HasOwnCause built_answer
+  is_unbuilt fails e is limit held =
+      let items = items_built t program.components _ _ _ stands.root.items in
+      let input : is_built_input t exposed ps ≡ false =
+      ap (λ b. is_plain_table t && b) (ap (is_some_and (are_built t)) stands.nests ∙ items) ∙ fails in
+      subst (λ (x : Error). HasCause t exposed limit held ps x) (sym is)
+      (built_none (is_numbered t ps) (is_built_input t exposed ps) (static_fault t exposed ps)
+      (built_meaning t exposed limit ps) numbered sound input)

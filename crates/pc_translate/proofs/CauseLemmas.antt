@@ -1,11 +1,13 @@
 -- Why a translation is refused, from what its steps answer.
-use Rattle.std.proofs.Common.{arith, ◌≡◌, ℕ, ◌⊎◌, inl, inr, List, map, ◌∙◌, Option, Some, Result, Ok, Err, IfErr}
-use Rattle.std.proofs.Common.{true, false, refl, sym, ap, subst}
+use Rattle.std.proofs.Common.{◌≡◌, ℕ, ◌⊎◌, inl, inr, List, map, ◌∙◌, Option, None, Some, Result, Ok, Err, IfErr, true}
+use Rattle.std.proofs.Common.{false, refl, sym, ap, subst, arith}
+use Rattle.std.specs.Prelude.{nat_lt, option_map}
 use Rattle.std.specs.List.{list_all}
 use Rattle.std.specs.Result.{IsErrAnd}
 use Rattle.std.proofs.lemmas.Option.{same_Some}
 use Rattle.std.proofs.lemmas.Simd.{map-map}
-use Rattle.pc_types_lists.specs.Types.{IsBuilder, Types}
+use Rattle.pc_entity.proofs.Elements.{true_and}
+use Rattle.pc_types_lists.specs.Types.{IsBuilder, Types, types_held}
 use Rattle.pc_types.specs.declared.error.Error.{Error}
 use Rattle.pc_types.specs.declared.error.Error.TheVariants as error
 use Rattle.pc_types.specs.declared.error.Place.{Place}
@@ -15,28 +17,36 @@ use Rattle.pc_types.specs.declared.module_record.ModuleRecord.{ModuleRecord}
 use Rattle.pc_types.specs.declared.parsed.TypeTable.{TypeTable}
 use Rattle.pc_types.specs.Names.{distinct_names}
 use Rattle.pc_types.specs.Record.{is_sound}
+use Rattle.pc_types.specs.Table.{is_some_and}
 use Rattle.pc_info.specs.declared.component.ComponentTranslation.{ComponentTranslation}
 use Rattle.pc_info.specs.declared.module.ModuleTranslation.{ModuleTranslation}
 use Rattle.pc_parsed.specs.declared.payload.Payload.{Payload}
 use Rattle.pc_parsed.specs.Program.{is_numbered}
 use Rattle.pc_parsed.specs.StaticFault.{static_fault}
 use Rattle.pc_parsed.proofs.KindLemmas.{IsStatic, static_kind}
+use Rattle.pc_spec_reading.specs.Answer.{answer_from, answer_of, ending, or_fault}
 use Rattle.pc_spec_reading.specs.Item.{ExportOf, Items, exports_in}
 use Rattle.pc_spec_reading.specs.Nest.{root_of}
-use Rattle.pc_spec_reading.specs.Outcome.{bad_type, fault, invalid, over}
+use Rattle.pc_spec_reading.specs.Outcome.{Outcome, bad_type, fault, invalid, over, past}
 use Rattle.pc_spec_reading.specs.Outcome as outcome
+use Rattle.pc_spec_reading.specs.Reading.{Reading, reading}
 use Rattle.pc_spec_reading.specs.Section.{modules_of, named_item}
+use Rattle.pc_spec_reading.specs.Total.{counted}
+use Rattle.pc_spec_reading.specs.World.{full}
 use Rattle.pc_local.proofs.NameLemmas.{modules_sound, root_names}
 use Rattle.pc_local.specs.declared.item.LocalProgram.{LocalProgram}
 use Rattle.pc_local.specs.Program.{ProgramStands}
 use Rattle.pc_local.specs.Standing.{BodyStands, no_names}
-use Rattle.pc_inline.specs.Inlines.{IsFault, export_name}
+use Rattle.pc_inline.specs.Inlines.{EndsAs as IsEnd, HasNoRoom, IsFault, export_name}
 use Rattle.pc_inline_stack.specs.Totals.{GainsFew}
 use Rattle.pc_inline_state.specs.Plain.{is_plain_table}
+use Rattle.pc_translate.proofs.AnswerLemmas.{built_end, built_fault, end_answer, fault_answer, full_answer, full_first}
+use Rattle.pc_translate.proofs.AnswerLemmas.{held_counted, past_answer}
 use Rattle.pc_translate.proofs.PassingLemmas.{passed_err}
 use Rattle.pc_translate.proofs.FlawLemmas.{IsFlawError, static_flaw}
-use Rattle.pc_translate.proofs.TranslatesLemmas.{root_built, root_end, translates}
-use Rattle.pc_translate.specs.Causes.{CanBeRead, HasCause, HasOwnCause, IsFirstFault}
+use Rattle.pc_translate.proofs.TranslatesLemmas.{root_built, root_end, root_past, translates}
+use Rattle.pc_translate.specs.Causes.{CanBeRead, HasCause, HasOwnCause, are_built, built_answer, built_meaning}
+use Rattle.pc_translate.specs.Causes.{is_built_input, meaning}
 use Rattle.pc_translate.specs.Planning.{IsPlanOfBody, Plans, as_handed_in}
 use Rattle.pc_translate.specs.Translation.{CountsGained, Gains, GainsCounted, Translates}
 
@@ -61,39 +71,110 @@ module _ (t : TypeTable) (exposed : Option (List ℕ)) (limit : ℕ) (ps : List 
   -- what was gained for the body of a program was gained for its payloads
   pub gains : (program : LocalProgram) (old new : Types) → ProgramStands exposed ps program → CanBeRead t exposed ps
       → ((body : Items) → BodyStands program.components no_names program.root body → is_plain_table t ≡ true
-      → GainsFew t program.modules limit body old new)
+      → (start : ℕ) → GainsFew t program.modules limit start body old new)
       → Gains t exposed limit ps old new
   unfolding Gains
   gains program old new stands can few =
-      of_root program stands (λ ms body. GainsFew t ms limit body old new) (λ body is. few body is can.plain)
+      of_root program stands (λ ms body. GainsFew t ms limit (counted t (types_held old) ps) body old new)
+      (λ body is. few body is can.plain (counted t (types_held old) ps))
 
   -- also where it is counted
   pub counts_gained : (program : LocalProgram) (old new : Types) → ProgramStands exposed ps program
       → CanBeRead t exposed ps
       → ((body : Items) → BodyStands program.components no_names program.root body → is_plain_table t ≡ true
-      → GainsCounted t program.modules limit body old new)
+      → (start : ℕ) → GainsCounted t program.modules limit start body old new)
       → CountsGained t exposed limit ps old new
   unfolding CountsGained
   counts_gained program old new stands can few =
-      of_root program stands (λ ms body. GainsCounted t ms limit body old new) (λ body is. few body is can.plain)
+      of_root program stands (λ ms body. GainsCounted t ms limit (counted t (types_held old) ps) body old new)
+      (λ body is. few body is can.plain (counted t (types_held old) ps))
 
-module _ (t : TypeTable) (exposed : Option (List ℕ)) (limit : ℕ) (ps : List Payload) (types : Types) where
+module _ (t : TypeTable) (exposed : Option (List ℕ)) (limit held : ℕ) (ps : List Payload) where
+  -- where a reading ends so, no total counted, so does the answer
+  both_answer : CanBeRead t exposed ps → (o : Outcome Reading) → meaning t exposed limit ps ≡ Some o
+      → built_meaning t exposed limit ps ≡ Some o
+      → (built_answer t exposed limit ps ≡ Some (ending o)) × (answer_from t exposed limit None ps ≡ Some (ending o))
+  unfolding built_answer answer_from meaning
+  both_answer can o means built =
+      let there : is_some_and (are_built t) (root_of exposed ps) ≡ true =
+      ap (is_some_and (are_built t)) can.built.1 ∙ can.built.2 in
+      let input : is_built_input t exposed ps ≡ true =
+      true_and (is_plain_table t) (is_some_and (are_built t) (root_of exposed ps)) can.plain there in (
+        built_end (is_numbered t ps) (is_built_input t exposed ps) (static_fault t exposed ps)
+            (built_meaning t exposed limit ps) o can.numbered can.sound input built,
+        end_answer (static_fault t exposed ps) (reading t exposed limit None ps) o can.sound means,
+      )
+
+  -- where it is done as far as it is built, so does that answer
+  built_alone : CanBeRead t exposed ps → (o : Outcome Reading) → built_meaning t exposed limit ps ≡ Some o
+      → built_answer t exposed limit ps ≡ Some (ending o)
+  unfolding built_answer
+  built_alone can o built =
+      let there : is_some_and (are_built t) (root_of exposed ps) ≡ true =
+      ap (is_some_and (are_built t)) can.built.1 ∙ can.built.2 in
+      let input : is_built_input t exposed ps ≡ true =
+      true_and (is_plain_table t) (is_some_and (are_built t) (root_of exposed ps)) can.plain there in
+      built_end (is_numbered t ps) (is_built_input t exposed ps) (static_fault t exposed ps)
+      (built_meaning t exposed limit ps) o can.numbered can.sound input built
+
+  -- a static fault is both answers
+  static_answer : (e : Error) → is_numbered t ps ≡ true → static_fault t exposed ps ≡ Some e
+      → (built_answer t exposed limit ps ≡ Some (Err e)) × (answer_from t exposed limit None ps ≡ Some (Err e))
+  unfolding built_answer answer_from
+  static_answer e numbered at = (
+    built_fault (is_numbered t ps) (is_built_input t exposed ps) (static_fault t exposed ps)
+        (built_meaning t exposed limit ps) e numbered at,
+    fault_answer (static_fault t exposed ps) (option_map ending (reading t exposed limit None ps)) e at,
+  )
+
+  -- a reading that is past the total is too much
+  pub too_much : static_fault t exposed ps ≡ None
+      → reading t exposed limit (Some (counted t held ps)) ps ≡ Some past
+      → answer_of t exposed limit held ps ≡ Some (Err error.TooMany)
+  unfolding answer_of answer_from
+  too_much sound is =
+      past_answer (nat_lt (counted t held ps) full) (static_fault t exposed ps)
+      (reading t exposed limit (Some (counted t held ps)) ps) sound is
+
+  -- and so is a list that can't be numbered
+  unnumbered : is_numbered t ps ≡ false → answer_of t exposed limit held ps ≡ Some (Err error.TooMany)
+  unfolding answer_of answer_from
+  unnumbered long =
+      full_answer (nat_lt (counted t held ps) full)
+      (or_fault (static_fault t exposed ps) (option_map ending (reading t exposed limit (Some (counted t held ps)) ps)))
+      (full_first t held ps long)
+
   module _ (can : CanBeRead t exposed ps) (body : Items) (root : root_of exposed ps ≡ Some body) where
+    -- the cause of an end
+    ends_so : (o : Outcome Reading) → IsEnd t (modules_of ps) limit body o
+        → (built_answer t exposed limit ps ≡ Some (ending o)) × (answer_from t exposed limit None ps ≡ Some (ending o))
+    ends_so o h =
+        let ends = root_end t exposed limit ps body root o h in both_answer can o ends.0 ends.1
+
     -- what isn't supported is told at its place
     unsupported_cause : (u : Unsupported) (p : Place)
-        → IsFault t (modules_of ps) limit body types (error.Unsupported u p)
-        → HasCause t exposed limit ps types (error.Unsupported u p)
+        → IsFault t (modules_of ps) limit body held (error.Unsupported u p)
+        → HasCause t exposed limit held ps (error.Unsupported u p)
     unsupported_cause unsupported.NotBuilt p h =
-        inr (can, root_built t exposed limit ps body root (fault (outcome.unsupported unsupported.NotBuilt) p) h)
-    unsupported_cause u p h = inr (can, root_end t exposed limit ps body root (fault (outcome.unsupported u) p) h)
+        built_alone can (fault (outcome.unsupported unsupported.NotBuilt) p)
+        (root_built t exposed limit ps body root (fault (outcome.unsupported unsupported.NotBuilt) p) h)
+    unsupported_cause u p h = ends_so (fault (outcome.unsupported u) p) h
+
+    -- the cause of a total that is too much
+    past_cause : HasNoRoom t (modules_of ps) limit body held → HasCause t exposed limit held ps error.TooMany
+    past_cause h = (
+      too_much can.sound (root_past t exposed limit ps body root (counted t held ps)
+          (h can.plain (counted t held ps) (held_counted t held ps))),
+      inr can,
+    )
 
     -- the cause of a reading's fault
-    fault_cause : (e : Error) → IsFault t (modules_of ps) limit body types e → HasCause t exposed limit ps types e
-    fault_cause (error.Invalid p) h = (can, root_end t exposed limit ps body root (fault invalid p) h)
-    fault_cause (error.BadType p) h = (can, root_end t exposed limit ps body root (fault bad_type p) h)
+    fault_cause : (e : Error) → IsFault t (modules_of ps) limit body held e → HasCause t exposed limit held ps e
+    fault_cause (error.Invalid p) h = ends_so (fault invalid p) h
+    fault_cause (error.BadType p) h = ends_so (fault bad_type p) h
     fault_cause (error.Unsupported u p) h = unsupported_cause u p h
-    fault_cause error.TooManyInstances h = (can, root_end t exposed limit ps body root over h)
-    fault_cause error.TooMany h = inr (can, (body, root, h))
+    fault_cause error.TooManyInstances h = ends_so over h
+    fault_cause error.TooMany h = past_cause h
     fault_cause error.NoMemory h = tt
     fault_cause (error.Malformed p) h = absurd h
     fault_cause (error.BadTable p) h = absurd h
@@ -102,57 +183,67 @@ module _ (t : TypeTable) (exposed : Option (List ℕ)) (limit : ℕ) (ps : List 
     fault_cause (error.DefinedTwice p) h = absurd h
     fault_cause (error.BadOptions p) h = absurd h
 
-    -- the cause of a program's refusal
-    plan_cause : (ms : List ModuleRecord) (e : Error) → ms ≡ modules_of ps
-        → Plans t ms limit body types (Err e) → HasCause t exposed limit ps types e
-    unfolding Plans
-    plan_cause ms e same h = fault_cause e (subst (λ xs. IsFault t xs limit body types e) same h)
+  -- so it is with a refusal before the reading
+  pub program_refused : {T : Type 0} (r : Result T Error) (e : Error) → IsErrAnd r (λ x. x ≡ e)
+      → HasOwnCause t exposed ps e → IfErr r (λ (x : Error). HasCause t exposed limit held ps x)
+  unfolding HasOwnCause
+  program_refused r e passed cause =
+      passed_err r e (λ q. IfErr q (λ (x : Error). HasCause t exposed limit held ps x)) passed (cause limit held)
+
+module _ (t : TypeTable) (exposed : Option (List ℕ)) (limit : ℕ) (ps : List Payload) (old types : Types) where
+  -- the cause of a program's refusal
+  plan_cause : CanBeRead t exposed ps → (body : Items) → root_of exposed ps ≡ Some body → (ms : List ModuleRecord)
+      (e : Error) → ms ≡ modules_of ps → Plans t ms limit body old types (Err e)
+      → HasCause t exposed limit (types_held old) ps e
+  unfolding Plans
+  plan_cause can body root ms e same h =
+      fault_cause t exposed limit (types_held old) ps can body root e
+      (subst (λ xs. IsFault t xs limit body (types_held old) e) same h)
 
   -- the same of a refusal that is passed up
   pub plan_refused : {T : Type 0} (program : LocalProgram) → ProgramStands exposed ps program → CanBeRead t exposed ps
       → (r : Result T Error) (e : Error) → IsErrAnd r (λ x. x ≡ e)
       → ((body : Items) → BodyStands program.components no_names program.root body
-      → Plans t program.modules limit body types (Err e))
-      → IfErr r (λ (x : Error). HasCause t exposed limit ps types x)
+      → Plans t program.modules limit body old types (Err e))
+      → IfErr r (λ (x : Error). HasCause t exposed limit (types_held old) ps x)
   plan_refused program stands can r e passed plans =
-      passed_err r e (λ q. IfErr q (λ (x : Error). HasCause t exposed limit ps types x)) passed
+      passed_err r e (λ q. IfErr q (λ (x : Error). HasCause t exposed limit (types_held old) ps x)) passed
       (plan_cause can stands.body stands.nests program.modules e stands.modules (plans stands.body stands.root))
 
-  -- so it is with a refusal before the reading
-  pub program_refused : {T : Type 0} (r : Result T Error) (e : Error) → IsErrAnd r (λ x. x ≡ e)
-      → HasOwnCause t exposed ps e → IfErr r (λ (x : Error). HasCause t exposed limit ps types x)
-  unfolding HasOwnCause
-  program_refused r e passed cause =
-      passed_err r e (λ q. IfErr q (λ (x : Error). HasCause t exposed limit ps types x)) passed (cause limit types)
-
 -- a static fault is its own cause
-static_cause : (t : TypeTable) (exposed : Option (List ℕ)) (limit : ℕ) (ps : List Payload) (types : Types) (e : Error)
-    → IsFirstFault t exposed ps e → IsStatic e → IsFlawError e → HasCause t exposed limit ps types e
-static_cause t exposed limit ps types (error.Malformed p) at known other = at
-static_cause t exposed limit ps types (error.BadTable p) at known other = at
-static_cause t exposed limit ps types (error.BadIntrinsics p) at known other = at
-static_cause t exposed limit ps types (error.UnknownIntrinsic p) at known other = at
-static_cause t exposed limit ps types (error.DefinedTwice p) at known other = at
-static_cause t exposed limit ps types (error.Unsupported unsupported.NotBuilt p) at known other = absurd other
-static_cause t exposed limit ps types (error.Unsupported u p) at known other = inl at
-static_cause t exposed limit ps types error.NoMemory at known other = tt
-static_cause t exposed limit ps types e at known other = absurd known
+static_cause : (t : TypeTable) (exposed : Option (List ℕ)) (limit held : ℕ) (ps : List Payload) (e : Error)
+    → is_numbered t ps ≡ true → static_fault t exposed ps ≡ Some e → IsStatic e → IsFlawError e
+    → HasCause t exposed limit held ps e
+static_cause t exposed limit held ps e numbered at known other =
+    by e known other (static_answer t exposed limit held ps e numbered at)
+  where
+    by : (e : Error) → IsStatic e → IsFlawError e
+        → (built_answer t exposed limit ps ≡ Some (Err e)) × (answer_from t exposed limit None ps ≡ Some (Err e))
+        → HasCause t exposed limit held ps e
+    by (error.Malformed p) known other both = both
+    by (error.BadTable p) known other both = both
+    by (error.BadIntrinsics p) known other both = both
+    by (error.UnknownIntrinsic p) known other both = both
+    by (error.DefinedTwice p) known other both = both
+    by (error.Unsupported unsupported.NotBuilt p) known other both = absurd other
+    by (error.Unsupported u p) known other both = both
+    by error.NoMemory known other both = tt
+    by e known other both = absurd known
 
 -- a list that can't be numbered is too long
 pub too_long : (t : TypeTable) (exposed : Option (List ℕ)) (ps : List Payload) → is_numbered t ps ≡ false
     → HasOwnCause t exposed ps error.TooMany
 unfolding HasOwnCause
-too_long t exposed ps long limit types = inl long
+too_long t exposed ps long limit held = (unnumbered t exposed limit held ps long, inl long)
 
 payload_cause_at : (t : TypeTable) (exposed : Option (List ℕ)) (ps : List Payload) (e : Error)
     → is_numbered t ps ≡ true → (e ≡ error.NoMemory) ⊎ (static_fault t exposed ps ≡ Some e)
     → HasOwnCause t exposed ps e
 unfolding HasOwnCause
-payload_cause_at t exposed ps e numbered (inl memory) limit types =
-    subst (λ (x : Error). HasCause t exposed limit ps types x) (sym memory) tt
-payload_cause_at t exposed ps e numbered (inr at) limit types =
-    static_cause t exposed limit ps types e (numbered, at) (static_kind t exposed ps e at)
-    (static_flaw t exposed ps e at)
+payload_cause_at t exposed ps e numbered (inl memory) limit held =
+    subst (λ (x : Error). HasCause t exposed limit held ps x) (sym memory) tt
+payload_cause_at t exposed ps e numbered (inr at) limit held =
+    static_cause t exposed limit held ps e numbered at (static_kind t exposed ps e at) (static_flaw t exposed ps e at)
 
 -- the cause of a refusal before the reading, which is passed up
 pub payload_cause : {T : Type 0} (t : TypeTable) (exposed : Option (List ℕ)) (ps : List Payload) (r : Result T Error)
@@ -181,13 +272,13 @@ names_distinct t exposed ps program stands can =
 
 -- the plan of a program is the translation of its payloads
 pub translates_program : (t : TypeTable) (exposed : Option (List ℕ)) (limit : ℕ) (ps : List Payload)
-    (program : LocalProgram) → ProgramStands exposed ps program → CanBeRead t exposed ps → (types : Types)
+    (program : LocalProgram) → ProgramStands exposed ps program → CanBeRead t exposed ps → (old types : Types)
     → IsBuilder types → (plan : ComponentTranslation) (modules : List ModuleTranslation)
     → ((body : Items) → BodyStands program.components no_names program.root body
-    → Plans t program.modules limit body types (Ok plan)) → modules ≡ map as_handed_in program.modules
+    → Plans t program.modules limit body old types (Ok plan)) → modules ≡ map as_handed_in program.modules
     → Translates t exposed limit ps types plan modules
 unfolding Plans
-translates_program t exposed limit ps program stands can types builder plan modules planned same =
+translates_program t exposed limit ps program stands can old types builder plan modules planned same =
     subst (λ (ms : List ModuleTranslation). Translates t exposed limit ps types plan ms)
     (sym (same ∙ ap (map as_handed_in) stands.modules))
     (translates t exposed limit ps stands.body stands.nests types plan can builder

@@ -1,7 +1,8 @@
 -- What a plan has is what the reading declares and makes; a plain graph has no intrinsics.
-use Rattle.std.proofs.Common.{◌≡◌, ◌<◌, ℕ, zero, suc, List, [], ◌∷◌, length, map, None, Some, refl, sym, ap, ◌∙◌, arith}
+use Rattle.std.proofs.Common.{◌≡◌, ◌<◌, ℕ, zero, suc, List, [], ◌∷◌, length, map, None, Some, refl, sym, ap, subst, ◌∙◌}
+use Rattle.std.proofs.Common.{arith}
 use Rattle.std.specs.Prelude.{slice_get}
-use Rattle.std.specs.List.{AllZip, cons_option, filter_map}
+use Rattle.std.specs.List.{AllZip, Contains, cons_option, filter_map}
 use Rattle.std.proofs.lemmas.Option.{none-some, same_Some}
 use Rattle.pc_entity.specs.declared.packed_option.PackedOption.{PackedOption}
 use Rattle.pc_entity.specs.declared.packed_option.PackedOption.TheVariants as packed
@@ -11,6 +12,7 @@ use Rattle.pc_numbers.specs.declared.runtime.RuntimeComponentInstanceIndex.{Runt
 use Rattle.pc_types.specs.declared.intrinsic.UnsafeIntrinsic.{UnsafeIntrinsic}
 use Rattle.pc_types.specs.declared.module_record.ModuleRecord.{ModuleRecord}
 use Rattle.pc_types.specs.declared.parsed.CoreKind.{CoreKind}
+use Rattle.pc_spec_plan.specs.CoreValue.{map_value}
 use Rattle.pc_spec_plan.specs.Machine.{State}
 use Rattle.pc_spec_plan.specs.Log.{Entry, declared, declared_resource, instantiated, made, map_entry, needed, trace}
 use Rattle.pc_trampoline.specs.declared.part.Mark.{Mark}
@@ -27,13 +29,16 @@ use Rattle.pc_dfg.specs.Effects.{MeansEffect, means_declared, means_made}
 use Rattle.pc_dfg.proofs.UniqueLemmas.{means_unique}
 use Rattle.pc_dfg_finish.specs.Finishes.{Finishes, StandsForOne}
 use Rattle.pc_inline.specs.Inlines.{GraphStands}
+use Rattle.pc_inline_canon.proofs.MarkLemmas.{value_twice}
+use Rattle.pc_inline_state.proofs.HoldsLemmas.{so}
 use Rattle.pc_inline_state.specs.Tables.{IsItem}
 use Rattle.pc_inline_state.specs.Today.{is_made}
-use Rattle.pc_inline_state.specs.Typed.{number_of, whole_of}
+use Rattle.pc_inline_state.specs.Holds.{ReadsAs, number_of, whole_of}
+use Rattle.pc_inline_state.specs.Typed.{anyhow}
 use Rattle.pc_inline_state.specs.Worlds.{EffectStands}
 use Rattle.pc_translate.proofs.ListLemmas.{none_counted}
 use Rattle.pc_translate.proofs.WiredLemmas.{no_adapters, none_at, occurring_item}
-use Rattle.pc_translate.specs.Asked.{AreSigned, Declares, HasDeclared, resource_owner}
+use Rattle.pc_translate.specs.Asked.{AreSigned, Declares, HasDeclared, HasSignature, resource_owner}
 use Rattle.pc_translate.specs.Planning.{as_handed_in}
 
 -- the owner of a resource has no marks
@@ -59,8 +64,8 @@ no_owners types g none [] (x ∷ xs) h = absurd h
 no_owners types g none (e ∷ es) [] h = absurd h
 no_owners types g none (e ∷ es) (x ∷ xs) h =
     let one : resource_owner x ≡ None = ap resource_owner (sym h.0.is)
-    ∙ owner_mapped (whole_of types) h.0.numbered ∙ sym (owner_mapped (number_of types) h.0.numbered)
-    ∙ none_declared g e (map_entry (number_of types) h.0.numbered) none h.0.means in
+    ∙ owner_mapped (whole_of types anyhow) h.0.numbered ∙ sym (owner_mapped (number_of types anyhow) h.0.numbered)
+    ∙ none_declared g e (map_entry (number_of types anyhow) h.0.numbered) none h.0.means in
     let rest = no_owners types g none es xs h.1 in
     λ i. cons_option (one i) (rest i)
 
@@ -99,13 +104,17 @@ module _ (types : Types) (ms : List ModuleRecord) (g : ComponentDfg) (r : Readin
       → HasDeclared types plan modules s r n
   declared_one modules s n one =
       let x = stands.world.are_declared one.trampoline.0 one.entry one.at in
+      let reads = ReadsAs r.imported_resources in
+      let as_read = so types reads in
+      let whole = value_twice as_read (whole_of types reads) x.stands.numbered ∙ x.stands.is in
       record {
-        value = x.stands.numbered;
-        resolves = one.resolves ∙ ap Some (means_unique g one.means x.stands.means);
-        entry = rw x.stands.is x.entry;
+        value = map_value as_read x.stands.numbered;
+        resolves = one.resolves ∙ ap Some (means_unique g one.means x.stands.means
+            ∙ sym (value_twice as_read (number_of types reads) x.stands.numbered));
+        entry = subst (λ v. Contains r.log (declared v)) (sym whole) x.entry;
         signature = one.entry.0;
         stands_under = one.signature;
-        signed = rw x.stands.is x.signed;
+        signed = subst (HasSignature types one.entry.0) (sym whole) x.signed;
       }
 
   pub declares : (last : State Mark)
@@ -126,7 +135,7 @@ module _ (types : Types) (ms : List ModuleRecord) (g : ComponentDfg) (r : Readin
         ∙ sym (none_counted is_made r.log stands.world.no_adapters);
   }
 
-  pub signs : AreSigned types (view plan (map as_handed_in ms)) r.intrinsics
+  pub signs : AreSigned types (view plan (map as_handed_in ms)) r
   signs n m at =
       let x = behind_mapped intrinsic_view plan.component.unsafe_intrinsics n (Some m) at in
       let s = packed_holds x.0 m x.2 in

@@ -11,10 +11,12 @@ use Rattle.pc_spec_plan.specs.ExportNode as node
 use Rattle.pc_spec_plan.specs.ExportNode.{ExportNode, ExportNodes, NamedNode, map_node, map_nodes, map_named}
 use Rattle.pc_spec_plan.specs.ExportNode.{erase_named}
 use Rattle.pc_spec_plan.specs.Log.{Entry, Instantiation, NamedArgument, Owned, declared, declared_resource, erase_entry}
-use Rattle.pc_spec_plan.specs.Log.{erase_owned, instantiated, made, map_argument, map_entry, map_instantiation}
-use Rattle.pc_spec_plan.specs.Log.{map_owned, needed, of_host, of_static}
+use Rattle.pc_spec_plan.specs.Log.{erase_owned, instances_of, instantiated, made, map_argument, map_entry}
+use Rattle.pc_spec_plan.specs.Log.{map_instantiation, map_owned, needed, of_host, of_static}
+use Rattle.pc_spec_plan.specs.Machine.{owned_instances}
 use Rattle.pc_spec_plan.specs.PlanView.{PlanView}
-use Rattle.pc_inline_state.specs.Typed.{number_of, whole_of}
+use Rattle.pc_inline_state.specs.Holds.{ReadsAs, number_of, whole_of}
+use Rattle.pc_translate.proofs.MarkLemmas.{instances_mapped, instances_traced}
 use Rattle.pc_translate.specs.Translation.{DoesAs}
 use Rattle.pc_translate.specs.Typed.{TypedAs}
 
@@ -109,6 +111,7 @@ module _ {τ υ : Type 0} (f : τ → υ) where
     node_erased : (n : ExportNode τ) → map_node erased (map_node f n) ≡ map_node erased n
     node_erased (node.lifted ty v o) = let a = value_erased v in let b =
         options_erased o in λ i. node.lifted tt (a i) (b i)
+    node_erased (node.imported_function ty path) = refl
     node_erased (node.static_module n ty) = refl
     node_erased (node.host_module path ty) = refl
     node_erased (node.instance ty nodes) = let a = nodes_erased nodes in λ i. node.instance tt (a i)
@@ -129,18 +132,24 @@ module _ {τ υ : Type 0} (f : τ → υ) where
       let b = named_erased ns in
       λ i. record { name = n.name; extern_data = n.extern_data; node = a i } ∷ b i
 
--- a plan that does what a reading says with types does so without them
-pub does_as : (types : Types) (p : PlanView Mark) (r : Reading) → TypedAs types p r → DoesAs p r
-does_as types p r h = record {
-  never_stuck = h.never_stuck;
-  same =
-      ap (map erase_owned) h.makes ∙ owned_erased (number_of types) h.instances
-      ∙ sym (owned_erased (whole_of types) h.instances) ∙ ap (map erase_owned) h.same_instances;
-  traced =
-      ap (option_map (map erase_entry)) h.traced
-      ∙ ap Some (entries_erased (number_of types) h.entries
-      ∙ sym (entries_erased (whole_of types) h.entries) ∙ ap (map erase_entry) h.same_trace);
-  exports =
-      ap (map erase_named) h.ends ∙ named_erased (number_of types) h.exports
-      ∙ sym (named_erased (whole_of types) h.exports) ∙ ap (map erase_named) h.same_exports;
-}
+-- a plan that does what a reading says with types, and makes the instances of its trace, does so without them
+pub does_as : (types : Types) (p : PlanView Mark) (r : Reading) → (h : TypedAs types p r)
+    → owned_instances h.never_stuck.last
+    ≡ map (map_owned (number_of types (ReadsAs r.imported_resources))) (instances_of h.entries) → DoesAs p r
+does_as types p r h makes =
+    let reads = ReadsAs r.imported_resources in
+    let made_whole = sym (instances_mapped (whole_of types reads) h.entries) ∙ ap instances_of h.same_trace
+    ∙ instances_traced r.log in
+    record {
+      never_stuck = h.never_stuck;
+      same =
+          ap (map erase_owned) makes ∙ owned_erased (number_of types reads) (instances_of h.entries)
+          ∙ sym (owned_erased (whole_of types reads) (instances_of h.entries)) ∙ ap (map erase_owned) made_whole;
+      traced =
+          ap (option_map (map erase_entry)) h.traced
+          ∙ ap Some (entries_erased (number_of types reads) h.entries
+          ∙ sym (entries_erased (whole_of types reads) h.entries) ∙ ap (map erase_entry) h.same_trace);
+      exports =
+          ap (map erase_named) h.ends ∙ named_erased (number_of types reads) h.exports
+          ∙ sym (named_erased (whole_of types reads) h.exports) ∙ ap (map erase_named) h.same_exports;
+    }

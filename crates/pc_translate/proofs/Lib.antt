@@ -20,6 +20,7 @@ mod ModuleTypeLemmas
 mod PassingLemmas
 mod PlanningLemmas
 -- why payloads are refused
+mod AnswerLemmas
 mod FlawLemmas
 mod BuiltLemmas
 mod CauseLemmas

@@ -14,8 +14,29 @@ use Rattle.pc_dfg.specs.Effects.{MeansEffect}
 use Rattle.pc_dfg.specs.Lists.{NamedExport}
 use Rattle.pc_dfg.specs.Nodes.{MeansName}
 use Rattle.pc_inline.specs.Exports.{NameStands}
-use Rattle.pc_inline_state.specs.Typed.{Numbered, number_of, whole_of}
+use Rattle.pc_inline_canon.proofs.MarkLemmas.{entry_twice, node_twice}
+use Rattle.pc_inline_state.specs.Holds.{Numbered, number_of, whole_of}
+use Rattle.pc_inline_state.specs.Typed.{anyhow}
 use Rattle.pc_inline_state.specs.Worlds.{EffectStands}
+
+module _ {τ υ ω : Type 0} (f : τ → υ) (h : υ → ω) where
+  -- entries mapped twice are mapped once by both
+  pub entries_twice : (es : List (Entry τ))
+      → map (map_entry h) (map (map_entry f) es) ≡ map (map_entry (λ m. h (f m))) es
+  entries_twice [] = refl
+  entries_twice (e ∷ es) =
+      let a = entry_twice f h e in
+      let b = entries_twice es in
+      λ i. a i ∷ b i
+
+  -- and so are exports
+  pub named_twice : (ns : List (NamedNode τ))
+      → map (map_named h) (map (map_named f) ns) ≡ map (map_named (λ m. h (f m))) ns
+  named_twice [] = refl
+  named_twice (n ∷ ns) =
+      let a = node_twice f h n.node in
+      let b = named_twice ns in
+      λ i. record { name = n.name; extern_data = n.extern_data; node = a i } ∷ b i
 
 -- the core instances of entries whose marks are mapped
 pub instances_mapped : {τ υ : Type 0} (f : τ → υ) (es : List (Entry τ))
@@ -48,9 +69,9 @@ instances_traced {τ} (e ∷ log) = by e (instances_traced log)
 module _ (types : Types) (g : ComponentDfg) where
   -- entries that have each type twice: with numbers they are what side effects do, with whole types those of a reading
   pub record Entries (es : List SideEffect) (xs : List (Entry reading.Mark)) : Type 0 where
-    pub entries : List (Entry (Numbered types))
-    pub mean : AllZip (MeansEffect g) es (map (map_entry (number_of types)) entries)
-    pub are : map (map_entry (whole_of types)) entries ≡ xs
+    pub entries : List (Entry (Numbered types anyhow))
+    pub mean : AllZip (MeansEffect g) es (map (map_entry (number_of types anyhow)) entries)
+    pub are : map (map_entry (whole_of types anyhow)) entries ≡ xs
 
   pub all_entries : (es : List SideEffect) (xs : List (Entry reading.Mark)) → AllZip (EffectStands types g) es xs
       → Entries es xs
@@ -70,10 +91,10 @@ module _ (types : Types) (g : ComponentDfg) where
 
   -- nodes that have each type twice: with numbers they are what names export, with whole types those of a reading
   pub record Nodes (es : List NamedExport) (xs : List (NamedNode reading.Mark)) : Type 0 where
-    pub nodes : List (NamedNode (Numbered types))
+    pub nodes : List (NamedNode (Numbered types anyhow))
     pub mean : (converted : ℕ → Mark)
-        → AllZip (MeansName g converted) es (map (map_named (number_of types)) nodes)
-    pub are : map (map_named (whole_of types)) nodes ≡ xs
+        → AllZip (MeansName g converted) es (map (map_named (number_of types anyhow)) nodes)
+    pub are : map (map_named (whole_of types anyhow)) nodes ≡ xs
 
   pub all_nodes : (es : List NamedExport) (xs : List (NamedNode reading.Mark)) → AllZip (NameStands types g) es xs
       → Nodes es xs

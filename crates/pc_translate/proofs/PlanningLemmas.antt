@@ -1,10 +1,10 @@
 -- A plan of a body, or why there is none, from the graph that stands for its reading.
-use Rattle.std.proofs.Common.{◌≡◌, ℕ, ◌≤◌, ◌<◌, ◌⊎◌, inl, inr, true, List, length, Some, None, Result, Ok, Err, IfOk}
+use Rattle.std.proofs.Common.{◌≡◌, ℕ, ◌≤◌, ◌<◌, ◌+◌, ◌⊎◌, inl, inr, true, List, length, Some, None, Result, Ok, Err, IfOk}
 use Rattle.std.proofs.Common.{All, Contains, arith, refl, sym, ap, subst, ◌∙◌}
 use Rattle.std.specs.Prelude.{IsSomeAnd, MatchResult}
 use Rattle.std.specs.Result.{IsErrAnd}
 use Rattle.std.proofs.lemmas.Option.{slice_get-get_or}
-use Rattle.pc_types_lists.specs.Types.{IsTooFullFor, KeepsTypes, Types}
+use Rattle.pc_types_lists.specs.Types.{IsTooFullFor, KeepsTypes, Types, types_held}
 use Rattle.pc_types_builder.specs.Trees.{IsEntry}
 use Rattle.pc_types.specs.declared.error.Error.{Error}
 use Rattle.pc_types.specs.declared.module_record.ModuleRecord.{ModuleRecord}
@@ -12,6 +12,7 @@ use Rattle.pc_types.specs.declared.parsed.TypeTable.{TypeTable}
 use Rattle.pc_types.specs.declared.type_index.TypeModuleIndex.{TypeModuleIndex}
 use Rattle.pc_types.specs.declared.types.TypeDef.TheVariants as def
 use Rattle.pc_info.specs.declared.component.ComponentTranslation.{ComponentTranslation}
+use Rattle.pc_spec_reading.specs.Answer.{IsPast}
 use Rattle.pc_spec_reading.specs.Item.{Items}
 use Rattle.pc_dfg.specs.declared.dfg.ComponentDfg.{ComponentDfg}
 use Rattle.pc_dfg.specs.declared.export.Export.{Export}
@@ -25,7 +26,7 @@ use Rattle.pc_dfg_linearize.specs.Full.{HasTooMany, of_slots, of_options, of_tra
 use Rattle.pc_dfg_finish.specs.ModuleTypes.{static_type}
 use Rattle.pc_inline.specs.Inlines.{HasNoRoom, Inlines, IsFault, StandsForReading}
 use Rattle.pc_inline_state.specs.Plain.{is_plain_table}
-use Rattle.pc_inline_stack.specs.Totals.{CountsGraph, GainsFew, IsCounted, IsPast}
+use Rattle.pc_inline_stack.specs.Totals.{CountsGraph, GainsFew, IsCounted}
 use Rattle.pc_inline_state.specs.Worlds.{IsLifted, IsPlain}
 use Rattle.pc_translate.proofs.WiredLemmas.{are_modules, grouped, no_static}
 use Rattle.pc_translate.specs.Finished.{IsFinished}
@@ -34,24 +35,24 @@ use Rattle.pc_translate.specs.Planning.{Plans, error_of_finish}
 use Rattle.pc_translate.specs.Translation.{GainsCounted}
 
 -- the graph that was answered stands for the reading
-graph_stands : (t : TypeTable) (ms : List ModuleRecord) (limit : ℕ) (body : Items) (types : Types)
-    (g : ComponentDfg) → Inlines t ms limit body types (Ok g) → StandsForReading t ms limit body types g
+graph_stands : (t : TypeTable) (ms : List ModuleRecord) (limit : ℕ) (body : Items) (old types : Types)
+    (g : ComponentDfg) → Inlines t ms limit body old types (Ok g) → StandsForReading t ms limit body types g
 unfolding Inlines
-graph_stands t ms limit body types g h = h
+graph_stands t ms limit body old types g h = h
 
 -- an instantiation's own error is the plan's
-pub fault_plans : (t : TypeTable) (ms : List ModuleRecord) (limit : ℕ) (body : Items) (types : Types) (e : Error)
-    → Inlines t ms limit body types (Err e) → Plans t ms limit body types (Err e)
+pub fault_plans : (t : TypeTable) (ms : List ModuleRecord) (limit : ℕ) (body : Items) (old types : Types) (e : Error)
+    → Inlines t ms limit body old types (Err e) → Plans t ms limit body old types (Err e)
 unfolding Inlines Plans
-fault_plans t ms limit body types e h = h
+fault_plans t ms limit body old types e h = h
 
 -- where the lists of a graph are counted, how much was gained is
-gains_counted : (t : TypeTable) (ms : List ModuleRecord) (limit : ℕ) (body : Items) (old new : Types)
-    (g : ComponentDfg) → is_plain_table t ≡ true → CountsGraph t ms limit body old new g
-    → GainsFew t ms limit body old new → GainsCounted t ms limit body old new
-gains_counted t ms limit body old new g plain (inl past) few =
+gains_counted : (t : TypeTable) (ms : List ModuleRecord) (limit start : ℕ) (body : Items) (old new : Types)
+    (g : ComponentDfg) → is_plain_table t ≡ true → CountsGraph t ms limit start body old new g
+    → GainsFew t ms limit start body old new → GainsCounted t ms limit start body old new
+gains_counted t ms limit start body old new g plain (inl past) few =
     record { functions = few.functions; types = few.types; few = inl past }
-gains_counted t ms limit body old new g plain (inr c) few = record {
+gains_counted t ms limit start body old new g plain (inr c) few = record {
   functions = c.functions;
   types = c.types plain;
   few = inr (c.total, c.is_total, c.below, c.few_functions);
@@ -62,13 +63,14 @@ pub of_each : {A E : Type 0} (r : Result A E) (X : Type 0) → X → IfOk r (λ 
 of_each (Ok a) X x = x
 of_each (Err e) X x = tt
 
--- a list of fewer entries than a total below the greatest has no 4294967294 entries
-too_few : (len total : ℕ) → len < total → total < 4294967295 → 4294967294 ≤ len → ⊥
-too_few len total few below many = omega (arith, few, below, many)
+-- a list of fewer entries than a total below the greatest has no more than 4294967294 entries
+too_few : (start len total : ℕ) → start + len < total → total < 4294967295 → 4294967294 < len → ⊥
+too_few start len total few below many = omega (arith, few, below, many)
 
 -- no exported function is a module
 not_static : (e : Export) → IsLifted e → static_type e ≡ None
 not_static (export.LiftedFunction ty f o) h = refl
+not_static (export.ImportedFunction ty r) h = absurd h
 not_static (export.ModuleStatic ty m) h = absurd h
 not_static (export.ModuleImport ty r) h = absurd h
 not_static (export.Instance ty es) h = absurd h
@@ -80,25 +82,26 @@ module _ (t : TypeTable) (ms : List ModuleRecord) (limit : ℕ) (body : Items) (
   plain = stands.stands.plain
 
   -- no list that is counted is too long
-  none_long : IsCounted t ms limit body old types g → HasTooMany g → ⊥
-  none_long c (of_slots k many) = too_few _ c.total (c.few (slots k)) c.below many
-  none_long c (of_options many) = too_few _ c.total (c.few options) c.below many
-  none_long c (of_trampolines many) = too_few _ c.total (c.few trampolines) c.below many
-  none_long c (of_instances many) =
+  none_long : (start : ℕ) → IsCounted t ms limit start body old types g → HasTooMany g → ⊥
+  none_long start c (of_slots k many) = too_few start _ c.total (c.few (slots k)) c.below many
+  none_long start c (of_options many) = too_few start _ c.total (c.few options) c.below many
+  none_long start c (of_trampolines many) = too_few start _ c.total (c.few trampolines) c.below many
+  none_long start c (of_instances many) =
       let none : length g.adapter_modules ≡ 0 = ap length plain.adapter_modules in
       let own = c.few instances in
       let below = c.below in
       omega (arith, none, own, below, many)
-  none_long c (of_resources many) =
+  none_long start c (of_resources many) =
       let none : length g.imported_resources ≡ 0 = ap length plain.imported_resources in
       let own = c.few resources in
       let below = c.below in
       omega (arith, none, own, below, many)
 
   -- so where one is, the total of the reading is too much
-  too_long : CountsGraph t ms limit body old types g → HasTooMany g → IsPast t ms limit body
-  too_long (inl past) many = past
-  too_long (inr c) many = absurd (none_long c many)
+  too_long : (start : ℕ) → CountsGraph t ms limit start body old types g → HasTooMany g
+      → IsPast t ms limit start body
+  too_long start (inl past) many = past
+  too_long start (inr c) many = absurd (none_long start c many)
 
   -- the type of a core module that is exported has no place
   abbrev LacksPlace : Type 0
@@ -112,17 +115,19 @@ module _ (t : TypeTable) (ms : List ModuleRecord) (limit : ℕ) (body : Items) (
       subst (λ o. IsSomeAnd o (λ ty. IsTooFullFor types
       (λ next. (i : TypeModuleIndex) × IsEntry next t ty (def.Module i)))) none l.2
 
-  no_room : CountsGraph t ms limit body old types g → HasTooMany g ⊎ LacksPlace → HasNoRoom t ms limit body types
-  no_room counts (inl many) = inr (too_long counts many)
-  no_room counts (inr lacks) = absurd (lacks_none lacks)
+  no_room : ((start : ℕ) → CountsGraph t ms limit start body old types g) → HasTooMany g ⊎ LacksPlace
+      → HasNoRoom t ms limit body (types_held old)
+  no_room counts (inl many) primitive start begins = too_long start (counts start) many
+  no_room counts (inr lacks) primitive start begins = absurd (lacks_none lacks)
 
   -- the plan, or the cause for want of one
-  planned : CountsGraph t ms limit body old types g → (r : Result ComponentTranslation FinishError)
+  planned : ((start : ℕ) → CountsGraph t ms limit start body old types g)
+      → (r : Result ComponentTranslation FinishError)
       → IfOk r (λ p. IsFinished types t g p)
       → (r ≡ Err finish_error.TooMany → HasTooMany g ⊎ LacksPlace)
       → (out : Result ComponentTranslation Error)
       → MatchResult r (λ x. out ≡ Ok x) (λ e. IsErrAnd out (λ y. y ≡ error_of_finish e))
-      → Plans t ms limit body types out
+      → Plans t ms limit body old types out
   unfolding Plans
   planned counts (Ok plan) finished full (Ok p) same =
       record {
@@ -135,16 +140,16 @@ module _ (t : TypeTable) (ms : List ModuleRecord) (limit : ℕ) (body : Items) (
       the a b h = cc
   planned counts (Ok plan) finished full (Err e) same = absurd (let x : ⊥ = cc in x)
   planned counts (Err finish_error.TooMany) finished full (Err e) same =
-      subst (λ (x : Error). IsFault t ms limit body types x) (sym same) (no_room counts (full refl))
+      subst (λ (x : Error). IsFault t ms limit body (types_held old) x) (sym same) (no_room counts (full refl))
   planned counts (Err finish_error.NoMemory) finished full (Err e) same =
-      subst (λ (x : Error). IsFault t ms limit body types x) (sym same) tt
+      subst (λ (x : Error). IsFault t ms limit body (types_held old) x) (sym same) tt
   planned counts (Err e) finished full (Ok p) same = absurd same
 
 -- a graph that was answered, which is finished without another type
-module _ (t : TypeTable) (ms : List ModuleRecord) (limit : ℕ) (body : Items) (mid : Types) (g : ComponentDfg)
-    (is : Inlines t ms limit body mid (Ok g)) where
+module _ (t : TypeTable) (ms : List ModuleRecord) (limit : ℕ) (body : Items) (old mid : Types) (g : ComponentDfg)
+    (is : Inlines t ms limit body old mid (Ok g)) where
   answered : StandsForReading t ms limit body mid g
-  answered = graph_stands t ms limit body mid g is
+  answered = graph_stands t ms limit body old mid g is
 
   -- it can be finished
   pub is_ordered : IsOrdered g
@@ -156,7 +161,7 @@ module _ (t : TypeTable) (ms : List ModuleRecord) (limit : ℕ) (body : Items) (
   pub has_types : All (HasModuleType t) g.export_items
   has_types = are_modules g answered.stands.plain t
 
-  module _ (new : Types) (unchanged : HasNoModule g.export_items → new ≡ mid) (old : Types) where
+  module _ (new : Types) (unchanged : HasNoModule g.export_items → new ≡ mid) where
     same : new ≡ mid
     same = unchanged (no_static g answered.stands.plain)
 
@@ -165,23 +170,25 @@ module _ (t : TypeTable) (ms : List ModuleRecord) (limit : ℕ) (body : Items) (
     still_keeps keeps = subst (KeepsTypes old) (sym same) keeps
 
     -- as few were gained
-    pub still_gains : GainsFew t ms limit body old mid → GainsFew t ms limit body old new
-    still_gains few = subst (GainsFew t ms limit body old) (sym same) few
+    pub still_gains : (start : ℕ) → GainsFew t ms limit start body old mid → GainsFew t ms limit start body old new
+    still_gains start few = subst (GainsFew t ms limit start body old) (sym same) few
 
     -- and they are counted
-    pub still_counts : CountsGraph t ms limit body old mid g → is_plain_table t ≡ true
-        → GainsFew t ms limit body old mid → GainsCounted t ms limit body old new
-    still_counts counts plain few =
-        subst (GainsCounted t ms limit body old) (sym same) (gains_counted t ms limit body old mid g plain counts few)
+    pub still_counts : (start : ℕ) → CountsGraph t ms limit start body old mid g → is_plain_table t ≡ true
+        → GainsFew t ms limit start body old mid → GainsCounted t ms limit start body old new
+    still_counts start counts plain few =
+        subst (GainsCounted t ms limit start body old) (sym same)
+        (gains_counted t ms limit start body old mid g plain counts few)
 
     -- so the graph has a plan, or there is a cause for want of one
-    pub still_plans : CountsGraph t ms limit body old mid g → (r : Result ComponentTranslation FinishError)
+    pub still_plans : ((start : ℕ) → CountsGraph t ms limit start body old mid g)
+        → (r : Result ComponentTranslation FinishError)
         → IfOk r (λ p. IsFinished new t g p)
         → (r ≡ Err finish_error.TooMany → HasTooMany g
         ⊎ ((e : Export) × Contains g.export_items e × HasNoPlace new t e))
         → (out : Result ComponentTranslation Error)
         → MatchResult r (λ x. out ≡ Ok x) (λ e. IsErrAnd out (λ y. y ≡ error_of_finish e))
-        → Plans t ms limit body new out
+        → Plans t ms limit body old new out
     still_plans counts =
         planned t ms limit body new g (subst (λ x. StandsForReading t ms limit body x g) (sym same) answered) old
-        (subst (λ x. CountsGraph t ms limit body old x g) (sym same) counts)
+        (λ start. subst (λ x. CountsGraph t ms limit start body old x g) (sym same) (counts start))

@@ -1,10 +1,13 @@
 -- The plan of a graph that stands for a reading does what the reading says.
-use Rattle.std.proofs.Common.{◌<◌, ℕ, List, length, map, sym, ap, ◌∙◌}
+use Rattle.std.proofs.Common.{◌≡◌, ◌<◌, ℕ, List, length, map, Some, sym, ap, ◌∙◌}
 use Rattle.pc_types_lists.specs.Types.{Types}
+use Rattle.pc_numbers.specs.declared.runtime.ResourceIndex.{ResourceIndex}
 use Rattle.pc_types.specs.declared.module_record.ModuleRecord.{ModuleRecord}
+use Rattle.pc_types.specs.TypeTree.{Identity}
 use Rattle.pc_trampoline.specs.declared.part.Mark.{Mark}
 use Rattle.pc_spec_plan.specs.ExportNode.{map_named}
-use Rattle.pc_spec_plan.specs.Log.{instances_of, map_entry, trace}
+use Rattle.pc_spec_plan.specs.Log.{instances_of, map_entry, map_owned, trace}
+use Rattle.pc_spec_plan.specs.Machine.{owned_instances}
 use Rattle.pc_info.specs.declared.component.ComponentTranslation.{ComponentTranslation}
 use Rattle.pc_info.specs.View.{view}
 use Rattle.pc_spec_reading.specs.Reading.{Reading}
@@ -12,14 +15,16 @@ use Rattle.pc_dfg.specs.declared.dfg.ComponentDfg.{ComponentDfg}
 use Rattle.pc_dfg.specs.Effects.{EffectsMean}
 use Rattle.pc_dfg.specs.Nodes.{ExportsMean}
 use Rattle.pc_dfg.specs.Told.{IsTold, Unsaid}
-use Rattle.pc_dfg_finish.specs.Apart.{AreApart}
+use Rattle.pc_info.specs.Apart.{AreApart}
 use Rattle.pc_dfg_finish.specs.Finishes.{Finishes, StandsForOne}
 use Rattle.pc_inline.specs.Exports.{ExportsStand}
 use Rattle.pc_inline.specs.Inlines.{GraphStands}
-use Rattle.pc_inline_state.specs.Typed.{number_of, whole_of}
+use Rattle.pc_inline_state.specs.Holds.{ReadsAs, number_of, whole_of}
+use Rattle.pc_inline_state.specs.Typed.{anyhow}
 use Rattle.pc_translate.specs.Planning.{as_handed_in}
 use Rattle.pc_translate.specs.Typed.{TypedAs}
-use Rattle.pc_translate.proofs.MarkLemmas.{Nodes, all_entries, all_nodes, instances_mapped, instances_traced}
+use Rattle.pc_inline_state.proofs.HoldsLemmas.{so}
+use Rattle.pc_translate.proofs.MarkLemmas.{Nodes, all_entries, all_nodes, entries_twice, instances_mapped, named_twice}
 use Rattle.pc_translate.proofs.WiredLemmas.{wired}
 
 module _ (types : Types) (ms : List ModuleRecord) (g : ComponentDfg) (r : Reading) (plan : ComponentTranslation) where
@@ -28,9 +33,15 @@ module _ (types : Types) (ms : List ModuleRecord) (g : ComponentDfg) (r : Readin
   unfolding ExportsStand
   nodes_of h = all_nodes types g g.exports r.nodes h
 
-  -- what the plan does, types included, and with which trampolines; and that no value stands twice
+  -- how the resource numbers of the reading are read
+  abbrev pub reads : (ResourceIndex → Identity) → Type 0
+  reads = ReadsAs r.imported_resources
+
+  -- what the plan does, types included, and with which instances and trampolines; and that no value stands twice
   pub record Runs : Type 0 where
     pub typed : TypedAs types (view plan (map as_handed_in ms)) r
+    pub makes : owned_instances typed.never_stuck.last
+        ≡ map (map_owned (number_of types reads)) (instances_of typed.entries)
     pub trampolines : (n : ℕ) → n < length plan.trampolines
         → StandsForOne g plan (map as_handed_in ms) typed.never_stuck.last n
     pub values_apart : (u : Unsaid) → IsTold u g → AreApart (view plan (map as_handed_in ms)) typed.never_stuck.last
@@ -41,24 +52,24 @@ module _ (types : Types) (ms : List ModuleRecord) (g : ComponentDfg) (r : Readin
   runs converted stands finishes =
       let es = all_entries types g g.side_effects (trace r.log) stands.world.effects in
       let ns = nodes_of stands.exports in
-      let entries = map (map_entry (number_of types)) es.entries in
-      let nodes = map (map_named (number_of types)) ns.nodes in
+      let entries = map (map_entry (number_of types anyhow)) es.entries in
+      let nodes = map (map_named (number_of types anyhow)) ns.nodes in
+      let as_read = so types reads in
       let is_wired = wired g stands.plain ms stands.items in
       let d = finishes.does (map as_handed_in ms) entries nodes is_wired es.mean (ns.mean converted) in
+      let numbered = entries_twice as_read (number_of types reads) es.entries in
       record {
         typed = record {
           never_stuck = d.never_stuck;
-          instances = instances_of es.entries;
-          entries = es.entries;
-          exports = ns.nodes;
-          makes = d.instances ∙ instances_mapped (number_of types) es.entries;
-          traced = d.traced;
-          ends = d.exports;
-          same_instances = sym (instances_mapped (whole_of types) es.entries) ∙ ap instances_of es.are
-              ∙ instances_traced r.log;
-          same_trace = es.are;
-          same_exports = ns.are;
+          entries = map (map_entry as_read) es.entries;
+          exports = map (map_named as_read) ns.nodes;
+          traced = d.traced ∙ ap Some (sym numbered);
+          ends = d.exports ∙ sym (named_twice as_read (number_of types reads) ns.nodes);
+          same_trace = entries_twice as_read (whole_of types reads) es.entries ∙ es.are;
+          same_exports = named_twice as_read (whole_of types reads) ns.nodes ∙ ns.are;
         };
+        makes = d.instances ∙ ap instances_of (sym numbered)
+            ∙ instances_mapped (number_of types reads) (map (map_entry as_read) es.entries);
         trampolines =
             finishes.meanings (map as_handed_in ms) entries nodes is_wired es.mean (ns.mean converted);
         values_apart =

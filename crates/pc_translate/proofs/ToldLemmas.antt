@@ -23,6 +23,7 @@ use Rattle.pc_trampoline.specs.Shape as shape
 use Rattle.pc_trampoline.specs.Shape.{head_shape}
 use Rattle.pc_trampoline.specs.View.{entry_of}
 use Rattle.pc_parsed.specs.Mark as reading
+use Rattle.pc_spec_reading.specs.Asked.{paths_needed, signature_of}
 use Rattle.pc_spec_reading.specs.Reading.{Reading}
 use Rattle.pc_dfg.specs.declared.core_def.CoreDef.{CoreDef}
 use Rattle.pc_dfg.specs.declared.core_def.CoreDef.TheVariants as def
@@ -34,8 +35,9 @@ use Rattle.pc_dfg.specs.Numbers.{SignedTrampoline, graph_numbers, trampoline_ent
 use Rattle.pc_dfg.specs.Told.{IsLowering, IsSigned, IsTold, Unsaid}
 use Rattle.pc_inline.specs.Inlines.{GraphStands}
 use Rattle.pc_inline_state.specs.Tables.{IsItem}
-use Rattle.pc_inline_state.specs.Typed.{Holds, Numbered, number_of, whole_of}
-use Rattle.pc_inline_state.specs.Worlds.{path_of, paths_needed, signature_of, slot_kind}
+use Rattle.pc_inline_state.specs.Holds.{Holds, Numbered, number_of, whole_of}
+use Rattle.pc_inline_state.specs.Typed.{anyhow}
+use Rattle.pc_inline_state.specs.Worlds.{path_of, slot_kind}
 use Rattle.pc_translate.proofs.AskedLemmas.{once_each}
 use Rattle.pc_translate.proofs.DeclaredLemmas.{no_intrinsic}
 use Rattle.pc_translate.proofs.WiredLemmas.{none_at}
@@ -111,7 +113,7 @@ module _ (g : ComponentDfg) where
 
 module _ (types : Types) where
   -- a core signature that is there twice, as a number and whole
-  held_whole : (number : Mark) (whole : reading.Mark) → Holds types number whole → (n : ModuleInternedTypeIndex)
+  held_whole : (number : Mark) (whole : reading.Mark) → Holds types anyhow number whole → (n : ModuleInternedTypeIndex)
       → number ≡ mark.Signature n → (s : CoreFuncSig) → whole ≡ reading.of_signature s
       → slice_get types.signatures n.0 ≡ Some s
   unfolding Holds
@@ -123,16 +125,17 @@ module _ (types : Types) where
   held_whole (mark.Signature k) (reading.of_type tree) holds n same s is = absurd holds
 
   -- the core signature of a lowering that is there twice
-  signed_whole : (v : CoreValue (Numbered types)) (n : ModuleInternedTypeIndex) (s : CoreFuncSig)
-      → LoweredWith (map_value (number_of types) v) (mark.Signature n)
-      → signature_of (map_value (whole_of types) v) ≡ Some s → slice_get types.signatures n.0 ≡ Some s
+  signed_whole : (v : CoreValue (Numbered types anyhow)) (n : ModuleInternedTypeIndex) (s : CoreFuncSig)
+      → LoweredWith (map_value (number_of types anyhow) v) (mark.Signature n)
+      → signature_of (map_value (whole_of types anyhow) v) ≡ Some s → slice_get types.signatures n.0 ≡ Some s
   signed_whole (value.lowered path ty (value.options c encoding is_async m callback post_return model)) n s under is =
       held_whole m.number m.whole m.holds n under s (whole_signature m.whole is)
     where
       whole_signature : (w : reading.Mark)
-          → signature_of (value.lowered path (whole_of types ty)
-          (value.options c encoding is_async w (value.map_maybe (whole_of types) callback)
-          (value.map_maybe (whole_of types) post_return) (value.map_model (whole_of types) model))) ≡ Some s
+          → signature_of (value.lowered path (whole_of types anyhow ty)
+          (value.options c encoding is_async w (value.map_maybe (whole_of types anyhow) callback)
+          (value.map_maybe (whole_of types anyhow) post_return)
+          (value.map_model (whole_of types anyhow) model))) ≡ Some s
           → w ≡ reading.of_signature s
       whole_signature (reading.of_signature t) h = ap reading.of_signature (same_Some t s h)
       whole_signature (reading.of_type tree) h = absurd (none-some s h)

@@ -6,9 +6,10 @@ use Rattle.pc_types.specs.declared.parsed.TypeTable.{TypeTable}
 use Rattle.pc_trampoline.specs.declared.part.Mark.{Mark}
 use Rattle.pc_info.specs.declared.component.ComponentTranslation.{ComponentTranslation}
 use Rattle.pc_parsed.specs.declared.payload.Payload.{Payload}
+use Rattle.pc_spec_reading.specs.Answer.{IsPast}
 use Rattle.pc_spec_reading.specs.Item.{Items}
 use Rattle.pc_spec_reading.specs.Nest.{root_of}
-use Rattle.pc_spec_reading.specs.Outcome.{Outcome}
+use Rattle.pc_spec_reading.specs.Outcome.{Outcome, past}
 use Rattle.pc_spec_reading.specs.Reading.{Reading, reading, reading_of}
 use Rattle.pc_spec_reading.specs.Section.{modules_of}
 use Rattle.pc_inline.specs.Inlines.{EndsAs as IsEnd}
@@ -16,21 +17,22 @@ use Rattle.pc_inline_state.specs.Today.{built_reading}
 use Rattle.pc_translate.proofs.AskedLemmas.{asks_host}
 use Rattle.pc_translate.proofs.DeclaredLemmas.{declared_one, declares, signs}
 use Rattle.pc_translate.proofs.ErasureLemmas.{does_as}
-use Rattle.pc_translate.proofs.HeldLemmas.{counts, finds, holds, is_tidy, numbers_items}
+use Rattle.pc_translate.proofs.HeldLemmas.{counts, finds, is_tidy, numbers_items}
 use Rattle.pc_translate.proofs.RunLemmas.{runs}
 use Rattle.pc_translate.proofs.ToldLemmas.{is_told}
-use Rattle.pc_translate.proofs.WiredLemmas.{all_handed_in}
-use Rattle.pc_translate.specs.Causes.{CanBeRead, EndsAs, built_meaning, meaning}
+use Rattle.pc_translate.proofs.WiredLemmas.{stand_in_order}
+use Rattle.pc_translate.specs.Causes.{CanBeRead, built_meaning, meaning}
 use Rattle.pc_translate.specs.Planning.{IsPlanOfBody, as_handed_in}
 use Rattle.pc_translate.specs.Translation.{Translates}
+use Rattle.pc_spec_reading.specs.Guard.{everything}
 
 module _ (t : TypeTable) (exposed : Option (List ℕ)) (limit : ℕ) (ps : List Payload) (body : Items)
     (root : root_of exposed ps ≡ Some body) where
   -- what payloads mean is what their root means
-  root_meaning : (o : Outcome Reading) → reading_of t (modules_of ps) limit None body ≡ o
+  root_meaning : (o : Outcome Reading) → reading_of everything t (modules_of ps) limit None body ≡ o
       → meaning t exposed limit ps ≡ Some o
   unfolding meaning reading
-  root_meaning o is = ap (option_map (reading_of t (modules_of ps) limit None)) root ∙ ap Some is
+  root_meaning o is = ap (option_map (reading_of everything t (modules_of ps) limit None)) root ∙ ap Some is
 
   -- also as far as it is built
   pub root_built : (o : Outcome Reading) → built_reading t (modules_of ps) limit body ≡ o
@@ -38,8 +40,14 @@ module _ (t : TypeTable) (exposed : Option (List ℕ)) (limit : ℕ) (ps : List 
   unfolding built_meaning
   root_built o is = ap (option_map (built_reading t (modules_of ps) limit)) root ∙ ap Some is
 
+  -- and where a total is counted
+  pub root_past : (n : ℕ) → IsPast t (modules_of ps) limit n body → reading t exposed limit (Some n) ps ≡ Some past
+  unfolding reading
+  root_past n is = ap (option_map (reading_of everything t (modules_of ps) limit (Some n))) root ∙ ap Some is
+
   -- and so what both end with
-  pub root_end : (o : Outcome Reading) → IsEnd t (modules_of ps) limit body o → EndsAs t exposed limit ps o
+  pub root_end : (o : Outcome Reading) → IsEnd t (modules_of ps) limit body o
+      → (meaning t exposed limit ps ≡ Some o) × (built_meaning t exposed limit ps ≡ Some o)
   root_end o ends = (root_meaning o ends.1, root_built o ends.0)
 
   pub translates : (types : Types) (plan : ComponentTranslation)
@@ -58,16 +66,15 @@ module _ (t : TypeTable) (exposed : Option (List ℕ)) (limit : ℕ) (ps : List 
         result = r;
         outcome = root_meaning _ p.stands.outcome;
         built = root_built _ p.stands.built;
-        does = does_as types _ r run.typed;
+        does = does_as types _ r run.typed run.makes;
         typed = run.typed;
-        handed_in = all_handed_in ms;
+        handed_in = stand_in_order ms;
         counts = counts types ms g r c plan s f;
         asked = asks_host types ms g r c plan s f;
         declared = declares types ms g r c plan s f run.typed.never_stuck.last
             (λ n below. declared_one types ms g r c plan s f _ _ n (run.trampolines n below));
         signed = signs types ms g r c plan s f;
         tidy = is_tidy types ms g r c plan s f;
-        names = holds types ms g r c plan s f;
         items = numbers_items types ms g r c plan s f;
         held = f.held;
         finds = finds types ms g r c plan s f;

@@ -1,8 +1,9 @@
 -- A plain graph whose definitions are core items: it is wired to the modules that were handed in, and there is nothing
 -- in it to group or to convert.
 use Rattle.std.proofs.Common.{zero, suc, ◌≡◌, ℕ, ◌+◌, List, [], ◌∷◌, length, map, Option, None, Some, true, refl, sym}
-use Rattle.std.proofs.Common.{ap, ◌∙◌, arith, All, Contains}
+use Rattle.std.proofs.Common.{ap, ◌∙◌, arith, All, Contains, false}
 use Rattle.std.specs.Prelude.{slice_get}
+use Rattle.std.proofs.lemmas.List.{append-nil}
 use Rattle.std.proofs.lemmas.List.Elements.{All-contains, All-cons, All-nil}
 use Rattle.std.proofs.lemmas.Option.{none-some, same_Some}
 use Rattle.pc_numbers.specs.declared.component_entity.StaticModuleIndex.{StaticModuleIndex}
@@ -15,7 +16,7 @@ use Rattle.pc_types.specs.Record.{has_entity, same_kind}
 use Rattle.pc_spec_plan.specs.Machine.{has_item}
 use Rattle.pc_spec_plan.specs.PlanView as plan
 use Rattle.pc_info.specs.Definitions.{item_view}
-use Rattle.pc_info.specs.Modules.{adapters_view, handed_in_view}
+use Rattle.pc_info.specs.Modules.{StandInOrder, adapters_view, handed_in_view, is_adapter_module, module_view}
 use Rattle.pc_dfg.specs.declared.core_def.CoreDef.{CoreDef}
 use Rattle.pc_dfg.specs.declared.core_def.CoreDef.TheVariants as def
 use Rattle.pc_dfg.specs.declared.core_def.CoreExport.{CoreExport}
@@ -41,6 +42,26 @@ use Rattle.pc_translate.specs.Planning.{as_handed_in}
 pub all_handed_in : (rs : List ModuleRecord) → handed_in_view (map as_handed_in rs) ≡ rs
 all_handed_in [] = refl
 all_handed_in (r ∷ rs) = let rest = all_handed_in rs in λ i. r ∷ rest i
+
+-- nothing stands behind them
+pub stand_in_order : (rs : List ModuleRecord) → StandInOrder rs (map as_handed_in rs)
+stand_in_order rs = record {
+  handed_in = map as_handed_in rs;
+  adapters = [];
+  are = sym (append-nil (map as_handed_in rs));
+  have = each rs;
+  none = all rs;
+  some = All-nil (λ m. is_adapter_module m ≡ true);
+}
+  where
+    each : (xs : List ModuleRecord) → map module_view (map as_handed_in xs) ≡ xs
+    each [] = refl
+    each (x ∷ xs) = let rest = each xs in λ i. x ∷ rest i
+
+    all : (xs : List ModuleRecord) → All (λ m. is_adapter_module m ≡ false) (map as_handed_in xs)
+    all [] = All-nil (λ m. is_adapter_module m ≡ false)
+    all (x ∷ xs) =
+        All-cons (λ m. is_adapter_module m ≡ false) (as_handed_in x) (map as_handed_in xs) refl (all xs)
 
 pub no_adapters : (n : ℕ) (rs : List ModuleRecord) → adapters_view n (map as_handed_in rs) ≡ []
 no_adapters n [] = refl

@@ -2,7 +2,6 @@
 use Rattle.std.specs.Prelude.{◌≡◌, ◌<◌, ◌≤◌, ℕ, List, map, length, count_by, Option, Some, None, option_map, slice_get}
 use Rattle.std.specs.List.{AllZip, Contains, filter_map}
 use Rattle.pc_types_lists.specs.Types.{Types}
-use Rattle.pc_entity.specs.Lists.{AreDistinct}
 use Rattle.pc_info.specs.declared.component.ComponentTranslation.{ComponentTranslation}
 use Rattle.pc_info.specs.declared.module.ModuleTranslation.{ModuleTranslation}
 use Rattle.pc_info.specs.Modules.{adapters_view}
@@ -10,6 +9,7 @@ use Rattle.pc_info.specs.View.{view}
 use Rattle.pc_numbers.specs.declared.module_entity.ModuleInternedTypeIndex.{ModuleInternedTypeIndex}
 use Rattle.pc_numbers.specs.declared.runtime.RuntimeComponentInstanceIndex.{RuntimeComponentInstanceIndex}
 use Rattle.pc_parsed.specs.Mark as reading
+use Rattle.pc_spec_reading.specs.Asked.{is_declared, paths_needed, signature_of}
 use Rattle.pc_spec_reading.specs.Nodes.{extern_data}
 use Rattle.pc_spec_reading.specs.Reading.{Reading}
 use Rattle.pc_spec_reading.specs.World.{AddedIntrinsic, HostImport}
@@ -19,16 +19,16 @@ use Rattle.pc_spec_plan.specs.Machine.{State, resolve}
 use Rattle.pc_spec_plan.specs.PlanView.{ImportType, PlanView, RuntimeImport, trampoline}
 use Rattle.pc_trampoline.specs.declared.part.Mark.{Mark}
 use Rattle.pc_inline_state.specs.Today.{is_made}
-use Rattle.pc_inline_state.specs.Typed.{Holds, Numbered, number_of, whole_of}
-use Rattle.pc_inline_state.specs.Worlds.{is_declared, paths_needed, signature_of}
+use Rattle.pc_inline_state.specs.Holds.{Holds, Numbered, ReadsAs, number_of, whole_of}
 use Rattle.pc_types.specs.declared.parsed.CoreFuncSig.{CoreFuncSig}
 use Rattle.pc_types.specs.TypeTree.{Path}
 
--- an import type of a plan is this import that the host gives, its type under its number
-pub record IsImport (types : Types) (i : ImportType Mark) (h : HostImport) : Type 0 where
+-- an import type of a plan is this import that the host gives, its type under its number, where the imported resources
+-- have these paths
+pub record IsImport (types : Types) (paths : List Path) (i : ImportType Mark) (h : HostImport) : Type 0 where
   pub name : i.name ≡ h.name.name
   pub extern_data : i.extern_data ≡ extern_data h.name
-  pub typed : Holds types i.import_type (reading.of_type h.import_type)
+  pub typed : Holds types (ReadsAs paths) i.import_type (reading.of_type h.import_type)
 
 -- the path to a host item
 abbrev pub path_of : RuntimeImport → Path
@@ -37,10 +37,9 @@ path_of i = record { import = i.import_type; names = i.names }
 -- what a plan has of the host is what the reading has of it
 pub record AsksHost (types : Types) (p : PlanView Mark) (r : Reading) : Type 0 where
   -- the import types are the imports that the host gives, in order
-  pub import_types : AllZip (IsImport types) p.import_types r.imports
+  pub import_types : AllZip (IsImport types r.imported_resources) p.import_types r.imports
   -- the host items are those that the reading needs, in order, each once
   pub imports : map path_of p.imports ≡ paths_needed r.log
-  pub once : AreDistinct p.imports
   -- the imported resources are those that came with the imports, in order
   pub resources : map (λ n. option_map path_of (slice_get p.imports n)) p.imported_resources
       ≡ map Some r.imported_resources
@@ -60,12 +59,13 @@ HasSignature types n v =
 -- core signature of that lowering
 pub record HasDeclared (types : Types) (plan : ComponentTranslation) (modules : List ModuleTranslation)
     (state : State Mark) (r : Reading) (n : ℕ) : Type 0 where
-  pub value : CoreValue (Numbered types)
-  pub resolves : resolve (view plan modules) state (trampoline n) ≡ Some (map_value (number_of types) value)
-  pub entry : Contains r.log (declared (map_value (whole_of types) value))
+  pub value : CoreValue (Numbered types (ReadsAs r.imported_resources))
+  pub resolves : resolve (view plan modules) state (trampoline n)
+      ≡ Some (map_value (number_of types (ReadsAs r.imported_resources)) value)
+  pub entry : Contains r.log (declared (map_value (whole_of types (ReadsAs r.imported_resources)) value))
   pub signature : ModuleInternedTypeIndex
   pub stands_under : slice_get plan.component.trampolines n ≡ Some signature
-  pub signed : HasSignature types signature (map_value (whole_of types) value)
+  pub signed : HasSignature types signature (map_value (whole_of types (ReadsAs r.imported_resources)) value)
 
 -- what a plan has is what the reading declares and makes, where the plan's run ends in this state
 pub record Declares (types : Types) (plan : ComponentTranslation) (modules : List ModuleTranslation)
@@ -82,7 +82,8 @@ pub record Declares (types : Types) (plan : ComponentTranslation) (modules : Lis
   pub adapters : length (adapters_view 0 modules) ≡ count_by is_made r.log
 
 -- an intrinsic that has a signature in a plan is one that was added as a core function with this signature
-abbrev pub AreSigned : Types → PlanView Mark → List AddedIntrinsic → Type 0
-AreSigned types p added =
+abbrev pub AreSigned : Types → PlanView Mark → Reading → Type 0
+AreSigned types p r =
     (n : ℕ) (m : Mark) → slice_get p.intrinsics n ≡ Some (Some m)
-    → (i : AddedIntrinsic) × Contains added i × (i.place ≡ n) × Holds types m (reading.of_signature i.signature)
+    → (i : AddedIntrinsic) × Contains r.intrinsics i × (i.place ≡ n)
+    × Holds types (ReadsAs r.imported_resources) m (reading.of_signature i.signature)

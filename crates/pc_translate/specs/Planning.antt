@@ -1,12 +1,13 @@
 -- What comes of a local program: a plan that stands for the reading of its root, or why there is none.
 use Rattle.std.specs.Prelude.{◌&&◌, ℕ, Bool, true, false, [], List, Result, Ok, Err, is_some}
-use Rattle.pc_types_lists.specs.Types.{Types}
+use Rattle.pc_types_lists.specs.Types.{Types, types_held}
 use Rattle.pc_types.specs.declared.error.Error.{Error}
 use Rattle.pc_types.specs.declared.error.Error.TheVariants as error
 use Rattle.pc_types.specs.declared.module_record.ModuleRecord.{ModuleRecord}
 use Rattle.pc_types.specs.declared.parsed.TypeTable.{TypeTable}
 use Rattle.pc_info.specs.declared.component.ComponentTranslation.{ComponentTranslation}
 use Rattle.pc_info.specs.declared.module.ModuleTranslation.{ModuleTranslation}
+use Rattle.pc_info.specs.Modules.{without_facts}
 use Rattle.pc_spec_reading.specs.Item.{Items}
 use Rattle.pc_local.specs.declared.item.LocalInitializer.{LocalInitializer}
 use Rattle.pc_local.specs.declared.item.LocalInitializer.TheVariants as local
@@ -46,7 +47,7 @@ module _ (kinds : TableKinds) where
 
 -- a module as it was handed in
 abbrev pub as_handed_in : ModuleRecord → ModuleTranslation
-as_handed_in r = record { «module» = r; adapters = [] }
+as_handed_in r = without_facts r []
 
 -- a plan is that of a graph which stands for the reading of a body
 pub record IsPlanOfBody (t : TypeTable) (ms : List ModuleRecord) (limit : ℕ) (body : Items) (types : Types)
@@ -55,8 +56,8 @@ pub record IsPlanOfBody (t : TypeTable) (ms : List ModuleRecord) (limit : ℕ) (
   pub stands : StandsForReading t ms limit body types graph
   pub finished : IsFinished types t graph plan
 
--- a body has such a plan, or an error that its reading has
-unfoldable pub Plans : TypeTable → List ModuleRecord → (limit : ℕ) → Items → Types → Result ComponentTranslation Error
-    → Type 0
-Plans t ms limit body types (Ok plan) = IsPlanOfBody t ms limit body types plan
-Plans t ms limit body types (Err e) = IsFault t ms limit body types e
+-- a body has such a plan, or an error that its reading has. The builder held these types before, and holds those now
+unfoldable pub Plans : TypeTable → List ModuleRecord → (limit : ℕ) → Items → (old new : Types)
+    → Result ComponentTranslation Error → Type 0
+Plans t ms limit body old new (Ok plan) = IsPlanOfBody t ms limit body new plan
+Plans t ms limit body old new (Err e) = IsFault t ms limit body (types_held old) e

@@ -1,9 +1,8 @@
 -- The theorem: the plan that a translation answers does what the nested reading of the payloads says.
-use Rattle.std.specs.Prelude.{◌≡◌, ◌≤◌, ◌<◌, ◌*◌, ◌⊎◌, ℕ, true, false, List, map, length, option_map, Option, Some}
-use Rattle.pc_types_builder.specs.Types.{IsBuilder, no_types}
-use Rattle.pc_types_lists.specs.Types.{Types}
+use Rattle.std.specs.Prelude.{◌≡◌, ◌≤◌, ◌<◌, ◌+◌, ◌*◌, ◌⊎◌, ℕ, true, List, map, length, option_map, Option, Some}
+use Rattle.pc_types_lists.specs.Adds.{AddsTypes}
+use Rattle.pc_types_lists.specs.Types.{IsBuilder, Types, no_types, types_held}
 use Rattle.pc_types.specs.declared.error.Error.{Error}
-use Rattle.pc_types.specs.declared.error.Error.TheVariants as error
 use Rattle.pc_types.specs.declared.module_record.ModuleRecord.{ModuleRecord}
 use Rattle.pc_types.specs.declared.parsed.TypeTable.{TypeTable}
 use Rattle.pc_spec_plan.specs.Counts.{own_counts}
@@ -15,22 +14,22 @@ use Rattle.pc_spec_plan.specs.Trace.{run_trace}
 use Rattle.pc_info.specs.declared.component.ComponentTranslation.{ComponentTranslation}
 use Rattle.pc_info.specs.declared.module.ModuleTranslation.{ModuleTranslation}
 use Rattle.pc_info.specs.Exports.{has_items}
-use Rattle.pc_info.specs.Modules.{handed_in_view}
+use Rattle.pc_info.specs.Modules.{StandInOrder}
 use Rattle.pc_info.specs.View.{view, counts_view}
-use Rattle.pc_dfg_finish.specs.Apart.{AreApart}
+use Rattle.pc_info.specs.Apart.{AreApart}
 use Rattle.pc_parsed.specs.declared.payload.Payload.{Payload}
-use Rattle.pc_parsed.specs.Program.{is_numbered}
+use Rattle.pc_spec_reading.specs.Answer.{HasTotal, IsPast}
 use Rattle.pc_spec_reading.specs.Item.{Items}
 use Rattle.pc_spec_reading.specs.Nest.{root_of}
 use Rattle.pc_spec_reading.specs.Outcome.{done}
 use Rattle.pc_spec_reading.specs.Reading.{Reading}
 use Rattle.pc_spec_reading.specs.Section.{modules_of}
+use Rattle.pc_spec_reading.specs.Total.{counted}
 use Rattle.pc_spec_reading.specs.World.{full}
-use Rattle.pc_inline_state.specs.Adds.{AddsTypes}
-use Rattle.pc_inline_stack.specs.Totals.{GainsFew, HasTotal, IsPast}
+use Rattle.pc_inline_stack.specs.Totals.{GainsFew}
 use Rattle.pc_translate.specs.Asked.{AreSigned, AsksHost, Declares}
 use Rattle.pc_translate.specs.Causes.{CanBeRead, HasCause, HasRoot, built_meaning, meaning}
-use Rattle.pc_translate.specs.Lists.{FindsExports, IsTidy, NamesHeld, NumbersItems}
+use Rattle.pc_translate.specs.Lists.{FindsExports, IsTidy, NumbersItems}
 use Rattle.pc_translate.specs.Typed.{TypedAs}
 
 -- a plan never gets stuck and does what a reading says: run from nothing, it makes the same core instances of the
@@ -60,18 +59,16 @@ pub record Translates (t : TypeTable) (exposed : Option (List ℕ)) (limit : ℕ
   pub does : DoesAs (view plan modules) result
   -- and so it does with its types: under each number the builder holds what the reading has there
   pub typed : TypedAs types (view plan modules) result
-  -- the modules that were handed in are those of the payloads, in order
-  pub handed_in : handed_in_view modules ≡ modules_of ps
+  -- the modules are those of the payloads, in order, and behind them those of adapters
+  pub handed_in : StandInOrder (modules_of ps) modules
   -- the plan counts what it has
   pub counts : counts_view plan.component ≡ counts_of (view plan modules) result types
   -- nothing is asked of the host, declared or signed but what the reading asks for, declares and signs
   pub asked : AsksHost types (view plan modules) result
   pub declared : Declares types plan modules typed.never_stuck.last result
-  pub signed : AreSigned types (view plan modules) result.intrinsics
-  -- each options entry, slot, lowering and trampoline is used, what is named is there, and nothing stands twice
+  pub signed : AreSigned types (view plan modules) result
+  -- each options entry and trampoline is used, none is made twice, and each stands where it has to
   pub tidy : IsTidy plan
-  -- types of exports and signatures of options entries are held
-  pub names : NamesHeld plan types
   -- each export of the plan has its item
   pub items : NumbersItems plan.component
   pub held : has_items plan.component ≡ true
@@ -80,32 +77,35 @@ pub record Translates (t : TypeTable) (exposed : Option (List ℕ)) (limit : ℕ
   -- where the run ends no value stands twice: in the slots of a kind, as an options entry, as a trampoline
   pub values_apart : AreApart (view plan modules) typed.never_stuck.last
 
--- a builder gains the types of few functions over primitives, unless the total of the root's reading is too much
+-- a builder gains the types of few functions over primitives, unless the total of the root's reading is too much. The
+-- total begins with what the input has and the types that were held before
 unfoldable pub Gains : TypeTable → (exposed : Option (List ℕ)) → (limit : ℕ) → List Payload → (old new : Types) → Type 0
 Gains t exposed limit ps old new =
-    (body : Items) → root_of exposed ps ≡ Some body → GainsFew t (modules_of ps) limit body old new
+    (body : Items) → root_of exposed ps ≡ Some body
+    → GainsFew t (modules_of ps) limit (counted t (types_held old) ps) body old new
 
--- a builder gained the types of so many functions over primitives. The total of the reading is at least 8 times as
--- many, unless it is too much
-pub record GainsCounted (t : TypeTable) (ms : List ModuleRecord) (limit : ℕ) (body : Items) (old new : Types)
+-- a builder gained the types of so many functions over primitives. From where it begins the total of the reading grows
+-- by at least 8 times as many, unless it is too much
+pub record GainsCounted (t : TypeTable) (ms : List ModuleRecord) (limit start : ℕ) (body : Items) (old new : Types)
     : Type 0 where
   pub functions : ℕ
   pub types : AddsTypes functions old new
-  pub few : IsPast t ms limit body
-      ⊎ ((total : ℕ) × HasTotal t ms limit body total × (total < full) × (8 * functions ≤ total))
+  pub few : IsPast t ms limit start body
+      ⊎ ((total : ℕ) × HasTotal t ms limit start body total × (total < full) × (start + 8 * functions ≤ total))
 
 -- so it is where payloads were translated
 unfoldable pub CountsGained : TypeTable → (exposed : Option (List ℕ)) → (limit : ℕ) → List Payload
     → (old new : Types) → Type 0
 CountsGained t exposed limit ps old new =
-    (body : Items) → root_of exposed ps ≡ Some body → GainsCounted t (modules_of ps) limit body old new
+    (body : Items) → root_of exposed ps ≡ Some body
+    → GainsCounted t (modules_of ps) limit (counted t (types_held old) ps) body old new
 
 -- the types of a builder that held none before the payloads were translated: those of functions over primitives, of no
 -- more than their reading counts
 pub record AreGained (t : TypeTable) (exposed : Option (List ℕ)) (limit : ℕ) (ps : List Payload) (types : Types)
     : Type 0 where
   pub builder : IsBuilder types
-  pub few : HasRoot exposed ps (λ body. GainsCounted t (modules_of ps) limit body no_types types)
+  pub few : HasRoot exposed ps (λ body. GainsCounted t (modules_of ps) limit (counted t 0 ps) body no_types types)
 
 -- a plan and its modules are what a translation is to answer, with a types builder that held no types before
 unfoldable pub IsPlanOf : TypeTable → (exposed : Option (List ℕ)) → (limit : ℕ) → List Payload
@@ -113,14 +113,6 @@ unfoldable pub IsPlanOf : TypeTable → (exposed : Option (List ℕ)) → (limit
 IsPlanOf t exposed limit ps plan modules =
     (types : Types) × AreGained t exposed limit ps types × Translates t exposed limit ps types plan modules
 
--- a list is too long for its numbers, or the total of the root's reading is too much
-abbrev pub HasTooMuch : TypeTable → (exposed : Option (List ℕ)) → (limit : ℕ) → List Payload → Type 0
-HasTooMuch t exposed limit ps =
-    (is_numbered t ps ≡ false)
-    ⊎ (CanBeRead t exposed ps × HasRoot exposed ps (λ body. IsPast t (modules_of ps) limit body))
-
--- an error has its cause, with a types builder that held no types before; no cause but `TooMany` looks at the types, so
--- none are given here
+-- an error has its cause, with a types builder that held no types before
 unfoldable pub IsRefusalOf : TypeTable → (exposed : Option (List ℕ)) → (limit : ℕ) → List Payload → Error → Type 0
-IsRefusalOf t exposed limit ps error.TooMany = HasTooMuch t exposed limit ps
-IsRefusalOf t exposed limit ps e = HasCause t exposed limit ps no_types e
+IsRefusalOf t exposed limit ps e = HasCause t exposed limit 0 ps e

@@ -1,12 +1,12 @@
 //! The top call over payloads.
 
-ghost use Rattle.std.specs.Prelude.{◌≡◌, [], false, true, map, None, Some, Err, is_some, IfErr, IfOk, OnOk};
+ghost use Rattle.std.specs.Prelude.{◌≡◌, ℕ, [], false, true, map, None, Some, Err, is_some, IfErr, IfOk, OnOk};
 ghost use Rattle.std.specs.List.{list_all};
 ghost use Rattle.std.specs.Option.{option_map};
 ghost use Rattle.pc_types.specs.Names.{distinct_names};
 ghost use Rattle.pc_types.specs.Record.{is_sound};
 ghost use Rattle.pc_types.specs.Table.{table_fault};
-ghost use Rattle.pc_types_builder.specs.Types.{KeepsTypes, no_types};
+ghost use Rattle.pc_types_lists.specs.Types.{KeepsTypes, no_types, types_held};
 ghost use Rattle.pc_spec_reading.specs.Item.{Items};
 ghost use Rattle.pc_local.specs.Program.{ProgramStands};
 ghost use Rattle.pc_local.specs.Standing.{BodyStands, no_names};
@@ -45,8 +45,7 @@ fn translations(
 {
     let mut translations = Vec::with_capacity(alloc, modules.len())?;
     for module in modules.into_vec() {
-        let adapters = Seq::new(alloc);
-        translations.push(ModuleTranslation { module, adapters })?;
+        translations.push(ModuleTranslation::new(alloc, module, Seq::new(alloc)))?;
     }
     Ok(PrimaryMap::from_vec(translations))
 }
@@ -98,14 +97,14 @@ fn plan_of(
     requires stands { (body : Items) × BodyStands program.now.components no_names program.now.root body }
     requires distinct { distinct_names (map export_name program.now.root.exports) ≡ true }
     ensures plan { (body : Items) → BodyStands program.now.components no_names program.now.root body
-        → Plans table.now program.now.modules tunables.now.max_component_instances body types.new result }
+        → Plans table.now program.now.modules tunables.now.max_component_instances body types.old types.new result }
     ensures keeps { KeepsTypes types.old types.new }
     ensures adds { (body : Items) → BodyStands program.now.components no_names program.now.root body
-        → is_plain_table table.now ≡ true
-        → GainsFew table.now program.now.modules tunables.now.max_component_instances body types.old types.new }
+        → is_plain_table table.now ≡ true → (start : ℕ)
+        → GainsFew table.now program.now.modules tunables.now.max_component_instances start body types.old types.new }
     ensures counts { (body : Items) → BodyStands program.now.components no_names program.now.root body
-        → is_plain_table table.now ≡ true → IfOk result (λ _. GainsCounted table.now program.now.modules
-        tunables.now.max_component_instances body types.old types.new) }
+        → is_plain_table table.now ≡ true → (start : ℕ) → IfOk result (λ _. GainsCounted table.now program.now.modules
+        tunables.now.max_component_instances start body types.old types.new) }
 {
     let graph = inline_run(
         alloc,
@@ -135,7 +134,7 @@ pub fn translate(
 
     // Each refusal has its cause.
     ensures refused { IfErr result (λ e. HasCause table.now (option_map (λ name. name.now) exposed.entry)
-        tunables.now.max_component_instances payloads.now types.new e) }
+        tunables.now.max_component_instances (types_held types.old) payloads.now e) }
 
     ensures keeps { KeepsTypes types.old types.new }
 
@@ -263,7 +262,7 @@ impl<'a> Translator<'a> {
         // Each refusal has its cause.
         ensures refused { IfErr result (λ e. HasCause self.entry.table.now
             (option_map (λ name. name.now) self.entry.exposed) self.entry.tunables.now.max_component_instances
-            component.now self.exit.0.now e) }
+            (types_held self.entry.types.now) component.now e) }
 
         ensures keeps { KeepsTypes self.entry.types.now self.exit.0.now }
 

@@ -9,5 +9,4 @@ returns-clause-translated c =
 
 pub returns-clause-refused : goal.returns-clause-refused
 returns-clause-refused c =
-    refusal_alone _ _ _ _ _ _ c.requires.fresh c.translate-translated.ensures.adds _
-    c.translate-translated.ensures.refused
+    refusal_alone _ _ _ _ _ c.requires.fresh _ c.translate-translated.ensures.refused

@@ -1,6 +1,7 @@
 use Rattle.std.proofs.Common.{ℕ, List, Bor}
 use Rattle.std.specs.Option.{option_map}
 use Rattle.pc_local.proofs.NameLemmas.{table_sound}
+use Rattle.pc_types_lists.specs.Types.{types_held}
 use Rattle.pc_translate.proofs.CauseLemmas.{counts_gained, gains, gains_nothing, names_distinct, plan_refused}
 use Rattle.pc_translate.proofs.CauseLemmas.{program_refused, program_sound, translates_program}
 use Rattle.pc_translate.proofs.translator.translate.Goals as goal
@@ -8,8 +9,8 @@ use Rattle.pc_translate.proofs.translator.translate.Goals as goal
 pub returns-in_err-program-clause-refused : goal.returns-in_err-program-clause-refused
 returns-in_err-program-clause-refused c =
     program_refused c.args.table.now (option_map {T = Bor (List ℕ)} (λ name. name.now) c.args.exposed)
-    c.args.tunables.now.max_component_instances c.args.payloads.now c.args.types.now _ _ c.from_residual.ensures.1
-    c.in_err-program.ensures.refused
+    c.args.tunables.now.max_component_instances (types_held c.args.types.now) c.args.payloads.now _ _
+    c.from_residual.ensures.1 c.in_err-program.ensures.refused
 
 pub returns-in_err-program-clause-adds : goal.returns-in_err-program-clause-adds
 returns-in_err-program-clause-adds c = gains_nothing _ _ _ _ _
@@ -28,7 +29,7 @@ plan_of-requires-clause-distinct c =
 pub returns-in_err-plan-clause-refused : goal.returns-in_err-plan-clause-refused
 returns-in_err-plan-clause-refused c =
     plan_refused c.args.table.now (option_map {T = Bor (List ℕ)} (λ name. name.now) c.args.exposed)
-    c.args.tunables.now.max_component_instances c.args.payloads.now c.plan_of.new.types _
+    c.args.tunables.now.max_component_instances c.args.payloads.now c.args.types.now c.plan_of.new.types _
     c.in_ok-program.ensures.program c.in_ok-program.ensures.can _ _ c.from_residual-in_err-plan.ensures.1
     c.in_err-plan.ensures.plan
 
@@ -52,6 +53,6 @@ returns-clause-counts c =
 -- what is left out here is read off the clause; a `Translates` that is written out would be compared field by field
 pub returns-clause-translated : goal.returns-clause-translated
 returns-clause-translated c =
-    translates_program _ _ _ _ _ c.in_ok-program.ensures.program c.in_ok-program.ensures.can _
+    translates_program _ _ _ _ _ c.in_ok-program.ensures.program c.in_ok-program.ensures.can c.args.types.now _
     c.types_are_distinct.ensures _ _
     c.in_ok-plan.ensures.plan c.in_ok-modules.ensures
