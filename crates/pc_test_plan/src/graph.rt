@@ -2,7 +2,8 @@
 //! is known of instantiations.
 
 use pc_dfg::Export;
-use pc_types::{InterfaceType, TypeDef};
+use pc_entity::RuntimeImportIndex;
+use pc_types::{InterfaceType, TypeDef, TypeFuncIndex};
 
 mod definitions;
 mod instantiations;
@@ -11,3 +12,9 @@ mod pushes;
 
 /// An exported type.
 const TYPE: Export = Export::Type_(TypeDef::Interface(InterfaceType::Bool));
+
+/// A function of the host that is exported again.
+const HOST: Export = Export::ImportedFunction {
+    ty: TypeFuncIndex(0),
+    import: RuntimeImportIndex(0),
+};

@@ -222,7 +222,7 @@ trampoline 1 component-lower-import[1] 1 1
 
 /// Payloads in which a core function is lifted, and the plan.
 static LIFTS: [(&str, &str); 2] = [
-    // slots are filled in the order memory, realloc, callback, post-return, however the options are written
+    // the memory comes first, then realloc, callback and post-return, in whatever order they are written
     (
         r#"{"module":{"ty":1,"imports":[],"funcs":[0,1,0,0],"tables":0,"memories":[false],"globals":0,"tags":0,
            "exports":[["mem","memory",0],["f","func",0],["realloc","func",1],["post","func",2],["call","func",3]]}},
@@ -323,7 +323,7 @@ init static 1 0 [export(1 memory 0), export(0 func 0), export(1 func 0)]
     ),
 ];
 
-/// A host function as an export of the root.
+/// A host function as an export of the root. That isn't built yet, and told at the export.
 static REEXPORTS: [(&str, &str); 2] = [
     (
         r#"{"limit":100,"intrinsics":null,"types":{"core":[[["i32","i32"],[]],[["i32","i32","i32","i32"],["i32"]]],
@@ -337,7 +337,7 @@ static REEXPORTS: [(&str, &str); 2] = [
            {"canon":[["lower",0,0,0,[["memory",0],["realloc",0]]]]},
            {"instances":[{"exports":[["log","func",1]]},{"instantiate":[1,[["env",1]]]}]},
            {"exports":[["again","func",0]]},"end"]}"#,
-        "fault unsupported reexported-function at export 0\n",
+        "fault unsupported not-built at export 0\n",
     ),
     (
         r#"{"limit":100,"intrinsics":null,"types":{"core":[[["i32"],["i32"]]],
@@ -346,7 +346,7 @@ static REEXPORTS: [(&str, &str); 2] = [
            "tags":0,"exports":[["f","func",0]]}},{"instances":[{"instantiate":[0,[]]}]},
            {"aliases":[{"core-export":["func",0,"f"]}]},{"canon":[["lift",0,0,0,[]]]},{"imports":[["h",["func",0]]]},
            {"exports":[["f","func",0],["g","func",1]]},"end"]}"#,
-        "fault unsupported reexported-function at export 1\n",
+        "fault unsupported not-built at export 1\n",
     ),
 ];
 

@@ -456,7 +456,7 @@ static ENDS: [(&str, &str); 10] = [
         r#"{"imports":[["h",["func",0]]]},"component","version",{"imports":[["f",["func",0]]]},
            {"exports":[["e","func",0]]},"end",{"component-instances":[{"instantiate":[0,[["f","func",0]],2]}]},
            {"aliases":[{"export":["func",0,"e"]}]},{"exports":[["g","func",1]]}"#,
-        "fault unsupported reexported-function at export 0\n",
+        "fault unsupported not-built at export 0\n",
     ),
 ];
 

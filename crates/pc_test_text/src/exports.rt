@@ -23,13 +23,22 @@ type Names = NameMap<Text, (ExportIndex, ComponentExternData)>;
 pub(crate) static ONE: [Name; 1] = [("f", 0, ["", ""])];
 
 /// The names of the plan with each kind of line.
-pub(crate) static ALL: [Name; 3] = [
+pub(crate) static ALL: [Name; 4] = [
     ("\"\\\n", 4, ["a:b/c", "d"]),
     ("i", 3, ["", ""]),
     ("m", 5, ["", ""]),
+    ("again", 6, ["", "w"]),
 ];
 
+/// The name of a function of the host.
+pub(crate) static AGAIN: [Name; 1] = [("again", 0, ["", ""])];
+
+/// The name of an instance of the host.
+pub(crate) static INSTANCE: [Name; 1] = [("e", 1, ["", ""])];
+
 static INNER: [Name; 1] = [("k", 0, ["", ""])];
+
+static WITHIN: [Name; 1] = [("f", 0, ["", ""])];
 
 static OUTER: [Name; 2] = [("j", 1, ["", "h"]), ("l", 2, ["", ""])];
 
@@ -79,6 +88,24 @@ const IMPORTED: Export = Export::ModuleImport {
     import: RuntimeImportIndex(2),
 };
 
+/// A function of the host.
+fn host_function(import: u32) -> Export {
+    Export::ImportedFunction {
+        ty: TypeFuncIndex(0),
+        import: RuntimeImportIndex(import),
+    }
+}
+
+/// A function of the host alone.
+pub(crate) fn host_item(alloc: Global) -> Vec<Export> {
+    list(alloc, [host_function(0)])
+}
+
+/// A function of the host, and an instance that exports it.
+pub(crate) fn host_items(alloc: Global) -> Vec<Export> {
+    list(alloc, [host_function(0), instance(alloc, 0, &WITHIN)])
+}
+
 /// The only item of the smallest plan.
 pub(crate) fn one_item(alloc: Global) -> Vec<Export> {
     list(alloc, [function(0)])
@@ -93,6 +120,7 @@ pub(crate) fn all_items(alloc: Global) -> Vec<Export> {
         instance(alloc, 1, &OUTER),
         function(10),
         IMPORTED,
+        host_function(1),
     ];
     list(alloc, all)
 }

@@ -19,7 +19,7 @@ const EXPORT: Place = Place::Export(0);
 
 /// A fault of each kind, with each kind of place, and what isn't supported: in a list of payloads, and of an import or
 /// an export.
-static FAULTS: [(Error, &str); 24] = [
+static FAULTS: [(Error, &str); 23] = [
     (
         Error::Malformed(BODY),
         "fault malformed at payload 2 item 3\n",
@@ -90,10 +90,6 @@ static FAULTS: [(Error, &str); 24] = [
     (
         Error::Unsupported(Unsupported::ComponentImport, EXPORT),
         "fault unsupported component-import at export 0\n",
-    ),
-    (
-        Error::Unsupported(Unsupported::ReexportedFunction, EXPORT),
-        "fault unsupported reexported-function at export 0\n",
     ),
     (
         Error::Unsupported(Unsupported::ReexportedIntrinsic, EXPORT),

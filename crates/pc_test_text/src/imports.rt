@@ -41,6 +41,33 @@ pub(crate) fn imports(alloc: Global) -> PrimaryMap<RuntimeImportIndex, (ImportIn
     PrimaryMap::from_vec(list(alloc, all))
 }
 
+/// One import, which is a function where no name leads on from it.
+pub(crate) fn one_import_type(
+    alloc: Global,
+    name: &str,
+    inner: &str,
+) -> PrimaryMap<ImportIndex, (Text, ComponentExtern)> {
+    let ty = if inner.is_empty() { FUNC } else { INSTANCE };
+    PrimaryMap::from_vec(list(alloc, [import(alloc, name, ty, ["", ""])]))
+}
+
+/// A name, or none where it is empty.
+fn path(alloc: Global, inner: &str) -> Seq<Text> {
+    if inner.is_empty() {
+        Seq::new(alloc)
+    } else {
+        Seq::from_vec(list(alloc, [text(alloc, inner)]))
+    }
+}
+
+/// One host item within the only import, or that import itself where the name is empty.
+pub(crate) fn one_import(
+    alloc: Global,
+    inner: &str,
+) -> PrimaryMap<RuntimeImportIndex, (ImportIndex, Seq<Text>)> {
+    PrimaryMap::from_vec(list(alloc, [(ImportIndex(0), path(alloc, inner))]))
+}
+
 /// The resources that are imported, by their host items.
 pub(crate) static RESOURCES: [RuntimeImportIndex; 2] = [
     RuntimeImportIndex(1),

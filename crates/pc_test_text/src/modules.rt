@@ -63,18 +63,16 @@ static ONE: [AdapterRecord; 1] = [ADAPTER];
 
 /// A module with these adapters.
 fn module(alloc: Global, adapters: &[AdapterRecord]) -> ModuleTranslation {
-    ModuleTranslation {
-        module: ModuleRecord {
-            imports: Seq::new(alloc),
-            funcs: Seq::new(alloc),
-            tables: 0,
-            memories: Seq::new(alloc),
-            globals: 0,
-            tags: 0,
-            exports: Seq::new(alloc),
-        },
-        adapters: Seq::from_vec(values(alloc, adapters)),
-    }
+    let module = ModuleRecord {
+        imports: Seq::new(alloc),
+        funcs: Seq::new(alloc),
+        tables: 0,
+        memories: Seq::new(alloc),
+        globals: 0,
+        tags: 0,
+        exports: Seq::new(alloc),
+    };
+    ModuleTranslation::new(alloc, module, Seq::from_vec(values(alloc, adapters)))
 }
 
 /// A module that was handed in.

@@ -1,8 +1,10 @@
 //! The texts of two plans, after the format of the texts.
 
-use crate::exports::{ALL, ONE, all_items, names_of, one_item};
+use crate::exports::{
+    AGAIN, ALL, INSTANCE, Name, ONE, all_items, host_item, host_items, names_of, one_item,
+};
 use crate::held::has_items;
-use crate::imports::{RESOURCES, import_types, imports};
+use crate::imports::{RESOURCES, import_types, imports, one_import, one_import_type};
 use crate::modules::{all_modules, one_module};
 use crate::parts::copied;
 use crate::settings::{BOTH, SINGLE};
@@ -10,7 +12,7 @@ use crate::steps::{all_steps, one_step};
 use crate::support::holds;
 use crate::trampolines::{INTRINSICS, TRAMPOLINES};
 use pc_entity::{PrimaryMap, StaticModuleIndex};
-use pc_info::{Component, ComponentTranslation, ModuleTranslation, Trampoline};
+use pc_info::{Component, ComponentTranslation, Export, ModuleTranslation, Trampoline};
 use pc_text::plan_text;
 use std::alloc::Global;
 
@@ -66,6 +68,26 @@ export \"i\" \"j\" instance id \"h\"
 export \"i\" \"j\" \"k\" type
 export \"i\" \"l\" module-static 1
 export \"m\" module-import 2
+export \"again\" imported 1 id \"w\"
+";
+
+/// The text of a plan that exports a function of the host again.
+static HOST_FUNCTION: &str = "plan 1
+modules 0 0
+counts 0 1 0 0 0 0 0 0 0 0 0 0
+import-type 0 \"f\" func
+import 0 0
+export \"again\" imported 0
+";
+
+/// The text of a plan that exports an instance of the host again, with a function in it.
+static HOST_INSTANCE: &str = "plan 1
+modules 0 0
+counts 0 1 0 0 0 0 0 0 0 0 0 0
+import-type 0 \"i\" instance
+import 0 0 \"f\"
+export \"e\" instance
+export \"e\" \"f\" imported 0
 ";
 
 /// The smallest plan that does something.
@@ -77,6 +99,23 @@ fn smallest(alloc: Global) -> Component {
     plan.options = copied(alloc, &SINGLE);
     plan.export_items = PrimaryMap::from_vec(one_item(alloc));
     plan.exports = names_of(alloc, &ONE);
+    plan
+}
+
+/// A plan that exports what it imports, a function or an instance with one.
+fn hosted(
+    alloc: Global,
+    name: &str,
+    inner: &str,
+    exports: &[Name],
+    items: Vec<Export>,
+) -> Component {
+    let mut plan = Component::new(alloc);
+    plan.num_runtime_component_instances = 1;
+    plan.import_types = one_import_type(alloc, name, inner);
+    plan.imports = one_import(alloc, inner);
+    plan.export_items = PrimaryMap::from_vec(items);
+    plan.exports = names_of(alloc, exports);
     plan
 }
 
@@ -148,4 +187,15 @@ fn plans_are_printed(rt: HostRuntime) {
     let (plan, modules) = (every_line(alloc), all_modules(alloc));
     let is_whole = says(alloc, plan, &TRAMPOLINES, modules, EVERY_LINE);
     holds(&rt, "each kind of line", is_whole);
+}
+
+#[test]
+fn host_functions_are_exports(rt: HostRuntime) {
+    let alloc = rt.alloc();
+    let plan = hosted(alloc, "f", "", &AGAIN, host_item(alloc));
+    let is_again = says(alloc, plan, &[], Vec::new(alloc), HOST_FUNCTION);
+    holds(&rt, "a function of the host", is_again);
+    let plan = hosted(alloc, "i", "f", &INSTANCE, host_items(alloc));
+    let is_within = says(alloc, plan, &[], Vec::new(alloc), HOST_INSTANCE);
+    holds(&rt, "a function within an instance of the host", is_within);
 }

@@ -1,6 +1,6 @@
 //! Each way into a list, once: the first entry has number 0, and one that is interned has it again.
 
-use crate::graph::TYPE;
+use crate::graph::{HOST, TYPE};
 use crate::support::{NO_DATA, holds, number};
 use pc_dfg::{
     Adapter, AdapterModuleId, AdapterOptions, CanonicalOptions, CanonicalOptionsDataModel,
@@ -117,13 +117,14 @@ fn adapter(graph: &mut ComponentDfg) -> u32 {
     number(graph.push_adapter(ADAPTER))
 }
 
-/// The numbers of a module of adapters, the place of an adapter, and an exported type.
-fn places(alloc: Global, graph: &mut ComponentDfg) -> [u32; 3] {
+/// The numbers of a module of adapters, the place of an adapter, an exported type and a function of the host.
+fn places(alloc: Global, graph: &mut ComponentDfg) -> [u32; 4] {
     let place = EntityIndex::Function(FuncIndex(0));
     [
         number(graph.push_adapter_module(StaticModuleIndex(0), Seq::new(alloc))),
         number(graph.push_partitioning(AdapterModuleId(0), place)),
         number(graph.push_export_item(TYPE)),
+        number(graph.push_export_item(HOST)),
     ]
 }
 
@@ -136,7 +137,11 @@ fn entries_are_numbered(rt: HostRuntime) {
     holds(&rt, "options", options(&mut graph) == [0, 0, 0, 0, 0]);
     holds(&rt, "an adapter", adapter(&mut graph) == 0);
     holds(&rt, "the same adapter", adapter(&mut graph) == 0);
-    holds(&rt, "places", places(rt.alloc(), &mut graph) == [0, 0, 0]);
+    holds(
+        &rt,
+        "places",
+        places(rt.alloc(), &mut graph) == [0, 0, 0, 1],
+    );
 }
 
 /// Whether the export of this name is the only one of a graph.
