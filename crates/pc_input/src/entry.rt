@@ -1,7 +1,7 @@
 //! Lists of what payloads are made of: entries of sections, options, and the payloads themselves.
 //!
-//! Their types are those of `pc_parsed`, and only `pc_input_values` could give them its trait `ReadForm`. So entries have a
-//! trait of this crate, and one loop of their own.
+//! Their types are those of `pc_parsed`, and only `pc_input_values` could give them its trait `ReadForm`. So entries
+//! have a trait of this crate, and one loop of their own.
 
 ghost use Rattle.std.specs.Prelude.{Option, map};
 ghost use Rattle.serde_json.specs.Data.{Data};

@@ -8,7 +8,7 @@ use std::{error, fmt};
 /// Why a name was not inserted.
 #[derive(Clone, Copy, Debug, PartialEq, Eq)]
 pub enum NameError {
-    /// Shadowing is off, and the name is there already.
+    /// The map has the name, and may not put another item in its place.
     DefinedTwice,
     /// A growth found no memory.
     NoMemory,

@@ -19,6 +19,6 @@ Takes None (Some after) bytes = ⊥
 Takes (Some before) None bytes = ⊤
 Takes (Some before) (Some after) bytes = after ≡ before ++ bytes
 
--- the count of faults rose, or stands at its last value
+-- a fault shows: more faults are counted than before, or as many as the count can tell
 abbrev pub ShowsFault : ℕ → ℕ → Type 0
 ShowsFault before after = (before < after) ⊎ (after ≡ 2 ^ 64 - 1)
