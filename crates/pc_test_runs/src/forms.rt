@@ -204,11 +204,31 @@ const TOO_MANY_GLOBALS: &str =
     r#"{"limit":1,"intrinsics":null,"types":{"core":[],"types":[]},"payloads":[{"module":{"ty":0,"imports":[],
        "funcs":[],"tables":0,"memories":[],"globals":4294967295,"tags":0,"exports":[]}}]}"#;
 
+/// The same where no component instance may begin, with and without a fault of the table.
+const TOO_MANY_AT_LIMIT_ZERO: &str =
+    r#"{"limit":0,"intrinsics":null,"types":{"core":[],"types":[{"module":[[],[]]}]},"payloads":["version",
+       {"module":{"ty":0,"imports":[],"funcs":[],"tables":0,"memories":[],"globals":4294967295,"tags":0,
+       "exports":[]}},"end"]}"#;
+
+const TOO_MANY_BESIDE_A_BAD_ENTRY: &str =
+    r#"{"limit":0,"intrinsics":null,"types":{"core":[],"types":[{"module":[[],[]]},{"list":7}]},"payloads":["version",
+       {"module":{"ty":0,"imports":[],"funcs":[],"tables":0,"memories":[],"globals":4294967295,"tags":0,
+       "exports":[]}},"end"]}"#;
+
+/// The last one with five globals: then the table's entry is at fault, before the limit is looked at.
+const A_BAD_ENTRY_AT_LIMIT_ZERO: &str =
+    r#"{"limit":0,"intrinsics":null,"types":{"core":[],"types":[{"module":[[],[]]},{"list":7}]},"payloads":["version",
+       {"module":{"ty":0,"imports":[],"funcs":[],"tables":0,"memories":[],"globals":5,"tags":0,
+       "exports":[]}},"end"]}"#;
+
 /// Lists, and what they are refused for: that a list has room for its numbers is looked at first.
-static NUMBERED: [(&str, &str); 3] = [
+static NUMBERED: [(&str, &str); 6] = [
     (AT_THE_LIMIT, "fault malformed at payload 0 item 0\n"),
     (OVER_THE_LIMIT, "fault too-many\n"),
     (TOO_MANY_GLOBALS, "fault too-many\n"),
+    (TOO_MANY_AT_LIMIT_ZERO, "fault too-many\n"),
+    (TOO_MANY_BESIDE_A_BAD_ENTRY, "fault too-many\n"),
+    (A_BAD_ENTRY_AT_LIMIT_ZERO, "fault bad-table at table 1\n"),
 ];
 
 #[test]
