@@ -38,7 +38,7 @@ take_found (y ∷ xs) (suc k) zero x h = h
 take_found (y ∷ xs) (suc k) (suc p) x h = take_found xs k p x h
 
 -- what follows of each number from two facts of it
-each_both : (P Q R : ℕ → Type 0) → ((n : ℕ) → P n → Q n → R n) → (ns : List ℕ) → Each P ns → Each Q ns → Each R ns
+pub each_both : (P Q R : ℕ → Type 0) → ((n : ℕ) → P n → Q n → R n) → (ns : List ℕ) → Each P ns → Each Q ns → Each R ns
 each_both P Q R both [] h k = tt
 each_both P Q R both (n ∷ ns) h k = (both n h.0 k.0, each_both P Q R both ns h.1 k.1)
 

@@ -1,4 +1,4 @@
--- Trees stay as the builder grows.
+-- Trees stay as the builder grows, whichever resources are known.
 use Rattle.std.proofs.Common.{◌≡◌, ℕ, List, [], ◌∷◌, Option, Some, refl, sym, ap, ◌∙◌, subst}
 use Rattle.std.proofs.Common.{true≢false, ◌<◌, length, arith}
 use Rattle.pc_numbers.specs.declared.runtime.ResourceIndex.{ResourceIndex}
@@ -16,7 +16,7 @@ use Rattle.pc_types.specs.TypeTree.{variant_of, list_of, tuple_of, flags_of, enu
 use Rattle.pc_types.specs.TypeTree.{borrow_of, stream_of, future_of, func_of, instance_of, component_of, module_of}
 use Rattle.pc_types.specs.TypeTree.{resource_of, no_fields, and_field, no_cases, and_case, no_trees, and_tree, no_tree}
 use Rattle.pc_types.specs.TypeTree.{a_tree, tree_of}
-use Rattle.pc_types_lists.specs.Types.{Types, Grows}
+use Rattle.pc_types_lists.specs.Types.{Types, Grows, KeepsTypes}
 use Rattle.pc_types_builder.specs.Converted.{AreConverted}
 use Rattle.pc_types_lists.specs.Trees.{NumbersHandlesOf, CoreHasTree, ImportHasTree, ExportHasTree, HasTree}
 use Rattle.pc_types_lists.specs.Trees.{FieldsHaveTrees, CasesHaveTrees, ValsHaveTrees, MaybeHasTree, ParamsHaveTrees}
@@ -27,54 +27,55 @@ use Rattle.pc_types.specs.TypeTree.{declared}
 use Rattle.std.proofs.lemmas.Option.{slice_get_within}
 use Rattle.pc_types_convert.specs.Needed.{entity_parts}
 use Rattle.pc_types_lists.proofs.HeldLemmas.{func_number, is_a_func}
+use Rattle.pc_types_lists.proofs.KeptTypes.{grows_keeps}
 use Rattle.pc_types_lists.proofs.ZipLemmas.{all_zip_more}
 
-module _ (old new : Types) (g : Grows old new) (who : ResourceIndex → Identity) where
+module _ (old new : Types) (g : KeepsTypes old new) (who : ResourceIndex → Identity) where
   -- the number of handles keeps its resource
-  handles_grow : (i : TypeResourceTableIndex) (r : Resource) → NumbersHandlesOf old who i r
+  handles_keep : (i : TypeResourceTableIndex) (r : Resource) → NumbersHandlesOf old who i r
       → NumbersHandlesOf new who i r
-  handles_grow i r h = (h.0, g.resource_tables i.0 h.0 h.1, h.2)
+  handles_keep i r h = (h.0, g.resource_tables i.0 h.0 h.1, h.2)
 
   -- a core entity keeps its tree
-  core_grows : (e : CoreEntity) (t : CoreTree) → CoreHasTree old who e t → CoreHasTree new who e t
-  core_grows e (core_func s) h = (h.0, h.1, g.signatures h.0 s h.2)
-  core_grows e core_table h = h
-  core_grows e (core_memory is_wide) h = h
-  core_grows e core_global h = h
-  core_grows e core_tag h = h
+  core_keeps : (e : CoreEntity) (t : CoreTree) → CoreHasTree old who e t → CoreHasTree new who e t
+  core_keeps e (core_func s) h = (h.0, h.1, g.signatures h.0 s h.2)
+  core_keeps e core_table h = h
+  core_keeps e (core_memory is_wide) h = h
+  core_keeps e core_global h = h
+  core_keeps e core_tag h = h
 
   -- a module's import
-  import_grows : (i : List ℕ × List ℕ × CoreEntity) (j : List ℕ × List ℕ × CoreTree) → ImportHasTree old who i j
+  import_keeps : (i : List ℕ × List ℕ × CoreEntity) (j : List ℕ × List ℕ × CoreTree) → ImportHasTree old who i j
       → ImportHasTree new who i j
-  import_grows i j h = (h.0, h.1, core_grows i.2 j.2 h.2)
+  import_keeps i j h = (h.0, h.1, core_keeps i.2 j.2 h.2)
 
   -- a module's export
-  export_grows : (i : List ℕ × CoreEntity) (j : List ℕ × CoreTree) → ExportHasTree old who i j
+  export_keeps : (i : List ℕ × CoreEntity) (j : List ℕ × CoreTree) → ExportHasTree old who i j
       → ExportHasTree new who i j
-  export_grows i j h = (h.0, core_grows i.1 j.1 h.1)
+  export_keeps i j h = (h.0, core_keeps i.1 j.1 h.1)
 
   mutual
     -- a type keeps its tree
-    pub tree_grows : (d : TypeDef) (t : TypeTree) → HasTree old who d t → HasTree new who d t
-    tree_grows d (primitive p) h = h
-    tree_grows d (error_context c) h =
+    pub tree_keeps : (d : TypeDef) (t : TypeTree) → HasTree old who d t → HasTree new who d t
+    tree_keeps d (primitive p) h = h
+    tree_keeps d (error_context c) h =
         (h.0, h.1, g.error_context_tables h.0.0 (record { instance = record { 0 = c } }) h.2)
-    tree_grows d (record_of fs) h = (h.0, h.1, h.2, g.records h.0.0 h.1 h.3, fields_grow h.1.fields fs h.4)
-    tree_grows d (variant_of cs) h = (h.0, h.1, h.2, g.variants h.0.0 h.1 h.3, cases_grow h.1.cases cs h.4)
-    tree_grows d (list_of t) h = (h.0, h.1, h.2, g.lists h.0.0 h.1 h.3, tree_grows (def.Interface h.1.element) t h.4)
-    tree_grows d (tuple_of ts) h = (h.0, h.1, h.2, g.tuples h.0.0 h.1 h.3, vals_grow h.1.types ts h.4)
-    tree_grows d (flags_of names) h = (h.0, h.1, g.flags h.0.0 (record { names = names }) h.2)
-    tree_grows d (enum_of names) h = (h.0, h.1, g.enums h.0.0 (record { names = names }) h.2)
-    tree_grows d (option_of t) h = (h.0, h.1, h.2, g.options h.0.0 h.1 h.3, tree_grows (def.Interface h.1.ty) t h.4)
-    tree_grows d (result_of ok err) h =
-        (h.0, h.1, h.2, g.results h.0.0 h.1 h.3, maybe_tree_grows h.1.ok ok h.4, maybe_tree_grows h.1.err err h.5)
-    tree_grows d (own_of r) h = (h.0, h.1, handles_grow h.0 r h.2)
-    tree_grows d (borrow_of r) h = (h.0, h.1, handles_grow h.0 r h.2)
-    tree_grows d (stream_of t c) h =
-        (h.0, h.1, h.2, g.stream_tables h.0.0 h.1 h.3, h.4, maybe_tree_grows h.1.payload t h.5)
-    tree_grows d (future_of t c) h =
-        (h.0, h.1, h.2, g.future_tables h.0.0 h.1 h.3, h.4, maybe_tree_grows h.1.payload t h.5)
-    tree_grows d (func_of params result is_async) h = (
+    tree_keeps d (record_of fs) h = (h.0, h.1, h.2, g.records h.0.0 h.1 h.3, fields_keep h.1.fields fs h.4)
+    tree_keeps d (variant_of cs) h = (h.0, h.1, h.2, g.variants h.0.0 h.1 h.3, cases_keep h.1.cases cs h.4)
+    tree_keeps d (list_of t) h = (h.0, h.1, h.2, g.lists h.0.0 h.1 h.3, tree_keeps (def.Interface h.1.element) t h.4)
+    tree_keeps d (tuple_of ts) h = (h.0, h.1, h.2, g.tuples h.0.0 h.1 h.3, vals_keep h.1.types ts h.4)
+    tree_keeps d (flags_of names) h = (h.0, h.1, g.flags h.0.0 (record { names = names }) h.2)
+    tree_keeps d (enum_of names) h = (h.0, h.1, g.enums h.0.0 (record { names = names }) h.2)
+    tree_keeps d (option_of t) h = (h.0, h.1, h.2, g.options h.0.0 h.1 h.3, tree_keeps (def.Interface h.1.ty) t h.4)
+    tree_keeps d (result_of ok err) h =
+        (h.0, h.1, h.2, g.results h.0.0 h.1 h.3, maybe_tree_keeps h.1.ok ok h.4, maybe_tree_keeps h.1.err err h.5)
+    tree_keeps d (own_of r) h = (h.0, h.1, handles_keep h.0 r h.2)
+    tree_keeps d (borrow_of r) h = (h.0, h.1, handles_keep h.0 r h.2)
+    tree_keeps d (stream_of t c) h =
+        (h.0, h.1, h.2, g.stream_tables h.0.0 h.1 h.3, h.4, maybe_tree_keeps h.1.payload t h.5)
+    tree_keeps d (future_of t c) h =
+        (h.0, h.1, h.2, g.future_tables h.0.0 h.1 h.3, h.4, maybe_tree_keeps h.1.payload t h.5)
+    tree_keeps d (func_of params result is_async) h = (
       h.0,
       h.1,
       h.2,
@@ -84,71 +85,76 @@ module _ (old new : Types) (g : Grows old new) (who : ResourceIndex → Identity
       g.tuples h.1.params.0 h.2 h.6,
       g.tuples h.1.results.0 h.3 h.7,
       h.8,
-      params_grow h.1.param_names h.2.types params h.9,
-      results_grow h.3.types result h.10,
+      params_keep h.1.param_names h.2.types params h.9,
+      results_keep h.3.types result h.10,
     )
-    tree_grows d (instance_of exports) h =
-        (h.0, h.1, h.2, g.instances h.0.0 h.1 h.3, externs_grow h.1.exports exports h.4)
-    tree_grows d (component_of imports exports) h = (
+    tree_keeps d (instance_of exports) h =
+        (h.0, h.1, h.2, g.instances h.0.0 h.1 h.3, externs_keep h.1.exports exports h.4)
+    tree_keeps d (component_of imports exports) h = (
       h.0,
       h.1,
       h.2,
       g.components h.0.0 h.1 h.3,
-      externs_grow h.1.imports imports h.4,
-      externs_grow h.1.exports
+      externs_keep h.1.imports imports h.4,
+      externs_keep h.1.exports
           exports h.5,
     )
-    tree_grows d (module_of imports exports) h = (
+    tree_keeps d (module_of imports exports) h = (
       h.0,
       h.1,
       h.2,
       g.modules h.0.0 h.1 h.3,
-      all_zip_more (ImportHasTree old who) (ImportHasTree new who) import_grows h.1.imports imports h.4,
-      all_zip_more (ExportHasTree old who) (ExportHasTree new who) export_grows h.1.exports exports h.5,
+      all_zip_more (ImportHasTree old who) (ImportHasTree new who) import_keeps h.1.imports imports h.4,
+      all_zip_more (ExportHasTree old who) (ExportHasTree new who) export_keeps h.1.exports exports h.5,
     )
-    tree_grows d (resource_of r) h = (h.0, h.1, handles_grow h.0 r h.2)
+    tree_keeps d (resource_of r) h = (h.0, h.1, handles_keep h.0 r h.2)
 
     -- fields keep their trees
-    fields_grow : (fs : List (List ℕ × InterfaceType)) (ts : Fields) → FieldsHaveTrees old who fs ts
+    fields_keep : (fs : List (List ℕ × InterfaceType)) (ts : Fields) → FieldsHaveTrees old who fs ts
         → FieldsHaveTrees new who fs ts
-    fields_grow fs no_fields h = h
-    fields_grow fs (and_field name t ts) h =
-        (h.0, h.1, h.2, tree_grows (def.Interface h.0) t h.3, fields_grow h.1 ts h.4)
+    fields_keep fs no_fields h = h
+    fields_keep fs (and_field name t ts) h =
+        (h.0, h.1, h.2, tree_keeps (def.Interface h.0) t h.3, fields_keep h.1 ts h.4)
 
     -- cases
-    cases_grow : (cs : List (List ℕ × Option InterfaceType)) (ts : Cases) → CasesHaveTrees old who cs ts
+    cases_keep : (cs : List (List ℕ × Option InterfaceType)) (ts : Cases) → CasesHaveTrees old who cs ts
         → CasesHaveTrees new who cs ts
-    cases_grow cs no_cases h = h
-    cases_grow cs (and_case name t ts) h = (h.0, h.1, h.2, maybe_tree_grows h.0 t h.3, cases_grow h.1 ts h.4)
+    cases_keep cs no_cases h = h
+    cases_keep cs (and_case name t ts) h = (h.0, h.1, h.2, maybe_tree_keeps h.0 t h.3, cases_keep h.1 ts h.4)
 
     -- the types of a tuple
-    vals_grow : (ws : List InterfaceType) (ts : Trees) → ValsHaveTrees old who ws ts → ValsHaveTrees new who ws ts
-    vals_grow ws no_trees h = h
-    vals_grow ws (and_tree t ts) h = (h.0, h.1, h.2, tree_grows (def.Interface h.0) t h.3, vals_grow h.1 ts h.4)
+    vals_keep : (ws : List InterfaceType) (ts : Trees) → ValsHaveTrees old who ws ts → ValsHaveTrees new who ws ts
+    vals_keep ws no_trees h = h
+    vals_keep ws (and_tree t ts) h = (h.0, h.1, h.2, tree_keeps (def.Interface h.0) t h.3, vals_keep h.1 ts h.4)
 
     -- a value type that may be left out
-    maybe_tree_grows : (w : Option InterfaceType) (t : MaybeTree) → MaybeHasTree old who w t → MaybeHasTree new who w t
-    maybe_tree_grows w no_tree h = h
-    maybe_tree_grows w (a_tree t) h = (h.0, h.1, tree_grows (def.Interface h.0) t h.2)
+    maybe_tree_keeps : (w : Option InterfaceType) (t : MaybeTree) → MaybeHasTree old who w t → MaybeHasTree new who w t
+    maybe_tree_keeps w no_tree h = h
+    maybe_tree_keeps w (a_tree t) h = (h.0, h.1, tree_keeps (def.Interface h.0) t h.2)
 
     -- parameters
-    params_grow : (names : List (List ℕ)) (ws : List InterfaceType) (ts : Fields) → ParamsHaveTrees old who names ws ts
+    params_keep : (names : List (List ℕ)) (ws : List InterfaceType) (ts : Fields) → ParamsHaveTrees old who names ws ts
         → ParamsHaveTrees new who names ws ts
-    params_grow names ws no_fields h = h
-    params_grow names ws (and_field name t ts) h =
-        (h.0, h.1, h.2, h.3, h.4, tree_grows (def.Interface h.0) t h.5, params_grow h.1 h.2 ts h.6)
+    params_keep names ws no_fields h = h
+    params_keep names ws (and_field name t ts) h =
+        (h.0, h.1, h.2, h.3, h.4, tree_keeps (def.Interface h.0) t h.5, params_keep h.1 h.2 ts h.6)
 
     -- the type that is returned
-    results_grow : (ws : List InterfaceType) (t : MaybeTree) → ResultsHaveTree old who ws t
+    results_keep : (ws : List InterfaceType) (t : MaybeTree) → ResultsHaveTree old who ws t
         → ResultsHaveTree new who ws t
-    results_grow ws no_tree h = h
-    results_grow ws (a_tree t) h = (h.0, h.1, tree_grows (def.Interface h.0) t h.2)
+    results_keep ws no_tree h = h
+    results_keep ws (a_tree t) h = (h.0, h.1, tree_keeps (def.Interface h.0) t h.2)
 
     -- named types
-    externs_grow : (es : List (List ℕ × TypeDef)) (ts : Fields) → ExternsHaveTrees old who es ts
+    externs_keep : (es : List (List ℕ × TypeDef)) (ts : Fields) → ExternsHaveTrees old who es ts
         → ExternsHaveTrees new who es ts
-    externs_grow es no_fields h = h
-    externs_grow es (and_field name t ts) h = (h.0, h.1, h.2, tree_grows h.0 t h.3, externs_grow h.1 ts h.4)
+    externs_keep es no_fields h = h
+    externs_keep es (and_field name t ts) h = (h.0, h.1, h.2, tree_keeps h.0 t h.3, externs_keep h.1 ts h.4)
+
+-- a type keeps its tree as the builder grows
+pub tree_grows : (old new : Types) → Grows old new → (who : ResourceIndex → Identity) (d : TypeDef) (t : TypeTree)
+    → HasTree old who d t → HasTree new who d t
+tree_grows old new g = tree_keeps old new (grows_keeps old new g)
 
 -- a type stays that of its entry as the builder grows
 pub entry_grows : (old new : Types) → Grows old new → (t : TypeTable) (n : ℕ) (d : TypeDef) → IsEntry old t n d

@@ -3,7 +3,6 @@ pub use Rattle.pc_types_lists.specs.Types
 pub use Rattle.pc_types_lists.specs.Held
 pub use Rattle.pc_types_lists.specs.Known
 pub use Rattle.pc_types_lists.specs.Primitive
-pub use Rattle.pc_types_convert.specs.Few
 pub use Rattle.pc_types_convert.specs.Adds
 pub mod Lending
 pub mod LendingTypes

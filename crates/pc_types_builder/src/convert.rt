@@ -19,11 +19,11 @@ ghost use Rattle.pc_types.specs.Record.{has_signature};
 ghost use Rattle.pc_types.specs.Table.{is_defined_type, is_func, is_instance, is_module, is_some_and, is_sound_entity};
 ghost use Rattle.pc_types.specs.Table.{is_sound_val, is_value, table_fault};
 ghost use Rattle.pc_types_lists.specs.Types.{Grows, HasNumber, IsTooFullFor};
+ghost use Rattle.pc_types_lists.specs.Adds.{AddsTypes, HasNoPlaceFor, most_types};
 ghost use Rattle.pc_types_lists.specs.Held.{IsHeld};
 ghost use Rattle.pc_types_lists.specs.Known.{resource_of};
 ghost use Rattle.pc_types_convert.specs.Entries.{handles_of};
 ghost use Rattle.pc_types_convert.specs.Parts.{IsErrorContext};
-ghost use Rattle.pc_types_convert.specs.Few.{AddsFuncs, AddsSignature, is_plain_func};
 ghost use Rattle.pc_types_builder.specs.Trees.{IsEntity, IsEntry, IsValue};
 ghost use Rattle.pc_types_builder.specs.Converted.{AreConverted};
 ghost use Rattle.pc_types_convert.specs.Needed.{IsAmong, entity_parts};
@@ -45,7 +45,7 @@ impl ComponentTypesBuilder {
     ///
     /// `BadNumber` where there is no entry `n`, and `TooMany` where a list has no place for the type, or for one that
     /// it needs. The types that were held keep their numbers, whatever is answered.
-    #[tactic(auto, using(crate::proofs::AskedLemmas::asked_none))]
+    #[tactic(auto, using(crate::proofs::AskedLemmas::asked_none, crate::proofs::CountLemmas::none_few))]
     pub fn convert_type(&mut self, table: &TypeTable, n: u32) -> Result<TypeDef, TypeError>
         requires sound { table_fault table.now ≡ None }
         ensures ok { IfOk result (λ d. IsEntry self.new table.now n d) }
@@ -56,6 +56,8 @@ impl ComponentTypesBuilder {
         ensures missing { slice_get table.now.types n ≡ None → result ≡ Err TypeError.BadNumber }
         ensures full { result ≡ Err TypeError.TooMany
             → IsTooFullFor self.new (λ b. (d : TypeDef) × IsEntry b table.now n d) }
+        ensures few { AddsTypes table.now (most_types table.now) self.old self.new }
+        ensures before { result ≡ Err TypeError.TooMany → HasNoPlaceFor table.now self.old }
     {
         if (n as usize) < table.types.len() {
             Ok(entry_type(&mut self.interned, table, n)?)
@@ -66,7 +68,7 @@ impl ComponentTypesBuilder {
 
     /// The type that entry `n` of the table is, for a caller that keeps what was converted: what this call converts
     /// goes among it, and no entry is converted twice. Refused as `convert_type` is.
-    #[tactic(auto, using(crate::proofs::AskedLemmas::asked_none))]
+    #[tactic(auto, using(crate::proofs::AskedLemmas::asked_none, crate::proofs::CountLemmas::none_few))]
     pub fn convert_type_with(
         &mut self,
         table: &TypeTable,
@@ -84,6 +86,8 @@ impl ComponentTypesBuilder {
         ensures missing { slice_get table.now.types n ≡ None → result ≡ Err TypeError.BadNumber }
         ensures full { result ≡ Err TypeError.TooMany
             → IsTooFullFor self.new (λ b. (d : TypeDef) × IsEntry b table.now n d) }
+        ensures few { AddsTypes table.now (most_types table.now) self.old self.new }
+        ensures before { result ≡ Err TypeError.TooMany → HasNoPlaceFor table.now self.old }
     {
         if (n as usize) >= table.types.len() {
             return Err(TypeError::BadNumber);
@@ -94,7 +98,7 @@ impl ComponentTypesBuilder {
     /// The number of the function type that is entry `n` of the table.
     ///
     /// `BadNumber` where there is no entry `n`, or it is no function; `TooMany` as of `convert_type`.
-    #[tactic(auto, using(crate::proofs::AskedLemmas::asked_none))]
+    #[tactic(auto, using(crate::proofs::AskedLemmas::asked_none, crate::proofs::CountLemmas::none_few))]
     pub fn convert_func(&mut self, table: &TypeTable, n: u32) -> Result<TypeFuncIndex, TypeError>
         requires sound { table_fault table.now ≡ None }
         ensures ok { IfOk result
@@ -107,18 +111,19 @@ impl ComponentTypesBuilder {
         ensures missing { is_some_and is_func (slice_get table.now.types n) ≡ false → result ≡ Err TypeError.BadNumber }
         ensures full { result ≡ Err TypeError.TooMany → (is_some_and is_func (slice_get table.now.types n) ≡ true)
             × IsTooFullFor self.new (λ b. (i : TypeFuncIndex) × IsEntry b table.now n (def.ComponentFunc i)) }
-        ensures few { is_some_and is_plain_func (slice_get table.now.types n) ≡ true → AddsFuncs 1 2 self.old self.new }
+        ensures few { AddsTypes table.now (most_types table.now) self.old self.new }
+        ensures before { result ≡ Err TypeError.TooMany → HasNoPlaceFor table.now self.old }
     {
         if !Entity::Func(n).is_sound(table.types.as_slice()) {
             return Err(TypeError::BadNumber);
         }
-        let mut converted = Converted::new(self.interned.alloc(), table)?;
+        let mut converted = Converted::new(self.interned.alloc(), table);
         self.convert_func_with(table, n, &mut converted)
     }
 
     /// The number of the function type that is entry `n` of the table, for a caller that keeps what was converted: what
     /// this call converts goes among it. Refused as `convert_func` is.
-    #[tactic(auto, using(crate::proofs::AskedLemmas::asked_none))]
+    #[tactic(auto, using(crate::proofs::AskedLemmas::asked_none, crate::proofs::CountLemmas::none_few))]
     pub fn convert_func_with(
         &mut self,
         table: &TypeTable,
@@ -138,7 +143,8 @@ impl ComponentTypesBuilder {
         ensures missing { is_some_and is_func (slice_get table.now.types n) ≡ false → result ≡ Err TypeError.BadNumber }
         ensures full { result ≡ Err TypeError.TooMany → (is_some_and is_func (slice_get table.now.types n) ≡ true)
             × IsTooFullFor self.new (λ b. (i : TypeFuncIndex) × IsEntry b table.now n (def.ComponentFunc i)) }
-        ensures few { is_some_and is_plain_func (slice_get table.now.types n) ≡ true → AddsFuncs 1 2 self.old self.new }
+        ensures few { AddsTypes table.now (most_types table.now) self.old self.new }
+        ensures before { result ≡ Err TypeError.TooMany → HasNoPlaceFor table.now self.old }
     {
         if !Entity::Func(n).is_sound(table.types.as_slice()) {
             return Err(TypeError::BadNumber);
@@ -150,7 +156,7 @@ impl ComponentTypesBuilder {
     }
 
     /// The number of the instance type that is entry `n` of the table. It is refused as a function is.
-    #[tactic(auto, using(crate::proofs::AskedLemmas::asked_none))]
+    #[tactic(auto, using(crate::proofs::AskedLemmas::asked_none, crate::proofs::CountLemmas::none_few))]
     pub fn convert_instance(
         &mut self,
         table: &TypeTable,
@@ -167,6 +173,8 @@ impl ComponentTypesBuilder {
         ensures full { result ≡ Err TypeError.TooMany
             → IsTooFullFor self.new
             (λ b. (i : TypeComponentInstanceIndex) × IsEntry b table.now n (def.ComponentInstance i)) }
+        ensures few { AddsTypes table.now (most_types table.now) self.old self.new }
+        ensures before { result ≡ Err TypeError.TooMany → HasNoPlaceFor table.now self.old }
     {
         if !Entity::Instance(n).is_sound(table.types.as_slice()) {
             return Err(TypeError::BadNumber);
@@ -178,7 +186,7 @@ impl ComponentTypesBuilder {
     }
 
     /// The number of the module type that is entry `n` of the table. It is refused as a function is.
-    #[tactic(auto, using(crate::proofs::AskedLemmas::asked_none))]
+    #[tactic(auto, using(crate::proofs::AskedLemmas::asked_none, crate::proofs::CountLemmas::none_few))]
     pub fn convert_module(
         &mut self,
         table: &TypeTable,
@@ -194,6 +202,8 @@ impl ComponentTypesBuilder {
             → result ≡ Err TypeError.BadNumber }
         ensures full { result ≡ Err TypeError.TooMany
             → IsTooFullFor self.new (λ b. (i : TypeModuleIndex) × IsEntry b table.now n (def.Module i)) }
+        ensures few { AddsTypes table.now (most_types table.now) self.old self.new }
+        ensures before { result ≡ Err TypeError.TooMany → HasNoPlaceFor table.now self.old }
     {
         if !Entity::Module(n).is_sound(table.types.as_slice()) {
             return Err(TypeError::BadNumber);
@@ -221,6 +231,8 @@ impl ComponentTypesBuilder {
         ensures missing { is_sound_val table.now.types v.now ≡ false → result ≡ Err TypeError.BadNumber }
         ensures full { result ≡ Err TypeError.TooMany
             → IsTooFullFor self.new (λ b. (w : InterfaceType) × IsValue b table.now v.now w) }
+        ensures few { AddsTypes table.now (most_types table.now) self.old self.new }
+        ensures before { result ≡ Err TypeError.TooMany → HasNoPlaceFor table.now self.old }
     {
         match *v {
             ValType::Prim(p) => Ok(primitive(&mut self.interned, p)?),
@@ -231,7 +243,7 @@ impl ComponentTypesBuilder {
     /// The type of an entity of the table, which isn't a component value.
     ///
     /// `BadNumber` where its number is of no entry of its kind; `TooMany` as of `convert_type`.
-    #[tactic(auto, using(crate::proofs::AskedLemmas::asked_none))]
+    #[tactic(auto, using(crate::proofs::AskedLemmas::asked_none, crate::proofs::CountLemmas::none_few))]
     pub fn convert_entity(&mut self, table: &TypeTable, e: &Entity) -> Result<TypeDef, TypeError>
         requires sound { table_fault table.now ≡ None }
         requires not_value { is_value e.now ≡ false }
@@ -243,6 +255,8 @@ impl ComponentTypesBuilder {
         ensures missing { is_sound_entity table.now.types e.now ≡ false → result ≡ Err TypeError.BadNumber }
         ensures full { result ≡ Err TypeError.TooMany
             → IsTooFullFor self.new (λ b. (d : TypeDef) × IsEntity b table.now e.now d) }
+        ensures few { AddsTypes table.now (most_types table.now) self.old self.new }
+        ensures before { result ≡ Err TypeError.TooMany → HasNoPlaceFor table.now self.old }
     {
         if e.is_sound(table.types.as_slice()) {
             Ok(entry_type(&mut self.interned, table, number_of(*e))?)
@@ -254,6 +268,7 @@ impl ComponentTypesBuilder {
     /// The number of core signature `n` of the table.
     ///
     /// `BadNumber` where there is none, and `TooMany` where the list of signatures has no place for it.
+    #[tactic(auto, using(crate::proofs::CountLemmas::none_few))]
     pub fn core_sig(
         &mut self,
         table: &TypeTable,
@@ -272,7 +287,7 @@ impl ComponentTypesBuilder {
         ensures full { result ≡ Err TypeError.TooMany → (has_signature table.now n ≡ true)
             × IsTooFullFor self.old
             (λ b. (s : CoreFuncSig) × (slice_get table.now.core_funcs n ≡ Some s) × HasNumber b.signatures s) }
-        ensures few { AddsSignature self.old self.new }
+        ensures few { AddsTypes table.now 0 self.old self.new }
     {
         if (n as usize) < table.core_funcs.len() {
             Ok(signature_at(&mut self.interned, table, n)?)
@@ -338,7 +353,7 @@ impl ComponentTypesBuilder {
     }
 
     /// The value type that entry `n` of the table is, if it is a defined type.
-    #[tactic(auto, using(crate::proofs::AskedLemmas::asked_none))]
+    #[tactic(auto, using(crate::proofs::AskedLemmas::asked_none, crate::proofs::CountLemmas::none_few))]
     fn defined_type(&mut self, table: &TypeTable, n: u32) -> Result<InterfaceType, TypeError>
         requires sound { table_fault table.now ≡ None }
         ensures tree { IfOk result (λ w. IsEntry self.new table.now n (def.Interface w)) }
@@ -351,6 +366,8 @@ impl ComponentTypesBuilder {
             → result ≡ Err TypeError.BadNumber }
         ensures full { result ≡ Err TypeError.TooMany
             → IsTooFullFor self.new (λ b. (w : InterfaceType) × IsEntry b table.now n (def.Interface w)) }
+        ensures few { AddsTypes table.now (most_types table.now) self.old self.new }
+        ensures before { result ≡ Err TypeError.TooMany → HasNoPlaceFor table.now self.old }
     {
         if !is_defined_at(table, n) {
             return Err(TypeError::BadNumber);

@@ -3,13 +3,13 @@
 //! What an entry needs is found first (`parts`), and then converted in ascending order: what an entry names has its
 //! type before it.
 
-ghost use Rattle.std.specs.Prelude.{◌≡◌, ◌<◌, ℕ, true, None, Some, Err, IfOk, OnOk, length, take};
+ghost use Rattle.std.specs.Prelude.{◌≡◌, ◌<◌, ℕ, None, Some, Err, IfOk, OnOk, length, take};
 ghost use Rattle.std.specs.Prelude.{slice_get};
 ghost use Rattle.pc_types.specs.declared.parsed.DeclType.{DeclType};
 ghost use Rattle.pc_types.specs.declared.types.TypeDef.{TypeDef};
-ghost use Rattle.pc_types.specs.Table.{is_some_and, table_fault};
+ghost use Rattle.pc_types.specs.Table.{table_fault};
 ghost use Rattle.pc_types_lists.specs.Types.{Grows, IsTooFullFor};
-ghost use Rattle.pc_types_convert.specs.Few.{AddsFuncs, is_plain_func};
+ghost use Rattle.pc_types_lists.specs.Adds.{AddsTypes, HasNoPlaceFor, most_types};
 ghost use Rattle.pc_types_builder.specs.Trees.{IsEntry};
 ghost use Rattle.pc_types_builder.specs.Converted.{AreConverted, IsOfKind};
 ghost use Rattle.pc_types_convert.specs.Entries.{EntryIs};
@@ -19,7 +19,7 @@ ghost use Rattle.pc_types_convert.specs.Needed.{AreNeeded, Each, IsDone, parts_o
 
 use crate::Converted;
 use pc_types::{TypeDef, TypeTable};
-use pc_types_convert::{convert, entry_at, needed, type_at};
+use pc_types_convert::{convert, entry_at, needed};
 use pc_types_lists::{InternedTypes, NoPlace};
 
 /// Entry `n`, which is there, with all that it leads to.
@@ -36,10 +36,10 @@ pub(crate) fn entry_type(
     ensures adds { AddsAsked table.now n interned.old interned.new }
     ensures full { result ≡ Err NoPlace.TooMany → IsTooFullFor interned.new
         (λ b. (d : TypeDef) × IsEntry b table.now n d) }
-    ensures few { is_some_and is_plain_func (slice_get table.now.types n) ≡ true
-        → AddsFuncs 1 2 interned.old interned.new }
+    ensures few { AddsTypes table.now (most_types table.now) interned.old interned.new }
+    ensures before { result ≡ Err NoPlace.TooMany → HasNoPlaceFor table.now interned.old }
 {
-    let mut converted = Converted::new(interned.alloc(), table)?;
+    let mut converted = Converted::new(interned.alloc(), table);
     entry_with(interned, table, n, &mut converted)
 }
 
@@ -60,12 +60,14 @@ pub(crate) fn entry_with(
     ensures adds { AddsAsked table.now n interned.old interned.new }
     ensures full { result ≡ Err NoPlace.TooMany → IsTooFullFor interned.new
         (λ b. (d : TypeDef) × IsEntry b table.now n d) }
-    ensures few { is_some_and is_plain_func (slice_get table.now.types n) ≡ true
-        → AddsFuncs 1 2 interned.old interned.new }
+    ensures few { AddsTypes table.now (most_types table.now) interned.old interned.new }
+    ensures before { result ≡ Err NoPlace.TooMany → HasNoPlaceFor table.now interned.old }
 {
-    let order = needed(interned.alloc(), table, converted.as_slice(), n)?;
-    convert_needed(interned, table, n, order.as_slice(), converted)?;
-    Ok(type_at(converted.as_slice(), n))
+    let order = needed(interned.alloc(), table, converted.done(), n)?;
+    let outcome = convert_needed(interned, table, n, order.as_slice(), converted);
+    interned.types_are_distinct();
+    outcome?;
+    Ok(converted.type_at(n))
 }
 
 /// The entries that are needed for entry `n`, in ascending order, are converted.
@@ -85,8 +87,6 @@ fn convert_needed(
     ensures adds { AddsAsked table.now n interned.old interned.new }
     ensures full { result ≡ Err NoPlace.TooMany → IsTooFullFor interned.new
         (λ b. (d : TypeDef) × IsEntry b table.now n d) }
-    ensures few { is_some_and is_plain_func (slice_get table.now.types n) ≡ true
-        → AddsFuncs 1 2 interned.old interned.new }
 {
     for k in order {
         step(interned, table, converted, *k)?;
@@ -116,11 +116,9 @@ fn step(
         → IsTooFullFor interned.new
         (λ b. (e : DeclType) × (slice_get table.now.types k ≡ Some e) × (d : TypeDef)
         × EntryIs b (take k converted.old) table.now k e d) }
-    ensures few { is_some_and is_plain_func (slice_get table.now.types k) ≡ true
-        → AddsFuncs 1 2 interned.old interned.new }
 {
     let entry = entry_at(table, k);
-    let type_ = convert(interned, table, converted.in_front(k), k, entry)?;
-    converted.put(k, type_);
+    let type_ = convert(interned, table, &converted.in_front(k), k, entry)?;
+    converted.put(k, type_)?;
     Ok(())
 }

@@ -1,7 +1,6 @@
 -- Laws of the words of `specs/`, for the layer above too.
 pub mod AddsLemmas
 pub mod AmongLemmas
-pub mod FewLemmas
 pub mod OneNumber
 pub mod OneTree
 pub mod PartLemmas
@@ -11,4 +10,5 @@ mod FuncLemmas
 mod HeldLemmas
 mod KindAdds
 mod NeededLemmas
+mod TabulatedLemmas
 mod ThereLemmas

@@ -1,7 +1,7 @@
 -- What the public contracts rest on.
+pub mod Tabulated
 pub mod Needed
 pub mod Parts
 pub mod Entries
 pub mod Steps
-pub mod Few
 pub mod Adds

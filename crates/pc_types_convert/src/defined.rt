@@ -12,6 +12,7 @@ ghost use Rattle.pc_types_convert.specs.Entries.{ResultIs, OwnIs, BorrowIs, Stre
 ghost use Rattle.pc_types_convert.specs.Adds.{AddsContexts, AddsType, no_context_in_case, no_context_in_field};
 ghost use Rattle.pc_types_convert.specs.Adds.{no_context_in_maybe, no_context_in_val};
 
+use crate::done::Earlier;
 use crate::value::value;
 use pc_entity::{Seq, Text, TryClone};
 use pc_types::{
@@ -23,7 +24,7 @@ use pc_types_lists::{InternedTypes, NoPlace};
 /// The type of an entry that is a value type.
 pub(crate) fn val_entry(
     interned: &mut InternedTypes,
-    done: &[Option<TypeDef>],
+    done: &Earlier<'_>,
     v: ValType,
 ) -> Result<TypeDef, NoPlace>
     requires ready { IsReady done.now v }
@@ -39,7 +40,7 @@ pub(crate) fn val_entry(
 /// The type of an entry that is a record.
 pub(crate) fn record_entry(
     interned: &mut InternedTypes,
-    done: &[Option<TypeDef>],
+    done: &Earlier<'_>,
     fields: &[(Text, ValType)],
 ) -> Result<TypeDef, NoPlace>
     requires ready { All (λ f. IsReady done.now f.1) fields.now }
@@ -58,7 +59,7 @@ pub(crate) fn record_entry(
 /// The type of an entry that is a variant.
 pub(crate) fn variant_entry(
     interned: &mut InternedTypes,
-    done: &[Option<TypeDef>],
+    done: &Earlier<'_>,
     cases: &[(Text, Option<ValType>)],
 ) -> Result<TypeDef, NoPlace>
     requires ready { All (λ c. MayBeReady done.now c.1) cases.now }
@@ -77,7 +78,7 @@ pub(crate) fn variant_entry(
 /// The type of an entry that is a list.
 pub(crate) fn list_entry(
     interned: &mut InternedTypes,
-    done: &[Option<TypeDef>],
+    done: &Earlier<'_>,
     v: ValType,
 ) -> Result<TypeDef, NoPlace>
     requires ready { IsReady done.now v }
@@ -95,7 +96,7 @@ pub(crate) fn list_entry(
 /// The type of an entry that is a tuple.
 pub(crate) fn tuple_entry(
     interned: &mut InternedTypes,
-    done: &[Option<TypeDef>],
+    done: &Earlier<'_>,
     vs: &[ValType],
 ) -> Result<TypeDef, NoPlace>
     requires ready { All (IsReady done.now) vs.now }
@@ -144,7 +145,7 @@ pub(crate) fn enum_entry(
 /// The type of an entry that is an option.
 pub(crate) fn option_entry(
     interned: &mut InternedTypes,
-    done: &[Option<TypeDef>],
+    done: &Earlier<'_>,
     v: ValType,
 ) -> Result<TypeDef, NoPlace>
     requires ready { IsReady done.now v }
@@ -163,7 +164,7 @@ pub(crate) fn option_entry(
 /// The type of an entry that is a result.
 pub(crate) fn result_entry(
     interned: &mut InternedTypes,
-    done: &[Option<TypeDef>],
+    done: &Earlier<'_>,
     ok: Option<ValType>,
     err: Option<ValType>,
 ) -> Result<TypeDef, NoPlace>
@@ -185,7 +186,7 @@ pub(crate) fn result_entry(
 /// The type of an entry that is a stream.
 pub(crate) fn stream_entry(
     interned: &mut InternedTypes,
-    done: &[Option<TypeDef>],
+    done: &Earlier<'_>,
     v: Option<ValType>,
 ) -> Result<TypeDef, NoPlace>
     requires ready { MayBeReady done.now v }
@@ -207,7 +208,7 @@ pub(crate) fn stream_entry(
 /// The type of an entry that is a future.
 pub(crate) fn future_entry(
     interned: &mut InternedTypes,
-    done: &[Option<TypeDef>],
+    done: &Earlier<'_>,
     v: Option<ValType>,
 ) -> Result<TypeDef, NoPlace>
     requires ready { MayBeReady done.now v }
@@ -229,7 +230,7 @@ pub(crate) fn future_entry(
 /// The named value types of a list, in order.
 fn field_types(
     interned: &mut InternedTypes,
-    done: &[Option<TypeDef>],
+    done: &Earlier<'_>,
     fields: &[(Text, ValType)],
 ) -> Result<Seq<(Text, InterfaceType)>, NoPlace>
     requires ready { All (λ f. IsReady done.now f.1) fields.now }
@@ -250,7 +251,7 @@ fn field_types(
 /// The named value types of a list, in order, where a name may stand without a type.
 fn case_types(
     interned: &mut InternedTypes,
-    done: &[Option<TypeDef>],
+    done: &Earlier<'_>,
     cases: &[(Text, Option<ValType>)],
 ) -> Result<Seq<(Text, Option<InterfaceType>)>, NoPlace>
     requires ready { All (λ c. MayBeReady done.now c.1) cases.now }
@@ -271,7 +272,7 @@ fn case_types(
 /// The value types of a list, in order.
 fn value_types(
     interned: &mut InternedTypes,
-    done: &[Option<TypeDef>],
+    done: &Earlier<'_>,
     vs: &[ValType],
 ) -> Result<Seq<InterfaceType>, NoPlace>
     requires ready { All (IsReady done.now) vs.now }
@@ -291,7 +292,7 @@ fn value_types(
 /// A value type that may be left out.
 fn maybe_value(
     interned: &mut InternedTypes,
-    done: &[Option<TypeDef>],
+    done: &Earlier<'_>,
     v: Option<ValType>,
 ) -> Result<Option<InterfaceType>, NoPlace>
     requires ready { MayBeReady done.now v }
@@ -308,7 +309,7 @@ fn maybe_value(
 }
 
 /// The handles of a done resource, owned.
-pub(crate) fn own_entry(done: &[Option<TypeDef>], n: u32) -> TypeDef
+pub(crate) fn own_entry(done: &Earlier<'_>, n: u32) -> TypeDef
     requires { HasHandles done.now n }
     ensures { OwnIs done.now n result }
 {
@@ -316,7 +317,7 @@ pub(crate) fn own_entry(done: &[Option<TypeDef>], n: u32) -> TypeDef
 }
 
 /// The handles of a done resource, borrowed.
-pub(crate) fn borrow_entry(done: &[Option<TypeDef>], n: u32) -> TypeDef
+pub(crate) fn borrow_entry(done: &Earlier<'_>, n: u32) -> TypeDef
     requires { HasHandles done.now n }
     ensures { BorrowIs done.now n result }
 {
@@ -324,13 +325,12 @@ pub(crate) fn borrow_entry(done: &[Option<TypeDef>], n: u32) -> TypeDef
 }
 
 /// The number of a done resource's handles.
-fn handles_at(done: &[Option<TypeDef>], n: u32) -> TypeResourceTableIndex
+fn handles_at(done: &Earlier<'_>, n: u32) -> TypeResourceTableIndex
     requires { HasHandles done.now n }
     ensures { slice_get done.now n ≡ Some (Some (def.Resource result)) }
 {
-    let found = done[n as usize];
-    match found {
-        Some(TypeDef::Resource(i)) => i,
+    match done.type_at(n) {
+        TypeDef::Resource(i) => i,
         _ => unreachable!(),
     }
 }

@@ -1,11 +1,9 @@
 //! Entries of a table, converted kind by kind.
 
-ghost use Rattle.std.specs.Prelude.{◌≡◌, true, false, List, Some, Err, All, IfOk};
+ghost use Rattle.std.specs.Prelude.{◌≡◌, false, List, Some, Err, All, IfOk};
 ghost use Rattle.std.specs.List.{AllZip, list_all};
-ghost use Rattle.pc_types.specs.Table.{is_none_or};
 ghost use Rattle.pc_entity.specs.Lists.{names_of};
 ghost use Rattle.pc_types_lists.specs.Types.{Grows, IsTooFullFor};
-ghost use Rattle.pc_types_convert.specs.Few.{AddsFuncs, are_plain, is_plain_param, is_plain_val};
 ghost use Rattle.pc_types_convert.specs.Adds.{AddsContexts, AddsFunc, AddsTuple, no_context_in_field};
 ghost use Rattle.pc_types_convert.specs.Adds.{no_context_in_maybe, no_context_in_val};
 ghost use Rattle.pc_types_convert.specs.Parts.{AreHeld, ValIs, IsReady, MayBeReady};
@@ -16,6 +14,7 @@ ghost use Rattle.pc_types.specs.declared.types.TypeDef.{TypeDef};
 ghost use Rattle.pc_types.specs.declared.types.TypeDef.TheVariants as def;
 ghost use Rattle.pc_types_convert.specs.Entries.{FuncIs, ParamsAre, ResultsAre, ReturnsAre};
 
+use crate::done::Earlier;
 use crate::value::value;
 use pc_entity::{NoMemory, Seq, Text, TryClone};
 use pc_types::{
@@ -27,7 +26,7 @@ use std::alloc::Global;
 /// The type of an entry that is a function type.
 pub(crate) fn func_type_entry(
     interned: &mut InternedTypes,
-    done: &[Option<TypeDef>],
+    done: &Earlier<'_>,
     params: &[(Text, ValType)],
     returns: Option<ValType>,
     async_: bool,
@@ -43,7 +42,6 @@ pub(crate) fn func_type_entry(
     ensures full { result ≡ Err NoPlace.TooMany → IsTooFullFor interned.new
         (λ b. (d : TypeDef) × (i : TypeFuncIndex) × (d ≡ def.ComponentFunc i)
         × FuncIs b done.now params.now returns async_ i) }
-    ensures few { are_plain params.now returns ≡ true → AddsFuncs 1 2 interned.old interned.new }
 {
     Ok(TypeDef::ComponentFunc(func_entry(interned, done, params, returns, async_)?))
 }
@@ -51,7 +49,7 @@ pub(crate) fn func_type_entry(
 /// The number of a function type.
 fn func_entry(
     interned: &mut InternedTypes,
-    done: &[Option<TypeDef>],
+    done: &Earlier<'_>,
     params: &[(Text, ValType)],
     returns: Option<ValType>,
     async_: bool,
@@ -64,7 +62,6 @@ fn func_entry(
     ensures adds { AddsFunc done.now params.now returns async_ interned.old interned.new }
     ensures full { result ≡ Err NoPlace.TooMany → IsTooFullFor interned.new
         (λ b. (i : TypeFuncIndex) × FuncIs b done.now params.now returns async_ i) }
-    ensures few { are_plain params.now returns ≡ true → AddsFuncs 1 2 interned.old interned.new }
 {
     let param_names = names(interned.alloc(), params)?;
     let params = params_tuple(interned, done, params)?;
@@ -80,7 +77,7 @@ fn func_entry(
 /// The number of the tuple of the parameters.
 fn params_tuple(
     interned: &mut InternedTypes,
-    done: &[Option<TypeDef>],
+    done: &Earlier<'_>,
     params: &[(Text, ValType)],
 ) -> Result<TypeTupleIndex, NoPlace>
     requires ready { All (λ p. IsReady done.now p.1) params.now }
@@ -91,7 +88,6 @@ fn params_tuple(
         (λ i. ParamsAre interned.new done.now params.now (record { 0 = i })) interned.old interned.new }
     ensures full { result ≡ Err NoPlace.TooMany → IsTooFullFor interned.new
         (λ b. (i : TypeTupleIndex) × ParamsAre b done.now params.now i) }
-    ensures few { list_all is_plain_param params.now ≡ true → AddsFuncs 0 1 interned.old interned.new }
 {
     let types = param_types(interned, done, params)?;
     interned.put_tuple(TypeTuple { types })
@@ -100,7 +96,7 @@ fn params_tuple(
 /// The number of the tuple of what is returned.
 fn results_tuple(
     interned: &mut InternedTypes,
-    done: &[Option<TypeDef>],
+    done: &Earlier<'_>,
     returns: Option<ValType>,
 ) -> Result<TypeTupleIndex, NoPlace>
     requires ready { MayBeReady done.now returns }
@@ -111,7 +107,6 @@ fn results_tuple(
         (λ i. ResultsAre interned.new done.now returns (record { 0 = i })) interned.old interned.new }
     ensures full { result ≡ Err NoPlace.TooMany → IsTooFullFor interned.new
         (λ b. (i : TypeTupleIndex) × ResultsAre b done.now returns i) }
-    ensures few { is_none_or is_plain_val returns ≡ true → AddsFuncs 0 1 interned.old interned.new }
 {
     let types = return_types(interned, done, returns)?;
     interned.put_tuple(TypeTuple { types })
@@ -120,7 +115,7 @@ fn results_tuple(
 /// The types of the parameters, in order.
 fn param_types(
     interned: &mut InternedTypes,
-    done: &[Option<TypeDef>],
+    done: &Earlier<'_>,
     params: &[(Text, ValType)],
 ) -> Result<Seq<InterfaceType>, NoPlace>
     requires ready { All (λ p. IsReady done.now p.1) params.now }
@@ -140,7 +135,7 @@ fn param_types(
 /// The type that is returned, if there is one.
 fn return_types(
     interned: &mut InternedTypes,
-    done: &[Option<TypeDef>],
+    done: &Earlier<'_>,
     returns: Option<ValType>,
 ) -> Result<Seq<InterfaceType>, NoPlace>
     requires ready { MayBeReady done.now returns }
@@ -159,7 +154,7 @@ fn return_types(
 /// The list of one type.
 fn one_type(
     interned: &mut InternedTypes,
-    done: &[Option<TypeDef>],
+    done: &Earlier<'_>,
     v: ValType,
 ) -> Result<Seq<InterfaceType>, NoPlace>
     requires ready { IsReady done.now v }

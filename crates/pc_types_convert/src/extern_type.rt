@@ -8,13 +8,13 @@ ghost use Rattle.pc_types.specs.declared.parsed.CoreFuncSig.{CoreFuncSig};
 ghost use Rattle.pc_types.specs.declared.types.TypeDef.{TypeDef};
 ghost use Rattle.pc_types.specs.Record.{is_typed};
 ghost use Rattle.pc_types_lists.specs.Types.{Grows, HasNumber, IsTooFullFor};
-ghost use Rattle.pc_types_convert.specs.Few.{AddsSignature};
 ghost use Rattle.pc_types_convert.specs.Adds.{AddsModule, AddsSignatures, AddsType};
 ghost use Rattle.pc_types_lists.specs.Interned.{IsPut};
 ghost use Rattle.pc_types_convert.specs.Parts.{EntityIs, ExternIs, IsThere};
 ghost use Rattle.pc_types_convert.specs.Entries.{CoreIs, ComponentIs, ExportIs, ImportIs, InstanceIs, ModuleIs, ResourceIs};
 ghost use Rattle.pc_types_convert.specs.Entries.{handles_of};
 
+use crate::done::Earlier;
 use pc_entity::{ModuleInternedTypeIndex, NoMemory, Seq, Text, TryClone};
 use pc_types::{
     CoreEntity, CoreFuncSig, Entity, TypeComponent, TypeComponentInstance, TypeDef, TypeModule,
@@ -52,7 +52,7 @@ fn handles(interned: &mut InternedTypes, n: u32) -> Result<TypeResourceTableInde
 /// The type of an entry that is an instance type.
 pub(crate) fn instance_entry(
     interned: &mut InternedTypes,
-    done: &[Option<TypeDef>],
+    done: &Earlier<'_>,
     exports: &[(Text, Entity)],
 ) -> Result<TypeDef, NoPlace>
     requires ready { All (λ e. IsThere done.now e.1) exports.now }
@@ -69,7 +69,7 @@ pub(crate) fn instance_entry(
 /// The type of an entry that is a component type.
 pub(crate) fn component_entry(
     interned: &mut InternedTypes,
-    done: &[Option<TypeDef>],
+    done: &Earlier<'_>,
     imports: &[(Text, Entity)],
     exports: &[(Text, Entity)],
 ) -> Result<TypeDef, NoPlace>
@@ -202,7 +202,6 @@ pub fn signature_at(
         → IsPut interned.old.signatures interned.new.signatures s }
     ensures full { result ≡ Err NoPlace.TooMany → IsTooFullFor interned.new
         (λ b. (s : CoreFuncSig) × (slice_get table.now.core_funcs n ≡ Some s) × HasNumber b.signatures s) }
-    ensures few { AddsSignature interned.old interned.new }
 {
     let signature = core_func_at(table, n).try_clone(interned.alloc())?;
     interned.put_signature(signature)
@@ -219,7 +218,7 @@ fn core_func_at(table: &TypeTable, n: u32) -> &CoreFuncSig
 /// The named types of a list, in order.
 fn externs(
     alloc: Global,
-    done: &[Option<TypeDef>],
+    done: &Earlier<'_>,
     items: &[(Text, Entity)],
 ) -> Result<Seq<(Text, TypeDef)>, NoMemory>
     requires ready { All (λ e. IsThere done.now e.1) items.now }
@@ -234,28 +233,16 @@ fn externs(
 }
 
 /// The type of a done entity.
-fn entity_at(done: &[Option<TypeDef>], e: Entity) -> TypeDef
+fn entity_at(done: &Earlier<'_>, e: Entity) -> TypeDef
     requires { IsThere done.now e }
     ensures { EntityIs done.now e result }
 {
     match e {
-        Entity::Func(n) => type_at(done, n),
-        Entity::Instance(n) => type_at(done, n),
-        Entity::Component(n) => type_at(done, n),
-        Entity::Module(n) => type_at(done, n),
-        Entity::Type_(n) => type_at(done, n),
+        Entity::Func(n) => done.type_at(n),
+        Entity::Instance(n) => done.type_at(n),
+        Entity::Component(n) => done.type_at(n),
+        Entity::Module(n) => done.type_at(n),
+        Entity::Type_(n) => done.type_at(n),
         Entity::Value => unreachable!(),
-    }
-}
-
-/// The type of a done entry.
-pub fn type_at(done: &[Option<TypeDef>], n: u32) -> TypeDef
-    requires { (d : TypeDef) × (slice_get done.now n ≡ Some (Some d)) }
-    ensures { slice_get done.now n ≡ Some (Some result) }
-{
-    let found = done[n as usize];
-    match found {
-        Some(d) => d,
-        None => unreachable!(),
     }
 }

@@ -1,9 +1,8 @@
 //! An entry of a type table whose parts are done, converted by its kind.
 
-ghost use Rattle.std.specs.Prelude.{◌≡◌, true, Err, IfOk};
+ghost use Rattle.std.specs.Prelude.{◌≡◌, Err, IfOk};
 ghost use Rattle.pc_types.specs.declared.types.TypeDef.{TypeDef};
 ghost use Rattle.pc_types_lists.specs.Types.{Grows, IsTooFullFor};
-ghost use Rattle.pc_types_convert.specs.Few.{AddsFuncs, is_plain_func};
 ghost use Rattle.pc_types_convert.specs.Adds.{AddsEntry};
 ghost use Rattle.pc_types_convert.specs.Entries.{EntryIs};
 ghost use Rattle.pc_types_convert.specs.Parts.{AreHeld};
@@ -13,6 +12,7 @@ use crate::defined::{
     borrow_entry, enum_entry, flags_entry, future_entry, list_entry, option_entry, own_entry,
     record_entry, result_entry, stream_entry, tuple_entry, val_entry, variant_entry,
 };
+use crate::done::Earlier;
 use crate::entry::func_type_entry;
 use crate::extern_type::{component_entry, instance_entry, module_entry, resource_entry};
 use pc_types::{DeclType, TypeDef, TypeTable};
@@ -22,7 +22,7 @@ use pc_types_lists::{InternedTypes, NoPlace};
 pub fn convert(
     interned: &mut InternedTypes,
     table: &TypeTable,
-    done: &[Option<TypeDef>],
+    done: &Earlier<'_>,
     n: u32,
     entry: &DeclType,
 ) -> Result<TypeDef, NoPlace>
@@ -33,7 +33,6 @@ pub fn convert(
     ensures adds { AddsEntry done.now table.now n entry.now interned.old interned.new }
     ensures full { result ≡ Err NoPlace.TooMany → IsTooFullFor interned.new
         (λ b. (d : TypeDef) × EntryIs b done.now table.now n entry.now d) }
-    ensures few { is_plain_func entry.now ≡ true → AddsFuncs 1 2 interned.old interned.new }
 {
     match entry {
         DeclType::Resource => resource_entry(interned, n),

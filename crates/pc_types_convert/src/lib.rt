@@ -3,13 +3,15 @@
 #![tactic(auto)]
 
 mod defined;
+mod done;
 mod entry;
 mod extern_type;
 mod kinds;
 mod parts;
 mod value;
 
-pub use extern_type::{signature_at, type_at};
+pub use done::{Done, Earlier};
+pub use extern_type::signature_at;
 pub use kinds::convert;
 pub use parts::{entry_at, needed};
 pub use value::{error_contexts, primitive};

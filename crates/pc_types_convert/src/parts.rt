@@ -11,20 +11,16 @@ ghost use Rattle.pc_types.specs.Table.{table_fault};
 ghost use Rattle.pc_types_convert.specs.Needed.{AreNeeded, Each, IsAmong, IsDone, case_parts, entity_parts, extern_parts};
 ghost use Rattle.pc_types_convert.specs.Needed.{field_parts, maybe_parts, parts_of, val_parts};
 
+use crate::done::Done;
 use pc_entity::{NoMemory, Text};
-use pc_types::{DeclType, Entity, TypeDef, TypeTable, ValType};
+use pc_types::{DeclType, Entity, TypeTable, ValType};
 use std::alloc::Global;
 use std::collections::BTreeSet;
 
 /// The entries that are to be converted for entry `n`, in ascending order, where some entries are done.
 ///
 /// The time is that of a sort of what the entries name.
-pub fn needed(
-    alloc: Global,
-    table: &TypeTable,
-    done: &[Option<TypeDef>],
-    n: u32,
-) -> Result<Vec<u32>, NoMemory>
+pub fn needed(alloc: Global, table: &TypeTable, done: &Done, n: u32) -> Result<Vec<u32>, NoMemory>
     requires sound { table_fault table.now ≡ None }
     requires there { n < length table.now.types }
     ensures { IfOk result (λ order. AreNeeded table.now done.now n order.items) }
@@ -50,7 +46,7 @@ pub fn entry_at(table: &TypeTable, k: u32) -> &DeclType
 }
 
 /// An entry is opened, unless it is done.
-fn open_entry(opened: &mut BTreeSet<u32>, done: &[Option<TypeDef>], n: u32) -> Result<(), NoMemory>
+fn open_entry(opened: &mut BTreeSet<u32>, done: &Done, n: u32) -> Result<(), NoMemory>
     ensures kept { OnOk result ((m : ℕ) → IsAmong m opened.old.keys → IsAmong m opened.new.keys) }
     ensures met { OnOk result (IsDone done.now n ⊎ IsAmong n opened.new.keys) }
     ensures only { OnOk result ((m : ℕ) → IsAmong m opened.new.keys → IsAmong m opened.old.keys ⊎ (m ≡ n)) }
@@ -63,22 +59,15 @@ fn open_entry(opened: &mut BTreeSet<u32>, done: &[Option<TypeDef>], n: u32) -> R
 }
 
 /// Whether an entry has its type.
-fn is_done(done: &[Option<TypeDef>], n: u32) -> bool
+fn is_done(done: &Done, n: u32) -> bool
     ensures yes { result ≡ true → IsDone done.now n }
     ensures no { result ≡ false → IsDone done.now n → ⊥ }
 {
-    match done.get(n as usize) {
-        Some(done) => done.is_some(),
-        None => false,
-    }
+    done.get(n).is_some()
 }
 
 /// Each of some entries is opened, unless it is done.
-fn open_entries(
-    opened: &mut BTreeSet<u32>,
-    done: &[Option<TypeDef>],
-    ns: &[u32],
-) -> Result<(), NoMemory>
+fn open_entries(opened: &mut BTreeSet<u32>, done: &Done, ns: &[u32]) -> Result<(), NoMemory>
     ensures kept { OnOk result ((m : ℕ) → IsAmong m opened.old.keys → IsAmong m opened.new.keys) }
     ensures met { OnOk result (Each (λ n. IsDone done.now n ⊎ IsAmong n opened.new.keys) ns.now) }
     ensures only { OnOk result ((m : ℕ) → IsAmong m opened.new.keys → IsAmong m opened.old.keys ⊎ IsAmong m ns.now) }

@@ -9,6 +9,7 @@ ghost use Rattle.pc_types.specs.declared.types.TypeDef.TheVariants as def;
 ghost use Rattle.pc_types.specs.declared.type_index.TypeComponentLocalErrorContextTableIndex.{TypeComponentLocalErrorContextTableIndex};
 ghost use Rattle.pc_types.specs.declared.types.InterfaceType.{InterfaceType};
 
+use crate::done::Earlier;
 use pc_types::{
     InterfaceType, PrimType, TypeComponentLocalErrorContextTableIndex, TypeDef,
     TypeErrorContextTable, ValType,
@@ -47,7 +48,7 @@ pub fn primitive(interned: &mut InternedTypes, p: PrimType) -> Result<InterfaceT
 /// A value type, whose number is among the done ones.
 pub(crate) fn value(
     interned: &mut InternedTypes,
-    done: &[Option<TypeDef>],
+    done: &Earlier<'_>,
     v: ValType,
 ) -> Result<InterfaceType, NoPlace>
     requires ready { IsReady done.now v }
@@ -86,13 +87,12 @@ fn plain_type(p: PrimType) -> Option<InterfaceType>
 }
 
 /// The value type of a done entry.
-fn value_at(done: &[Option<TypeDef>], n: u32) -> InterfaceType
+fn value_at(done: &Earlier<'_>, n: u32) -> InterfaceType
     requires { (w : InterfaceType) × (slice_get done.now n ≡ Some (Some (def.Interface w))) }
     ensures { slice_get done.now n ≡ Some (Some (def.Interface result)) }
 {
-    let found = done[n as usize];
-    match found {
-        Some(TypeDef::Interface(w)) => w,
+    match done.type_at(n) {
+        TypeDef::Interface(w) => w,
         _ => unreachable!(),
     }
 }

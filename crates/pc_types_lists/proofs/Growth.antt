@@ -181,7 +181,7 @@ grows_signatures old new value rest put =
     subst (Grows old) (sym rest) (search (kept_refl, kept))
 
 -- what was found is contained
-contains_at : {V : Type 0} (xs : List V) (n : ℕ) (x : V) → slice_get xs n ≡ Some x → Contains xs x
+pub contains_at : {V : Type 0} (xs : List V) (n : ℕ) (x : V) → slice_get xs n ≡ Some x → Contains xs x
 contains_at xs n x h =
     let within = slice_get_within xs n x h in
     (n, within, same_Some (get_or xs n x) x (sym (slice_get-get_or xs n x within) ∙ h))

@@ -1,5 +1,5 @@
 -- The known resources against the sorted map that holds them.
-use Rattle.std.proofs.Common.{◌≡◌, ℕ, List, [], ◌∷◌, Some, if◌then◌else◌, ◌==◌, refl, sym, ◌∙◌}
+use Rattle.std.proofs.Common.{◌≡◌, ℕ, List, [], ◌∷◌, Option, Some, if◌then◌else◌, ◌==◌, refl, sym, ◌∙◌}
 use Rattle.std.specs.Ordering.{nat_cmp}
 use Rattle.std.specs.Map.{lookup}
 use Rattle.std.specs.BTreeMap.{BTreeMap, is_at, Updates}
@@ -12,10 +12,10 @@ pub resource_of-get : (es : List (ℕ × ResourceIndex)) (n : ℕ) → resource_
 resource_of-get [] n = refl
 resource_of-get (e ∷ es) n = λ i. if sym (unsigned_tied n e.0) i then Some e.1 else resource_of-get es n i
 
--- the known resources after one is put into the map
-pub resource_of-put : (m n : BTreeMap ℕ ResourceIndex) (k : ℕ) (r : ResourceIndex) → Updates nat_cmp m n k (Some r)
+-- the known resources after a change of the map
+pub resource_of-put : (m n : BTreeMap ℕ ResourceIndex) (k : ℕ) (x : Option ResourceIndex) → Updates nat_cmp m n k x
     → (q : ℕ)
-    → resource_of n.entries q ≡ (if q == k then Some r else resource_of m.entries q)
-resource_of-put m n k r updates q =
+    → resource_of n.entries q ≡ (if q == k then x else resource_of m.entries q)
+resource_of-put m n k x updates q =
     resource_of-get n.entries q ∙ updates.0 q
-    ∙ (λ i. if (unsigned_tied k q ∙ nat_eq_equiv.symm k q) i then Some r else sym (resource_of-get m.entries q) i)
+    ∙ (λ i. if (unsigned_tied k q ∙ nat_eq_equiv.symm k q) i then x else sym (resource_of-get m.entries q) i)

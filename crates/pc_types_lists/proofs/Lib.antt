@@ -2,9 +2,11 @@
 pub mod Joining
 pub mod Keeping
 pub mod Growth
+pub mod KeptTypes
 pub mod AddedLemmas
 pub mod HeldLemmas
 pub mod ErrorLemmas
+pub mod FewLemmas
 pub mod ZipLemmas
 -- What the functions of this crate rest on.
 mod FactLemmas

@@ -59,6 +59,25 @@ impl ResourcesBuilder {
         Ok(())
     }
 
+    /// Table number `n` stands again for what it stood for before it was registered: a resource, or none.
+    pub fn restore(&mut self, n: u32, was: Option<ResourceIndex>) -> Result<(), NoMemory>
+        ensures ok { OnOk result
+            ((q : ℕ) → resource_of self.new.known q ≡ (if q == n then was else resource_of self.old.known q)) }
+        ensures current { self.new.current ≡ self.old.current }
+        ensures err { OnErr result (self.new ≡ self.old) }
+    {
+        match was {
+            Some(r) => {
+                self.known.insert(n, r)?;
+                Ok(())
+            }
+            None => {
+                self.known.remove(&n);
+                Ok(())
+            }
+        }
+    }
+
     /// The resource of table number `n`, if it is known.
     pub fn lookup(&self, n: u32) -> Option<ResourceIndex>
         ensures { result ≡ resource_of self.now.known n }

@@ -91,12 +91,8 @@ fn converts_parts(rt: &impl Abort, types: &mut ComponentTypesBuilder, table: &Ty
 fn converts_again(alloc: Global, types: &mut ComponentTypesBuilder, table: &TypeTable) -> bool
     requires sound { table_fault table.now ≡ None }
 {
-    match Converted::new(alloc, table) {
-        Ok(mut converted) => {
-            types.convert_func_with(table, 14, &mut converted) == Ok(TypeFuncIndex(0))
-        }
-        Err(_) => false,
-    }
+    let mut converted = Converted::new(alloc, table);
+    types.convert_func_with(table, 14, &mut converted) == Ok(TypeFuncIndex(0))
 }
 
 static KINDS: [TypeKind; 17] = [

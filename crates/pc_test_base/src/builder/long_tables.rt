@@ -5,7 +5,6 @@ ghost use Rattle.pc_types_builder.specs.Converted.{AreConverted};
 use crate::builder::converts;
 use crate::builder::entries::Shape;
 use crate::support::{holds, is_sound};
-use pc_entity::NoMemory;
 use pc_types::{
     InterfaceType, TypeDef, TypeKind, TypeListIndex, TypeOptionIndex, TypeTable, ValType,
 };
@@ -28,27 +27,23 @@ pub fn converts_chain(
     table: &TypeTable,
 ) {
     let lists = are_lists(alloc, types, table);
-    holds(rt, "lists", lists.unwrap_or(false));
+    holds(rt, "lists", lists);
     holds(rt, "held", types.held(TypeKind::List) == 200_000);
 }
 
 /// Whether each entry of a chain, from the last to the first, is the list of its number.
-fn are_lists(
-    alloc: Global,
-    types: &mut ComponentTypesBuilder,
-    table: &TypeTable,
-) -> Result<bool, NoMemory> {
+fn are_lists(alloc: Global, types: &mut ComponentTypesBuilder, table: &TypeTable) -> bool {
     if !is_sound(alloc, table) {
-        return Ok(false);
+        return false;
     }
-    let mut converted = Converted::new(alloc, table)?;
+    let mut converted = Converted::new(alloc, table);
     for n in (0..200_000).rev() {
         let list = TypeDef::Interface(InterfaceType::List(TypeListIndex(n)));
         if types.convert_type_with(table, n, &mut converted) != Ok(list) {
-            return Ok(false);
+            return false;
         }
     }
-    Ok(true)
+    true
 }
 
 /// The tree of the last entry has 2 ^ 60 leaves.

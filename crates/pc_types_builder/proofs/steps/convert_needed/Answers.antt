@@ -2,7 +2,6 @@ use Rattle.std.proofs.Common.{arith}
 use Rattle.pc_types_lists.proofs.ErrorLemmas.{passed_on}
 use Rattle.pc_types_lists.proofs.Growth.{grows_trans}
 use Rattle.pc_types_builder.proofs.AskedLemmas.{asked_both, next_asked}
-use Rattle.pc_types_builder.proofs.AloneLemmas.{adds_few, adds_last, adds_step}
 use Rattle.pc_types_builder.proofs.RefusalLemmas.{next_there}
 use Rattle.pc_types_builder.proofs.StepLemmas.{asked_done, done_next, parts_done}
 use Rattle.pc_types_builder.proofs.steps.convert_needed.Goals as goal
@@ -26,8 +25,6 @@ loop-k-preserved c =
       adds = asked_both _ _ _ _ _ c.step.ensures.grows l.invariant.adds
           (next_asked c.args.table.now c.requires.sound _ _ _ c.requires.needed l.k-index
           (omega (arith, c.loop-k-test.true)) _ _ _ l.invariant.converted c.step.ensures.grows c.step.ensures.adds);
-      few = λ h. adds_step c.args.table.now c.requires.sound _ _ _ c.requires.needed h l.k-index
-          (omega (arith, c.loop-k-test.true)) _ _ _ (l.invariant.few h) c.step.ensures.few;
     }
 
 pub returns-in_err-step-clause-grows : goal.returns-in_err-step-clause-grows
@@ -42,20 +39,10 @@ returns-in_err-step-clause-full c =
     c.args.n _ c.requires.needed l.k-index (omega (arith, c.loop-k-test.true)) l.invariant.converted
     l.invariant.so_far l.invariant.kept q.0 q.1)
 
-pub returns-in_err-step-clause-few : goal.returns-in_err-step-clause-few
-returns-in_err-step-clause-few c h =
-    adds_last c.args.table.now c.requires.sound _ _ _ c.requires.needed h c.loop-k.k-index
-    (omega (arith, c.loop-k-test.true)) _ _ _ (c.loop-k.invariant.few h) c.step.ensures.few
-
 pub returns-clause-done : goal.returns-clause-done
 returns-clause-done c =
     asked_done c.args.table.now _ _ c.args.n _ c.requires.needed c.loop-k.k-index (omega (arith, c.loop-k-test.false))
     c.loop-k.invariant.so_far c.loop-k.invariant.kept
-
-pub returns-clause-few : goal.returns-clause-few
-returns-clause-few c h =
-    adds_few c.args.table.now c.requires.sound _ _ _ c.requires.needed h _ c.loop-k.invariant.within _ _
-    (c.loop-k.invariant.few h)
 
 pub returns-in_err-step-clause-adds : goal.returns-in_err-step-clause-adds
 returns-in_err-step-clause-adds c =

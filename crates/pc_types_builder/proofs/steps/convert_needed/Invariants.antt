@@ -1,8 +1,5 @@
-use Rattle.std.proofs.Common.{◌≡◌, ◌≤◌, ◌+◌, ℕ, length, take, true}
-use Rattle.std.specs.Prelude.{slice_get}
-use Rattle.pc_types.specs.Table.{is_some_and}
+use Rattle.std.proofs.Common.{◌≤◌, ℕ, length, take}
 use Rattle.pc_types_lists.specs.Types.{Grows}
-use Rattle.pc_types_convert.specs.Few.{AddsFuncs, is_plain_func}
 use Rattle.pc_types_builder.specs.Asked.{AddsAsked}
 use Rattle.pc_types_builder.specs.Converted.{AreConverted}
 use Rattle.pc_types_convert.specs.Needed.{Each, IsDone}
@@ -16,6 +13,4 @@ invariant-loop-k l = record {
   grows : Grows l.fn.interned l.interned;
   within : l.k-index ≤ length l.order;
   adds : AddsAsked l.fn.table l.fn.n l.fn.interned l.interned;
-  few : is_some_and is_plain_func (slice_get l.fn.table.types l.fn.n) ≡ true
-      → AddsFuncs l.k-index (l.k-index + l.k-index) l.fn.interned l.interned;
 }

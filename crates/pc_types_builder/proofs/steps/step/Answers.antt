@@ -1,7 +1,7 @@
-use Rattle.std.proofs.Common.{◌≡◌, arith, subst, true}
-use Rattle.pc_types.specs.Table.{is_some_and}
+use Rattle.std.proofs.Common.{arith, subst, sym}
 use Rattle.pc_types_lists.proofs.ErrorLemmas.{passed_on}
-use Rattle.pc_types_convert.specs.Few.{is_plain_func}
+use Rattle.pc_types_convert.specs.Needed.{IsDone}
+use Rattle.pc_types_builder.specs.Converted.{AreConverted}
 use Rattle.pc_types_builder.proofs.AskedLemmas.{step_adds}
 use Rattle.pc_types_builder.proofs.StepLemmas.{done_put, entry_wanted, front_held, kept_put, put_more, ready_front}
 use Rattle.pc_types_builder.proofs.TreeLemmas.{converted_grows}
@@ -21,35 +21,40 @@ returns-in_err-type_-clause-converted c = converted_grows _ _ c.convert.ensures.
 
 pub returns-in_err-type_-clause-full : goal.returns-in_err-type_-clause-full
 returns-in_err-type_-clause-full c =
-    passed_on c.from_residual.result c.in_err-type_.field-0.0 _ _ _ c.from_residual.ensures.1
-    c.in_err-type_.ensures.full
+    let e = c.from_residual in
+    passed_on e.result c.in_err-type_.field-0.0 _ _ _ e.ensures.1 c.in_err-type_.ensures.full
     (λ next g is. entry_wanted next c.args.table.now c.args.converted.now _ c.args.k _ c.in_front.ensures
     c.entry_at-entry.ensures)
+
+pub returns-in_err-put-clause-converted : goal.returns-in_err-put-clause-converted
+returns-in_err-put-clause-converted c =
+    subst (AreConverted _ c.args.table.now) (sym c.in_err-put.ensures.err)
+    (converted_grows _ _ c.convert.ensures.grows _ _ c.requires.converted)
+
+pub returns-in_err-put-clause-kept : goal.returns-in_err-put-clause-kept
+returns-in_err-put-clause-kept c m h = subst (λ l. IsDone l m) (sym c.in_err-put.ensures.err) h
 
 pub returns-clause-converted : goal.returns-clause-converted
 returns-clause-converted c =
     put_more c.args.table.now c.requires.sound _ c.args.converted.now _ _ c.args.k _ c.in_ok-type_.type_
     c.entry_at-entry.ensures (c.requires.parts _ c.entry_at-entry.ensures) (converted_grows _ _
     c.convert.ensures.grows _ _ c.requires.converted)
-    c.in_front.ensures c.in_ok-type_.ensures.is c.put.ensures
+    c.in_front.ensures c.in_ok-type_.ensures.is c.in_ok-put.ensures.ok
 
 pub returns-clause-done : goal.returns-clause-done
 returns-clause-done c =
-    done_put _ _ c.args.k _ c.put.ensures (omega (arith, c.requires.there, c.requires.converted.room))
+    done_put _ _ c.args.k _ c.in_ok-put.ensures.ok (omega (arith, c.requires.there, c.requires.converted.room))
 
 pub returns-clause-kept : goal.returns-clause-kept
-returns-clause-kept c = kept_put _ _ c.args.k _ c.put.ensures
-
-pub returns-in_err-type_-clause-few : goal.returns-in_err-type_-clause-few
-returns-in_err-type_-clause-few c h =
-    c.convert.ensures.few (subst (λ o. is_some_and is_plain_func o ≡ true) c.entry_at-entry.ensures h)
-
-pub returns-clause-few : goal.returns-clause-few
-returns-clause-few c h =
-    c.convert.ensures.few (subst (λ o. is_some_and is_plain_func o ≡ true) c.entry_at-entry.ensures h)
+returns-clause-kept c = kept_put _ _ c.args.k _ c.in_ok-put.ensures.ok
 
 pub returns-in_err-type_-clause-adds : goal.returns-in_err-type_-clause-adds
 returns-in_err-type_-clause-adds c e at =
+    step_adds c.args.table.now c.args.k _ e at c.entry_at-entry.ensures _ _ c.in_front.ensures _ _
+    c.convert.ensures.adds
+
+pub returns-in_err-put-clause-adds : goal.returns-in_err-put-clause-adds
+returns-in_err-put-clause-adds c e at =
     step_adds c.args.table.now c.args.k _ e at c.entry_at-entry.ensures _ _ c.in_front.ensures _ _
     c.convert.ensures.adds
 

@@ -4,7 +4,6 @@ use Rattle.std.proofs.lemmas.Option.{slice_get_within}
 use Rattle.pc_types_lists.proofs.ErrorLemmas.{passed_on}
 use Rattle.pc_types_lists.proofs.Growth.{grows_3, grows_trans, too_full}
 use Rattle.pc_types_convert.specs.Entries.{FuncIs}
-use Rattle.pc_types_convert.proofs.FewLemmas.{adds_func, adds_none, adds_params, adds_results}
 use Rattle.pc_types_convert.proofs.FuncLemmas.{func_made, made_there, params_grow}
 use Rattle.pc_types_convert.proofs.HeldLemmas.{are_held_grow}
 use Rattle.pc_types_convert.proofs.PartLemmas.{if_ok_more}
@@ -57,21 +56,6 @@ returns-clause-full c h =
     c.args.done.now c.args.params.now c.args.returns c.args.async_ _ _ _ c.in_ok-param_names.ensures
     c.in_ok-params.ensures.are c.in_ok-results.ensures.are)
     (c.put_func.ensures.full h)
-
-pub returns-in_err-param_names-clause-few : goal.returns-in_err-param_names-clause-few
-returns-in_err-param_names-clause-few c h = adds_none 1 2 _ _ refl
-
-pub returns-in_err-params-clause-few : goal.returns-in_err-params-clause-few
-returns-in_err-params-clause-few c h = adds_params c.args.params.now c.args.returns h _ _ c.params_tuple.ensures.few
-
-pub returns-in_err-results-clause-few : goal.returns-in_err-results-clause-few
-returns-in_err-results-clause-few c h =
-    adds_results c.args.params.now c.args.returns h _ _ c.params_tuple.ensures.few _ c.results_tuple.ensures.few
-
-pub returns-clause-few : goal.returns-clause-few
-returns-clause-few c h =
-    adds_func c.args.params.now c.args.returns h _ _ c.params_tuple.ensures.few _ c.results_tuple.ensures.few _ _
-    c.put_func.ensures.rest c.put_func.ensures.put
 
 pub returns-in_err-param_names-clause-adds : goal.returns-in_err-param_names-clause-adds
 returns-in_err-param_names-clause-adds c =

@@ -3,7 +3,6 @@ use Rattle.pc_types_convert.proofs.AddsLemmas.{tuple_contexts}
 use Rattle.pc_types_lists.proofs.ErrorLemmas.{passed_on}
 use Rattle.pc_types_lists.proofs.Growth.{grows_trans, too_full}
 use Rattle.pc_types_convert.specs.Entries.{ParamsAre}
-use Rattle.pc_types_convert.proofs.FewLemmas.{adds_none, one_tuple, free_params}
 use Rattle.pc_types_convert.proofs.FuncLemmas.{params_are, params_wanted}
 use Rattle.pc_types_convert.proofs.HeldLemmas.{params_held}
 use Rattle.pc_types_convert.proofs.PartLemmas.{if_ok_more}
@@ -39,14 +38,6 @@ returns-clause-full c h =
     (λ next g is.
     params_wanted _ _ next c.put_tuple.ensures.grows g is c.args.done.now c.args.params.now _ c.in_ok-types.ensures.are)
     (c.put_tuple.ensures.full h)
-
-pub returns-in_err-types-clause-few : goal.returns-in_err-types-clause-few
-returns-in_err-types-clause-few c h = adds_none 0 1 _ _ (c.param_types.ensures.contexts.same (free_params c.args.params.now h))
-
-pub returns-clause-few : goal.returns-clause-few
-returns-clause-few c h =
-    one_tuple _ _ _ _ (c.param_types.ensures.contexts.same (free_params c.args.params.now h)) c.put_tuple.ensures.rest
-    c.put_tuple.ensures.put
 
 pub returns-in_err-types-clause-adds : goal.returns-in_err-types-clause-adds
 returns-in_err-types-clause-adds c = tuple_contexts _ _ _ _ c.param_types.ensures.contexts

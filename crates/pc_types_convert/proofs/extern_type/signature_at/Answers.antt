@@ -3,7 +3,6 @@ use Rattle.std.proofs.lemmas.Option.{same_Some}
 use Rattle.pc_types_lists.specs.Interned.{IsPut}
 use Rattle.pc_types_convert.proofs.AddsLemmas.{signatures_put, signatures_same}
 use Rattle.pc_types_lists.proofs.Growth.{too_full}
-use Rattle.pc_types_convert.proofs.FewLemmas.{adds_signature}
 use Rattle.pc_types_convert.proofs.PartLemmas.{if_ok_more}
 use Rattle.pc_types_convert.proofs.ThereLemmas.{signature_is, signature_there}
 use Rattle.pc_types_convert.proofs.extern_type.signature_at.Goals as goal
@@ -20,9 +19,6 @@ returns-clause-full c h =
     too_full _ _ _
     (λ next g is. signature_there next c.args.table.now c.args.n _ _ c.core_func_at.ensures c.in_ok-signature.ensures)
     (c.put_signature.ensures.full h)
-
-pub returns-clause-few : goal.returns-clause-few
-returns-clause-few c = adds_signature _ _ _ c.put_signature.ensures.rest c.put_signature.ensures.put
 
 pub returns-in_err-signature-clause-signatures : goal.returns-in_err-signature-clause-signatures
 returns-in_err-signature-clause-signatures c = signatures_same _ _ _ _ refl

@@ -1,6 +1,6 @@
 use Rattle.pc_types_lists.proofs.ErrorLemmas.{told}
 use Rattle.pc_types_lists.proofs.Growth.{too_full}
-use Rattle.std.proofs.Common.{sym, subst}
+use Rattle.std.proofs.Common.{sym, subst, ◌∙◌}
 use Rattle.pc_types.specs.declared.types.TypeDef.TheVariants as def
 use Rattle.pc_types_convert.proofs.PartLemmas.{if_ok_more}
 use Rattle.pc_types_builder.specs.Trees.{IsEntry, IsValue}
@@ -8,6 +8,9 @@ use Rattle.pc_types_builder.proofs.RefusalLemmas.{prim_wanted}
 use Rattle.pc_types_builder.proofs.Simulation.{prim_is_value}
 use Rattle.pc_types_builder.specs.Asked.{AddsValue}
 use Rattle.pc_types_builder.proofs.AskedLemmas.{prim_asked, type_asked}
+use Rattle.pc_types_builder.proofs.CountLemmas.{contexts_few}
+use Rattle.pc_types_lists.specs.Adds.{AddsTypes, HasNoPlaceFor, most_types}
+use Rattle.pc_types_lists.proofs.FewLemmas.{no_place_now}
 use Rattle.pc_types_builder.proofs.builder.ComponentTypesBuilder.convert_val.Goals as goal
 
 pub returns-in_ok-primitive-in-Prim-clause-tree : goal.returns-in_ok-primitive-in-Prim-clause-tree
@@ -46,3 +49,20 @@ returns-in_err-primitive-in-Prim-clause-adds c =
 pub returns-in-Type_-clause-adds : goal.returns-in-Type_-clause-adds
 returns-in-Type_-clause-adds c =
     type_asked c.args.table.now c.args.v.now _ _ _ c.in-Type_.is c.defined_type.ensures.adds
+
+pub returns-in_ok-primitive-in-Prim-clause-few : goal.returns-in_ok-primitive-in-Prim-clause-few
+returns-in_ok-primitive-in-Prim-clause-few c =
+    subst (λ b. AddsTypes c.args.table.now (most_types c.args.table.now) b c.primitive.new.interned) c.self.view_is
+    (contexts_few c.args.table.now _ _ _ c.primitive.ensures.contexts)
+
+pub returns-in_err-primitive-in-Prim-clause-few : goal.returns-in_err-primitive-in-Prim-clause-few
+returns-in_err-primitive-in-Prim-clause-few c =
+    subst (λ b. AddsTypes c.args.table.now (most_types c.args.table.now) b c.primitive.new.interned) c.self.view_is
+    (contexts_few c.args.table.now _ _ _ c.primitive.ensures.contexts)
+
+pub returns-in_err-primitive-in-Prim-clause-before : goal.returns-in_err-primitive-in-Prim-clause-before
+returns-in_err-primitive-in-Prim-clause-before c =
+    let refused = c.in_err-primitive-in-Prim in
+    told c.from_residual.result refused.field-0.0 c.from_residual.ensures.1
+    (λ q. subst (HasNoPlaceFor c.args.table.now) (refused.ensures.err ∙ c.self.view_is)
+    (no_place_now c.args.table.now _ (refused.ensures.full q).full))

@@ -1,0 +1,23 @@
+-- What was converted where nothing was.
+use Rattle.std.proofs.Common.{◌≡◌, ℕ, zero, suc, length, Option, Some, None, replicate}
+use Rattle.std.specs.Prelude.{slice_get}
+use Rattle.std.proofs.lemmas.List.{length-replicate}
+use Rattle.std.proofs.lemmas.Option.{none-some, same_Some}
+use Rattle.pc_types.specs.declared.parsed.TypeTable.{TypeTable}
+use Rattle.pc_types_lists.specs.Types.{Types}
+use Rattle.pc_types_builder.specs.Converted.{AreConverted}
+
+-- no type stands there
+none_stands : {A : Type 0} (n k : ℕ) (d : A) → slice_get (replicate {A = Option A} n None) k ≡ Some (Some d) → ⊥
+none_stands zero k d h = none-some (Some d) h
+none_stands (suc n) zero d h = none-some d (same_Some None (Some d) h)
+none_stands (suc n) (suc k) d h = none_stands n k d h
+
+-- where no entry has a type, nothing is to be shown but that there is a place for each
+pub none_converted : (b : Types) (t : TypeTable) → AreConverted b t (replicate (length t.types) None)
+none_converted b t = record {
+  room = length-replicate (length t.types) None;
+  kinds = λ n d e found at. absurd (none_stands (length t.types) n d found);
+  entries = λ n d found. absurd (none_stands (length t.types) n d found);
+  closed = λ n e done at. absurd (none_stands (length t.types) n done.0 done.1);
+}
