@@ -17,13 +17,15 @@ use Rattle.pc_dfg.specs.Numbers.{slots_of}
 use Rattle.pc_dfg.specs.Ordered.{IsOrdered}
 use Rattle.pc_dfg.proofs.AddLemmas.{Added, AllAdd, EntryFact, NewHeld, nothing}
 use Rattle.pc_dfg.proofs.AllLemmas.{all_more}
-use Rattle.pc_dfg.proofs.NodeLemmas.{item_kept}
 use Rattle.pc_dfg.proofs.PushLemmas.{quiet}
 use Rattle.pc_inline.specs.Exports.{ExportsStand, NameStands}
 use Rattle.pc_inline_state.specs.Tables.{IsItem}
 use Rattle.pc_inline_state.specs.Worlds.{HasItems, HoldsTypes, IsPlain, WorldStands}
 use Rattle.pc_inline_canon.proofs.KeptLemmas.{is_item_kept}
+use Rattle.pc_inline_state.specs.Fits.{FitsBefore}
+use Rattle.pc_inline_state.proofs.FitsLemmas.{fits_grown}
 use Rattle.pc_inline_state.proofs.StateLemmas.{types_refl}
+use Rattle.pc_inline.proofs.RootKeptLemmas.{name_still}
 use Rattle.pc_inline_canon.proofs.WorldLemmas.{world_still}
 use Rattle.pc_inline_state.proofs.ZipLemmas.{zip_more}
 
@@ -62,6 +64,9 @@ module _ (g : ComponentDfg) (futures streams errors : ℕ) where
     lists = λ l. (nothing_added (λ l n x. Unit {0}) l).extends;
     component_instances = omega arith;
   }
+
+  counted_fits : FitsBefore g counted
+  counted_fits = fits_grown g counted counted_grows refl refl
 
   pub counted_ordered : IsOrdered g → IsOrdered counted
   counted_ordered o =
@@ -113,18 +118,11 @@ module _ (g : ComponentDfg) (futures streams errors : ℕ) where
   module _ (types : Types) where
     pub counted_world : (w : World) → WorldStands types g w → WorldStands types counted w
     counted_world w s =
-        world_still types types g counted (types_refl types) counted_grows refl refl refl refl refl refl w s
+        world_still types types g counted (types_refl types) counted_grows counted_fits refl refl refl refl refl refl w
+        s
 
     counted_name : (e : NamedExport) (x : NamedNode Mark) → NameStands types g e x → NameStands types counted e x
-    counted_name e x s = record {
-      name = s.name;
-      extern_data = s.extern_data;
-      node = record {
-        numbered = s.node.numbered;
-        means = λ converted. item_kept g counted counted_grows converted (s.node.means converted);
-        is = s.node.is;
-      };
-    }
+    counted_name e x s = name_still types types g counted (types_refl types) counted_grows counted_fits e x s
 
     pub counted_exports : (nodes : List (NamedNode Mark)) → ExportsStand types g nodes
         → ExportsStand types counted nodes

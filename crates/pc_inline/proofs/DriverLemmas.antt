@@ -16,7 +16,7 @@ use Rattle.pc_local.specs.Standing.{ItemStands, no_names}
 use Rattle.pc_inline_state.specs.declared.error.ItemError.{ItemError}
 use Rattle.pc_inline_state.specs.declared.frame.Frame.{Frame}
 use Rattle.pc_inline_state.specs.declared.state.State.{State}
-use Rattle.pc_inline_state.specs.Adds.{imports_in}
+use Rattle.pc_inline_state.specs.Adds.{most_prepared}
 use Rattle.pc_inline_state.specs.Faults.{error_of}
 use Rattle.pc_inline_state.specs.Points.{Follows, IsPoint, Steps}
 use Rattle.pc_inline_stack.specs.Reads.{AreItems, Prepared, SoFar}
@@ -62,7 +62,7 @@ module _ (t : TypeTable) (ms : List ModuleRecord) where
     -- and the types and entries that these may need were added
     pub record ItemsPrepared : Type 0 where
       pub prepared : PreparedSoFar
-      pub adds : AddedSoFar t imports_in ls n (tables_of old) (tables_of st)
+      pub adds : AddedSoFar t (most_prepared t) ls n (tables_of old) (tables_of st)
 
     module _ (are : AreItems old.bodies.now ls) (l : LocalInitializer) (at : slice_get ls n ≡ Some l) (st' : State)
         (g' : Frame)
@@ -98,5 +98,5 @@ module _ (t : TypeTable) (ms : List ModuleRecord) where
       → ItemsPrepared ls st f st f 0
   none_prepared ls st f here = record {
     prepared = read_none t ms (built_prepare_all t) ls st f here;
-    adds = adds_refl t 0 0 (tables_of st);
+    adds = adds_refl t 0 (tables_of st);
   }

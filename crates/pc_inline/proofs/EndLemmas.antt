@@ -63,7 +63,8 @@ module _ (t : TypeTable) (ms : List ModuleRecord) (limit : ℕ) (body : Items) w
       both_end _ (λ q is. let x : ⊥ = cc in x) h
   end_today st n room (error.Unsupported unsupported_.ReexportedIntrinsics p) h =
       both_end _ (λ q is. let x : ⊥ = cc in x) h
-  end_today st n room (error.Unsupported unsupported_.ExportedComponent p) h = both_end _ (λ q is. let x : ⊥ = cc in x) h
+  end_today st n room (error.Unsupported unsupported_.ExportedComponent p) h = both_end _
+      (λ q is. let x : ⊥ = cc in x) h
   end_today st n room (error.Malformed p) h = absurd h
   end_today st n room (error.BadTable p) h = absurd h
   end_today st n room (error.BadIntrinsics p) h = absurd h

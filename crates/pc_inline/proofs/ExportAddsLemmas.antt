@@ -12,7 +12,7 @@ use Rattle.pc_dfg.specs.Numbers.{slots_of}
 use Rattle.pc_inline_state.specs.Adds.{Adds}
 use Rattle.pc_inline_state.specs.AddsEach.{AddsEach, in_export_items, in_exports, in_options, in_reached}
 use Rattle.pc_inline_state.specs.Tables.{Tables}
-use Rattle.pc_inline_state.proofs.AddsLemmas.{adds_each, adds_trans, adds_weaken, each_trans, each_weaken}
+use Rattle.pc_inline_state.proofs.AddsLemmas.{adds_both, adds_each, adds_weaken, each_trans, each_weaken}
 use Rattle.pc_inline_state.proofs.AddsPushLemmas.{Lists, from_rest}
 
 -- a list with one entry more
@@ -21,15 +21,13 @@ one_longer xs ys x is = rw (is, length-append xs (x ∷ [])) (omega arith)
 
 module _ (t : TypeTable) where
   -- one export more
-  pub adds_export : (i n : ℕ) (a b x : Tables) → i + 1 ≤ n → Adds t 0 (4 * i) a b → Adds t 0 4 b x
-      → Adds t 0 (4 * n) a x
-  adds_export i n a b x le h k =
-      adds_weaken t (0 + 0) (4 * i + 4) 0 (4 * n) a x (omega arith) (omega (arith, le))
-      (adds_trans t 0 (4 * i) 0 4 a b x h k)
+  pub adds_export : (i n : ℕ) (a b x : Tables) → i + 1 ≤ n → Adds t (4 * i) a b → Adds t 4 b x
+      → Adds t (4 * n) a x
+  adds_export i n a b x le h k = adds_both t (4 * i) 4 (4 * n) a b x (omega (arith, le)) h k
 
   -- no more than all exports
-  pub adds_all : (i n : ℕ) (a b : Tables) → i ≤ n → Adds t 0 (4 * i) a b → Adds t 0 (4 * n) a b
-  adds_all i n a b le h = adds_weaken t 0 (4 * i) 0 (4 * n) a b (omega arith) (omega (arith, le)) h
+  pub adds_all : (i n : ℕ) (a b : Tables) → i ≤ n → Adds t (4 * i) a b → Adds t (4 * n) a b
+  adds_all i n a b le h = adds_weaken t (4 * i) (4 * n) a b (omega (arith, le)) h
 
 -- options alone
 pub options_reached : (a b : Tables) → AddsEach in_options 0 0 a b → AddsEach in_reached 0 0 a b
@@ -54,7 +52,7 @@ item_reached a b x h k =
     le l = omega arith
 
 -- which is four in each list at most
-pub reached_few : (t : TypeTable) (a b : Tables) → AddsEach in_reached 0 0 a b → Adds t 0 4 a b
+pub reached_few : (t : TypeTable) (a b : Tables) → AddsEach in_reached 0 0 a b → Adds t 4 a b
 reached_few t a b h = adds_each t in_reached 0 0 4 a b le (omega arith) (omega arith) h
   where
     le : (l : ListName) → in_reached l ≤ 4
@@ -65,7 +63,7 @@ reached_few t a b h = adds_each t in_reached 0 0 4 a b le (omega arith) (omega a
 
 -- also with the name of the export
 exported_few : (t : TypeTable) (a b x : Tables) → AddsEach in_reached 0 0 a b → AddsEach in_exports 0 0 b x
-    → Adds t 0 4 a x
+    → Adds t 4 a x
 exported_few t a b x h k =
     adds_each t (λ l. in_reached l + in_exports l) 0 0 4 a x le (omega arith) (omega arith)
     (each_trans in_reached in_exports 0 0 0 0 a b x h k)
@@ -113,6 +111,6 @@ module _ (b : Tables) (g : ComponentDfg) where
 -- so it is with what the name of an export adds
 pub named_few : {A E : Type 0} (t : TypeTable) (a b : Tables) (g : ComponentDfg) (r : Result A E) (x : NamedExport)
     → AddsEach in_reached 0 0 a b → g ≡ record b.graph { exports = g.exports }
-    → OnOk r (g.exports ≡ b.graph.exports ++ x ∷ []) → OnErr r (g ≡ b.graph) → Adds t 0 4 a (record b { graph = g })
+    → OnOk r (g.exports ≡ b.graph.exports ++ x ∷ []) → OnErr r (g ≡ b.graph) → Adds t 4 a (record b { graph = g })
 named_few t a b g r x h rest ok err =
     exported_few t a b (record b { graph = g }) h (name_adds b g r x rest ok err)

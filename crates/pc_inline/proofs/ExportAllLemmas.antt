@@ -168,7 +168,7 @@ module _ (t : TypeTable) (ms : List ModuleRecord) where
       root = root;
       few = omega arith;
       keeps = keeps_refl (tables_of old);
-      adds = adds_refl t 0 (4 * 0) (tables_of old);
+      adds = adds_refl t (4 * 0) (tables_of old);
       names = λ name has. absurd (true≢false (sym (subst (λ xs. has_name (names_of xs) name ≡ true) none.exports has)));
       numbers = record {
         as_many = ap length none.exports ∙ sym (ap length none.items);
@@ -276,8 +276,7 @@ module _ (t : TypeTable) (ms : List ModuleRecord) where
           root = far.root;
           few = omega (arith, far.few);
           keeps = far.keeps;
-          adds = adds_weaken t 0 (4 * i) 0 (4 * (i + 1)) (tables_of old) (tables_of st) (omega arith) (omega arith)
-              far.adds;
+          adds = adds_weaken t (4 * i) (4 * (i + 1)) (tables_of old) (tables_of st) (omega arith) far.adds;
           names = λ name has. names_to name
               ∙ or_first (has_name (map export_name (take i es)) name) (has_name (e.0.name ∷ []) name)
               (far.names name has);
@@ -320,7 +319,7 @@ module _ (t : TypeTable) (ms : List ModuleRecord) where
 
             -- it is exported
             pub exports_more : Made (Ok tt) → Keeps (tables_of st) (tables_of new)
-                → Adds t 0 4 (tables_of st) (tables_of new)
+                → Adds t 4 (tables_of st) (tables_of new)
                 → names_of new.graph.exports ≡ names_of st.graph.exports ++ e.0.name ∷ []
                 → (NumbersExports st.graph → NumbersExports new.graph) → ExportedSoFar t ms es (i + 1) (n + 1) old f new
             exports_more made keeps adds named numbers = record {
@@ -378,7 +377,7 @@ module _ (t : TypeTable) (ms : List ModuleRecord) where
 
             -- it isn't
             pub exports_fail : (r : Error) → Made (Err r) → Keeps (tables_of st) (tables_of new)
-                → Adds t 0 4 (tables_of st) (tables_of new) → (q : Result ⊤ Error) → IsErrAnd q (λ x. x ≡ r)
+                → Adds t 4 (tables_of st) (tables_of new) → (q : Result ⊤ Error) → IsErrAnd q (λ x. x ≡ r)
                 → MakesExports t ms es old new f q
             exports_fail r made keeps adds q passed = record {
               keeps = keeps_trans (tables_of old) (tables_of st) (tables_of new) far.keeps keeps;

@@ -32,6 +32,8 @@ use Rattle.pc_dfg.specs.Numbers.{slots_of}
 use Rattle.pc_dfg.specs.Ordered.{IsOrdered}
 use Rattle.pc_dfg.proofs.AllLemmas.{all_more}
 use Rattle.pc_inline_state.specs.Worlds.{HasItems}
+use Rattle.pc_inline_state.specs.Fits.{FitsBefore}
+use Rattle.pc_inline_state.proofs.FitsLemmas.{fits_grown}
 use Rattle.pc_inline_state.proofs.GrowthLemmas.{graph_grown}
 use Rattle.pc_inline_state.proofs.StateLemmas.{types_refl}
 use Rattle.pc_inline_canon.proofs.WorldLemmas.{world_still}
@@ -86,6 +88,9 @@ module _ (t : TypeTable) (ms : List ModuleRecord) (st : State) (e : NamedExport)
   after = record st { graph = exported }
 
   module _ (grows : graph.Grows st.graph exported) where
+    fits : FitsBefore st.graph exported
+    fits = fits_grown st.graph exported grows refl refl
+
     same_slots : (k : plan.SlotKind) → slots_of exported k ≡ slots_of st.graph k
     unfolding slots_of
     same_slots plan.memory = refl
@@ -136,16 +141,17 @@ module _ (t : TypeTable) (ms : List ModuleRecord) (st : State) (e : NamedExport)
         numbers = root.sound.numbers;
         held = record { options = root.sound.held.options; functions = root.sound.held.functions };
       };
-      frame = frame_kept ms (tables_of st) (tables_of after) (graph_grown (tables_of st) exported grows) f s root.frame;
-      world = world_still st.types st.types st.graph exported (types_refl st.types) grows refl refl refl refl refl
+      frame = frame_kept ms (tables_of st) (tables_of after) (graph_grown (tables_of st) exported grows fits) f s
+          root.frame;
+      world = world_still st.types st.types st.graph exported (types_refl st.types) grows fits refl refl refl refl refl
           refl w
           root.world;
       total = root.total;
       exports = zip_push (NameStands st.types exported) st.graph.exports nodes e x
           (zip_more (NameStands st.types st.graph) (NameStands st.types exported)
-          (name_still st.types st.types st.graph exported (types_refl st.types) grows) st.graph.exports nodes
+          (name_still st.types st.types st.graph exported (types_refl st.types) grows fits) st.graph.exports nodes
           root.exports)
-          (name_still st.types st.types st.graph exported (types_refl st.types) grows e x named);
+          (name_still st.types st.types st.graph exported (types_refl st.types) grows fits e x named);
     }
 
 -- a node that is there has its number below

@@ -1,11 +1,13 @@
 -- Where nothing was read yet but that the root has begun.
-use Rattle.std.proofs.Common.{◌≡◌, ◌<◌, ℕ, List, [], Some, inl, refl, sym, ap, subst, arith}
+use Rattle.std.proofs.Common.{◌≡◌, ◌<◌, ℕ, List, [], Option, Some, refl, sym, ap, subst, arith}
 use Rattle.std.specs.Prelude.{slice_get}
 use Rattle.std.proofs.lemmas.Option.{none-some}
-use Rattle.pc_types_lists.specs.Types.{Types}
+use Rattle.pc_types_lists.specs.Types.{Resources, Types}
+use Rattle.pc_types_builder.specs.Converted.{AreConverted}
 use Rattle.pc_numbers.specs.declared.runtime.RuntimeComponentInstanceIndex.{RuntimeComponentInstanceIndex}
 use Rattle.pc_types.specs.declared.module_record.ModuleRecord.{ModuleRecord}
 use Rattle.pc_types.specs.declared.parsed.TypeTable.{TypeTable}
+use Rattle.pc_types.specs.declared.types.TypeDef.{TypeDef}
 use Rattle.pc_spec_plan.specs.PlanView as plan
 use Rattle.pc_dfg.specs.declared.core_def.CoreDef.{CoreDef}
 use Rattle.pc_dfg.specs.declared.dfg.ComponentDfg.{ComponentDfg}
@@ -17,8 +19,9 @@ use Rattle.pc_dfg.specs.Pushed.{with_component_instance}
 use Rattle.pc_inline_state.specs.declared.frame.Frame.{Frame}
 use Rattle.pc_inline_state.specs.declared.state.State.{State}
 use Rattle.pc_inline_state.specs.Frames.{neither}
+use Rattle.pc_inline_state.specs.KnowsSame.{KnowsSame}
 use Rattle.pc_inline_state.specs.Points.{PointStands}
-use Rattle.pc_inline_state.specs.Typed.{AreNumbers}
+use Rattle.pc_inline_state.specs.Typed.{AreNumbers, no_resources}
 use Rattle.pc_inline_state.specs.Worlds.{AreUsed, HasItems, HoldsTypes, IsPlain, WorldStands}
 use Rattle.pc_spec_reading.specs.Asked.{paths_needed}
 use Rattle.pc_inline.proofs.RootLemmas.{first_moment, first_world}
@@ -83,9 +86,9 @@ first_done types = record {
   begun = refl;
 }
 
--- the component instance in which nothing was read
-abbrev pub first_frame : RuntimeComponentInstanceIndex → Frame
-first_frame c = record {
+-- the component instance in which nothing was read, with what was converted for it
+abbrev pub first_frame : RuntimeComponentInstanceIndex → List (Option TypeDef) → Frame
+first_frame c done = record {
   core_funcs = [];
   memories = [];
   tables = [];
@@ -98,14 +101,22 @@ first_frame c = record {
   core_instances = [];
   arguments = [];
   component_instance = c;
+  converted = done;
 }
+
+-- no resource is known at first
+first_knows : (g : ComponentDfg) (k : Resources) → k ≡ no_resources → KnowsSame g k first_moment.scope
+first_knows g k none = subst (λ j. KnowsSame g j first_moment.scope) (sym none) (record {
+  known = λ n. neither;
+  current = refl;
+})
 
 -- a state in which the root has begun is where the reading begins
 pub first_point : (t : TypeTable) (ms : List ModuleRecord) (st : State) (c : RuntimeComponentInstanceIndex)
     → st.graph ≡ first_graph → IsOrdered st.graph → st.used.items ≡ [] → c.0 ≡ 0
-    → st.types.resources ≡ record { known = []; current = record { 0 = 0 } }
-    → AreNumbers st.types t st.numbers → PointStands t ms st (first_frame c) first_moment
-first_point t ms st c graph ordered used zero resources numbers = record {
+    → st.types.resources ≡ no_resources → AreNumbers st.types t st.numbers → (done : List (Option TypeDef))
+    → AreConverted st.types t done → PointStands t ms st (first_frame c done) first_moment
+first_point t ms st c graph ordered used zero resources numbers done none = record {
   sound = record {
     ordered = ordered;
     items = subst (HasItems ms) (sym graph) (first_items ms);
@@ -114,8 +125,8 @@ first_point t ms st c graph ordered used zero resources numbers = record {
     numbers = numbers;
     held = subst (HoldsTypes st.types) (sym graph) (first_holds st.types);
   };
-  here = resources;
-  typed = inl zero;
+  here = first_knows st.graph st.types.resources resources;
+  converted = none;
   frame = record {
     core_funcs = tt;
     memories = tt;
@@ -128,7 +139,6 @@ first_point t ms st c graph ordered used zero resources numbers = record {
     instances = tt;
     components = tt;
     arguments = λ name. neither;
-    known = refl;
     component_instance = sym zero;
     begun = subst (λ g. HasBegun g c.0) (sym graph) (omega (arith, zero));
   };

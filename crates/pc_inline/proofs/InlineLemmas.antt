@@ -2,12 +2,16 @@
 use Rattle.std.proofs.Common.{◌≡◌, ◌<◌, ◌≤◌, ◌⊎◌, ℕ, List, [], map, Option, None, Some, Result, Ok, Err, inl, inr, sym}
 use Rattle.std.proofs.Common.{ap, subst, ◌∙◌, arith}
 use Rattle.std.specs.Prelude.{⊤, OnOk}
+use Rattle.std.proofs.lemmas.Option.{none-some}
 use Rattle.std.specs.Result.{IsErrAnd}
 use Rattle.pc_numbers.specs.declared.runtime.RuntimeComponentInstanceIndex.{RuntimeComponentInstanceIndex}
 use Rattle.pc_types.specs.declared.error.Error.{Error}
 use Rattle.pc_types.specs.declared.error.Error.TheVariants as error
 use Rattle.pc_types.specs.declared.module_record.ModuleRecord.{ModuleRecord}
 use Rattle.pc_types.specs.declared.parsed.TypeTable.{TypeTable}
+use Rattle.pc_types.specs.declared.types.TypeDef.{TypeDef}
+use Rattle.pc_types_lists.specs.Types.{Types}
+use Rattle.pc_types_builder.specs.Converted.{AreConverted}
 use Rattle.pc_parsed.specs.declared.payload.ExternName.{ExternName}
 use Rattle.pc_parsed.specs.declared.payload.ItemKind.{ItemKind}
 use Rattle.pc_spec_reading.specs.Item.{Items, exports_in}
@@ -19,6 +23,7 @@ use Rattle.pc_local.specs.declared.item.LocalInitializer.{LocalInitializer}
 use Rattle.pc_local.specs.declared.item.Translation.{Translation}
 use Rattle.pc_local.specs.Standing.{BodyStands, ItemsStand, no_names}
 use Rattle.pc_dfg.specs.declared.dfg.ComponentDfg.{ComponentDfg}
+use Rattle.pc_dfg.specs.Empty.{empty_graph}
 use Rattle.pc_dfg.specs.Grows as graph
 use Rattle.pc_dfg.specs.Pushed.{with_component_instance}
 use Rattle.pc_dfg.proofs.EmptyLemmas.{empty_ordered}
@@ -29,6 +34,7 @@ use Rattle.pc_inline_state.specs.declared.state.State.{State}
 use Rattle.pc_inline_stack.specs.Begins.{Begins}
 use Rattle.pc_inline.specs.Roots.{BeginsBody, InlinesBody, InlinesRoot, IsBuiltEnd}
 use Rattle.pc_inline.specs.Roots.{IsLong, RootBegun, RootStarts, first_total}
+use Rattle.pc_inline_state.specs.Fits.{Fits, FitsBefore}
 use Rattle.pc_inline_state.specs.Fresh.{IsFresh}
 use Rattle.pc_inline_stack.specs.Driving.{EndsRun, Runs, reading_from}
 use Rattle.pc_inline.specs.Exporting.{Exports, ExportsEnd, RootStands}
@@ -38,7 +44,7 @@ use Rattle.pc_inline_stack.specs.Reads.{AreItems, Ends, Passes, Prepared}
 use Rattle.pc_inline_state.specs.Tables.{Keeps, tables_of}
 use Rattle.pc_inline_state.specs.Today.{built_enter, built_exports, built_prepare_all, built_root}
 use Rattle.pc_inline_state.specs.Worlds.{HasNoExports}
-use Rattle.pc_inline_state.proofs.StateLemmas.{keeps_refl}
+use Rattle.pc_inline_state.proofs.GrowthLemmas.{graph_grown}
 use Rattle.pc_inline.proofs.FreshLemmas.{first_frame, first_point}
 use Rattle.pc_inline.proofs.RootLemmas.{counted_begins, ends_then, exports_fail, first_moment, from_start, moment_with}
 use Rattle.pc_inline.proofs.RootLemmas.{point_counted, reading_is, reading_over, root_begins, root_fails, root_read}
@@ -54,16 +60,17 @@ module _ (t : TypeTable) (ms : List ModuleRecord) (limit : ℕ) where
 
     -- and nothing was read
     pub begun_point : (c : RuntimeComponentInstanceIndex) → Begins limit old.graph g (Ok c) → (f : Frame)
-        → (args : List (List ℕ × DefinitionId)) → args ≡ [] → f ≡ record (first_frame c) { arguments = args }
+        → (args : List (List ℕ × DefinitionId)) → args ≡ [] → (converted : List (Option TypeDef))
+        → ((b : Types) → AreConverted b t converted) → f ≡ record (first_frame c converted) { arguments = args }
         → PointStands t ms (record old { graph = g }) f first_moment
     unfolding Begins
-    begun_point c begins f args none is =
+    begun_point c begins f args none converted unconverted is =
         subst (λ x. PointStands t ms (record old { graph = g }) x first_moment)
-        (sym (is ∙ ap (λ xs. record (first_frame c) { arguments = xs }) none))
+        (sym (is ∙ ap (λ xs. record (first_frame c converted) { arguments = xs }) none))
         (first_point t ms (record old { graph = g }) c (begins.2 ∙ ap with_component_instance fresh.graph)
         (begins.3 (subst IsOrdered (sym fresh.graph) empty_ordered)) fresh.used
         (begins.1 ∙ ap (λ (x : ComponentDfg). x.num_runtime_component_instances) fresh.graph) fresh.resources
-        fresh.numbers)
+        fresh.numbers converted (unconverted old.types))
 
     -- no root begins
     pub unbegun : (body : Items) (e : Error) → Begins limit old.graph g (Err e)
@@ -251,20 +258,17 @@ module _ (t : TypeTable) (ms : List ModuleRecord) (limit : ℕ) (bodies : List T
   unfolding BeginsBody
   begins_fail root st r e is begins = each_ends root st r e is begins
 
--- where a graph grew, the tables did
-pub graph_keeps : (st : State) (g : ComponentDfg) → graph.Grows st.graph g
+-- resource numbers fit a graph without entries, however they are read
+all_fit : (g h : ComponentDfg) → g ≡ empty_graph → FitsBefore g h
+all_fit g h empty who fits = subst (λ x. Fits x who) (sym empty) (record {
+  given = λ n r i at. absurd (none-some r at);
+  own = λ n below. absurd (omega (arith, below));
+})
+
+-- where nothing was read yet and the graph grew, the tables did
+pub graph_keeps : (t : TypeTable) (st : State) → IsFresh t st → (g : ComponentDfg) → graph.Grows st.graph g
     → Keeps (tables_of st) (tables_of (record st { graph = g }))
-graph_keeps st g grows =
-    let still = keeps_refl (tables_of st) in
-    record {
-      types = still.types;
-      graph = grows;
-      cores = still.cores;
-      definitions = still.definitions;
-      closures = still.closures;
-      instances = still.instances;
-      bodies = still.bodies;
-    }
+graph_keeps t st fresh g grows = graph_grown (tables_of st) g grows (all_fit st.graph g fresh.graph)
 
 -- the items of a root that stands for some body
 pub root_items : (bodies bodies' : List Translation) → bodies' ≡ bodies → (root : Translation)

@@ -1,5 +1,5 @@
 -- What a root gives, from what its steps give.
-use Rattle.std.proofs.Common.{◌≡◌, ◌<◌, ◌≤◌, ◌*◌, ℕ, List, [], map, sum_by, true, Result, Ok, Err, refl, sym}
+use Rattle.std.proofs.Common.{◌≡◌, ◌<◌, ◌≤◌, ℕ, List, [], map, true, Option, Result, Ok, Err, refl, sym}
 use Rattle.std.proofs.Common.{subst}
 use Rattle.std.specs.Prelude.{⊤}
 use Rattle.std.specs.Result.{IsErrAnd}
@@ -7,6 +7,9 @@ use Rattle.pc_numbers.specs.declared.runtime.RuntimeComponentInstanceIndex.{Runt
 use Rattle.pc_types.specs.declared.error.Error.{Error}
 use Rattle.pc_types.specs.declared.module_record.ModuleRecord.{ModuleRecord}
 use Rattle.pc_types.specs.declared.parsed.TypeTable.{TypeTable}
+use Rattle.pc_types.specs.declared.types.TypeDef.{TypeDef}
+use Rattle.pc_types_lists.specs.Types.{Types}
+use Rattle.pc_types_builder.specs.Converted.{AreConverted}
 use Rattle.pc_types.specs.Names.{distinct_names}
 use Rattle.pc_parsed.specs.declared.payload.ExternName.{ExternName}
 use Rattle.pc_parsed.specs.declared.payload.ItemKind.{ItemKind}
@@ -21,7 +24,7 @@ use Rattle.pc_dfg.specs.Grows as graph
 use Rattle.pc_inline_state.specs.declared.definition.DefinitionId.{DefinitionId}
 use Rattle.pc_inline_state.specs.declared.frame.Frame.{Frame}
 use Rattle.pc_inline_state.specs.declared.state.State.{State}
-use Rattle.pc_inline_state.specs.Adds.{Adds, imports_in}
+use Rattle.pc_inline_state.specs.Adds.{Adds, most_prepared_of}
 use Rattle.pc_inline_stack.specs.Begins.{Begins}
 use Rattle.pc_inline.specs.Roots.{BeginsBody, BeginsRoot, EndsRoot, RootBegun}
 use Rattle.pc_inline_state.specs.Fresh.{IsFresh}
@@ -57,63 +60,65 @@ module _ (t : TypeTable) (ms : List ModuleRecord) (limit : ℕ) (root : Translat
     begins_not e begins r is =
         let none = begun_graph t old fresh g limit (Err e) begins in
         record {
-          keeps = graph_keeps old g grows;
-          most = begun_none t old fresh g none (sum_by imports_in root.initializers)
-              (4 * sum_by imports_in root.initializers);
+          keeps = graph_keeps t old fresh g grows;
+          most = begun_none t old fresh g none (most_prepared_of t root.initializers);
           few = few_unbegun t ms limit old.bodies.now root old.types (tables_of there)
-              (begun_none t old fresh g none 0 0);
+              (begun_none t old fresh g none 0);
           begins = begins_end t ms limit old.bodies.now root there r e is
               (λ body stands. unbegun t ms limit old fresh g body e begins);
         }
 
     module _ (c : RuntimeComponentInstanceIndex) (begins : Begins limit old.graph g (Ok c)) (f : Frame)
-        (args : List (List ℕ × DefinitionId)) (none : args ≡ [])
-        (is : f ≡ record (first_frame c) { arguments = args }) where
-      at : PointStands t ms there f first_moment
-      at = begun_point t ms limit old fresh g c begins f args none is
+        (args : List (List ℕ × DefinitionId)) (none : args ≡ []) (done : List (Option TypeDef))
+        (unconverted : (b : Types) → AreConverted b t done) (is : f ≡ record (first_frame c done) { arguments = args })
+      where
+        at : PointStands t ms there f first_moment
+        at = begun_point t ms limit old fresh g c begins f args none done unconverted is
 
-      within : 0 < limit
-      within = begun_below t ms limit old fresh g c begins
+        within : 0 < limit
+        within = begun_below t ms limit old fresh g c begins
 
-      -- the root has begun, and its imports can be prepared
-      pub prepare_point : IsPoint t ms there f
-      prepare_point = (first_moment, at)
+        -- the root has begun, and its imports can be prepared
+        pub prepare_point : IsPoint t ms there f
+        prepare_point = (first_moment, at)
 
-      module _ (ls : List LocalInitializer) (are : ls ≡ root.initializers) (st : State) (f' : Frame)
-          (keeps : Keeps (tables_of there) (tables_of st))
-          (adds : Adds t (sum_by imports_in ls) (4 * sum_by imports_in ls) (tables_of there) (tables_of st)) where
-        begins_with : (r : Result Frame Error)
-            → Each t ms limit old.bodies.now root (λ body. BeginsBody t ms limit body st r)
-            → BeginsRoot t ms limit root old st r
-        begins_with r each =
-            let most = begun_prepared t old fresh g (begun_graph t old fresh g limit (Ok c) begins) ls root.initializers
-            are (tables_of st) adds in
-            record {
-              keeps = keeps_trans (tables_of old) (tables_of there) (tables_of st) (graph_keeps old g grows) keeps;
-              most = most;
-              few = few_begun t ms limit old.bodies.now root old.types within (tables_of st) most;
-              begins = each;
-            }
+        module _ (ls : List LocalInitializer) (are : ls ≡ root.initializers) (st : State) (f' : Frame)
+            (keeps : Keeps (tables_of there) (tables_of st))
+            (adds : Adds t (most_prepared_of t ls) (tables_of there) (tables_of st)) where
+          begins_with : (r : Result Frame Error)
+              → Each t ms limit old.bodies.now root (λ body. BeginsBody t ms limit body st r)
+              → BeginsRoot t ms limit root old st r
+          begins_with r each =
+              let most = begun_prepared t old fresh g (begun_graph t old fresh g limit (Ok c) begins) ls
+              root.initializers
+              are (tables_of st) adds in
+              record {
+                keeps = keeps_trans (tables_of old) (tables_of there) (tables_of st) (graph_keeps t old fresh g grows)
+                    keeps;
+                most = most;
+                few = few_begun t ms limit old.bodies.now root old.types within (tables_of st) most;
+                begins = each;
+              }
 
-        -- they were
-        pub begins_done : (r : ⊤) → Prepared t ms ls there f st f' (Ok r) → BeginsRoot t ms limit root old st (Ok f')
-        begins_done r prepared =
-            begins_with (Ok f')
-            (root_begun t ms limit old.bodies.now root there f st f' ls are refl within at r prepared)
+          -- they were
+          pub begins_done : (r : ⊤) → Prepared t ms ls there f st f' (Ok r) → BeginsRoot t ms limit root old st (Ok f')
+          begins_done r prepared =
+              begins_with (Ok f')
+              (root_begun t ms limit old.bodies.now root there f st f' ls are refl within at r prepared)
 
-        -- or they weren't
-        pub begins_undone : (e : Error) → Prepared t ms ls there f st f' (Err e) → (r : Result Frame Error)
-            → IsErrAnd r (λ x. x ≡ e) → BeginsRoot t ms limit root old st r
-        begins_undone e prepared r is =
-            begins_with r (begins_end t ms limit old.bodies.now root st r e is
-            (root_unprepared t ms limit old.bodies.now root there f st f' ls are refl within at e prepared))
+          -- or they weren't
+          pub begins_undone : (e : Error) → Prepared t ms ls there f st f' (Err e) → (r : Result Frame Error)
+              → IsErrAnd r (λ x. x ≡ e) → BeginsRoot t ms limit root old st r
+          begins_undone e prepared r is =
+              begins_with r (begins_end t ms limit old.bodies.now root st r e is
+              (root_unprepared t ms limit old.bodies.now root there f st f' ls are refl within at e prepared))
 
   -- the error of the beginning is that of the root
   pub root_unbegun : (old st : State) (e : Error) → BeginsRoot t ms limit root old st (Err e) → (r : Result ⊤ Error)
       → IsErrAnd r (λ x. x ≡ e) → EndsRoot t ms limit root old st r
   root_unbegun old st e begun r is = record {
     keeps = begun.keeps;
-    adds = (sum_by imports_in root.initializers, 4 * sum_by imports_in root.initializers, begun.most);
+    adds = (most_prepared_of t root.initializers, begun.most);
     few = few_failed t ms limit old.bodies.now root old.types (tables_of st) r e is begun.few;
     inlines = begins_fail t ms limit old.bodies.now root st r e is begun.begins;
   }
@@ -132,7 +137,7 @@ module _ (t : TypeTable) (ms : List ModuleRecord) (limit : ℕ) (root : Translat
     has = has_begun t ms limit old.bodies.now root st f begun.begins
 
     module _ (st' : State) (keeps : Keeps (tables_of st) (tables_of st'))
-        (adds : (n : ℕ) × Adds t n (4 * n) (tables_of st) (tables_of st')) where
+        (adds : (w : ℕ) × Adds t w (tables_of st) (tables_of st')) where
       kept : Keeps (tables_of old) (tables_of st')
       kept = keeps_trans (tables_of old) (tables_of st) (tables_of st') begun.keeps keeps
 
@@ -142,7 +147,7 @@ module _ (t : TypeTable) (ms : List ModuleRecord) (limit : ℕ) (root : Translat
           → EndsRoot t ms limit root old st' r
       root_undone e runs counts r is = record {
         keeps = kept;
-        adds = (_, _, most_more t _ _ _ _ old.types (tables_of st) (tables_of st') begun.most adds.1);
+        adds = (_, most_more t _ _ old.types (tables_of st) (tables_of st') begun.most adds.1);
         few = few_failed t ms limit old.bodies.now root old.types (tables_of st') r e is
             (few_unread t ms limit old.bodies.now root old.types st f begun.keeps.bodies has begun.most st' e counts);
         inlines = each_ends t ms limit old.bodies.now root st' r e is
@@ -166,8 +171,7 @@ module _ (t : TypeTable) (ms : List ModuleRecord) (limit : ℕ) (root : Translat
           keeps = keeps_trans (tables_of old) (tables_of st') (tables_of end) kept made.keeps;
           adds = (
             _,
-            _,
-            most_more t _ _ _ _ old.types (tables_of st') (tables_of end) (most_more t _ _ _ _ old.types
+            most_more t _ _ old.types (tables_of st') (tables_of end) (most_more t _ _ old.types
                 (tables_of st) (tables_of st') begun.most adds.1) made.adds,
           );
           few = few_exported t ms limit old.bodies.now root old.types st f begun.keeps.bodies has begun.most st' g

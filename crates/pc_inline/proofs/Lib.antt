@@ -9,6 +9,7 @@ mod RootLemmas
 mod FreshLemmas
 mod EndLemmas
 mod RootKeptLemmas
+mod KeepsLemmas
 mod ReachLemmas
 mod ExportAddsLemmas
 mod ReachNodeLemmas

@@ -1,5 +1,5 @@
 -- The calls for an import of the root: its type, an import of the graph with its definition, and an argument.
-use Rattle.std.proofs.Common.{◌≡◌, ◌+◌, ℕ, true, false, List, [], ◌∷◌, ◌++◌, length, None, Result, Ok, Err, ap}
+use Rattle.std.proofs.Common.{◌≡◌, ◌+◌, ℕ, false, List, [], ◌∷◌, ◌++◌, length, None, Result, Ok, Err, ap}
 use Rattle.std.proofs.Common.{subst, sym, ◌∙◌, arith}
 use Rattle.std.specs.Prelude.{⊤, IfOk, OnErr, OnOk}
 use Rattle.std.specs.Result.{IsErrAnd}
@@ -20,16 +20,15 @@ use Rattle.pc_inline_state.specs.declared.error.ItemError.{ItemError}
 use Rattle.pc_inline_state.specs.declared.error.ItemFault.TheVariants as item_fault
 use Rattle.pc_inline_state.specs.declared.frame.Frame.{Frame}
 use Rattle.pc_inline_state.specs.declared.state.State.{State}
-use Rattle.pc_types_builder.specs.Few.{AddsFuncs}
+use Rattle.pc_types_lists.specs.Adds.{most_types}
 use Rattle.pc_inline_state.specs.Adds.{Adds}
 use Rattle.pc_inline_state.specs.AddsEach.{AddsEach, everywhere, nowhere}
-use Rattle.pc_inline_state.specs.Plain.{is_plain_table}
 use Rattle.pc_inline_state.specs.Points.{Steps}
-use Rattle.pc_inline_state.specs.Prepares.{Converts}
 use Rattle.pc_inline_state.specs.Refused.{LacksRoomOr}
-use Rattle.pc_inline_state.specs.Tables.{Tables, tables_of}
+use Rattle.pc_inline_state.specs.Tables.{Tables}
 use Rattle.pc_inline_state.specs.Today.{built_prepare}
-use Rattle.pc_inline_state.proofs.AddsLemmas.{adds_each, adds_func, adds_refl, adds_then, each_same, each_trans, each_weaken}
+use Rattle.pc_inline_state.proofs.AddsLemmas.{adds_each, adds_then, adds_weaken, each_same, each_trans}
+use Rattle.pc_inline_state.proofs.AddsLemmas.{each_weaken}
 use Rattle.pc_inline_state.proofs.AddsPushLemmas.{import_type_adds}
 use Rattle.pc_inline_canon.proofs.PassedLemmas.{steps_lacking, steps_passed}
 use Rattle.pc_inline.proofs.GivenLemmas.{prepare_untyped}
@@ -76,19 +75,16 @@ gives_import old mid new x i g last rest put ordered same unused (Ok id) key ok 
     }
 gives_import old mid new x i g last rest put ordered same unused (Err e) key ok = tt
 
-module _ {t : TypeTable} {a b : State} (types : Converts t a b)
-    (few : is_plain_table t ≡ true → AddsFuncs 1 2 a.types b.types) where
+module _ {t : TypeTable} (a b : Tables) (converted : Adds t (most_types t) a b) where
   -- a type alone
-  pub type_adds : Adds t 1 4 (tables_of a) (tables_of b)
-  type_adds =
-      adds_then t 0 (tables_of a) (tables_of b) (tables_of b) (omega arith) (adds_func t a b types few)
-      (adds_refl t 0 0 (tables_of b))
+  pub type_adds : Adds t (4 + most_types t) a b
+  type_adds = adds_weaken t (most_types t) (4 + most_types t) a b (omega arith) converted
 
   -- and an import
-  pub given_adds : (x : Tables) → AddsEach everywhere 0 1 (tables_of b) x → Adds t 1 4 (tables_of a) x
+  pub given_adds : (x : Tables) → AddsEach everywhere 0 1 b x → Adds t (4 + most_types t) a x
   given_adds x more =
-      adds_then t 4 (tables_of a) (tables_of b) x (omega arith) (adds_func t a b types few)
-      (adds_each t everywhere 0 1 4 (tables_of b) x (λ l. omega arith) (omega arith) (omega arith) more)
+      adds_then t 4 a b x (omega arith) converted
+      (adds_each t everywhere 0 1 4 b x (λ l. omega arith) (omega arith) (omega arith) more)
 
 -- the type of an import has no number
 pub prepare_unconverted : (t : TypeTable) (ms : List ModuleRecord) (st st' : State) (f f' : Frame) (name : ExternName)

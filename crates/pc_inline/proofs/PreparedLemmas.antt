@@ -15,6 +15,7 @@ use Rattle.pc_types.specs.declared.parsed.Entity.TheVariants as entity
 use Rattle.pc_types.specs.declared.parsed.TypeTable.{TypeTable}
 use Rattle.pc_types.specs.declared.type_index.TypeFuncIndex.{TypeFuncIndex}
 use Rattle.pc_types.specs.declared.types.ComponentExtern.{ComponentExtern}
+use Rattle.pc_types.specs.declared.types.TypeDef.{TypeDef}
 use Rattle.pc_types.specs.declared.types.TypeDef.TheVariants as type
 use Rattle.pc_types.specs.Table.{is_func}
 use Rattle.pc_types.specs.TypeTree.{Identity, TypeTree}
@@ -30,6 +31,7 @@ use Rattle.pc_dfg.specs.Ordered.{IsOrdered}
 use Rattle.pc_inline_state.specs.declared.definition.DefinitionId.{DefinitionId}
 use Rattle.pc_inline_state.specs.declared.frame.Frame.{Frame}
 use Rattle.pc_inline_state.specs.declared.state.State.{State}
+use Rattle.pc_inline_state.specs.Fits.{Fits, FitsBefore}
 use Rattle.pc_inline_state.specs.Points.{PointStands, Steps}
 use Rattle.pc_inline_state.specs.Prepares.{Converts}
 use Rattle.pc_inline_state.specs.Stands.{Stands}
@@ -52,10 +54,12 @@ use Rattle.pc_inline_state.specs.Tables.{IsItem, Keeps, tables_of}
 use Rattle.pc_inline_state.specs.Holds.{Holds}
 use Rattle.pc_inline.specs.Given.{GivesImport, function_import}
 use Rattle.pc_inline.proofs.GivenLemmas.{argument_given, prepare_given, used_given}
+use Rattle.pc_inline_canon.proofs.FrameLemmas.{converted_point}
 use Rattle.pc_inline_canon.proofs.KeptLemmas.{frame_kept, is_item_kept}
-use Rattle.pc_inline_state.proofs.StateLemmas.{converts_prepares, types_refl}
-use Rattle.pc_inline_canon.proofs.TypeLemmas.{entry_tree, scope_tree}
-use Rattle.pc_inline_canon.proofs.WorldLemmas.{declared_still, effect_still, import_still, point_kept, trampoline_still}
+use Rattle.pc_inline_state.proofs.FitsLemmas.{fits_grown}
+use Rattle.pc_inline_state.proofs.KnowsLemmas.{entry_here, knows_grown}
+use Rattle.pc_inline_state.proofs.StateLemmas.{types_refl}
+use Rattle.pc_inline_canon.proofs.WorldLemmas.{declared_still, effect_still, import_still, trampoline_still}
 use Rattle.pc_inline_state.proofs.ZipLemmas.{zip_length, zip_more, zip_push}
 
 -- the slots of a graph with other imports
@@ -83,10 +87,14 @@ module _ (t : TypeTable) (ms : List ModuleRecord) (st : State) (f : Frame) (name
   }
 
   module _ (grows : graph.Grows st.graph given_in) where
+    fits : FitsBefore st.graph given_in
+    fits = fits_grown st.graph given_in grows refl refl
+
     given_keeps : Keeps (tables_of st) (tables_of given_to)
     given_keeps = record {
       types = types_refl st.types;
       graph = grows;
+      fits = fits;
       cores = kept_refl st.cores;
       definitions = append_kept st.definitions (definition.HostFunc i ∷ []);
       closures = kept_refl st.closures;
@@ -96,13 +104,14 @@ module _ (t : TypeTable) (ms : List ModuleRecord) (st : State) (f : Frame) (name
 
     module _ (tree : TypeTree) (n : TypeFuncIndex) (typed : x.ty ≡ type.ComponentFunc n)
         (meta : x.data_ ≡ extern_data name)
-        (has : (who : ResourceIndex → Identity) → HasTree st.types who (type.ComponentFunc n) tree) where
+        (has : (who : ResourceIndex → Identity) → Fits st.graph who
+        → HasTree st.types who (type.ComponentFunc n) tree) where
       given_import : ImportStands st.types given_in (name.name, x) (record { name = name; import_type = tree })
       unfolding Holds
       given_import = record {
         name = refl;
         extern_data = meta;
-        typed = λ who any. subst (λ d. HasTree st.types who d tree) (sym typed) (has who);
+        typed = λ who now. subst (λ d. HasTree st.types who d tree) (sym typed) (has who (fits who now));
       }
 
       given_world : (w : World) → WorldStands st.types st.graph w
@@ -110,18 +119,18 @@ module _ (t : TypeTable) (ms : List ModuleRecord) (st : State) (f : Frame) (name
           (record w { imports = w.imports ++ record { name = name; import_type = tree } ∷ [] })
       given_world w s = record {
         effects = zip_more (EffectStands st.types st.graph) (EffectStands st.types given_in)
-            (effect_still st.types st.types st.graph given_in (types_refl st.types) grows) st.graph.side_effects
+            (effect_still st.types st.types st.graph given_in (types_refl st.types) grows fits) st.graph.side_effects
             (trace w.log) s.effects;
         order = s.order;
-        are_declared = λ k y at. declared_still st.types st.types st.graph given_in (types_refl st.types) grows w.log
-            k y
+        are_declared = λ k y at. declared_still st.types st.types st.graph given_in (types_refl st.types) grows fits
+            w.log k y
             (s.are_declared k y at);
-        trampolines = λ v entry. trampoline_still st.types st.types st.graph given_in (types_refl st.types) grows v
+        trampolines = λ v entry. trampoline_still st.types st.types st.graph given_in (types_refl st.types) grows fits v
             (s.trampolines v entry);
         few_trampolines = s.few_trampolines;
         import_types = zip_push (ImportStands st.types given_in) st.graph.import_types w.imports (name.name, x) _
             (zip_more (ImportStands st.types st.graph) (ImportStands st.types given_in)
-            (import_still st.types st.types st.graph given_in (types_refl st.types) grows) st.graph.import_types
+            (import_still st.types st.types st.graph given_in (types_refl st.types) grows fits) st.graph.import_types
             w.imports
             s.import_types) given_import;
         imports = s.imports;
@@ -138,6 +147,7 @@ module _ (t : TypeTable) (ms : List ModuleRecord) (st : State) (f : Frame) (name
           (with_given now name tree (func_value (host_function (import_path (length now.world.imports)))))
       given_point ordered number more id last now at =
           let kept = frame_kept ms (tables_of st) (tables_of given_to) given_keeps f now.scope at.frame in
+          let knows = knows_grown st.graph st.types.resources now.scope at.here given_in fits in
           let place : i.0 ≡ length now.world.imports = number ∙ zip_length (ImportStands st.types st.graph)
           st.graph.import_types now.world.imports at.world.import_types in
           let longer : length given_in.import_types ≡ length st.graph.import_types + 1 =
@@ -180,8 +190,8 @@ module _ (t : TypeTable) (ms : List ModuleRecord) (st : State) (f : Frame) (name
               numbers = at.sound.numbers;
               held = record { options = at.sound.held.options; functions = at.sound.held.functions };
             };
-            here = at.here;
-            typed = at.typed;
+            here = record { known = knows.known; current = knows.current };
+            converted = at.converted;
             frame = record {
               core_funcs = kept.core_funcs;
               memories = kept.memories;
@@ -195,7 +205,6 @@ module _ (t : TypeTable) (ms : List ModuleRecord) (st : State) (f : Frame) (name
               components = kept.components;
               arguments = argument_given ms (tables_of given_to) f.arguments now.scope.arguments name.name id _
                   kept.arguments host;
-              known = kept.known;
               component_instance = kept.component_instance;
               begun = kept.begun;
             };
@@ -205,16 +214,17 @@ module _ (t : TypeTable) (ms : List ModuleRecord) (st : State) (f : Frame) (name
 
 -- the import is prepared as the reading prepares it
 pub prepare_steps : (t : TypeTable) (ms : List ModuleRecord) (before : State) (f : Frame) (st end : State)
-    (f' : Frame) (name : ExternName) (e : Entity) (ty : ℕ) → e ≡ entity.Func ty → Converts t before st
-    → (n : TypeFuncIndex) → has_entry t is_func ty ≡ true → IsEntry st.types t ty (type.ComponentFunc n)
+    (f' : Frame) (name : ExternName) (e : Entity) (ty : ℕ) → e ≡ entity.Func ty → (done : List (Option TypeDef))
+    → Converts t before f.converted st done → (n : TypeFuncIndex) → has_entry t is_func ty ≡ true
+    → IsEntry st.types t ty (type.ComponentFunc n)
     → (x : List ℕ × ComponentExtern) → x ≡ function_import name n → (id : DefinitionId) → GivesImport st x end id
-    → Keeps (tables_of st) (tables_of end) → f' ≡ record f { arguments = with_first f.arguments (name.name, id) }
+    → Keeps (tables_of st) (tables_of end)
+    → f' ≡ record f { arguments = with_first f.arguments (name.name, id); converted = done }
     → (r : ⊤) → Steps t ms (built_prepare t name e) before f end f' (Ok r)
-prepare_steps t ms before f st end f' name e ty func converts n typed entry x is id given keeps framed r =
+prepare_steps t ms before f st end f' name e ty func done converts n typed entry x is id given keeps framed r =
     steps_on t ms _ before f end f' r (λ now at.
-    let known : st.types.resources.known ≡ [] = ap (λ k. k.known) (converts.grows.resources ∙ at.here) in
-    let tree = entry_tree st.types t ty (type.ComponentFunc n) known entry in
-    let still = point_kept t ms before st (converts_prepares t ms before st converts) f now at in
+    let still = converted_point t ms before f st done converts now at in
+    let tree = entry_here st.graph st.types now.scope still.here t ty (type.ComponentFunc n) entry in
     let import : ComponentExtern = record { ty = type.ComponentFunc n; data_ = extern_data name } in
     let same : end ≡ given_to t ms st f name import end.used given.number = given.put
     ∙ ap (λ (y : List ℕ × ComponentExtern). record st {
@@ -224,8 +234,9 @@ prepare_steps t ms before f st end f' name e ty func converts n typed entry x is
     }) is in
     let graph_is = ap (λ (s : State). s.graph) same in
     let next = with_given now name tree.0 (func_value (host_function (import_path (length now.world.imports)))) in
-    let after = given_point t ms st f name import end.used given.number (subst (graph.Grows st.graph) graph_is
-    keeps.graph) tree.0 n refl refl tree.2 (λ o. subst IsOrdered graph_is (given.ordered o)) given.is_last
+    let after = given_point t ms st (record f { converted = done }) name import end.used given.number
+    (subst (graph.Grows st.graph) graph_is keeps.graph) tree.0 n refl refl tree.2
+    (λ o. subst IsOrdered graph_is (given.ordered o)) given.is_last
     given.unused id given.defined now still in
     record {
       now = next;
@@ -233,6 +244,5 @@ prepare_steps t ms before f st end f' name e ty func converts n typed entry x is
           (subst (λ g. PointStands t ms (given_to t ms st f name import end.used given.number) g next) (sym framed)
           after);
       done = ap (λ y. built_prepare t name y now) func
-          ∙ prepare_given t ms st f name ty now tree.0 typed
-          (scope_tree t ms before f now at st.types converts.grows.resources ty typed ∙ tree.1);
+          ∙ prepare_given t ms st f name ty now tree.0 typed tree.1;
     })

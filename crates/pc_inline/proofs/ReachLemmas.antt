@@ -40,8 +40,7 @@ use Rattle.pc_dfg.specs.Nodes.{means_item, means_lifted}
 use Rattle.pc_dfg.specs.Numbers.{slots_of}
 use Rattle.pc_dfg.specs.Ordered.{IsOrdered}
 use Rattle.pc_dfg.proofs.AllLemmas.{all_more}
-use Rattle.pc_dfg.proofs.KeptLemmas.{options_kept}
-use Rattle.pc_types_builder.proofs.TreeLemmas.{tree_grows}
+use Rattle.pc_types_builder.proofs.TreeLemmas.{tree_keeps}
 use Rattle.pc_inline_state.specs.declared.definition.CoreId.{CoreId}
 use Rattle.pc_inline_state.specs.declared.definition.Definition.TheVariants as definition
 use Rattle.pc_inline_state.specs.declared.definition.DefinitionId.{DefinitionId}
@@ -59,13 +58,14 @@ use Rattle.pc_inline_state.specs.Refused.{LacksRoom}
 use Rattle.pc_inline_state.specs.Slots.{EntryStands}
 use Rattle.pc_inline_state.specs.Stands.{CoreStands, IsFunc, ItemStands, OptionsStand}
 use Rattle.pc_inline_state.specs.Tables.{IsItem, Keeps, tables_of}
+use Rattle.pc_inline_state.specs.Fits.{Fits, FitsBefore}
 use Rattle.pc_inline_state.specs.Holds.{Holds, Numbered}
-use Rattle.pc_inline_state.specs.Typed.{anyhow}
 use Rattle.pc_inline_state.specs.Worlds.{HasItems}
 use Rattle.pc_inline_canon.proofs.CoreInstanceLemmas.{found_in_push, item_held}
+use Rattle.pc_inline_state.proofs.FitsLemmas.{fits_grown, who_fits, who_of}
 use Rattle.pc_inline_state.proofs.GrowthLemmas.{graph_grown}
 use Rattle.pc_inline_canon.proofs.HoldsLemmas.{func_below, functions_push, lifted_push}
-use Rattle.pc_inline_canon.proofs.KeptLemmas.{core_kept, frame_kept, is_item_kept, item_kept}
+use Rattle.pc_inline_canon.proofs.KeptLemmas.{core_kept, entry_kept, frame_kept, is_item_kept, item_kept}
 use Rattle.pc_inline.proofs.RootKeptLemmas.{name_still, root_kept}
 use Rattle.pc_inline_state.proofs.StateLemmas.{types_refl}
 use Rattle.pc_inline_canon.proofs.ThereLemmas.{LiftedAs, lifted_there}
@@ -80,13 +80,14 @@ leaf_reached n w none =
     subst (λ v. leaf n v ≡ reached n v) same refl
 
 -- a function type as a number and whole
-typed : (types : Types) (ty : TypeFuncIndex) (tree : TypeTree)
-    → ((who : ResourceIndex → Identity) → HasTree types who (type.ComponentFunc ty) tree) → Numbered types anyhow
+typed : (types : Types) (g : ComponentDfg) (ty : TypeFuncIndex) (tree : TypeTree)
+    → ((who : ResourceIndex → Identity) → Fits g who → HasTree types who (type.ComponentFunc ty) tree)
+    → Numbered types (Fits g)
 unfolding Holds
-typed types ty tree holds = record {
+typed types g ty tree holds = record {
   number = function_mark ty;
   whole = of_type tree;
-  holds = λ who any. holds who;
+  holds = holds;
 }
 
 module _ (st : State) (f : Frame) (s : Scope) (w : World) (nodes : List (NamedNode Mark)) (x : Function)
@@ -122,8 +123,11 @@ module _ (t : TypeTable) (ms : List ModuleRecord) (st : State) (ty : TypeFuncInd
   after = record st { graph = exported }
 
   module _ (grows : graph.Grows st.graph exported) where
+    pub fits : FitsBefore st.graph exported
+    fits = fits_grown st.graph exported grows refl refl
+
     abbrev pub keeps : Keeps (tables_of st) (tables_of after)
-    keeps = graph_grown (tables_of st) exported grows
+    keeps = graph_grown (tables_of st) exported grows fits
 
     same_slots : (k : plan.SlotKind) → slots_of exported k ≡ slots_of st.graph k
     unfolding slots_of
@@ -184,12 +188,13 @@ module _ (t : TypeTable) (ms : List ModuleRecord) (st : State) (ty : TypeFuncInd
           };
         };
         frame = frame_kept ms (tables_of st) (tables_of after) keeps f s root.frame;
-        world = world_still st.types st.types st.graph exported (types_refl st.types) grows refl refl refl refl refl
+        world = world_still st.types st.types st.graph exported (types_refl st.types) grows fits refl refl refl refl
+            refl
             refl w
             root.world;
         total = root.total;
         exports = zip_more (NameStands st.types st.graph) (NameStands st.types exported)
-            (name_still st.types st.types st.graph exported (types_refl st.types) grows) st.graph.exports nodes
+            (name_still st.types st.types st.graph exported (types_refl st.types) grows fits) st.graph.exports nodes
             root.exports;
       }
 
@@ -201,14 +206,17 @@ module _ (t : TypeTable) (ms : List ModuleRecord) (st : State) (ty : TypeFuncInd
         node_there : NodeStands st.types exported n.0 (node.lifted (of_type tree) callee os)
         unfolding typed
         node_there =
-            let c = core_kept st.types st.types st.graph exported (types_refl st.types) grows d callee stands in
+            let c = core_kept st.types st.types st.graph exported (types_refl st.types) grows fits d callee stands in
+            let entry = entry_kept (tables_of st) (tables_of after) keeps o.0 os options in
             record {
-              numbered = node.lifted (typed st.types ty tree is_func) c.numbered options.numbered;
+              numbered = node.lifted (typed st.types exported ty tree (λ who now. is_func who (fits who now)))
+                  c.numbered
+                  entry.numbered;
               means = λ converted. means_item
                   (ap (slice_get (st.graph.export_items ++ item ∷ [])) last
                   ∙ slice_get-append_seam st.graph.export_items item [])
-                  (means_lifted c.means (options_kept st.graph exported grows options.means));
-              is = λ i. node.lifted (of_type tree) (c.is i) (options.is i);
+                  (means_lifted c.means entry.means);
+              is = λ i. node.lifted (of_type tree) (c.is i) (entry.is i);
             }
 
         pub reaches_lifted : ReachesNode t ms after f s w nodes x (Ok n)
@@ -259,10 +267,12 @@ module _ (t : TypeTable) (ms : List ModuleRecord) (old st : State) (p : Prepares
       let made : exported t ms st ty d id ≡ g = sym (rest ∙ (λ j. record st.graph { export_items = put j })) in
       let grown = subst (graph.Grows st.graph) (sym made) grows in
       let typed_now : IsFunc ms (tables_of st) ty l.tree =
-      λ who. tree_grows old.types st.types p.keeps.types who (type.ComponentFunc ty) l.tree (l.is_func who) in
+      λ who now. tree_keeps old.types st.types p.keeps.types who (type.ComponentFunc ty) l.tree
+      (l.is_func who (p.keeps.fits who now)) in
       let now_ordered = subst IsOrdered (sym made)
       (ordered (item_held ms st.graph core.Func d usable, below) root_now.sound.ordered) in
       subst (λ h. ReachesNode t ms (record st { graph = h }) f s w nodes x (Ok e)) made
       (reaches_lifted t ms st ty d id grown f s w nodes root_now now_ordered usable
-      (func_below st.types ty l.tree typed_now) e last l.tree l.callee l.options x l.is typed_now
+      (func_below st.types (who_of st.graph) ty l.tree (typed_now (who_of st.graph) (who_fits st.graph))) e last
+      l.tree l.callee l.options x l.is typed_now
       (subst (λ y. CoreStands st.types st.graph y l.callee) same i.stands) (entry l.options l.stand))

@@ -1,10 +1,9 @@
 -- How few entries and types a root has.
-use Rattle.std.proofs.Common.{◌≡◌, ◌<◌, ◌≤◌, ◌+◌, ◌*◌, ◌⊎◌, ℕ, zero, suc, List, length, sum_by, Some, Result, Ok, Err, refl, sym}
-use Rattle.std.proofs.Common.{ap, subst, ◌∙◌, inl, inr, arith}
+use Rattle.std.proofs.Common.{◌≡◌, ◌<◌, ◌≤◌, ◌+◌, ◌*◌, ◌⊎◌, ℕ, zero, suc, List, length, Some, Result, Ok, Err, refl}
+use Rattle.std.proofs.Common.{sym, ap, subst, ◌∙◌, inl, inr, arith}
 use Rattle.std.specs.Prelude.{⊤, OnOk}
 use Rattle.std.specs.Result.{IsErrAnd}
 use Rattle.std.proofs.lemmas.List.{length-map}
-use Rattle.std.proofs.lemmas.Option.{same_Some}
 use Rattle.pc_numbers.specs.declared.runtime.RuntimeComponentInstanceIndex.{RuntimeComponentInstanceIndex}
 use Rattle.pc_types.specs.declared.error.Error.{Error}
 use Rattle.pc_types.specs.declared.error.Error.TheVariants as error
@@ -13,12 +12,12 @@ use Rattle.pc_types.specs.declared.parsed.TypeTable.{TypeTable}
 use Rattle.pc_types.specs.declared.types.TypeKind.{TypeKind}
 use Rattle.pc_types.specs.declared.types.TypeKind.TheVariants as kind
 use Rattle.pc_types_lists.specs.Adds.{AddsTypes}
-use Rattle.pc_types_lists.specs.Types.{Types, held, types_held}
+use Rattle.pc_types_lists.specs.Types.{IsBuilder, Types, held, types_held}
+use Rattle.pc_types_lists.proofs.FewLemmas.{few_aside, few_both, held_few}
 use Rattle.pc_parsed.specs.declared.payload.ExternName.{ExternName}
 use Rattle.pc_parsed.specs.declared.payload.ItemKind.{ItemKind}
 use Rattle.pc_spec_reading.specs.Answer.{IsPast}
 use Rattle.pc_spec_reading.specs.Item.{Items, exports_in}
-use Rattle.pc_spec_reading.specs.Outcome.{done}
 use Rattle.pc_spec_reading.specs.Scope.{Moment}
 use Rattle.pc_spec_reading.specs.Section.{named_item}
 use Rattle.pc_spec_reading.specs.World.{full}
@@ -34,7 +33,7 @@ use Rattle.pc_dfg.specs.Numbers.{slots_of}
 use Rattle.pc_dfg.specs.Pushed.{with_component_instance}
 use Rattle.pc_inline_state.specs.declared.frame.Frame.{Frame}
 use Rattle.pc_inline_state.specs.declared.state.State.{State}
-use Rattle.pc_inline_state.specs.Adds.{Adds, imports_in, item_count}
+use Rattle.pc_inline_state.specs.Adds.{Adds, most_of_items, most_prepared_of}
 use Rattle.pc_inline_stack.specs.Begins.{Begins}
 use Rattle.pc_inline.specs.Roots.{BegunHasFew, EndsWith, HasAtMost, HasFew, HasNothing, IsLong, IsLongOrHasFew}
 use Rattle.pc_inline_state.specs.Fresh.{IsFresh}
@@ -45,14 +44,14 @@ use Rattle.pc_inline.specs.Inlines.{HasNoRoom}
 use Rattle.pc_inline_state.specs.Points.{IsFullSomewhere, full_closures, full_cores, full_definitions, full_exports}
 use Rattle.pc_inline_state.specs.Points.{full_graph, full_instances, full_types}
 use Rattle.pc_inline_state.specs.Tables.{Tables, tables_of}
-use Rattle.pc_inline_state.specs.Today.{built_enter, built_root}
+use Rattle.pc_inline_state.specs.Today.{built_root}
 use Rattle.pc_inline_state.specs.Typed.{no_resources}
-use Rattle.pc_inline_state.proofs.AddsLemmas.{adds_refl, types_trans}
-use Rattle.pc_inline_stack.proofs.LoopAddsLemmas.{few_exports}
+use Rattle.pc_inline_state.specs.Gained.{AddsTables}
+use Rattle.pc_inline_state.proofs.AddsLemmas.{adds_refl}
+use Rattle.pc_inline_state.proofs.GainedLemmas.{tables_aside, tables_both}
 use Rattle.pc_inline.proofs.RootLemmas.{counted_begins}
 use Rattle.pc_inline_stack.proofs.TodayLemmas.{past_read}
-use Rattle.pc_inline.proofs.TotalLemmas.{HasGrown, child_grows, items_grow}
-use Rattle.pc_inline_stack.proofs.WeightLemmas.{weight_of_imports, weight_of_items}
+use Rattle.pc_inline_stack.proofs.WeightLemmas.{most_of_body, most_of_prepared}
 
 -- a graph with nothing in any list
 abbrev pub HasNone : ComponentDfg → Type 0
@@ -137,14 +136,15 @@ module _ (t : TypeTable) (old : State) (fresh : IsFresh t old) (g : ComponentDfg
   begun_graph limit (Err (error.DefinedTwice p)) begins = absurd begins
   begun_graph limit (Err (error.BadOptions p)) begins = absurd begins
 
-  begun_most : HasNone g × (g.num_runtime_component_instances ≤ 1) → (n m : ℕ) (x : Tables)
-      → Adds t n m (tables_of (record old { graph = g })) x → HasAtMost t n m old.types x
-  begun_most none n m x adds =
+  begun_most : HasNone g × (g.num_runtime_component_instances ≤ 1) → (w : ℕ) (x : Tables)
+      → Adds t w (tables_of (record old { graph = g })) x → HasAtMost t w old.types x
+  begun_most none w x adds =
       let few = adds.entries in
       let begun = few.begun in
       let one = none.1 in
       record {
         types = adds.types;
+        tables = adds.tables;
         lists = λ l. let more = few.lists l in let nothing = none.0 l in omega (arith, more, nothing);
         cores = let more = few.cores in let nothing = ap (λ cs. length cs) fresh.cores in omega (arith, more, nothing);
         definitions = let more = few.definitions in let nothing = ap (λ ds. length ds) fresh.definitions in
@@ -158,19 +158,17 @@ module _ (t : TypeTable) (old : State) (fresh : IsFresh t old) (g : ComponentDfg
 
   -- what a root has whose imports were prepared, or some of them
   pub begun_prepared : HasNone g × (g.num_runtime_component_instances ≤ 1) → (ls ls' : List LocalInitializer) → ls ≡ ls'
-      → (x : Tables)
-      → Adds t (sum_by imports_in ls) (4 * sum_by imports_in ls) (tables_of (record old { graph = g })) x
-      → HasAtMost t (sum_by imports_in ls') (4 * sum_by imports_in ls') old.types x
+      → (x : Tables) → Adds t (most_prepared_of t ls) (tables_of (record old { graph = g })) x
+      → HasAtMost t (most_prepared_of t ls') old.types x
   begun_prepared none ls ls' is x adds =
-      subst (λ ks. HasAtMost t (sum_by imports_in ks) (4 * sum_by imports_in ks) old.types x) is
-      (begun_most none (sum_by imports_in ls) (4 * sum_by imports_in ls) x adds)
+      subst (λ ks. HasAtMost t (most_prepared_of t ks) old.types x) is
+      (begun_most none (most_prepared_of t ls) x adds)
 
   -- and one of which none was
-  pub begun_none : HasNone g × (g.num_runtime_component_instances ≤ 1) → (n m : ℕ)
-      → HasAtMost t n m old.types (tables_of (record old { graph = g }))
-  begun_none none n m =
-      begun_most none n m (tables_of (record old { graph = g }))
-      (adds_refl t n m (tables_of (record old { graph = g })))
+  pub begun_none : HasNone g × (g.num_runtime_component_instances ≤ 1) → (w : ℕ)
+      → HasAtMost t w old.types (tables_of (record old { graph = g }))
+  begun_none none w =
+      begun_most none w (tables_of (record old { graph = g })) (adds_refl t w (tables_of (record old { graph = g })))
 
 -- what holds whatever is answered
 on_ok : {P : Type 0} (r : Result ⊤ Error) → P → OnOk r P
@@ -179,12 +177,14 @@ on_ok (Err e) p = tt
 
 module _ (t : TypeTable) where
   -- what is added after that
-  pub most_more : (n m k j : ℕ) (old : Types) (b x : Tables) → HasAtMost t n m old b → Adds t k j b x
-      → HasAtMost t (n + k) (m + j) old x
-  most_more n m k j old b x most adds =
+  pub most_more : (w v : ℕ) (old : Types) (b x : Tables) → HasAtMost t w old b → Adds t v b x
+      → HasAtMost t (w + v) old x
+  most_more w v old b x most adds =
       let few = adds.entries in
       record {
-        types = λ plain. types_trans n k old b.types x.types (most.types plain) (adds.types plain);
+        types = few_both t w v old b.types x.types most.types adds.types;
+        tables = tables_both t b.graph.num_runtime_component_instances x.graph.num_runtime_component_instances
+            adds.later b.types x.types adds.grows old most.tables adds.tables;
         lists = λ l. let so_far = most.lists l in let more = few.lists l in omega (arith, so_far, more);
         cores = let so_far = most.cores in let more = few.cores in omega (arith, so_far, more);
         definitions = let so_far = most.definitions in let more = few.definitions in omega (arith, so_far, more);
@@ -194,21 +194,14 @@ module _ (t : TypeTable) where
       }
 
   -- a total that bounds it
-  few_of : (counted total functions entries : ℕ) (old : Types) (x : Tables) → total < full
-      → counted + 8 * functions ≤ total → counted + entries < total → HasAtMost t functions entries old x
-      → HasFew t counted total old x
-  few_of counted total functions entries old x below few fewer most = record {
-    below = below;
-    functions = functions;
-    few_functions = few;
-    entries = entries;
-    few_entries = fewer;
-    most = most;
-  }
+  few_of : (counted total added : ℕ) (old : Types) (x : Tables) → total < full → counted + added < total
+      → HasAtMost t added old x → HasFew t counted total old x
+  few_of counted total added old x below few most =
+      record { below = below; added = added; few = few; most = most }
 
   module _ (ms : List ModuleRecord) (limit : ℕ) (bodies : List Translation) (root : Translation) (old : Types) where
     -- a total bounds what a root has in which nothing was prepared, where a root may begin
-    pub few_unbegun : (x : Tables) → HasAtMost t 0 0 old x → BegunHasFew t ms limit bodies root old x
+    pub few_unbegun : (x : Tables) → HasAtMost t 0 old x → BegunHasFew t ms limit bodies root old x
     few_unbegun x most body stands n = by limit refl
       where
         by : (l : ℕ) → l ≡ limit → IsLongOrHasFew t ms limit body n old x
@@ -220,31 +213,26 @@ module _ (t : TypeTable) where
               | inr room ↦
                   inr (inl (
                     first_total t ms body n,
-                    few_of n (first_total t ms body n) 0 0 old x room.0 (omega arith) (omega arith) most,
+                    few_of n (first_total t ms body n) 0 old x room.0 (omega arith) most,
                   ))
             ]
 
-    abbrev imports : ℕ
-    imports = sum_by imports_in root.initializers
+    abbrev prepared : ℕ
+    prepared = most_prepared_of t root.initializers
 
     module _ (body : Items) (stands : BodyStands bodies no_names root body) where
-      -- the first total bounds its imports and items
-      enough : (n : ℕ) → n + (8 * imports + 8 * item_count body) < first_total t ms body n
+      -- the first total bounds what its imports and items add at the most, and four entries for each export
+      enough : (n : ℕ) → n + (prepared + most_of_items t root.initializers + 4 * length root.exports)
+          < first_total t ms body n
       enough n =
-          let one = weight_of_items t ms body in
-          let two = weight_of_imports t ms bodies no_names root.initializers body stands.items in
-          omega (arith, one, two)
-
-      -- a body has no more exports than items
-      exports_there : length root.exports ≤ item_count body
-      exports_there =
-          let some = few_exports body in
+          let one = most_of_body t ms bodies no_names root.initializers body stands.items in
+          let two = most_of_prepared t ms bodies no_names root.initializers body stands.items in
           let same : length root.exports ≡ length (exports_in body) =
           sym (length-map root.exports named_item) ∙ ap (λ xs. length xs) stands.exports in
-          omega (arith, some, same)
+          omega (arith, one, two, same)
 
     -- and one whose imports were prepared, or some of them
-    pub few_begun : 0 < limit → (x : Tables) → HasAtMost t imports (4 * imports) old x
+    pub few_begun : 0 < limit → (x : Tables) → HasAtMost t prepared old x
         → BegunHasFew t ms limit bodies root old x
     few_begun below x most body stands n =
         elim (counted_begins t ms limit body below n) as (λ _. IsLongOrHasFew t ms limit body n old x) [
@@ -253,8 +241,7 @@ module _ (t : TypeTable) where
               let le = enough body stands n in
               inr (inl (
                 first_total t ms body n,
-                few_of n (first_total t ms body n) imports (4 * imports) old x room.0 (omega (arith, le))
-                    (omega (arith, le)) most,
+                few_of n (first_total t ms body n) prepared old x room.0 (omega (arith, le)) most,
               ))
         ]
 
@@ -274,41 +261,27 @@ module _ (t : TypeTable) where
         by (inl h) = inl (h.0, tt, h.1)
         by (inr nothing) = inr (tt, nothing)
 
-    -- what a root has whose items were read, or some of them: its total bounds them, and its exports too
+    -- what a root has whose items were read, or some of them: its total bounds what was added, and its exports too
     pub record HasRun (body : Items) (counted : ℕ) (x : Tables) (r : Result Frame Error) : Type 0 where
       pub total : ℕ
-      pub items : ℕ
+      pub added : ℕ
       pub below : total < full
-      pub few : counted + (8 * imports + 8 * items) < total
-      pub most : HasAtMost t (imports + items) (4 * imports + 4 * items) old x
-      pub ends : OnOk r (EndsWith t ms limit body counted total
-          × (counted + (8 * imports + 8 * item_count body) < total))
+      pub few : counted + (prepared + added + 4 * length root.exports) < total
+      pub most : HasAtMost t (prepared + added) old x
+      pub ends : OnOk r (EndsWith t ms limit body counted total)
 
     module _ (st : State) (f : Frame) (among : st.bodies.now ≡ bodies)
         (begun : (body : Items) → BodyStands bodies no_names root body → RootBegun t ms limit body st f)
-        (most : HasAtMost t imports (4 * imports) old (tables_of st)) (st' : State) where
+        (most : HasAtMost t prepared old (tables_of st)) (st' : State) where
       module _ (body : Items) (stands : BodyStands bodies no_names root body) where
-        -- the total of the root, where it is done
-        end_total : (now last : Moment) (n total : ℕ) → now.world.total ≡ Some n
-            → reading_from t ms limit body now ≡ done last → last.world.total ≡ Some total → n ≤ total
-        end_total now last n total is ends same =
-            let grows = items_grow t ms (built_enter t ms limit limit) (child_grows t ms limit limit) body 0 now last
-            ends in
-            let more : HasGrown (Some n) last.world.total = subst (λ o. HasGrown o last.world.total) is grows in
-            let last_one = same_Some more.0 total (sym more.1 ∙ same) in
-            let le = more.2 in
-            omega (arith, last_one, le)
-
-        total_at : (c : ℕ) (now : Moment) (n total : ℕ) → now.world.total ≡ Some n
-            → c + (8 * imports + 8 * item_count body) < n
+        -- where it is done, that is its total
+        total_at : (c : ℕ) (now : Moment) (total : ℕ)
             → built_root t ms limit (Some c) body ≡ reading_from t ms limit body now → (r : Result Frame Error)
             → EndsIn t ms limit total (reading_from t ms limit body now) r
-            → OnOk r (EndsWith t ms limit body c total × (c + (8 * imports + 8 * item_count body) < total))
+            → OnOk r (EndsWith t ms limit body c total)
         unfolding EndsIn
-        total_at c now n total is le reads (Ok g) ends =
-            let more = end_total now ends.0 n total is ends.1 ends.2 in
-            ((ends.0, reads ∙ ends.1, ends.2), omega (arith, le, more))
-        total_at c now n total is le reads (Err e) ends = tt
+        total_at c now total reads (Ok g) ends = (ends.0, reads ∙ ends.1, ends.2)
+        total_at c now total reads (Err e) ends = tt
 
         has_run : (r : Result Frame Error) → Counts t ms limit root.initializers st f st' r → (c : ℕ)
             → IsLong t ms limit body c ⊎ HasRun body c (tables_of st') r
@@ -328,13 +301,11 @@ module _ (t : TypeTable) where
                         let few = k.few in
                         inr (record {
                           total = k.total;
-                          items = k.items;
+                          added = k.added;
                           below = k.below;
                           few = omega (arith, le, few);
-                          most = most_more imports (4 * imports) k.items (4 * k.items) old (tables_of st)
-                              (tables_of st') most k.adds;
-                          ends = total_at c start.now (first_total t ms body c) k.total start.is_total le start.reads
-                              r k.ends;
+                          most = most_more prepared k.added old (tables_of st) (tables_of st') most k.adds;
+                          ends = total_at c start.now k.total start.reads r k.ends;
                         })
                   ]
             ]
@@ -349,31 +320,26 @@ module _ (t : TypeTable) where
                 let few = h.few in
                 inr (inl (
                   h.total,
-                  few_of n h.total (imports + h.items) (4 * imports + 4 * h.items) old (tables_of st') h.below
-                      (omega (arith, few)) (omega (arith, few)) h.most,
+                  few_of n h.total (prepared + h.added) old (tables_of st') h.below (omega (arith, few)) h.most,
                 ))
           ]
 
       -- the root exports
       pub few_exported : (g : Frame) → Counts t ms limit root.initializers st f st' (Ok g)
           → (es : List (ExternName × ItemKind × ℕ)) → es ≡ root.exports → (x : Tables)
-          → Adds t 0 (4 * length es) (tables_of st') x → (r : Result ⊤ Error)
+          → Adds t (4 * length es) (tables_of st') x → (r : Result ⊤ Error)
           → RootHasFew t ms limit bodies root old x r
       few_exported g counts es are x exported r body stands n =
           elim (has_run body stands (Ok g) counts n) as (λ _. RootHasFewFrom t ms limit body n old x r) [
             | inl long ↦ inl long
             | inr h ↦
                 let few = h.few in
-                let more = h.ends.1 in
-                let there = exports_there body stands in
                 let many = ap (λ xs. length xs) are in
                 inr (inl (
                   h.total,
-                  on_ok r h.ends.0,
-                  few_of n h.total (imports + h.items + 0) (4 * imports + 4 * h.items + 4 * length es) old x h.below
-                      (omega (arith, few)) (omega (arith, few, more, there, many))
-                      (most_more (imports + h.items) (4 * imports + 4 * h.items) 0 (4 * length es) old (tables_of st') x
-                      h.most exported),
+                  on_ok r h.ends,
+                  few_of n h.total (prepared + h.added + 4 * length es) old x h.below (omega (arith, few, many))
+                      (most_more (prepared + h.added) (4 * length es) old (tables_of st') x h.most exported),
                 ))
           ]
 
@@ -397,102 +363,62 @@ held_most types kind.Component = omega arith
 held_most types kind.Module = omega arith
 held_most types kind.Signature = omega arith
 
--- and no more than twice as many are added as functions
-held_added : (n : ℕ) (old new : Types) → AddsTypes n old new → (k : TypeKind) → held new k ≤ held old k + 2 * n
-held_added n old new adds kind.Func = let few = adds.funcs in omega (arith, few)
-held_added n old new adds kind.Tuple = let few = adds.tuples in omega (arith, few)
-held_added n old new adds kind.Signature = let few = adds.signatures in omega (arith, few)
-held_added n old new adds kind.Record =
-    let is : length new.records ≡ length old.records =
-    ap (λ b. length b.records) adds.rest in omega (arith, is)
-held_added n old new adds kind.Variant =
-    let is : length new.variants ≡ length old.variants =
-    ap (λ b. length b.variants) adds.rest in omega (arith, is)
-held_added n old new adds kind.List =
-    let is : length new.lists ≡ length old.lists =
-    ap (λ b. length b.lists) adds.rest in omega (arith, is)
-held_added n old new adds kind.Option =
-    let is : length new.options ≡ length old.options =
-    ap (λ b. length b.options) adds.rest in omega (arith, is)
-held_added n old new adds kind.Result =
-    let is : length new.results ≡ length old.results =
-    ap (λ b. length b.results) adds.rest in omega (arith, is)
-held_added n old new adds kind.Flags =
-    let is : length new.flags ≡ length old.flags =
-    ap (λ b. length b.flags) adds.rest in omega (arith, is)
-held_added n old new adds kind.Enum =
-    let is : length new.enums ≡ length old.enums =
-    ap (λ b. length b.enums) adds.rest in omega (arith, is)
-held_added n old new adds kind.ResourceTable =
-    let is : length new.resource_tables ≡ length old.resource_tables =
-    ap (λ b. length b.resource_tables) adds.rest in omega (arith, is)
-held_added n old new adds kind.FutureTable =
-    let is : length new.future_tables ≡ length old.future_tables =
-    ap (λ b. length b.future_tables) adds.rest in omega (arith, is)
-held_added n old new adds kind.StreamTable =
-    let is : length new.stream_tables ≡ length old.stream_tables =
-    ap (λ b. length b.stream_tables) adds.rest in omega (arith, is)
-held_added n old new adds kind.ErrorContextTable =
-    let is : length new.error_context_tables ≡ length old.error_context_tables =
-    ap (λ b. length b.error_context_tables) adds.rest in omega (arith, is)
-held_added n old new adds kind.Instance =
-    let is : length new.instances ≡ length old.instances =
-    ap (λ b. length b.instances) adds.rest in omega (arith, is)
-held_added n old new adds kind.Component =
-    let is : length new.components ≡ length old.components =
-    ap (λ b. length b.components) adds.rest in omega (arith, is)
-held_added n old new adds kind.Module =
-    let is : length new.modules ≡ length old.modules =
-    ap (λ b. length b.modules) adds.rest in omega (arith, is)
-
--- no list of types is full where a total bounds what was added, and begins with all that was held
-never_full : (counted total n : ℕ) (old new : Types) → total < full → counted + 8 * n ≤ total
-    → counted < total → types_held old ≤ counted → AddsTypes n old new → (k : TypeKind)
-    → held new k ≡ 4294967294 → ⊥
-never_full counted total n old new below few fewer start adds k is =
+-- no list of types is full where a total bounds what was added, and begins with all that was held and the signatures of
+-- the table
+never_full : (t : TypeTable) (counted total added : ℕ) (old new : Types) → IsBuilder new → total < full
+    → counted + added < total → length t.core_funcs + types_held old ≤ counted → AddsTypes t added old new
+    → (k : TypeKind) → held new k ≡ 4294967294 → ⊥
+never_full t counted total added old new builder below few start adds k is =
     let most = held_most old k in
-    let more = held_added n old new adds k in
-    omega (arith, below, few, fewer, start, most, more, is)
+    let more = held_few t added old new builder adds k in
+    omega (arith, below, few, start, most, more, is)
 
 -- where a list is full the reading is past
 pub no_room : (t : TypeTable) (ms : List ModuleRecord) (limit : ℕ) (body : Items) (old : Types) (st : State)
-    → ((counted : ℕ) → IsLongOrHasFew t ms limit body counted old (tables_of st))
+    → IsBuilder st.types → ((counted : ℕ) → IsLongOrHasFew t ms limit body counted old (tables_of st))
     → IsFullSomewhere (tables_of st) × (0 < limit) → HasNoRoom t ms limit body (types_held old)
-no_room t ms limit body old st few is_full plain counted start =
+no_room t ms limit body old st builder few is_full counted start =
     elim (few counted) as (λ _. IsPast t ms limit counted body) [
       | inl long ↦ past_read t ms limit body counted long
       | inr h ↦ absurd (by h)
     ]
   where
-    never : {n m total : ℕ} → total < full → counted + 8 * n ≤ total → counted + m < total
-        → HasAtMost t n m old (tables_of st) → IsFullSomewhere (tables_of st) → ⊥
-    never {n} {m} {total} below functions few most (full_types h) =
-        never_full counted total n old st.types below functions (omega (arith, few)) start (most.types plain) h.0 h.1
-    never below functions few most (full_graph l h) = let le = most.lists l in omega (arith, below, few, h, le)
-    never below functions few most (full_instances h) = let le = most.begun in omega (arith, below, few, h, le)
-    never below functions few most (full_cores h) = let le = most.cores in omega (arith, below, few, h, le)
-    never below functions few most (full_definitions h) =
-        let le = most.definitions in omega (arith, below, few, h, le)
-    never below functions few most (full_closures h) = let le = most.closures in omega (arith, below, few, h, le)
-    never below functions few most (full_exports h) = let le = most.instances in omega (arith, below, few, h, le)
+    never : {total added : ℕ} → total < full → counted + added < total → HasAtMost t added old (tables_of st)
+        → IsFullSomewhere (tables_of st) → ⊥
+    never {total} {added} below few most (full_types h) =
+        never_full t counted total added old st.types builder below few start most.types h.0 h.1
+    never below few most (full_graph l h) = let le = most.lists l in omega (arith, below, few, h, le)
+    never below few most (full_instances h) = let le = most.begun in omega (arith, below, few, h, le)
+    never below few most (full_cores h) = let le = most.cores in omega (arith, below, few, h, le)
+    never below few most (full_definitions h) = let le = most.definitions in omega (arith, below, few, h, le)
+    never below few most (full_closures h) = let le = most.closures in omega (arith, below, few, h, le)
+    never below few most (full_exports h) = let le = most.instances in omega (arith, below, few, h, le)
 
     by : ((total : ℕ) × HasFew t counted total old (tables_of st)) ⊎ HasNothing t limit old (tables_of st) → ⊥
-    by (inl h) = never h.1.below h.1.few_functions h.1.few_entries h.1.most is_full.0
+    by (inl h) = never h.1.below h.1.few h.1.most is_full.0
     by (inr nothing) = let none = nothing.0 in let some = is_full.1 in omega (arith, none, some)
 
 -- the counts of tables change no list
-pub counted_few : (g : ComponentDfg) (types : Types) (start n : ℕ)
-    → ((l : ListName) → start + length (entries_of g l) < n)
-    → (l : ListName) → start + length (entries_of (counted_tables g types) l) < n
-counted_few g types start n few l =
-    subst (λ k. start + k < n) (sym (same_lists g g.num_runtime_component_instances (length types.future_tables)
+pub counted_few : (g : ComponentDfg) (types : Types) (added : ℕ) → ((l : ListName) → length (entries_of g l) ≤ added)
+    → (l : ListName) → length (entries_of (counted_tables g types) l) ≤ added
+counted_few g types added few l =
+    subst (λ k. k ≤ added) (sym (same_lists g g.num_runtime_component_instances (length types.future_tables)
     (length types.stream_tables) (length types.error_context_tables) l)) (few l)
 
 -- the builder that is handed back has the types that were added, whichever resources were known before
-pub run_adds : (n : ℕ) (old taken new : Types) (st st' : State) → taken ≡ record old { resources = no_resources }
-    → st.types ≡ taken → new ≡ st'.types → AddsTypes n st.types st'.types → AddsTypes n old new
-run_adds n old taken new st st' forgot is now adds =
-    subst (AddsTypes n old) (sym now) (aside (subst (λ x. AddsTypes n x st'.types) (is ∙ forgot) adds))
-  where
-    aside : AddsTypes n (record old { resources = no_resources }) st'.types → AddsTypes n old st'.types
-    aside h = record { rest = h.rest; funcs = h.funcs; tuples = h.tuples; signatures = h.signatures }
+pub run_adds : (t : TypeTable) (added : ℕ) (old taken new : Types) (st st' : State)
+    → taken ≡ record old { resources = no_resources } → st.types ≡ taken → new ≡ st'.types
+    → AddsTypes t added st.types st'.types → AddsTypes t added old new
+run_adds t added old taken new st st' forgot is now adds =
+    subst (AddsTypes t added old) (sym now)
+    (few_aside t added (record old { resources = no_resources }) st'.types old.resources st'.types.resources
+    (subst (λ x. AddsTypes t added x st'.types) (is ∙ forgot) adds))
+
+-- so the tables that are new in it are those that were new in the state
+pub run_tables : (t : TypeTable) (n : ℕ) (old taken new : Types) (st st' : State)
+    → taken ≡ record old { resources = no_resources } → st.types ≡ taken → new ≡ st'.types
+    → AddsTables t n st.types st'.types → AddsTables t n old new
+run_tables t n old taken new st st' forgot is now adds =
+    subst (AddsTables t n old) (sym now)
+    (tables_aside t n (record old { resources = no_resources }) st'.types old.resources st'.types.resources
+    (subst (λ x. AddsTables t n x st'.types) (is ∙ forgot) adds))

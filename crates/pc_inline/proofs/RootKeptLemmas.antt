@@ -20,22 +20,27 @@ use Rattle.pc_inline.specs.Exporting.{RootStands}
 use Rattle.pc_inline.specs.Exports.{NameStands, NodeStands}
 use Rattle.pc_inline_state.specs.Prepares.{Prepares}
 use Rattle.pc_inline_state.specs.Tables.{tables_of}
-use Rattle.pc_inline_state.specs.Holds.{number_of, whole_of}
-use Rattle.pc_inline_state.specs.Typed.{anyhow}
+use Rattle.pc_inline_state.specs.Fits.{Fits, FitsBefore}
+use Rattle.pc_inline_state.specs.Holds.{Numbered, number_of, whole_of}
 use Rattle.pc_inline_canon.proofs.KeptLemmas.{frame_kept}
 use Rattle.pc_inline_canon.proofs.MarkLemmas.{node_twice, still}
 use Rattle.pc_inline_canon.proofs.WorldLemmas.{world_still}
 use Rattle.pc_inline_state.proofs.ZipLemmas.{zip_more}
 
-module _ (old new : Types) (g h : ComponentDfg) (types : builder.Grows old new) (grows : graph.Grows g h) where
+module _ (old new : Types) (g h : ComponentDfg) (types : builder.KeepsTypes old new) (grows : graph.Grows g h)
+    (fits : FitsBefore g h) where
+  -- a mark is held as it was
+  abbrev on : Numbered old (Fits g) → Numbered new (Fits h)
+  on = still old new types g h fits
+
   -- an export by number
   node_still : (n : ℕ) (x : ExportNode Mark) → NodeStands old g n x → NodeStands new h n x
   node_still n x s = record {
-    numbered = map_node (still old new types) s.numbered;
+    numbered = map_node on s.numbered;
     means = λ converted. subst (MeansItem h converted n)
-        (sym (node_twice (still old new types) (number_of new anyhow) s.numbered))
+        (sym (node_twice on (number_of new (Fits h)) s.numbered))
         (item_kept g h grows converted (s.means converted));
-    is = node_twice (still old new types) (whole_of new anyhow) s.numbered ∙ s.is;
+    is = node_twice on (whole_of new (Fits h)) s.numbered ∙ s.is;
   }
 
   -- and under its name
@@ -49,11 +54,12 @@ module _ (t : TypeTable) (ms : List ModuleRecord) (old new : State) (f : Frame) 
   root_kept p = record {
     sound = p.sound root.sound;
     frame = frame_kept ms (tables_of old) (tables_of new) p.keeps f s root.frame;
-    world = world_still old.types new.types old.graph new.graph p.keeps.types p.keeps.graph p.side_effects p.instances
-        p.trampolines p.imports p.import_types p.begun w root.world;
+    world = world_still old.types new.types old.graph new.graph p.keeps.types p.keeps.graph p.keeps.fits p.side_effects
+        p.instances p.trampolines p.imports p.import_types p.begun w root.world;
     total = root.total;
     exports = subst (λ es. AllZip (NameStands new.types new.graph) es nodes) (sym p.exports)
         (zip_more (NameStands old.types old.graph) (NameStands new.types new.graph)
-        (name_still old.types new.types old.graph new.graph p.keeps.types p.keeps.graph) old.graph.exports nodes
+        (name_still old.types new.types old.graph new.graph p.keeps.types p.keeps.graph p.keeps.fits)
+        old.graph.exports nodes
         root.exports);
   }

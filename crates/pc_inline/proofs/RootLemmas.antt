@@ -1,5 +1,5 @@
 -- The reading of a root: it begins, its imports are prepared, its items are read, and it exports.
-use Rattle.std.proofs.Common.{◌≡◌, ◌<◌, ◌≤◌, ◌+◌, ◌⊎◌, ℕ, Bool, true, false, List, [], Option, None, Some, Ok, Err, inl}
+use Rattle.std.proofs.Common.{◌≡◌, ◌<◌, ◌≤◌, ◌⊎◌, ℕ, Bool, true, false, List, [], Option, None, Some, Ok, Err, inl}
 use Rattle.std.proofs.Common.{inr, refl, sym, ap, subst, ◌∙◌, arith}
 use Rattle.std.proofs.lemmas.Bool.{lt-ltb, ltb-true}
 use Rattle.std.specs.Prelude.{nat_lt}
@@ -192,7 +192,7 @@ pub point_counted : (t : TypeTable) (ms : List ModuleRecord) (st : State) (f : F
 point_counted t ms st f now total at = record {
   sound = at.sound;
   here = at.here;
-  typed = at.typed;
+  converted = at.converted;
   frame = at.frame;
   world = world_counted st.types st.graph now.world total at.world;
   unexported = at.unexported;

@@ -1,10 +1,12 @@
 -- From the state of an instantiation to its answer.
-use Rattle.std.proofs.Common.{◌≡◌, ◌<◌, ◌≤◌, ◌+◌, ◌⊎◌, ℕ, true, List, length, Result, Ok, Err, inl, inr, refl, sym}
+use Rattle.std.proofs.Common.{◌≡◌, ◌+◌, ◌≤◌, ◌⊎◌, ℕ, List, length, Result, Ok, Err, inl, inr, refl, sym}
 use Rattle.std.proofs.Common.{◌∙◌, ap, arith, subst}
-use Rattle.std.specs.Prelude.{⊤, IfOk, OnOk}
+use Rattle.std.specs.Prelude.{⊤, IfOk}
 use Rattle.std.specs.Result.{IsErrAnd, result_and}
 use Rattle.pc_types_lists.specs.Adds.{AddsTypes}
-use Rattle.pc_types_lists.specs.Types.{Grows, KeepsTypes, Resources, Types, types_held}
+use Rattle.pc_types_lists.specs.Types.{IsBuilder, KeepsTypes, Types, types_held}
+use Rattle.pc_types_lists.proofs.FewLemmas.{few_none}
+use Rattle.pc_types_lists.proofs.KeptTypes.{keeps_whatever}
 use Rattle.pc_types.specs.declared.error.Error.{Error}
 use Rattle.pc_types.specs.declared.error.Error.TheVariants as error
 use Rattle.pc_types.specs.declared.module_record.ModuleRecord.{ModuleRecord}
@@ -13,52 +15,30 @@ use Rattle.pc_spec_reading.specs.Item.{Items}
 use Rattle.pc_local.specs.declared.item.Translation.{Translation}
 use Rattle.pc_local.specs.Standing.{BodyStands, no_names}
 use Rattle.pc_dfg.specs.declared.dfg.ComponentDfg.{ComponentDfg}
-use Rattle.pc_dfg.specs.Lists.{ListName, entries_of}
+use Rattle.pc_dfg.specs.Lists.{entries_of}
 use Rattle.pc_inline_state.specs.declared.state.State.{State}
 use Rattle.pc_inline.specs.Roots.{EndsWith, HasAtMost, HasFew, HasNothing, InlinesBody, InlinesRoot, IsBuiltEnd}
 use Rattle.pc_inline.specs.Roots.{IsLongOrHasFew, RootHasFew, RootHasFewFrom, RootRead}
 use Rattle.pc_inline_state.specs.Fresh.{counted_tables}
-use Rattle.pc_inline_state.specs.Plain.{is_plain_table}
+use Rattle.pc_inline_state.specs.Gained.{AddsTables}
 use Rattle.pc_inline_state.specs.Tables.{Keeps, tables_of}
 use Rattle.pc_inline_stack.specs.Totals.{CountsGraph, GainsFew}
 use Rattle.pc_inline_state.specs.Typed.{no_resources}
 use Rattle.pc_inline.specs.Inlines.{Inlines, IsFault, StandsForReading}
-use Rattle.pc_inline_state.proofs.AddsLemmas.{types_same}
+use Rattle.pc_inline_state.proofs.GainedLemmas.{tables_more, tables_none}
 use Rattle.pc_inline.proofs.CountLemmas.{counted_exports, counted_holds, counted_items, counted_ordered, counted_plain}
 use Rattle.pc_inline.proofs.CountLemmas.{counted_world}
 use Rattle.pc_inline.proofs.EndLemmas.{done_today, end_today}
-use Rattle.pc_inline.proofs.RootFewLemmas.{counted_few, no_room, run_adds}
+use Rattle.pc_inline.proofs.RootFewLemmas.{counted_few, no_room, run_adds, run_tables}
 use Rattle.pc_inline_stack.proofs.TodayLemmas.{past_read, total_read}
 
--- types keep their numbers, whichever resources were known before
-resources_aside : (old new : Types) (r : Resources) → Grows (record old { resources = r }) new → KeepsTypes old new
-resources_aside old new r grows = record {
-  funcs = grows.funcs;
-  tuples = grows.tuples;
-  records = grows.records;
-  variants = grows.variants;
-  lists = grows.lists;
-  options = grows.options;
-  results = grows.results;
-  flags = grows.flags;
-  enums = grows.enums;
-  resource_tables = grows.resource_tables;
-  future_tables = grows.future_tables;
-  stream_tables = grows.stream_tables;
-  error_context_tables = grows.error_context_tables;
-  instances = grows.instances;
-  components = grows.components;
-  modules = grows.modules;
-  signatures = grows.signatures;
-  resources = refl;
-}
-
--- so does the builder that is handed back
+-- types keep their numbers in the builder that is handed back, whichever resources were known before
 pub run_keeps : (old taken new : Types) (st st' : State) → taken ≡ record old { resources = no_resources }
     → st.types ≡ taken → Keeps (tables_of st) (tables_of st') → new ≡ st'.types → KeepsTypes old new
 run_keeps old taken new st st' forgot is keeps now =
     subst (KeepsTypes old) (sym now)
-    (resources_aside old st'.types no_resources (subst (λ x. Grows x st'.types) (is ∙ forgot) keeps.types))
+    (keeps_whatever (record old { resources = no_resources }) st'.types old.resources st'.types.resources
+    (subst (λ x. KeepsTypes x st'.types) (is ∙ forgot) keeps.types))
 
 -- a root stands for a body among bodies that are the same
 pub stands_among : (bodies' bodies : List Translation) → bodies' ≡ bodies → (root : Translation) (body : Items)
@@ -124,11 +104,13 @@ module _ (t : TypeTable) (ms : List ModuleRecord) (limit : ℕ) where
         (counted_reading body st (subst (λ xs. RootRead t xs limit body st) same
         (inlines body (stands_among bodies listed among root body stands)))))
 
-    fails_here : (old : Types) (e : Error) → RootHasFew t given limit bodies root old (tables_of st) (Err e)
+    fails_here : (old : Types) (e : Error) → IsBuilder types
+        → RootHasFew t given limit bodies root old (tables_of st) (Err e)
         → InlinesRoot t given limit bodies root st (Err e) → Inlines t ms limit body old types (Err e)
     unfolding Inlines InlinesBody
-    fails_here old e few inlines =
-        end_today t ms limit body st (types_held old) (no_room t ms limit body old st (few_here old (Err e) few)) e
+    fails_here old e builder few inlines =
+        end_today t ms limit body st (types_held old)
+        (no_room t ms limit body old st (subst IsBuilder now builder) (few_here old (Err e) few)) e
         (subst (λ xs. IsBuiltEnd t xs limit body st e) same
         (inlines body (stands_among bodies listed among root body stands)))
 
@@ -139,19 +121,40 @@ module _ (t : TypeTable) (ms : List ModuleRecord) (limit : ℕ) where
       held_before = ap types_held (is_first ∙ forgot)
 
       -- the graph is answered, or the error
-      pub run_ends : (g : ComponentDfg) → g ≡ counted_tables st.graph st.types → (q : Result ⊤ Error)
+      pub run_ends : IsBuilder types → (g : ComponentDfg) → g ≡ counted_tables st.graph st.types → (q : Result ⊤ Error)
           → RootHasFew t given limit bodies root first.types (tables_of st) q
           → InlinesRoot t given limit bodies root st q
           → (r : Result ComponentDfg Error) → r ≡ result_and q (Ok g) → Inlines t ms limit body old types r
       unfolding Inlines
-      run_ends g is (Ok end) few inlines r answers =
+      run_ends builder g is (Ok end) few inlines r answers =
           subst (Inlines t ms limit body old types) (sym answers) (done_here old g is end inlines)
-      run_ends g is (Err e) few inlines r answers =
+      run_ends builder g is (Err e) few inlines r answers =
           subst (Inlines t ms limit body old types) (sym answers)
-          (subst (λ n. IsFault t ms limit body n e) held_before (fails_here first.types e few inlines))
+          (subst (λ n. IsFault t ms limit body n e) held_before (fails_here first.types e builder few inlines))
 
-      added : (n : ℕ) → AddsTypes n first.types st.types → AddsTypes n old types
-      added n adds = run_adds n old taken types first st forgot is_first now adds
+      adds_here : (added : ℕ) → AddsTypes t added first.types st.types → AddsTypes t added old types
+      adds_here added adds = run_adds t added old taken types first st forgot is_first now adds
+
+      tables_here : (n : ℕ) → AddsTables t n first.types st.types → AddsTables t n old types
+      tables_here n adds = run_tables t n old taken types first st forgot is_first now adds
+
+      -- as many component instances have begun at the most as entries were added, and one more
+      tables_within : (added : ℕ) → HasAtMost t added first.types (tables_of st) → AddsTables t (added + 1) old types
+      tables_within added most =
+          tables_here (added + 1)
+          (tables_more t st.graph.num_runtime_component_instances (added + 1) first.types st.types most.begun
+          most.tables)
+
+      -- the tables that are new are those of entries, in component instances of the graph
+      pub run_gained : (g : ComponentDfg) → g ≡ counted_tables st.graph st.types → (q : Result ⊤ Error)
+          → ((added : ℕ) × HasAtMost t added first.types (tables_of st)) → (r : Result ComponentDfg Error)
+          → r ≡ result_and q (Ok g) → IfOk r (λ x. AddsTables t x.num_runtime_component_instances old types)
+      run_gained g is (Ok end) adds r answers =
+          subst (λ x. IfOk x (λ y. AddsTables t y.num_runtime_component_instances old types)) (sym answers)
+          (subst (λ (x : ComponentDfg). AddsTables t x.num_runtime_component_instances old types) (sym is)
+          (tables_here st.graph.num_runtime_component_instances adds.1.tables))
+      run_gained g is (Err e) adds r answers =
+          subst (λ x. IfOk x (λ y. AddsTables t y.num_runtime_component_instances old types)) (sym answers) tt
 
       counts_here : (g : ComponentDfg) → g ≡ counted_tables st.graph st.types → (end : ⊤)
           → RootHasFew t given limit bodies root first.types (tables_of st) (Ok end) → (counted : ℕ)
@@ -169,17 +172,15 @@ module _ (t : TypeTable) (ms : List ModuleRecord) (limit : ℕ) where
           by (inl h) =
               let total = h.0 in
               let most = h.2.most in
-              let lists : (l : ListName) → counted + length (entries_of st.graph l) < total =
-              λ l. let some = most.lists l in let fewer = h.2.few_entries in omega (arith, some, fewer) in
               inr (record {
                 total = total;
                 is_total = total_read t ms limit body counted h.1.0 total h.1.1 h.1.2;
                 below = h.2.below;
-                functions = h.2.functions;
-                few_functions = h.2.few_functions;
-                types = λ plain. added h.2.functions (most.types plain);
-                few = λ l. subst (λ x. counted + length (entries_of x l) < total) (sym is)
-                    (counted_few st.graph st.types counted total lists l);
+                added = h.2.added;
+                few = h.2.few;
+                types = adds_here h.2.added most.types;
+                lists = λ l. subst (λ x. length (entries_of x l) ≤ h.2.added) (sym is)
+                    (counted_few st.graph st.types h.2.added most.lists l);
               })
 
       -- what the graph has is counted
@@ -193,15 +194,15 @@ module _ (t : TypeTable) (ms : List ModuleRecord) (limit : ℕ) where
           subst (λ x. IfOk x (CountsGraph t ms limit counted body old types)) (sym answers) tt
 
       -- few types were added, whatever is answered
-      pub run_gains : is_plain_table t ≡ true → (r : Result ⊤ Error)
-          → ((n : ℕ) × (entries : ℕ) × HasAtMost t n entries first.types (tables_of st))
+      pub run_gains : (r : Result ⊤ Error) → ((added : ℕ) × HasAtMost t added first.types (tables_of st))
           → RootHasFew t given limit bodies root first.types (tables_of st) r → (counted : ℕ)
           → GainsFew t ms limit counted body old types
-      run_gains plain r adds few counted =
+      run_gains r adds few counted =
           elim (few_here first.types r few counted) as (λ _. GainsFew t ms limit counted body old types) [
             | inl long ↦ record {
-              functions = adds.0;
-              types = added adds.0 (adds.2.types plain);
+              added = adds.0;
+              types = adds_here adds.0 adds.1.types;
+              tables = tables_within adds.0 adds.1;
               few = inl (past_read t ms limit body counted long);
             }
             | inr h ↦ by h
@@ -211,19 +212,29 @@ module _ (t : TypeTable) (ms : List ModuleRecord) (limit : ℕ) where
               ⊎ HasNothing t limit first.types (tables_of st)
               → GainsFew t ms limit counted body old types
           by (inl h) =
-              let some = h.1.few_functions in
+              let some = h.1.few in
               let below = h.1.below in
               record {
-                functions = h.1.functions;
-                types = added h.1.functions (h.1.most.types plain);
-                few = inr (omega (arith, some, below));
+                added = h.1.added;
+                types = adds_here h.1.added h.1.most.types;
+                tables = tables_within h.1.added h.1.most;
+                few = inr (inr (omega (arith, some, below)));
               }
-          by (inr nothing) =
-              record { functions = 0; types = added 0 (nothing.1.types plain); few = inr (omega arith) }
+          by (inr nothing) = record {
+            added = 0;
+            types = adds_here 0 nothing.1.types;
+            tables = tables_within 0 nothing.1;
+            few = inr (inl refl);
+          }
 
   -- nothing was added
   pub gains_nothing : (body : Items) (types : Types) (counted : ℕ) → GainsFew t ms limit counted body types types
-  gains_nothing body types counted = record { functions = 0; types = types_same 0 types; few = inr (omega arith) }
+  gains_nothing body types counted = record {
+    added = 0;
+    types = few_none t 0 types types refl;
+    tables = tables_none t 1 types types refl;
+    few = inr (inl refl);
+  }
 
   -- memory was wanting
   pub run_unfed : (body : Items) (old new : Types) (r : Result ComponentDfg Error)

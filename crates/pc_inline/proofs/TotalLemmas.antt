@@ -3,7 +3,6 @@ use Rattle.std.proofs.Common.{◌≡◌, ◌≤◌, ◌+◌, ℕ, zero, suc, Boo
 use Rattle.std.proofs.Common.{Ok, Err, refl, sym, subst, ◌∙◌, if◌then◌else◌, arith}
 use Rattle.std.specs.Prelude.{IfOk, length, nat_lt}
 use Rattle.std.specs.List.{fold}
-use Rattle.pc_types.specs.declared.error.Place.TheVariants as place
 use Rattle.pc_types.specs.declared.error.Unsupported.TheVariants.{NotBuilt}
 use Rattle.pc_types.specs.declared.module_record.ModuleRecord.{ModuleRecord}
 use Rattle.pc_types.specs.declared.parsed.Entity.{Entity}
@@ -141,7 +140,8 @@ module _ (t : TypeTable) (ms : List ModuleRecord) where
     returned body last r is = same_done _ r is
 
     body_grows : (enter : Enter) → ChildGrows enter → (k : Component) (args : List (List ℕ × Value))
-        (known : List (ℕ × Identity)) (w : World) (r : Return) → read_child (today t) t ms limit enter k args known w ≡ done r
+        (known : List (ℕ × Identity)) (w : World) (r : Return) → read_child (today t) t ms limit enter k args known w
+        ≡ done r
         → HasGrown w.total r.world.total
     unfolding read_body
     body_grows enter child (closed body chain) args known w r is =

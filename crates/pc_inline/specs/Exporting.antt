@@ -81,7 +81,7 @@ module _ (t : TypeTable) (ms : List ModuleRecord) where
     pub root : (s : Scope) × (w : World) × RootStands old f s w []
     pub few : n ≤ i
     pub keeps : Keeps (tables_of old) (tables_of new)
-    pub adds : Adds t 0 (4 * i) (tables_of old) (tables_of new)
+    pub adds : Adds t (4 * i) (tables_of old) (tables_of new)
     pub names : (name : List ℕ) → has_name (names_of new.graph.exports) name ≡ true
         → has_name (map export_name (take i es)) name ≡ true
     pub numbers : NumbersExports new.graph
@@ -110,6 +110,6 @@ module _ (t : TypeTable) (ms : List ModuleRecord) where
   pub record MakesExports (es : List (ExternName × ItemKind × ℕ)) (old new : State) (f : Frame) (r : Result ⊤ Error)
       : Type 0 where
     pub keeps : Keeps (tables_of old) (tables_of new)
-    pub adds : Adds t 0 (4 * length es) (tables_of old) (tables_of new)
+    pub adds : Adds t (4 * length es) (tables_of old) (tables_of new)
     pub numbers : OnOk r (NumbersExports new.graph)
     pub exports : Exports es old new f r

@@ -8,15 +8,15 @@ use Rattle.pc_parsed.specs.Mark.{Mark}
 use Rattle.pc_dfg.specs.declared.dfg.ComponentDfg.{ComponentDfg}
 use Rattle.pc_dfg.specs.Lists.{NamedExport}
 use Rattle.pc_dfg.specs.Nodes.{MeansItem}
+use Rattle.pc_inline_state.specs.Fits.{Fits}
 use Rattle.pc_inline_state.specs.Holds.{Numbered, number_of, whole_of}
-use Rattle.pc_inline_state.specs.Typed.{anyhow}
 
 module _ (types : Types) (g : ComponentDfg) where
   -- an export by number, whatever mark the types of modules have
   pub record NodeStands (n : ℕ) (x : ExportNode Mark) : Type 0 where
-    pub numbered : ExportNode (Numbered types anyhow)
-    pub means : (converted : ℕ → Number) → MeansItem g converted n (map_node (number_of types anyhow) numbered)
-    pub is : map_node (whole_of types anyhow) numbered ≡ x
+    pub numbered : ExportNode (Numbered types (Fits g))
+    pub means : (converted : ℕ → Number) → MeansItem g converted n (map_node (number_of types (Fits g)) numbered)
+    pub is : map_node (whole_of types (Fits g)) numbered ≡ x
 
   -- an export under its name
   pub record NameStands (e : NamedExport) (x : NamedNode Mark) : Type 0 where

@@ -1,5 +1,5 @@
 -- What an instantiation answers: the graph that stands for the reading, or why there is none.
-use Rattle.std.specs.Prelude.{◌≡◌, ◌≤◌, ℕ, true, List, length, None, Result, Ok, Err}
+use Rattle.std.specs.Prelude.{◌≡◌, ◌≤◌, ◌+◌, ℕ, List, length, None, Result, Ok, Err}
 use Rattle.pc_types_lists.specs.Types.{Types, types_held}
 use Rattle.pc_types.specs.declared.error.Error.{Error}
 use Rattle.pc_types.specs.declared.error.Error.TheVariants as error
@@ -16,7 +16,6 @@ use Rattle.pc_spec_reading.specs.World.{World}
 use Rattle.pc_dfg.specs.declared.dfg.ComponentDfg.{ComponentDfg}
 use Rattle.pc_dfg.specs.Ordered.{IsOrdered}
 use Rattle.pc_inline.specs.Exports.{ExportsStand, NumbersExports}
-use Rattle.pc_inline_state.specs.Plain.{is_plain_table}
 use Rattle.pc_inline_state.specs.Today.{built_reading}
 use Rattle.pc_inline_state.specs.Worlds.{HasItems, HoldsTypes, IsPlain, WorldStands}
 use Rattle.pc_spec_reading.specs.Guard.{everything}
@@ -63,11 +62,11 @@ pub record StandsForReading (t : TypeTable) (ms : List ModuleRecord) (limit : �
   pub built : built_reading t ms limit body ≡ done result
   pub stands : GraphStands ms types g result
 
--- the total of the reading is too much, wherever it begins that counts the types that were held before. The types of
--- functions that aren't over primitives are not counted yet
+-- the total of the reading is too much, wherever it begins that counts the types that were held before, and the core
+-- signatures of the table
 abbrev pub HasNoRoom : TypeTable → List ModuleRecord → (limit : ℕ) → Items → (held : ℕ) → Type 0
 HasNoRoom t ms limit body held =
-    is_plain_table t ≡ true → (counted : ℕ) → held ≤ counted → IsPast t ms limit counted body
+    (counted : ℕ) → length t.core_funcs + held ≤ counted → IsPast t ms limit counted body
 
 -- the reading ends so, and as far as it is built it does too
 abbrev pub EndsAs : TypeTable → List ModuleRecord → (limit : ℕ) → Items → Outcome Reading → Type 0

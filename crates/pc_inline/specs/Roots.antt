@@ -1,6 +1,6 @@
 -- How the instantiation of a root begins and ends.
-use Rattle.std.specs.Prelude.{◌≡◌, ◌<◌, ◌≤◌, ◌+◌, ◌*◌, ◌⊎◌, ⊤, ℕ, true, List, length, Option, None, Some, Result}
-use Rattle.std.specs.Prelude.{Ok, Err, OnOk, sum_by}
+use Rattle.std.specs.Prelude.{◌≡◌, ◌<◌, ◌≤◌, ◌+◌, ◌⊎◌, ⊤, ℕ, List, length, Option, None, Some, Result}
+use Rattle.std.specs.Prelude.{Ok, Err, OnOk}
 use Rattle.pc_types_lists.specs.Adds.{AddsTypes}
 use Rattle.pc_types_lists.specs.Types.{Types}
 use Rattle.pc_types.specs.declared.error.Error.{Error}
@@ -18,11 +18,11 @@ use Rattle.pc_local.specs.Standing.{BodyStands, no_names}
 use Rattle.pc_dfg.specs.Lists.{ListName, entries_of}
 use Rattle.pc_inline_state.specs.declared.frame.Frame.{Frame}
 use Rattle.pc_inline_state.specs.declared.state.State.{State}
-use Rattle.pc_inline_state.specs.Adds.{imports_in}
+use Rattle.pc_inline_state.specs.Adds.{most_prepared_of}
+use Rattle.pc_inline_state.specs.Gained.{AddsTables}
 use Rattle.pc_inline_stack.specs.Driving.{reading_from}
 use Rattle.pc_inline.specs.Exports.{ExportsStand, NumbersExports}
 use Rattle.pc_inline.specs.Inlines.{last_world}
-use Rattle.pc_inline_state.specs.Plain.{is_plain_table}
 use Rattle.pc_inline_state.specs.Points.{IsFullSomewhere, IsSoundState, PointStands}
 use Rattle.pc_inline_state.specs.Tables.{Keeps, Tables, tables_of}
 use Rattle.pc_inline_state.specs.Today.{built_reading, built_root}
@@ -89,28 +89,28 @@ unfoldable pub BeginsBody : TypeTable → List ModuleRecord → (limit : ℕ) �
 BeginsBody t ms limit body st (Ok f) = RootBegun t ms limit body st f
 BeginsBody t ms limit body st (Err e) = IsBuiltEnd t ms limit body st e
 
--- the types of so many functions over primitives were added, and no list has more entries than this
-pub record HasAtMost (t : TypeTable) (functions entries : ℕ) (old : Types) (new : Tables) : Type 0 where
-  pub types : is_plain_table t ≡ true → AddsTypes functions old new.types
-  pub lists : (l : ListName) → length (entries_of new.graph l) ≤ entries
-  pub cores : length new.cores ≤ entries
-  pub definitions : length new.definitions ≤ entries
-  pub closures : length new.closures ≤ entries
-  pub instances : length new.instances ≤ entries
-  pub begun : new.graph.num_runtime_component_instances ≤ entries + 1
+-- no list of types but that of core signatures has grown by more than `added`, the tables that are new are those of
+-- entries, and no other list has more entries than `added`
+pub record HasAtMost (t : TypeTable) (added : ℕ) (old : Types) (new : Tables) : Type 0 where
+  pub types : AddsTypes t added old new.types
+  pub tables : AddsTables t new.graph.num_runtime_component_instances old new.types
+  pub lists : (l : ListName) → length (entries_of new.graph l) ≤ added
+  pub cores : length new.cores ≤ added
+  pub definitions : length new.definitions ≤ added
+  pub closures : length new.closures ≤ added
+  pub instances : length new.instances ≤ added
+  pub begun : new.graph.num_runtime_component_instances ≤ added + 1
 
 -- a total that begins with another bounds what was added
 pub record HasFew (t : TypeTable) (counted total : ℕ) (old : Types) (new : Tables) : Type 0 where
   pub below : total < full
-  pub functions : ℕ
-  pub few_functions : counted + 8 * functions ≤ total
-  pub entries : ℕ
-  pub few_entries : counted + entries < total
-  pub most : HasAtMost t functions entries old new
+  pub added : ℕ
+  pub few : counted + added < total
+  pub most : HasAtMost t added old new
 
 -- no root may begin, and nothing was added
 abbrev pub HasNothing : TypeTable → (limit : ℕ) → (old : Types) → (new : Tables) → Type 0
-HasNothing t limit old new = (limit ≤ 0) × HasAtMost t 0 0 old new
+HasNothing t limit old new = (limit ≤ 0) × HasAtMost t 0 old new
 
 -- the total of the reading is too much, or some total bounds what was added, or nothing was
 abbrev pub IsLongOrHasFew : TypeTable → List ModuleRecord → (limit : ℕ) → Items → (counted : ℕ) → (old : Types)
@@ -150,8 +150,7 @@ RootHasFew t ms limit bodies root old new r =
 pub record BeginsRoot (t : TypeTable) (ms : List ModuleRecord) (limit : ℕ) (root : Translation) (old new : State)
     (r : Result Frame Error) : Type 0 where
   pub keeps : Keeps (tables_of old) (tables_of new)
-  pub most : HasAtMost t (sum_by imports_in root.initializers) (4 * sum_by imports_in root.initializers) old.types
-      (tables_of new)
+  pub most : HasAtMost t (most_prepared_of t root.initializers) old.types (tables_of new)
   pub few : BegunHasFew t ms limit old.bodies.now root old.types (tables_of new)
   pub begins : (body : Items) → BodyStands old.bodies.now no_names root body → BeginsBody t ms limit body new r
 
@@ -159,6 +158,6 @@ pub record BeginsRoot (t : TypeTable) (ms : List ModuleRecord) (limit : ℕ) (ro
 pub record EndsRoot (t : TypeTable) (ms : List ModuleRecord) (limit : ℕ) (root : Translation) (old new : State)
     (r : Result ⊤ Error) : Type 0 where
   pub keeps : Keeps (tables_of old) (tables_of new)
-  pub adds : (functions : ℕ) × (entries : ℕ) × HasAtMost t functions entries old.types (tables_of new)
+  pub adds : (added : ℕ) × HasAtMost t added old.types (tables_of new)
   pub few : RootHasFew t ms limit old.bodies.now root old.types (tables_of new) r
   pub inlines : InlinesRoot t ms limit old.bodies.now root new r

@@ -65,7 +65,7 @@ pub(crate) fn export_func(
     requires there { (x : Function) × FuncStands context.now.modules (tables_of state.old) func x }
     requires absent { value_of name.now.name state.old.graph.exports ≡ None }
     ensures keeps { Keeps (tables_of state.old) (tables_of state.new) }
-    ensures adds { Adds context.now.table.now 0 4 (tables_of state.old) (tables_of state.new) }
+    ensures adds { Adds context.now.table.now 4 (tables_of state.old) (tables_of state.new) }
     ensures names { OnOk result
         (names_of state.new.graph.exports ≡ names_of state.old.graph.exports ++ name.now.name ∷ []) }
     ensures numbers { OnOk result (NumbersExports state.old.graph → NumbersExports state.new.graph) }

@@ -1,6 +1,6 @@
 //! The root: it begins, its imports are prepared, its items are read in order, and it exports.
 
-ghost use Rattle.std.specs.Prelude.{◌≡◌, ◌*◌, ℕ, None, true, map, sum_by, IfOk};
+ghost use Rattle.std.specs.Prelude.{◌≡◌, ℕ, None, true, map, IfOk};
 ghost use Rattle.std.specs.List.{list_all};
 ghost use Rattle.pc_types.specs.Names.{distinct_names};
 ghost use Rattle.pc_types.specs.Record.{is_sound};
@@ -8,12 +8,12 @@ ghost use Rattle.pc_types.specs.Table.{table_fault};
 ghost use Rattle.pc_types_builder.specs.Types.{KeepsTypes};
 ghost use Rattle.pc_spec_reading.specs.Item.{Items};
 ghost use Rattle.pc_local.specs.Standing.{BodyStands, no_names};
-ghost use Rattle.pc_inline_state.specs.Adds.{Adds, imports_in};
+ghost use Rattle.pc_inline_state.specs.Adds.{Adds, most_prepared, most_prepared_of};
+ghost use Rattle.pc_inline_state.specs.Gained.{AddsTables};
 ghost use Rattle.pc_inline.specs.Roots.{BeginsRoot, EndsRoot};
 ghost use Rattle.pc_inline_state.specs.Fresh.{IsFresh};
 ghost use Rattle.pc_inline.specs.Inlines.{Inlines, export_name};
 ghost use Rattle.pc_inline_state.specs.Kinds.{kinds_of};
-ghost use Rattle.pc_inline_state.specs.Plain.{is_plain_table};
 ghost use Rattle.pc_inline_state.specs.Points.{IsInput, IsPoint};
 ghost use Rattle.pc_inline_stack.specs.Reads.{AreItems, Prepared};
 ghost use Rattle.pc_inline_items.specs.StepsLocal.{PreparesLocal};
@@ -29,7 +29,7 @@ use pc_inline_stack::{begin_instance, run};
 use pc_inline_state::{Context, CoreModules, Frame, ItemError, Numbers, State, error_at, kinds_of};
 use pc_local::{LocalInitializer, LocalProgram, Translation};
 use pc_types::{Error, TypeTable};
-use pc_types_builder::{ComponentTypesBuilder, ResourcesBuilder};
+use pc_types_builder::{ComponentTypesBuilder, Converted, ResourcesBuilder};
 use std::alloc::Global;
 use std::mem;
 
@@ -44,7 +44,7 @@ fn prepare_item(
     requires here { IsPoint context.now.table.now context.now.modules state.old frame.old }
     ensures keeps { Keeps (tables_of state.old) (tables_of state.new) }
     ensures same { frame.new.component_instance ≡ frame.old.component_instance }
-    ensures adds { Adds context.now.table.now (imports_in item.now) (4 * imports_in item.now)
+    ensures adds { Adds context.now.table.now (most_prepared context.now.table.now item.now)
         (tables_of state.old) (tables_of state.new) }
     ensures steps { PreparesLocal context.now.table.now context.now.modules item.now
         state.old frame.old state.new frame.new result }
@@ -67,7 +67,7 @@ pub(crate) fn prepare_all(
     requires items { AreItems state.old.bodies.now items.now }
     ensures keeps { Keeps (tables_of state.old) (tables_of state.new) }
     ensures same { frame.new.component_instance ≡ frame.old.component_instance }
-    ensures adds { Adds context.now.table.now (sum_by imports_in items.now) (4 * sum_by imports_in items.now)
+    ensures adds { Adds context.now.table.now (most_prepared_of context.now.table.now items.now)
         (tables_of state.old) (tables_of state.new) }
     ensures prepared { Prepared context.now.table.now context.now.modules items.now
         state.old frame.old state.new frame.new result }
@@ -93,7 +93,9 @@ fn begin_root(
     ensures { BeginsRoot context.now.table.now context.now.modules limit root.now state.old state.new result }
 {
     let instance = begin_instance(&mut state.graph, limit)?;
-    let mut frame = Frame::new(context.alloc, instance, TextMap::new(context.alloc));
+    let converted = Converted::new(context.alloc, context.table);
+    let arguments = TextMap::new(context.alloc);
+    let mut frame = Frame::new(context.alloc, converted, instance, arguments);
     prepare_all(context, state, &mut frame, root.initializers.as_slice())?;
     Ok(frame)
 }
@@ -144,8 +146,10 @@ pub fn inline_run(
         → (counted : ℕ)
         → IfOk result (CountsGraph table.now program.now.modules limit counted body types.old types.new) }
     ensures keeps { KeepsTypes types.old types.new }
+    ensures tables { IfOk result
+        (λ g. AddsTables table.now g.num_runtime_component_instances types.old types.new) }
     ensures adds { (body : Items) → BodyStands program.now.components no_names program.now.root body
-        → is_plain_table table.now ≡ true → (counted : ℕ)
+        → (counted : ℕ)
         → GainsFew table.now program.now.modules limit counted body types.old types.new }
 {
     let modules = CoreModules::new(alloc, program.modules.as_slice())?;
@@ -162,5 +166,6 @@ pub fn inline_run(
     let inlined = inline_root(&context, &mut state, &program.root, limit);
     let graph = state.take_graph(alloc);
     mem::swap(types, &mut state.types);
+    types.types_are_distinct();
     inlined.and(Ok(graph))
 }

@@ -1,6 +1,7 @@
 //! The imports of a root are prepared before its items.
 
-ghost use Rattle.std.specs.Prelude.{◌≡◌, IfErr, IfOk};
+ghost use Rattle.std.specs.Prelude.{◌≡◌, ◌+◌, IfErr, IfOk};
+ghost use Rattle.pc_types_lists.specs.Adds.{most_types};
 ghost use Rattle.pc_spec_reading.specs.Nodes.{extern_data};
 ghost use Rattle.pc_inline_state.specs.Adds.{Adds};
 ghost use Rattle.pc_inline_state.specs.AddsEach.{AddsEach, everywhere};
@@ -67,7 +68,8 @@ pub(crate) fn prepare(
     requires input { IsInput context.now.table.now context.now.modules }
     requires here { IsPoint context.now.table.now context.now.modules state.old frame.old }
     ensures keeps { Keeps (tables_of state.old) (tables_of state.new) }
-    ensures adds { Adds context.now.table.now 1 4 (tables_of state.old) (tables_of state.new) }
+    ensures adds { Adds context.now.table.now (4 + most_types context.now.table.now)
+        (tables_of state.old) (tables_of state.new) }
     ensures same { frame.new.component_instance ≡ frame.old.component_instance }
     ensures steps { Steps context.now.table.now context.now.modules
         (built_prepare context.now.table.now name.now entity)
@@ -76,7 +78,7 @@ pub(crate) fn prepare(
     let Entity::Func(ty) = entity else {
         return Err(ItemError::Fault(ItemFault::Unsupported(Unsupported::NotBuilt)));
     };
-    let ty = context.func_type(state, ty)?;
+    let ty = context.func_type(state, &mut frame.converted, ty)?;
     let import = function_import(context.alloc, name, ty)?;
     let id = push_import(state, import)?;
     frame.arguments.insert_first(context.alloc, &name.name, id)?;

@@ -1,6 +1,8 @@
 -- What a step keeps and adds after a function's types were converted.
-use Rattle.std.proofs.Common.{[], arith}
+use Rattle.std.proofs.Common.{◌≡◌, ◌+◌, List, [], Option, arith, ◌∙◌}
 use Rattle.pc_types.specs.declared.parsed.TypeTable.{TypeTable}
+use Rattle.pc_types.specs.declared.types.TypeDef.{TypeDef}
+use Rattle.pc_types_lists.specs.Adds.{most_types}
 use Rattle.pc_inline_state.specs.declared.state.State.{State}
 use Rattle.pc_inline_state.specs.Adds.{Adds}
 use Rattle.pc_inline_state.specs.AddsEach.{AddsEach, nowhere}
@@ -11,19 +13,25 @@ use Rattle.pc_inline_state.proofs.StateLemmas.{converts_prepares, keeps_trans}
 
 module _ (t : TypeTable) (a b : Tables) where
   -- the types alone were added
-  pub types_few : Adds t 1 0 a b → Adds t 1 4 a b
-  types_few h = adds_weaken t 1 0 1 4 a b (omega arith) (omega arith) h
+  pub types_few : Adds t (most_types t) a b → Adds t (4 + most_types t) a b
+  types_few h = adds_weaken t (most_types t) (4 + most_types t) a b (omega arith) h
 
   -- and then what a host function adds that is lowered
-  pub lower_adds : (x : Tables) → Adds t 1 0 a b → Adds t 0 4 b x → Adds t 1 4 a x
+  pub lower_adds : (x : Tables) → Adds t (most_types t) a b → Adds t 4 b x → Adds t (4 + most_types t) a x
   lower_adds x h k = adds_then t 4 a b x (omega arith) h k
 
   -- or the definition of a lifted function
-  pub lift_adds : (x : Tables) → Adds t 1 0 a b → AddsEach nowhere 0 1 b x → Adds t 1 4 a x
+  pub lift_adds : (x : Tables) → Adds t (most_types t) a b → AddsEach nowhere 0 1 b x → Adds t (4 + most_types t) a x
   lift_adds x h k = lower_adds x h (definition_few t b x k)
 
 -- what is kept after that is kept from the start
-pub lower_keeps : (t : TypeTable) (st mid : State) (x : Tables) → Converts t st mid → Keeps (tables_of mid) x
-    → Keeps (tables_of st) x
-lower_keeps t st mid x converts kept =
-    keeps_trans (tables_of st) (tables_of mid) x (converts_prepares t [] st mid converts).keeps kept
+pub lower_keeps : (t : TypeTable) (st mid : State) (before after : List (Option TypeDef)) (x : Tables)
+    → Converts t st before mid after → Keeps (tables_of mid) x → Keeps (tables_of st) x
+lower_keeps t st mid before after x converts kept =
+    keeps_trans (tables_of st) (tables_of mid) x (converts_prepares t [] st before mid after converts).keeps kept
+
+-- and so are the resources
+pub lower_resources : (t : TypeTable) (st mid new : State) (before after : List (Option TypeDef))
+    → Converts t st before mid after → new.types.resources ≡ mid.types.resources
+    → new.types.resources ≡ st.types.resources
+lower_resources t st mid new before after converts same = same ∙ converts.grows.resources

@@ -38,10 +38,12 @@ use Rattle.pc_inline_state.specs.Found.{ArgumentStands, ArgumentsStand}
 use Rattle.pc_inline_state.specs.Points.{IsSoundState, PointStands}
 use Rattle.pc_inline_state.specs.Stands.{CoreStands}
 use Rattle.pc_inline_state.specs.Tables.{IsItem, is_entity, is_trampoline, tables_of}
+use Rattle.pc_inline_state.specs.Fits.{Fits, FitsBefore}
 use Rattle.pc_inline_state.specs.Holds.{Numbered, number_of, whole_of}
-use Rattle.pc_inline_state.specs.Typed.{anyhow}
 use Rattle.pc_inline_state.specs.Worlds.{EffectStands, HasItems, IsStatic, WorldStands}
+use Rattle.pc_inline_state.proofs.FitsLemmas.{fits_grown}
 use Rattle.pc_inline_state.proofs.GrowthLemmas.{graph_grown}
+use Rattle.pc_inline_state.proofs.KnowsLemmas.{knows_grown}
 use Rattle.pc_inline_canon.proofs.KeptLemmas.{core_kept, frame_kept, is_item_kept}
 use Rattle.pc_inline_canon.proofs.LogLemmas.{declared_on, paths-push, trace-push, world_on}
 use Rattle.pc_inline_state.proofs.StateLemmas.{types_refl}
@@ -59,9 +61,9 @@ found_in_push (z ∷ xs) y (suc p) x h = found_in_push xs y p x h
 -- the values of definitions, with numbers and whole
 record AreNumbered (types : Types) (g : ComponentDfg) (ds : List CoreDef) (vs : List (CoreValue Mark)) : Type 0
   where
-    pub numbered : List (CoreValue (Numbered types anyhow))
-    pub means : AllZip (Means g) ds (map (map_value (number_of types anyhow)) numbered)
-    pub is : map (map_value (whole_of types anyhow)) numbered ≡ vs
+    pub numbered : List (CoreValue (Numbered types (Fits g)))
+    pub means : AllZip (Means g) ds (map (map_value (number_of types (Fits g))) numbered)
+    pub is : map (map_value (whole_of types (Fits g))) numbered ≡ vs
 
 are_numbered : (types : Types) (g : ComponentDfg) (ds : List CoreDef) (vs : List (CoreValue Mark))
     → AllZip (CoreStands types g) ds vs → AreNumbered types g ds vs
@@ -115,6 +117,10 @@ module _ (t : TypeTable) (ms : List ModuleRecord) (st : State) (m : StaticModule
   -- the state with that graph
   abbrev made : State
   made = record st { graph = after }
+
+  -- what fits it fitted before
+  fits : FitsBefore st.graph after
+  fits = fits_grown st.graph after grows refl refl
 
   -- its items are items
   made_items : (r : ModuleRecord) → slice_get ms m.0 ≡ Some r → length ds ≡ length r.imports → HasItems ms st.graph
@@ -188,14 +194,15 @@ module _ (t : TypeTable) (ms : List ModuleRecord) (st : State) (m : StaticModule
       let e = instantiated (of_static m.0 vs) owner.0 in
       let values = are_numbered st.types after ds vs
       (zip_more (ArgumentStands ms (tables_of st)) (CoreStands st.types after)
-      (λ d v a. core_kept st.types st.types st.graph after (types_refl st.types) grows d v a.stands) ds vs stands) in
-      world_on st.types st.graph after grows w e world
+      (λ d v a. core_kept st.types st.types st.graph after (types_refl st.types) grows fits d v a.stands) ds vs
+      stands) in
+      world_on st.types st.graph after grows fits w e world
       (subst (AllZip (EffectStands st.types after) after.side_effects) (sym (trace-push w.log e))
       (zip_push (EffectStands st.types after) st.graph.side_effects (trace w.log)
       (effect.Instance (record { 0 = length st.graph.instances }) owner) e
       (zip_more (EffectStands st.types st.graph) (EffectStands st.types after)
-      (effect_still st.types st.types st.graph after (types_refl st.types) grows) st.graph.side_effects (trace w.log)
-      world.effects)
+      (effect_still st.types st.types st.graph after (types_refl st.types) grows fits) st.graph.side_effects
+      (trace w.log) world.effects)
       (record {
         numbered = instantiated (of_static m.0 values.numbered) owner.0;
         means = means_made (slice_get-append_seam st.graph.instances (source.Static m ds) [])
@@ -204,7 +211,7 @@ module _ (t : TypeTable) (ms : List ModuleRecord) (st : State) (m : StaticModule
       })))
       (ap length (filter_map-append owned_of w.log (e ∷ [])) ∙ length-append (instances_of w.log) _
       ∙ ap (λ n. n + 1) world.order ∙ sym (length-append st.graph.instances (source.Static m ds ∷ [])))
-      (declared_on st.types st.graph after grows w e world)
+      (declared_on st.types st.graph after grows fits w e world)
       (λ v is. absurd (let k : ⊥ = cc in k))
       (omega arith)
       (world.imports ∙ sym (paths-push w.log e)) refl refl refl
@@ -218,9 +225,10 @@ module _ (t : TypeTable) (ms : List ModuleRecord) (st : State) (m : StaticModule
     sound = made_sound r held count (subst (λ (c : RuntimeComponentInstanceIndex). HasBegun st.graph c.0) here
         at.frame.begun)
         ordered at.sound;
-    here = at.here;
-    typed = at.typed;
-    frame = frame_kept ms (tables_of st) (tables_of made) (graph_grown (tables_of st) after grows) f now.scope at.frame;
+    here = knows_grown st.graph st.types.resources now.scope at.here after fits;
+    converted = at.converted;
+    frame = frame_kept ms (tables_of st) (tables_of made) (graph_grown (tables_of st) after grows fits) f now.scope
+        at.frame;
     world = made_world now.world at.world;
     unexported = record { exports = at.unexported.exports; items = at.unexported.items };
   }

@@ -1,10 +1,12 @@
 -- A component instance with one item more.
-use Rattle.std.proofs.Common.{◌≡◌, ◌⊎◌, true, List, [], ◌∷◌, ◌++◌, sym, subst}
+use Rattle.std.proofs.Common.{◌≡◌, List, [], ◌∷◌, ◌++◌, Option, sym, ap, subst, ◌∙◌}
 use Rattle.std.specs.List.{AllZip}
 use Rattle.pc_types.specs.declared.module_record.ModuleRecord.{ModuleRecord}
 use Rattle.pc_types.specs.declared.parsed.CoreKind.{CoreKind}
 use Rattle.pc_types.specs.declared.parsed.CoreKind.TheVariants as core
 use Rattle.pc_types.specs.declared.parsed.TypeTable.{TypeTable}
+use Rattle.pc_types.specs.declared.types.TypeDef.{TypeDef}
+use Rattle.pc_types_builder.specs.Converted.{AreConverted}
 use Rattle.pc_spec_plan.specs.CoreValue.{CoreValue}
 use Rattle.pc_parsed.specs.Mark.{Mark}
 use Rattle.pc_spec_reading.specs.Scope as reading
@@ -22,8 +24,11 @@ use Rattle.pc_inline_state.specs.Lists.{with_core_id}
 use Rattle.pc_inline_state.specs.Points.{PointStands}
 use Rattle.pc_inline_state.specs.Stands.{ItemStands}
 use Rattle.pc_inline_state.specs.Tables.{Tables, tables_of}
-use Rattle.pc_inline_state.specs.Today.{can_instantiate}
+use Rattle.pc_inline_state.specs.Prepares.{Converts}
+use Rattle.pc_inline_state.proofs.KnowsLemmas.{knows_in}
+use Rattle.pc_inline_state.proofs.StateLemmas.{converts_prepares}
 use Rattle.pc_inline_state.proofs.ZipLemmas.{zip_push}
+use Rattle.pc_inline_canon.proofs.WorldLemmas.{point_kept}
 
 module _ (ms : List ModuleRecord) (b : Tables) (f : Frame) (s : Scope) (h : FrameStands ms b f s) where
   -- with other core items
@@ -47,7 +52,6 @@ module _ (ms : List ModuleRecord) (b : Tables) (f : Frame) (s : Scope) (h : Fram
     instances = h.instances;
     components = h.components;
     arguments = h.arguments;
-    known = h.known;
     component_instance = h.component_instance;
     begun = h.begun;
   }
@@ -87,7 +91,6 @@ module _ (ms : List ModuleRecord) (b : Tables) (f : Frame) (s : Scope) (h : Fram
     instances = h.instances;
     components = h.components;
     arguments = h.arguments;
-    known = h.known;
     component_instance = h.component_instance;
     begun = h.begun;
   }
@@ -127,7 +130,24 @@ module _ (ms : List ModuleRecord) (b : Tables) (f : Frame) (s : Scope) (h : Fram
     instances = instances;
     components = components;
     arguments = h.arguments;
-    known = h.known;
+    component_instance = h.component_instance;
+    begun = h.begun;
+  }
+
+  -- with other types converted
+  pub converted_framed : (done : List (Option TypeDef)) → FrameStands ms b (record f { converted = done }) s
+  converted_framed done = record {
+    core_funcs = h.core_funcs;
+    memories = h.memories;
+    tables = h.tables;
+    globals = h.globals;
+    tags = h.tags;
+    modules = h.modules;
+    funcs = h.funcs;
+    core_instances = h.core_instances;
+    instances = h.instances;
+    components = h.components;
+    arguments = h.arguments;
     component_instance = h.component_instance;
     begun = h.begun;
   }
@@ -143,15 +163,31 @@ module _ (ms : List ModuleRecord) (b : Tables) (f : Frame) (s : Scope) (h : Fram
       → FrameStands ms b (record f { instances = f.instances ++ n ∷ [] }) (with_value s (instance_value i))
   made_framed n i x = nested_framed _ _ _ _ h.components (zip_push _ f.instances s.instances n i h.instances x)
 
--- a moment at which the component instance alone is another
+-- a moment at which the component instance has other items alone, and knows the same resources
 pub framed_point : (t : TypeTable) (ms : List ModuleRecord) (st : State) (f g : Frame) (now : Moment) (u : Scope)
-    → PointStands t ms st f now → g.component_instance ≡ f.component_instance → FrameStands ms (tables_of st) g u
-    → PointStands t ms st g (record now { scope = u })
-framed_point t ms st f g now u at same frame = record {
+    → PointStands t ms st f now → g.component_instance ≡ f.component_instance → g.converted ≡ f.converted
+    → u.known ≡ now.scope.known → FrameStands ms (tables_of st) g u → PointStands t ms st g (record now { scope = u })
+framed_point t ms st f g now u at same done known frame = record {
   sound = at.sound;
-  here = at.here;
-  typed = subst (λ c. (c.0 ≡ 0) ⊎ (can_instantiate t ≡ true)) (sym same) at.typed;
+  here = knows_in st.graph st.types.resources now.scope at.here u known
+      (frame.component_instance ∙ ap (λ c. c.0) same ∙ sym at.frame.component_instance);
+  converted = subst (AreConverted st.types t) (sym done) at.converted;
   frame = frame;
   world = at.world;
   unexported = at.unexported;
 }
+
+-- a point is where it was when types were converted
+pub converted_point : (t : TypeTable) (ms : List ModuleRecord) (old : State) (f : Frame) (new : State)
+    (done : List (Option TypeDef)) → Converts t old f.converted new done → (now : Moment) → PointStands t ms old f now
+    → PointStands t ms new (record f { converted = done }) now
+converted_point t ms old f new done converts now at =
+    let kept = point_kept t ms old new (converts_prepares t ms old f.converted new done converts) f now at in
+    record {
+      sound = kept.sound;
+      here = kept.here;
+      converted = converts.converted at.converted;
+      frame = converted_framed ms (tables_of new) f now.scope kept.frame done;
+      world = kept.world;
+      unexported = kept.unexported;
+    }

@@ -35,11 +35,9 @@ func_below_as b who d i (tree.resource_of r) is h = absurd (true≢false (ap is_
 func_below_as b who d i t is h = absurd (true≢false (ap is_a_func (sym is ∙ h.2)))
 
 -- the number of a function type that has a tree is held
-pub func_below : (b : Types) (i : TypeFuncIndex) (t : TypeTree)
-    → ((who : ResourceIndex → Identity) → HasTree b who (type.ComponentFunc i) t) → i.0 < length b.funcs
-func_below b i t h =
-    let who = (λ (r : ResourceIndex). tree.declared 0) in
-    func_below_as b who (type.ComponentFunc i) i t refl (h who)
+pub func_below : (b : Types) (who : ResourceIndex → Identity) (i : TypeFuncIndex) (t : TypeTree)
+    → HasTree b who (type.ComponentFunc i) t → i.0 < length b.funcs
+func_below b who i t h = func_below_as b who (type.ComponentFunc i) i t refl h
 
 -- options whose entry was put, or that were left as they were, name signatures that are held
 pub options_put : (types : Types) (old new : List CanonicalOptions) (x : CanonicalOptions) → IsPut old new x

@@ -8,11 +8,11 @@ use Rattle.pc_types.specs.declared.parsed.CoreKind.TheVariants as core
 use Rattle.pc_types.specs.declared.types.TypeDef.TheVariants as type
 use Rattle.pc_types_lists.specs.Types.{Types}
 use Rattle.pc_types_lists.specs.Types as builder
-use Rattle.pc_types_builder.proofs.TreeLemmas.{tree_grows}
+use Rattle.pc_types_builder.proofs.TreeLemmas.{tree_keeps}
 use Rattle.pc_dfg.specs.declared.ids.InstanceId.{InstanceId}
 use Rattle.pc_numbers.specs.declared.entity_index.EntityIndex.{EntityIndex}
 use Rattle.pc_spec_plan.specs.CoreValue as value
-use Rattle.pc_spec_plan.specs.CoreValue.{CoreValue, MaybeValue, map_value}
+use Rattle.pc_spec_plan.specs.CoreValue.{CoreValue, MaybeValue, map_options, map_value}
 use Rattle.pc_parsed.specs.Mark.{Mark}
 use Rattle.pc_spec_reading.specs.Item.{Lent, a_component, a_module}
 use Rattle.pc_spec_reading.specs.Scope as reading
@@ -24,9 +24,10 @@ use Rattle.pc_dfg.specs.declared.dfg.ComponentDfg.{ComponentDfg}
 use Rattle.pc_dfg.specs.declared.instance.Instance.TheVariants as source
 use Rattle.pc_dfg.specs.Grows as graph
 use Rattle.pc_dfg.specs.Lists as list
-use Rattle.pc_dfg.specs.Means.{Means}
+use Rattle.pc_dfg.specs.Means.{Means, MeansOptions}
 use Rattle.pc_dfg.proofs.GrowLemmas.{kept, within}
 use Rattle.pc_dfg.proofs.KeptLemmas.{means_kept}
+use Rattle.pc_dfg.proofs.KeptLemmas.{options_kept as options_means_kept}
 use Rattle.pc_dfg.specs.Held.{HasBegun}
 use Rattle.pc_inline_state.specs.declared.definition.CoreId.{CoreId}
 use Rattle.pc_inline_state.specs.declared.definition.DataModel.{DataModel}
@@ -43,20 +44,35 @@ use Rattle.pc_inline_state.specs.Stands.{linear_stands, new_member, no_members, 
 use Rattle.pc_inline_state.specs.Stands.{some_stands, stands, stands_component, stands_host, stands_instance, stands_lifted}
 use Rattle.pc_inline_state.specs.Stands.{stands_static}
 use Rattle.pc_inline_state.specs.Tables.{HasEntity, IsItem, Keeps, Tables, is_entity, is_trampoline}
-use Rattle.pc_inline_state.specs.Holds.{number_of, whole_of}
-use Rattle.pc_inline_state.specs.Typed.{anyhow}
-use Rattle.pc_inline_canon.proofs.MarkLemmas.{still, value_twice}
+use Rattle.pc_inline_state.specs.Fits.{Fits, FitsBefore}
+use Rattle.pc_inline_state.specs.Holds.{Numbered, number_of, whole_of}
+use Rattle.pc_inline_state.specs.Slots.{EntryStands}
+use Rattle.pc_inline_canon.proofs.MarkLemmas.{options_twice, still, value_twice}
 use Rattle.pc_inline_state.proofs.ZipLemmas.{both_more, zip_more}
 
 -- a definition keeps its value
-pub core_kept : (old new : Types) (g h : ComponentDfg) → builder.Grows old new → graph.Grows g h
+pub core_kept : (old new : Types) (g h : ComponentDfg) → builder.KeepsTypes old new → graph.Grows g h → FitsBefore g h
     → (d : CoreDef) (v : CoreValue Mark) → CoreStands old g d v → CoreStands new h d v
-core_kept old new g h types grows d v c = record {
-  numbered = map_value (still old new types) c.numbered;
-  means = subst (Means h d) (sym (value_twice (still old new types) (number_of new anyhow) c.numbered))
-      (means_kept g h grows c.means);
-  is = value_twice (still old new types) (whole_of new anyhow) c.numbered ∙ c.is;
-}
+core_kept old new g h types grows fits d v c =
+    let on : Numbered old (Fits g) → Numbered new (Fits h) = still old new types g h fits in
+    record {
+      numbered = map_value on c.numbered;
+      means = subst (Means h d) (sym (value_twice on (number_of new (Fits h)) c.numbered))
+          (means_kept g h grows c.means);
+      is = value_twice on (whole_of new (Fits h)) c.numbered ∙ c.is;
+    }
+
+-- an entry of options keeps its value
+pub entry_kept : (b c : Tables) → Keeps b c → (n : ℕ) (v : value.Options Mark) → EntryStands b n v → EntryStands c n v
+entry_kept b c keeps n v s =
+    let on : Numbered b.types (Fits b.graph) → Numbered c.types (Fits c.graph) =
+    still b.types c.types keeps.types b.graph c.graph keeps.fits in
+    record {
+      numbered = map_options on s.numbered;
+      means = subst (MeansOptions c.graph n) (sym (options_twice on (number_of c.types (Fits c.graph)) s.numbered))
+          (options_means_kept b.graph c.graph keeps.graph s.means);
+      is = options_twice on (whole_of c.types (Fits c.graph)) s.numbered ∙ s.is;
+    }
 
 -- a component instance that has begun has
 pub begun_kept : (g h : ComponentDfg) → graph.Grows g h → (c : ℕ) → HasBegun g c → HasBegun h c
@@ -85,7 +101,7 @@ module _ (ms : List ModuleRecord) (b c : Tables) (keeps : Keeps b c) where
   item_kept k n v x = record {
     definition = x.definition;
     held = keeps.cores n.0 x.definition x.held;
-    stands = core_kept b.types c.types b.graph c.graph keeps.types keeps.graph x.definition v x.stands;
+    stands = core_kept b.types c.types b.graph c.graph keeps.types keeps.graph keeps.fits x.definition v x.stands;
     usable = is_item_kept ms b.graph c.graph keeps.graph k x.definition x.usable;
   }
 
@@ -117,7 +133,8 @@ module _ (ms : List ModuleRecord) (b c : Tables) (keeps : Keeps b c) where
     definition_kept d v (stands_lifted {ty = ty} {func = f} {o = o} {tree = tree} {v = w} {os = os} is_func func
         options) =
         stands_lifted
-        (λ who. tree_grows b.types c.types keeps.types who (type.ComponentFunc ty) tree (is_func who))
+        (λ who fits. tree_keeps b.types c.types keeps.types who (type.ComponentFunc ty) tree
+        (is_func who (keeps.fits who fits)))
         (item_kept core.Func f w func) (options_kept o os options)
     definition_kept d v stands_static = stands_static
     definition_kept d v (stands_component {s = s} {k = k} {tr = tr} {inner = inner} {body = body} {closure = closure}
@@ -183,7 +200,6 @@ module _ (ms : List ModuleRecord) (b c : Tables) (keeps : Keeps b c) where
         f.components s.components h.components;
     arguments = λ name. both_more (Stands ms b) (Stands ms c) stands_kept (value_of name f.arguments)
         (value_of name s.arguments) (h.arguments name);
-    known = h.known;
     component_instance = h.component_instance;
     begun = begun_kept b.graph c.graph keeps.graph f.component_instance.0 h.begun;
   }

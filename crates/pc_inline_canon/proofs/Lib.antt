@@ -13,7 +13,6 @@ pub mod DefinitionLemmas
 mod LiftLemmas
 mod LowerLemmas
 pub mod TreeLemmas
-mod PlainTreeLemmas
 mod LogLemmas
 mod SlotLemmas
 mod MemoryLemmas

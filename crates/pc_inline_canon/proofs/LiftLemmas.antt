@@ -1,5 +1,5 @@
 -- The step of a lift.
-use Rattle.std.proofs.Common.{◌≡◌, ℕ, List, [], ◌∷◌, ◌++◌, length, None, Some, Result, Ok, Err}
+use Rattle.std.proofs.Common.{◌≡◌, ℕ, List, [], ◌∷◌, ◌++◌, length, Option, None, Some, Result, Ok, Err}
 use Rattle.std.proofs.Common.{refl, subst, sym}
 use Rattle.std.specs.Prelude.{⊤, slice_get}
 use Rattle.std.specs.Result.{IsErrAnd}
@@ -9,6 +9,7 @@ use Rattle.pc_types.specs.declared.parsed.CoreFuncSig.{CoreFuncSig}
 use Rattle.pc_types.specs.declared.parsed.CoreKind.TheVariants as kind
 use Rattle.pc_types.specs.declared.parsed.TypeTable.{TypeTable}
 use Rattle.pc_types.specs.declared.type_index.TypeFuncIndex.{TypeFuncIndex}
+use Rattle.pc_types.specs.declared.types.TypeDef.{TypeDef}
 use Rattle.pc_types.specs.Table.{is_func}
 use Rattle.pc_types.specs.TypeTree.{TypeTree}
 use Rattle.pc_spec_plan.specs.CoreValue as value
@@ -42,11 +43,11 @@ use Rattle.pc_inline_state.specs.Today.{built_row}
 use Rattle.pc_inline_state.specs.Typed.{AreOfFunction, HasNoFunction}
 use Rattle.pc_inline_canon.specs.Written.{options_in}
 use Rattle.pc_inline_canon.proofs.DefinitionLemmas.{definition_added}
-use Rattle.pc_inline_canon.proofs.FrameLemmas.{framed_point, func_framed}
+use Rattle.pc_inline_canon.proofs.FrameLemmas.{converted_point, framed_point, func_framed}
 use Rattle.pc_inline_canon.proofs.KeptLemmas.{item_kept, options_kept}
 use Rattle.pc_inline_canon.proofs.OptionLemmas.{options_in_stand}
 use Rattle.pc_inline_canon.proofs.PassedLemmas.{steps_lacking, steps_passed}
-use Rattle.pc_inline_state.proofs.StateLemmas.{converts_prepares, definition_prepares}
+use Rattle.pc_inline_state.proofs.StateLemmas.{definition_prepares}
 use Rattle.pc_inline_canon.proofs.StepLemmas.{row_goes, row_stuck, steps_on, steps_stuck}
 use Rattle.pc_inline_canon.proofs.TypeLemmas.{FunctionThere, function_there, no_function}
 use Rattle.pc_inline_canon.proofs.WorldLemmas.{point_kept}
@@ -89,14 +90,19 @@ module _ (t : TypeTable) (ms : List ModuleRecord) (func ty core : ℕ) (opts : L
       steps_passed t ms reads st f st' f' r e is (lift_lacks_types st f st' f' e lacks)
 
   -- types were converted, and a point stands where it did
-  module _ (st : State) (f : Frame) (st' : State) (converts : Converts t st st') (n : TypeFuncIndex)
-      (i : ModuleInternedTypeIndex) (are : AreOfFunction st'.types t ty core n i) where
-    module _ (now : Moment) (at : PointStands t ms st f now) where
-      there : FunctionThere t now.scope st'.types ty core n i
-      there = function_there t ms st f now at st'.types converts.grows.resources ty core n i are
+  module _ (st : State) (f : Frame) (st' : State) (done : List (Option TypeDef))
+      (converts : Converts t st f.converted st' done) (n : TypeFuncIndex) (i : ModuleInternedTypeIndex)
+      (are : AreOfFunction st'.types t ty core n i) where
+    -- the component instance, for which these were converted
+    abbrev g : Frame
+    g = record f { converted = done }
 
-      still : PointStands t ms st' f now
-      still = point_kept t ms st st' (converts_prepares t ms st st' converts) f now at
+    module _ (now : Moment) (at : PointStands t ms st f now) where
+      still : PointStands t ms st' g now
+      still = converted_point t ms st f st' done converts now at
+
+      there : FunctionThere t now.scope st'.graph st'.types ty core n i
+      there = function_there t now.scope st'.graph st'.types still.here ty core n i are
 
       -- the core function is missing
       lift_unfound : slice_get f.core_funcs func ≡ None → reads now ≡ Err invalid
@@ -118,30 +124,30 @@ module _ (t : TypeTable) (ms : List ModuleRecord) (func ty core : ℕ) (opts : L
             still.frame.core_funcs)
             found_it
 
-        options_stand : Both (OptionsStand ms (tables_of st')) (options_in f i opts)
+        options_stand : Both (OptionsStand ms (tables_of st')) (options_in g i opts)
             (options_of now.scope there.signature opts)
-        options_stand = options_in_stand ms (tables_of st') f now.scope still.frame i there.signature there.signed opts
+        options_stand = options_in_stand ms (tables_of st') g now.scope still.frame i there.signature there.signed opts
 
         -- an index of the options is missing
-        lift_unsound : options_in f i opts ≡ None → reads now ≡ Err invalid
+        lift_unsound : options_in g i opts ≡ None → reads now ≡ Err invalid
         unfolding read_row read_lift
         lift_unsound none =
-            let missing = both_missing (OptionsStand ms (tables_of st')) (options_in f i opts)
+            let missing = both_missing (OptionsStand ms (tables_of st')) (options_in g i opts)
             (options_of now.scope there.signature opts) options_stand none in
             row_stuck t ms now lift invalid refl (rw (there.is_tree, there.is_signature, function.1, missing) refl)
 
         -- the function was lifted
-        lift_goes : (o : Options) → options_in f i opts ≡ Some o → (key : DefinitionId)
+        lift_goes : (o : Options) → options_in g i opts ≡ Some o → (key : DefinitionId)
             → key.0 ≡ length st'.definitions
             → Goes t ms (record st' { definitions = st'.definitions ++ definition.LiftedFunc n id o ∷ [] })
-            (record f { funcs = f.funcs ++ key ∷ [] }) (reads now)
+            (record g { funcs = f.funcs ++ key ∷ [] }) (reads now)
         lift_goes o sound key last =
-            let os = both_there (OptionsStand ms (tables_of st')) (options_in f i opts)
+            let os = both_there (OptionsStand ms (tables_of st')) (options_in g i opts)
             (options_of now.scope there.signature opts) o options_stand sound in
             let d = definition.LiftedFunc n id o in
             let end = record st' { definitions = st'.definitions ++ d ∷ [] } in
             let prepares = definition_prepares t ms st' d in
-            let at_end = point_kept t ms st' end prepares f now still in
+            let at_end = point_kept t ms st' end prepares g now still in
             let x = lifted_function there.tree function.0 os.0 in
             let next = add_value now (func_value x) in
             let is = definition_added ms (tables_of end) st'.definitions d key (func_value x) refl last
@@ -150,9 +156,9 @@ module _ (t : TypeTable) (ms : List ModuleRecord) (func ty core : ℕ) (opts : L
             (options_kept ms (tables_of st') (tables_of end) prepares.keeps o os.0 os.2)) in
             record {
               now = next;
-              stands = framed_point t ms end f (record f { funcs = f.funcs ++ key ∷ [] }) now
-                  (with_value now.scope (func_value x)) at_end refl
-                  (func_framed ms (tables_of end) f now.scope at_end.frame key x is);
+              stands = framed_point t ms end g (record g { funcs = f.funcs ++ key ∷ [] }) now
+                  (with_value now.scope (func_value x)) at_end refl refl refl
+                  (func_framed ms (tables_of end) g now.scope at_end.frame key x is);
               done = row_goes t ms now next lift refl
                   (lift_read now there.tree there.signature function.0 os.0 there.is_tree there.is_signature function.1
                   os.1) at.world.no_adapters;
@@ -160,32 +166,32 @@ module _ (t : TypeTable) (ms : List ModuleRecord) (func ty core : ℕ) (opts : L
 
     -- the steps of these
     pub lift_misses : slice_get f.core_funcs func ≡ None
-        → StepsItem t ms lift st f st' f (Err (item_error.Fault item_fault.Invalid))
-    lift_misses none = steps_stuck t ms reads st f st' f item_fault.Invalid (λ now at. lift_unfound now at none)
+        → StepsItem t ms lift st f st' g (Err (item_error.Fault item_fault.Invalid))
+    lift_misses none = steps_stuck t ms reads st f st' g item_fault.Invalid (λ now at. lift_unfound now at none)
 
-    pub lift_misses_option : (id : CoreId) → slice_get f.core_funcs func ≡ Some id → options_in f i opts ≡ None
-        → StepsItem t ms lift st f st' f (Err (item_error.Fault item_fault.Invalid))
+    pub lift_misses_option : (id : CoreId) → slice_get f.core_funcs func ≡ Some id → options_in g i opts ≡ None
+        → StepsItem t ms lift st f st' g (Err (item_error.Fault item_fault.Invalid))
     lift_misses_option id found_it none =
-        steps_stuck t ms reads st f st' f item_fault.Invalid (λ now at. lift_unsound now at id found_it none)
+        steps_stuck t ms reads st f st' g item_fault.Invalid (λ now at. lift_unsound now at id found_it none)
 
     lift_steps : (id : CoreId) → slice_get f.core_funcs func ≡ Some id → (o : Options)
-        → options_in f i opts ≡ Some o
+        → options_in g i opts ≡ Some o
         → (key : DefinitionId) → key.0 ≡ length st'.definitions → (r : ⊤)
         → StepsItem t ms lift st f (record st' { definitions = st'.definitions ++ definition.LiftedFunc n id o ∷ [] })
-        (record f { funcs = f.funcs ++ key ∷ [] }) (Ok r)
+        (record g { funcs = f.funcs ++ key ∷ [] }) (Ok r)
     lift_steps id found_it o sound key last r =
         steps_on t ms reads st f (record st' { definitions = st'.definitions ++ definition.LiftedFunc n id o ∷ [] })
-        (record f { funcs = f.funcs ++ key ∷ [] }) r
+        (record g { funcs = f.funcs ++ key ∷ [] }) r
         (λ now at. lift_goes now at id found_it o sound key last)
 
     -- the same, where the state and the frame after it are said by equations
     pub lift_made : (id : CoreId) → slice_get f.core_funcs func ≡ Some id → (o : Options)
-        → options_in f i opts ≡ Some o
+        → options_in g i opts ≡ Some o
         → (key : DefinitionId) → key.0 ≡ length st'.definitions → (r : ⊤) (end : State) (fs : List DefinitionId)
         → end ≡ record st' { definitions = st'.definitions ++ definition.LiftedFunc n id o ∷ [] }
-        → fs ≡ f.funcs ++ key ∷ [] → StepsItem t ms lift st f end (record f { funcs = fs }) (Ok r)
+        → fs ≡ f.funcs ++ key ∷ [] → StepsItem t ms lift st f end (record g { funcs = fs }) (Ok r)
     lift_made id found_it o sound key last r end fs ended added =
-        subst (λ x. StepsItem t ms lift st f x (record f { funcs = fs }) (Ok r)) (sym ended)
+        subst (λ x. StepsItem t ms lift st f x (record g { funcs = fs }) (Ok r)) (sym ended)
         (subst (λ xs. StepsItem t ms lift st f
         (record st' { definitions = st'.definitions ++ definition.LiftedFunc n id o ∷ [] })
-        (record f { funcs = xs }) (Ok r)) (sym added) (lift_steps id found_it o sound key last r))
+        (record g { funcs = xs }) (Ok r)) (sym added) (lift_steps id found_it o sound key last r))

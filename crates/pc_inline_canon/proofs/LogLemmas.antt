@@ -15,6 +15,7 @@ use Rattle.pc_spec_reading.specs.World.{World, logging}
 use Rattle.pc_dfg.specs.declared.dfg.ComponentDfg.{ComponentDfg}
 use Rattle.pc_dfg.specs.Grows as graph
 use Rattle.pc_dfg.specs.Numbers.{SignedTrampoline}
+use Rattle.pc_inline_state.specs.Fits.{FitsBefore}
 use Rattle.pc_inline_state.specs.Today.{is_made}
 use Rattle.pc_inline_state.specs.Worlds.{EffectStands, HasTrampoline, ImportStands, IsDeclared, WorldStands}
 use Rattle.pc_inline_state.specs.Worlds.{path_of}
@@ -47,13 +48,13 @@ few-push log e before after few more =
     sum_by-append _ log (e ∷ []) in
     omega (arith, few, more, both)
 
-module _ (types : Types) (g h : ComponentDfg) (grows : graph.Grows g h) (w : World) (e : Entry Mark)
-    (stands : WorldStands types g w) where
+module _ (types : Types) (g h : ComponentDfg) (grows : graph.Grows g h) (fits : FitsBefore g h) (w : World)
+    (e : Entry Mark) (stands : WorldStands types g w) where
   -- a trampoline that was declared is
   pub declared_on : (k : ℕ) (x : SignedTrampoline) → slice_get g.trampolines k ≡ Some x
       → IsDeclared types h (w.log ++ e ∷ []) k x
   declared_on k x at =
-      let d = declared_still types types g h (types_refl types) grows w.log k x (stands.are_declared k x at) in
+      let d = declared_still types types g h (types_refl types) grows fits w.log k x (stands.are_declared k x at) in
       record {
         value = d.value;
         entry = Contains-append_left w.log (e ∷ []) (declared d.value) d.entry;
@@ -66,7 +67,7 @@ module _ (types : Types) (g h : ComponentDfg) (grows : graph.Grows g h) (w : Wor
       → Contains (w.log ++ e ∷ []) (declared v) → HasTrampoline types h v
   trampoline_on here v entry =
       elim (Contains-push_cases w.log e (declared v) entry) as (λ _. HasTrampoline types h v) [
-        | inl before ↦ trampoline_still types types g h (types_refl types) grows v (stands.trampolines v before)
+        | inl before ↦ trampoline_still types types g h (types_refl types) grows fits v (stands.trampolines v before)
         | inr last ↦ here v last
       ]
 
@@ -86,7 +87,8 @@ module _ (types : Types) (g h : ComponentDfg) (grows : graph.Grows g h) (w : Wor
     trampolines = trampoline_on has;
     few_trampolines = few-push w.log e (length g.trampolines) (length h.trampolines) stands.few_trampolines few;
     import_types = subst (λ is. AllZip (ImportStands types h) is w.imports) (sym types_same)
-        (zip_more (ImportStands types g) (ImportStands types h) (import_still types types g h (types_refl types) grows)
+        (zip_more (ImportStands types g) (ImportStands types h)
+        (import_still types types g h (types_refl types) grows fits)
         g.import_types w.imports stands.import_types);
     imports = imports;
     imported_resources = stands.imported_resources;

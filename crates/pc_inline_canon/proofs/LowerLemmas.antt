@@ -1,5 +1,5 @@
 -- The step of a lower: of a host function, or of a lifted one, which isn't built yet.
-use Rattle.std.proofs.Common.{◌≡◌, ◌<◌, ◌||◌, ℕ, Bool, true, false, true≢false, List, [], ◌∷◌, length, None, Some}
+use Rattle.std.proofs.Common.{◌≡◌, ◌<◌, ◌||◌, ℕ, Bool, true, false, true≢false, List, [], ◌∷◌, length, Option, None, Some}
 use Rattle.std.proofs.Common.{Result, Ok, Err, if◌then◌else◌, refl, sym, ap, subst, ◌∙◌}
 use Rattle.std.specs.Prelude.{⊤, slice_get, option_and_then}
 use Rattle.std.specs.List.{list_any}
@@ -14,6 +14,7 @@ use Rattle.pc_types.specs.declared.parsed.CoreFuncSig.{CoreFuncSig}
 use Rattle.pc_types.specs.declared.parsed.CoreKind.TheVariants as kind
 use Rattle.pc_types.specs.declared.parsed.TypeTable.{TypeTable}
 use Rattle.pc_types.specs.declared.type_index.TypeFuncIndex.{TypeFuncIndex}
+use Rattle.pc_types.specs.declared.types.TypeDef.{TypeDef}
 use Rattle.pc_types.specs.Table.{is_func}
 use Rattle.pc_types.specs.TypeTree.{TypeTree}
 use Rattle.pc_spec_plan.specs.CoreValue as value
@@ -55,14 +56,12 @@ use Rattle.pc_inline_state.specs.Tables.{Tables, tables_of}
 use Rattle.pc_inline_state.specs.Today.{built_row, is_built, is_made, today}
 use Rattle.pc_inline_state.specs.Typed.{AreOfFunction, HasNoFunction}
 use Rattle.pc_inline_canon.specs.Written.{options_in}
-use Rattle.pc_inline_canon.proofs.FrameLemmas.{core_framed, framed_point}
+use Rattle.pc_inline_canon.proofs.FrameLemmas.{converted_point, core_framed, framed_point}
 use Rattle.pc_inline_canon.proofs.OptionLemmas.{options_in_stand}
 use Rattle.pc_inline_canon.proofs.PassedLemmas.{steps_lacking, steps_passed}
-use Rattle.pc_inline_state.proofs.StateLemmas.{converts_prepares}
 use Rattle.pc_inline_canon.proofs.StepLemmas.{row_goes, row_stuck, steps_on, steps_stuck}
 use Rattle.pc_inline_canon.proofs.ThereLemmas.{options_there}
 use Rattle.pc_inline_canon.proofs.TypeLemmas.{FunctionThere, function_there, no_function}
-use Rattle.pc_inline_canon.proofs.WorldLemmas.{point_kept}
 use Rattle.pc_inline_state.proofs.ZipLemmas.{both_missing, both_there, zip_at}
 use Rattle.pc_spec_reading.specs.Reading.{row}
 
@@ -185,14 +184,19 @@ module _ (t : TypeTable) (ms : List ModuleRecord) (func ty core : ℕ) (opts : L
       steps_passed t ms reads st f st' f' r e is (lower_lacks_types st f st' f' e lacks)
 
   -- types were converted, and a point stands where it did
-  module _ (st : State) (f : Frame) (st' : State) (converts : Converts t st st') (n : TypeFuncIndex)
-      (i : ModuleInternedTypeIndex) (are : AreOfFunction st'.types t ty core n i) where
-    module _ (now : Moment) (at : PointStands t ms st f now) where
-      there : FunctionThere t now.scope st'.types ty core n i
-      there = function_there t ms st f now at st'.types converts.grows.resources ty core n i are
+  module _ (st : State) (f : Frame) (st' : State) (done : List (Option TypeDef))
+      (converts : Converts t st f.converted st' done) (n : TypeFuncIndex) (i : ModuleInternedTypeIndex)
+      (are : AreOfFunction st'.types t ty core n i) where
+    -- the component instance, for which these were converted
+    abbrev g : Frame
+    g = record f { converted = done }
 
-      still : PointStands t ms st' f now
-      still = point_kept t ms st st' (converts_prepares t ms st st' converts) f now at
+    module _ (now : Moment) (at : PointStands t ms st f now) where
+      still : PointStands t ms st' g now
+      still = converted_point t ms st f st' done converts now at
+
+      there : FunctionThere t now.scope st'.graph st'.types ty core n i
+      there = function_there t now.scope st'.graph st'.types still.here ty core n i are
 
       -- the function is missing
       lower_unfound : slice_get f.funcs func ≡ None → reads now ≡ Err invalid
@@ -209,22 +213,22 @@ module _ (t : TypeTable) (ms : List ModuleRecord) (func ty core : ℕ) (opts : L
             (slice_get now.scope.funcs func) id
             (zip_at (FuncStands ms (tables_of st')) f.funcs now.scope.funcs func still.frame.funcs) found_it
 
-        options_stand : Both (OptionsStand ms (tables_of st')) (options_in f i opts)
+        options_stand : Both (OptionsStand ms (tables_of st')) (options_in g i opts)
             (options_of now.scope there.signature opts)
-        options_stand = options_in_stand ms (tables_of st') f now.scope still.frame i there.signature there.signed opts
+        options_stand = options_in_stand ms (tables_of st') g now.scope still.frame i there.signature there.signed opts
 
         -- an index of the options is missing
-        lower_unsound : options_in f i opts ≡ None → reads now ≡ Err invalid
+        lower_unsound : options_in g i opts ≡ None → reads now ≡ Err invalid
         unfolding read_row read_lower
         lower_unsound none =
-            let missing = both_missing (OptionsStand ms (tables_of st')) (options_in f i opts)
+            let missing = both_missing (OptionsStand ms (tables_of st')) (options_in g i opts)
             (options_of now.scope there.signature opts) options_stand none in
             row_stuck t ms now lower invalid refl (rw (there.is_tree, there.is_signature, function.1, missing) refl)
 
-        module _ (o : Options) (sound : options_in f i opts ≡ Some o) where
+        module _ (o : Options) (sound : options_in g i opts ≡ Some o) where
           options : (os : value.Options Mark) × (options_of now.scope there.signature opts ≡ Some os)
               × OptionsStand ms (tables_of st') o os
-          options = both_there (OptionsStand ms (tables_of st')) (options_in f i opts)
+          options = both_there (OptionsStand ms (tables_of st')) (options_in g i opts)
               (options_of now.scope there.signature opts) o options_stand sound
 
           -- what is lowered was lifted, which isn't built
@@ -243,18 +247,18 @@ module _ (t : TypeTable) (ms : List ModuleRecord) (func ty core : ℕ) (opts : L
           -- a host function was lowered
           lower_goes : (j : ImportIndex) → option_and_then host_import (slice_get st'.definitions id.0) ≡ Some j
               → (end : State) (key : CoreId) → Lowers t ms st' end j n o key
-              → Goes t ms end (with_core_id f kind.Func key) (reads now)
+              → Goes t ms end (with_core_id g kind.Func key) (reads now)
           unfolding lower_to Lowers
           lower_goes j host end key lowers =
               let x = host_is ms (tables_of st') id function.0 function.2 j host in
               let v = lowered (import_path j.0) (of_type there.tree) options.0 in
-              let went = lowers f now there.tree options.0 still there.has options.2 in
+              let went = lowers g now there.tree options.0 still there.has options.2 in
               let next = lower_to now (host_function (import_path j.0)) there.tree there.signature options.0 in
               record {
                 now = next;
-                stands = framed_point t ms end f (with_core_id f kind.Func key) _ (with_core now.scope kind.Func v)
+                stands = framed_point t ms end g (with_core_id g kind.Func key) _ (with_core now.scope kind.Func v)
                     went.0
-                    refl (core_framed ms (tables_of end) f now.scope went.0.frame kind.Func key v went.1);
+                    refl refl refl (core_framed ms (tables_of end) g now.scope went.0.frame kind.Func key v went.1);
                 done = row_goes t ms now next lower refl
                     (lower_read now there.tree there.signature function.0 options.0 there.is_tree there.is_signature
                     function.1 options.1 ∙ ap (λ y. Ok (lower_to now y there.tree there.signature options.0)) x.0)
@@ -263,7 +267,7 @@ module _ (t : TypeTable) (ms : List ModuleRecord) (func ty core : ℕ) (opts : L
 
     -- what the call that lowers asks for
     pub lower_ready : ((now : Moment) × PointStands t ms st f now) → (id : DefinitionId)
-        → slice_get f.funcs func ≡ Some id → (o : Options) → options_in f i opts ≡ Some o → (j : ImportIndex)
+        → slice_get f.funcs func ≡ Some id → (o : Options) → options_in g i opts ≡ Some o → (j : ImportIndex)
         → option_and_then host_import (slice_get st'.definitions id.0) ≡ Some j
         → IsSoundState t ms st' × (j.0 < length st'.graph.import_types) × OptionsThere ms (tables_of st') o
     lower_ready point id found_it o sound j host =
@@ -279,26 +283,26 @@ module _ (t : TypeTable) (ms : List ModuleRecord) (func ty core : ℕ) (opts : L
 
     -- the steps of these
     pub lower_misses : slice_get f.funcs func ≡ None
-        → StepsItem t ms lower st f st' f (Err (item_error.Fault item_fault.Invalid))
-    lower_misses none = steps_stuck t ms reads st f st' f item_fault.Invalid (λ now at. lower_unfound now at none)
+        → StepsItem t ms lower st f st' g (Err (item_error.Fault item_fault.Invalid))
+    lower_misses none = steps_stuck t ms reads st f st' g item_fault.Invalid (λ now at. lower_unfound now at none)
 
     module _ (id : DefinitionId) (found_it : slice_get f.funcs func ≡ Some id) where
-      pub lower_misses_option : options_in f i opts ≡ None
-          → StepsItem t ms lower st f st' f (Err (item_error.Fault item_fault.Invalid))
+      pub lower_misses_option : options_in g i opts ≡ None
+          → StepsItem t ms lower st f st' g (Err (item_error.Fault item_fault.Invalid))
       lower_misses_option none =
-          steps_stuck t ms reads st f st' f item_fault.Invalid (λ now at. lower_unsound now at id found_it none)
+          steps_stuck t ms reads st f st' g item_fault.Invalid (λ now at. lower_unsound now at id found_it none)
 
-      module _ (o : Options) (sound : options_in f i opts ≡ Some o) where
+      module _ (o : Options) (sound : options_in g i opts ≡ Some o) where
         pub lower_adapts : option_and_then host_import (slice_get st'.definitions id.0) ≡ None
-            → StepsItem t ms lower st f st' f (Err (item_error.Fault (item_fault.Unsupported NotBuilt)))
+            → StepsItem t ms lower st f st' g (Err (item_error.Fault (item_fault.Unsupported NotBuilt)))
         lower_adapts none =
-            steps_stuck t ms reads st f st' f (item_fault.Unsupported NotBuilt)
+            steps_stuck t ms reads st f st' g (item_fault.Unsupported NotBuilt)
             (λ now at. lower_unbuilt now at id found_it o sound none)
 
         pub lower_steps : (j : ImportIndex) → option_and_then host_import (slice_get st'.definitions id.0) ≡ Some j
             → (end : State) (key : CoreId) → Lowers t ms st' end j n o key → (f' : Frame)
-            → f' ≡ with_core_id f kind.Func key → (r : ⊤) → StepsItem t ms lower st f end f' (Ok r)
+            → f' ≡ with_core_id g kind.Func key → (r : ⊤) → StepsItem t ms lower st f end f' (Ok r)
         lower_steps j host end key lowers f' is r =
-            subst (λ g. StepsItem t ms lower st f end g (Ok r)) (sym is)
-            (steps_on t ms reads st f end (with_core_id f kind.Func key) r
+            subst (λ x. StepsItem t ms lower st f end x (Ok r)) (sym is)
+            (steps_on t ms reads st f end (with_core_id g kind.Func key) r
             (λ now at. lower_goes now at id found_it o sound j host end key lowers))

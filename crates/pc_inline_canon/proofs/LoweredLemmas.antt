@@ -9,8 +9,7 @@ use Rattle.std.proofs.lemmas.Option.{slice_get_within}
 use Rattle.pc_entity.proofs.Growing.{slice_get-append_seam}
 use Rattle.pc_entity.proofs.LookupLemmas.{kept_within}
 use Rattle.pc_types_lists.specs.Types.{Types}
-use Rattle.pc_types_lists.proofs.Growth.{grows_trans}
-use Rattle.pc_types_builder.proofs.TreeLemmas.{tree_grows}
+use Rattle.pc_types_builder.proofs.TreeLemmas.{tree_keeps}
 use Rattle.pc_types_lists.specs.Trees.{HasTree}
 use Rattle.pc_dfg.specs.declared.ids.OptionsId.{OptionsId}
 use Rattle.pc_numbers.specs.declared.module_entity.ModuleInternedTypeIndex.{ModuleInternedTypeIndex}
@@ -47,7 +46,6 @@ use Rattle.pc_dfg.specs.Ordered.{IsOrdered}
 use Rattle.pc_dfg.specs.Pushed.{IsPut}
 use Rattle.pc_dfg.proofs.AllLemmas.{all_more}
 use Rattle.pc_dfg.proofs.GrowLemmas.{kept}
-use Rattle.pc_dfg.proofs.KeptLemmas.{options_kept}
 use Rattle.pc_inline_state.specs.declared.definition.CoreId.{CoreId}
 use Rattle.pc_inline_state.specs.declared.definition.DataModel.{DataModel}
 use Rattle.pc_inline_state.specs.declared.definition.DataModel.TheVariants as model
@@ -61,18 +59,20 @@ use Rattle.pc_inline_state.specs.Prepares.{Prepares}
 use Rattle.pc_inline_state.specs.Slots.{EntryStands, ModelThere, OptionsThere}
 use Rattle.pc_inline_state.specs.Stands.{CoreStands, IsFunc, ItemStands, OptionsStand, options_stand}
 use Rattle.pc_inline_state.specs.Tables.{IsItem, Keeps, Tables, is_trampoline, tables_of}
+use Rattle.pc_inline_state.specs.Fits.{Fits, FitsBefore}
 use Rattle.pc_inline_state.specs.Holds.{Holds, Numbered}
-use Rattle.pc_inline_state.specs.Typed.{anyhow}
 use Rattle.pc_inline_state.specs.Worlds.{EffectStands, HasTrampoline, IsDeclared, IsSigned, WorldStands}
 use Rattle.pc_inline_state.specs.Worlds.{slot_kind}
 use Rattle.pc_inline_state.proofs.AddsPushLemmas.{changes_few}
+use Rattle.pc_inline_state.proofs.FitsLemmas.{fits_grown}
 use Rattle.pc_inline_state.proofs.GrowthLemmas.{graph_grown}
-use Rattle.pc_inline_canon.proofs.KeptLemmas.{begun_kept, frame_kept, is_item_kept}
+use Rattle.pc_inline_state.proofs.KnowsLemmas.{knows_grown}
+use Rattle.pc_inline_canon.proofs.KeptLemmas.{begun_kept, entry_kept, frame_kept, is_item_kept}
 use Rattle.pc_inline_canon.proofs.KeptLemmas.{options_kept as options_still}
 use Rattle.pc_inline_canon.proofs.LogLemmas.{declared_on, paths-push, trace-push, world_on}
 use Rattle.pc_inline_canon.proofs.OptionsEntryLemmas.{there_kept}
 use Rattle.pc_inline_canon.proofs.SlotLemmas.{found_in_put}
-use Rattle.pc_inline_state.proofs.StateLemmas.{core_prepares, types_refl}
+use Rattle.pc_inline_state.proofs.StateLemmas.{core_prepares, keeps_trans, types_refl}
 use Rattle.pc_inline_canon.proofs.WorldLemmas.{effect_still, point_kept}
 use Rattle.pc_inline_state.proofs.ZipLemmas.{zip_more}
 
@@ -93,13 +93,14 @@ module _ (ms : List ModuleRecord) (b c : Tables) (keeps : Keeps b c) where
   }
 
 -- a function type as a number of the types builder
-typed : (types : Types) (ty : TypeFuncIndex) (tree : TypeTree)
-    → ((who : ResourceIndex → Identity) → HasTree types who (type.ComponentFunc ty) tree) → Numbered types anyhow
+typed : (types : Types) (g : ComponentDfg) (ty : TypeFuncIndex) (tree : TypeTree)
+    → ((who : ResourceIndex → Identity) → Fits g who → HasTree types who (type.ComponentFunc ty) tree)
+    → Numbered types (Fits g)
 unfolding Holds
-typed types ty tree func = record {
+typed types g ty tree func = record {
   number = mark.Type_ (type.ComponentFunc ty);
   whole = of_type tree;
-  holds = λ who any. func who;
+  holds = func;
 }
 
 -- options have the core signature of what is lowered with them
@@ -146,17 +147,32 @@ module _ (t : TypeTable) (ms : List ModuleRecord) (st : State) (ts : List Signed
 
   module _ (grows : graph.Grows st.graph lowered_in) (p : Path) (tree : TypeTree) (os : Options Mark)
       (path : HasPath st.graph r.0 p)
-      (func : (who : ResourceIndex → Identity) → HasTree st.types who (type.ComponentFunc ty) tree)
-      (opts : EntryStands (tables_of st) o.0 os) where
+      (func : IsFunc ms (tables_of st) ty tree) (opts : EntryStands (tables_of st) o.0 os) where
+    -- what fits the graph with the trampoline fitted before
+    fits : FitsBefore st.graph lowered_in
+    fits = fits_grown st.graph lowered_in grows refl refl
+
+    -- the state with the trampoline keeps what was
+    lowered_keeps : Keeps (tables_of st) (tables_of lowered_to)
+    lowered_keeps = graph_grown (tables_of st) lowered_in grows fits
+
+    -- so the entry of options is one
+    lowered_options : EntryStands (tables_of lowered_to) o.0 os
+    lowered_options = entry_kept (tables_of st) (tables_of lowered_to) lowered_keeps o.0 os opts
+
+    -- and the function type has its tree
+    lowered_func : IsFunc ms (tables_of lowered_to) ty tree
+    lowered_func who now = func who (fits who now)
+
     -- each number of the trampoline stands for the lowered function
     lowered_stands : (k : ℕ) → slice_get ts k ≡ Some lowering_of
         → CoreStands st.types lowered_in (def.Trampoline (record { 0 = k })) (value.lowered p (of_type tree) os)
     unfolding typed parts_of
     lowered_stands k at = record {
-      numbered = value.lowered p (typed st.types ty tree func) opts.numbered;
+      numbered = value.lowered p (typed st.types lowered_in ty tree lowered_func) lowered_options.numbered;
       means = means_trampoline at (means_lowered (kept st.graph lowered_in grows list.imports _ _ path)
-          (options_kept st.graph lowered_in grows opts.means));
-      is = λ j. value.lowered p (of_type tree) (opts.is j);
+          lowered_options.means);
+      is = λ j. value.lowered p (of_type tree) (lowered_options.is j);
     }
 
     -- the world in which it is declared
@@ -167,16 +183,16 @@ module _ (t : TypeTable) (ms : List ModuleRecord) (st : State) (ts : List Signed
     lowered_world signed put n at w stands =
         let v = value.lowered p (of_type tree) os in
         let e = declared v in
-        world_on st.types st.graph lowered_in grows w e stands
+        world_on st.types st.graph lowered_in grows fits w e stands
         (subst (AllZip (EffectStands st.types lowered_in) st.graph.side_effects)
         (sym (trace-push w.log e ∙ append-nil (trace w.log)))
         (zip_more (EffectStands st.types st.graph) (EffectStands st.types lowered_in)
-        (effect_still st.types st.types st.graph lowered_in (types_refl st.types) grows) st.graph.side_effects
-        (trace w.log) stands.effects))
+        (effect_still st.types st.types st.graph lowered_in (types_refl st.types) grows fits)
+        st.graph.side_effects (trace w.log) stands.effects))
         (ap length (filter_map-append owned_of w.log (e ∷ []) ∙ append-nil (instances_of w.log)) ∙ stands.order)
         (λ k x found. elim (found_in_put st.graph.trampolines ts lowering_of put k x found)
         as (λ _. IsDeclared st.types lowered_in (w.log ++ e ∷ []) k x) [
-          | inl before ↦ declared_on st.types st.graph lowered_in grows w e stands k x before
+          | inl before ↦ declared_on st.types st.graph lowered_in grows fits w e stands k x before
           | inr here ↦ record {
             value = v;
             entry = Contains-push w.log e;
@@ -234,11 +250,9 @@ module _ (t : TypeTable) (ms : List ModuleRecord) (st : State) (ts : List Signed
         numbers = point.sound.numbers;
         held = record { options = point.sound.held.options; functions = point.sound.held.functions };
       };
-      here = point.here;
-      typed = point.typed;
-      frame = frame_kept ms (tables_of st) (tables_of lowered_to) (graph_grown (tables_of st) lowered_in grows) f
-          now.scope
-          point.frame;
+      here = knows_grown st.graph st.types.resources now.scope point.here lowered_in fits;
+      converted = point.converted;
+      frame = frame_kept ms (tables_of st) (tables_of lowered_to) lowered_keeps f now.scope point.frame;
       world = lowered_world signed put n at now.world point.world;
       unexported = record { exports = point.unexported.exports; items = point.unexported.items };
     }
@@ -283,10 +297,10 @@ module _ (t : TypeTable) (ms : List ModuleRecord) (a b c : State) (i : ImportInd
   used_path = kept b.graph c.graph prepares.keeps.graph list.imports _ _ uses.path
 
   used_tree : (ty : TypeFuncIndex) (tree : TypeTree) → IsFunc ms (tables_of a) ty tree
-      → (who : ResourceIndex → Identity) → HasTree c.types who (type.ComponentFunc ty) tree
-  used_tree ty tree func who =
-      tree_grows a.types c.types (grows_trans a.types b.types c.types keeps.types prepares.keeps.types) who
-      (type.ComponentFunc ty) tree (func who)
+      → IsFunc ms (tables_of c) ty tree
+  used_tree ty tree func who fits =
+      let both = keeps_trans (tables_of a) (tables_of b) (tables_of c) keeps prepares.keeps in
+      tree_keeps a.types c.types both.types who (type.ComponentFunc ty) tree (func who (both.fits who fits))
 
   used_options : (options : OptionsOf) (os : Options Mark) → OptionsStand ms (tables_of a) options os
       → OptionsStand ms (tables_of b) options os

@@ -1,7 +1,7 @@
 -- Values whose marks are mapped twice, and marks that a builder still holds when it has grown.
 use Rattle.std.proofs.Common.{◌≡◌, List, [], ◌∷◌, map, refl}
-use Rattle.pc_types_lists.specs.Types.{Grows, Types}
-use Rattle.pc_types_builder.proofs.TreeLemmas.{tree_grows}
+use Rattle.pc_types_lists.specs.Types.{KeepsTypes, Types}
+use Rattle.pc_types_builder.proofs.TreeLemmas.{tree_keeps}
 use Rattle.pc_trampoline.specs.declared.part.Mark.{Mark}
 use Rattle.pc_trampoline.specs.declared.part.Mark.TheVariants as mark
 use Rattle.pc_parsed.specs.Mark as reading
@@ -12,8 +12,9 @@ use Rattle.pc_spec_plan.specs.ExportNode as node
 use Rattle.pc_spec_plan.specs.ExportNode.{ExportNode, ExportNodes, map_node, map_nodes}
 use Rattle.pc_spec_plan.specs.Log.{Entry, Instantiation, NamedArgument, declared, declared_resource, instantiated, made}
 use Rattle.pc_spec_plan.specs.Log.{map_argument, map_entry, map_instantiation, needed, of_host, of_static}
+use Rattle.pc_dfg.specs.declared.dfg.ComponentDfg.{ComponentDfg}
+use Rattle.pc_inline_state.specs.Fits.{Fits, FitsBefore}
 use Rattle.pc_inline_state.specs.Holds.{Holds, Numbered}
-use Rattle.pc_inline_state.specs.Typed.{anyhow}
 
 module _ {τ υ ω : Type 0} (f : τ → υ) (h : υ → ω) where
   -- both maps in one
@@ -113,15 +114,16 @@ module _ {τ υ ω : Type 0} (f : τ → υ) (h : υ → ω) where
         let b = nodes_twice rest in
         λ i. node.and_node name meta (a i) (b i)
 
-module _ (old new : Types) (grows : Grows old new) where
-  -- what a builder holds it holds when it has grown
-  pub holds_still : (m : Mark) (w : reading.Mark) → Holds old anyhow m w → Holds new anyhow m w
+module _ (old new : Types) (keeps : KeepsTypes old new) (g h : ComponentDfg) (fits : FitsBefore g h) where
+  -- what a builder holds where resource numbers fit a graph it holds when both have grown
+  pub holds_still : (m : Mark) (w : reading.Mark) → Holds old (Fits g) m w → Holds new (Fits h) m w
   unfolding Holds
-  holds_still (mark.Type_ ty) (reading.of_type tree) h = λ who any. tree_grows old new grows who ty tree (h who any)
-  holds_still (mark.Type_ ty) (reading.of_signature s) h = h
-  holds_still (mark.Signature n) (reading.of_type tree) h = h
-  holds_still (mark.Signature n) (reading.of_signature s) h = grows.signatures n.0 s h
+  holds_still (mark.Type_ ty) (reading.of_type tree) x =
+      λ who now. tree_keeps old new keeps who ty tree (x who (fits who now))
+  holds_still (mark.Type_ ty) (reading.of_signature s) x = x
+  holds_still (mark.Signature n) (reading.of_type tree) x = x
+  holds_still (mark.Signature n) (reading.of_signature s) x = keeps.signatures n.0 s x
 
   -- a mark with what it stands for
-  abbrev pub still : Numbered old anyhow → Numbered new anyhow
+  abbrev pub still : Numbered old (Fits g) → Numbered new (Fits h)
   still m = record { number = m.number; whole = m.whole; holds = holds_still m.number m.whole m.holds }

@@ -20,6 +20,7 @@ use Rattle.pc_dfg.specs.Lists as list
 use Rattle.pc_dfg.specs.Numbers.{memory_def, slots_of}
 use Rattle.pc_dfg.specs.Ordered.{IsOrdered}
 use Rattle.pc_dfg.specs.Pushed.{IsPut}
+use Rattle.pc_inline_state.specs.Fits.{FitsBefore}
 use Rattle.pc_inline_state.specs.declared.definition.CoreId.{CoreId}
 use Rattle.pc_inline_state.specs.declared.state.State.{State}
 use Rattle.pc_inline_state.specs.Points.{IsFullSomewhere}
@@ -75,15 +76,16 @@ module _ (t : TypeTable) (ms : List ModuleRecord) (st : State) (h : ComponentDfg
       slots plan.post_return n d at = inl at
 
 -- it is in its memory slot
-pub memory_stands : (ms : List ModuleRecord) (st : State) (h : ComponentDfg) → graph.Grows st.graph h → (id : CoreId)
-    (d : CoreDef) (n : ℕ) (x : CoreExport MemoryIndex) → slice_get st.cores id.0 ≡ Some d → memory_def x ≡ d
+pub memory_stands : (ms : List ModuleRecord) (st : State) (h : ComponentDfg) → graph.Grows st.graph h
+    → FitsBefore st.graph h → (id : CoreId) (d : CoreDef) (n : ℕ) (x : CoreExport MemoryIndex)
+    → slice_get st.cores id.0 ≡ Some d → memory_def x ≡ d
     → slice_get h.memories n ≡ Some x → (o : Option CoreId) → o ≡ Some id → (v : MaybeValue Mark)
     → MaybeStands ms (tables_of st) core.Memory o v
     → SlotStands (tables_of (record st { graph = h })) plan.memory (Some n) v
 unfolding slots_of
-memory_stands ms st h grows id d n x held is at =
+memory_stands ms st h grows fits id d n x held is at =
     slot_some ms (tables_of st) (tables_of (record st { graph = h })) core.Memory plan.memory id d n held
-    (map_at memory_def h.memories n x at ∙ ap Some is) (slot_keeps ms st h grows id d n held)
+    (map_at memory_def h.memories n x at ∙ ap Some is) (slot_keeps ms st h grows fits id d n held)
 
 -- there is no room for one more memory
 pub memory_crowded : (b : Tables) (g : ComponentDfg) → graph.Grows g b.graph → 4294967295 ≤ length g.memories

@@ -40,8 +40,9 @@ use Rattle.pc_inline_state.specs.Slots.{EntryStands, MaybeThere, OptionsThere, S
 use Rattle.pc_inline_state.specs.Stands.{MaybeStands, ModelStands, OptionsStand, gc_stands, linear_stands, options_stand}
 use Rattle.pc_inline_state.specs.Tables.{IsItem, Keeps, Tables, tables_of}
 use Rattle.pc_inline_state.specs.Worlds.{slot_kind}
+use Rattle.pc_inline_state.specs.Fits.{Fits}
 use Rattle.pc_inline_state.specs.Holds.{Holds, Numbered, number_of, whole_of}
-use Rattle.pc_inline_state.specs.Typed.{anyhow}
+use Rattle.pc_inline_state.proofs.FitsLemmas.{fits_grown}
 use Rattle.pc_inline_state.proofs.GrowthLemmas.{graph_grown}
 use Rattle.pc_inline_canon.proofs.HoldsLemmas.{options_put}
 use Rattle.pc_inline_canon.proofs.KeptLemmas.{begun_kept, is_item_kept, maybe_kept}
@@ -68,23 +69,25 @@ module _ (ms : List ModuleRecord) (b c : Tables) (keeps : Keeps b c) where
   -- what is in a slot is in it
   pub slot_kept : (k : plan.SlotKind) (n : Option ℕ) (v : MaybeValue Mark) → SlotStands b k n v → SlotStands c k n v
   slot_kept k n v s =
-      let on = still b.types c.types keeps.types in
+      let on : Numbered b.types (Fits b.graph) → Numbered c.types (Fits c.graph) =
+      still b.types c.types keeps.types b.graph c.graph keeps.fits in
       record {
         numbered = map_maybe on s.numbered;
-        means = subst (MeansSlot c.graph k n) (sym (maybe_twice on (number_of c.types anyhow) s.numbered))
+        means = subst (MeansSlot c.graph k n) (sym (maybe_twice on (number_of c.types (Fits c.graph)) s.numbered))
             (means_slot_kept k n _ s.means);
-        is = maybe_twice on (whole_of c.types anyhow) s.numbered ∙ s.is;
+        is = maybe_twice on (whole_of c.types (Fits c.graph)) s.numbered ∙ s.is;
       }
 
   -- and so are memory and realloc
   slot_model_kept : (m : plan.ModelEntry) (v : value.DataModel Mark) → SlotModelStands b m v → SlotModelStands c m v
   slot_model_kept m v s =
-      let on = still b.types c.types keeps.types in
+      let on : Numbered b.types (Fits b.graph) → Numbered c.types (Fits c.graph) =
+      still b.types c.types keeps.types b.graph c.graph keeps.fits in
       record {
         numbered = map_model on s.numbered;
-        means = subst (MeansModel c.graph m) (sym (model_twice on (number_of c.types anyhow) s.numbered))
+        means = subst (MeansModel c.graph m) (sym (model_twice on (number_of c.types (Fits c.graph)) s.numbered))
             (by m _ s.means);
-        is = model_twice on (whole_of c.types anyhow) s.numbered ∙ s.is;
+        is = model_twice on (whole_of c.types (Fits c.graph)) s.numbered ∙ s.is;
       }
     where
       by : (m : plan.ModelEntry) (v : value.DataModel Number) → MeansModel b.graph m v → MeansModel c.graph m v
@@ -143,10 +146,10 @@ linear_slots ms b c m r memory realloc memory_at realloc_at w here v stands =
         }
 
 -- the signature of options as a number of the types builder
-signed : (types : Types) (o : Options) (s : CoreFuncSig) → slice_get types.signatures o.core_type.0 ≡ Some s
-    → Numbered types anyhow
+signed : (types : Types) (g : ComponentDfg) (o : Options) (s : CoreFuncSig)
+    → slice_get types.signatures o.core_type.0 ≡ Some s → Numbered types (Fits g)
 unfolding Holds
-signed types o s at = record { number = mark.Signature o.core_type; whole = of_signature s; holds = at }
+signed types g o s at = record { number = mark.Signature o.core_type; whole = of_signature s; holds = at }
 
 -- an entry of options whose slots stand for those of options
 entry_stands : (ms : List ModuleRecord) (b c : Tables) → Keeps b c → (o : Options) (x : CanonicalOptions) (n : ℕ)
@@ -169,7 +172,7 @@ entry_stands ms b c keeps o x n at instance encoding is_async core_type callback
     ap (λ k. slice_get c.types.signatures k.0) core_type ∙ keeps.types.signatures o.core_type.0 s signature in
     record {
       numbered = value.options x.instance.0 x.string_encoding x.async_
-          (signed c.types (record o { core_type = x.core_type }) s held)
+          (signed c.types c.graph (record o { core_type = x.core_type }) s held)
           a.numbered d.numbered m.numbered;
       means = means_options at (means_entry a.means d.means m.means);
       is = λ i. value.options (instance i).0 (encoding i) (is_async i) (of_signature s) (a.is i) (d.is i) (m.is i);
@@ -244,7 +247,8 @@ module _ (t : TypeTable) (ms : List ModuleRecord) (a b c d : State) (first : Pre
         (options_prepares t ms d h grows x held signed_below put rest ordered)
 
     -- the entry stands for the options
-    pub entry_after : (n : ℕ) → slice_get h.options n ≡ Some x → x.instance ≡ o.instance
+    pub entry_after : h ≡ record d.graph { options = h.options } → (n : ℕ) → slice_get h.options n ≡ Some x
+        → x.instance ≡ o.instance
         → x.string_encoding ≡ o.string_encoding → x.async_ ≡ o.async_ → x.core_type ≡ o.core_type
         → ((v : value.DataModel Mark) → ModelStands ms (tables_of a) o.data_model v
         → SlotModelStands (tables_of b) (options_entry x).model v)
@@ -254,9 +258,10 @@ module _ (t : TypeTable) (ms : List ModuleRecord) (a b c d : State) (first : Pre
         → SlotStands (tables_of d) plan.post_return (options_entry x).post_return v)
         → (v : value.Options Mark) → OptionsStand ms (tables_of a) o v
         → EntryStands (tables_of (record d { graph = h })) n v
-    entry_after n at instance encoding is_async core_type model callback post_return =
+    entry_after rest n at instance encoding is_async core_type model callback post_return =
         let e = tables_of (record d { graph = h }) in
-        let last = graph_grown (tables_of d) h grows in
+        let last = graph_grown (tables_of d) h grows
+        (fits_grown d.graph h grows (λ i. (rest i).imported_resources) (λ i. (rest i).resources)) in
         let until = prepares_trans t ms a b c first second in
         entry_stands ms (tables_of a) e (keeps_trans (tables_of a) (tables_of d) e all_prepared.keeps last) o x n at
         instance encoding is_async core_type

@@ -9,7 +9,7 @@ use Rattle.pc_types.specs.declared.parsed.CoreKind.{CoreKind}
 use Rattle.pc_types.specs.declared.parsed.CoreKind.TheVariants as core
 use Rattle.pc_types.specs.declared.parsed.TypeTable.{TypeTable}
 use Rattle.pc_spec_plan.specs.CoreValue as value
-use Rattle.pc_spec_plan.specs.CoreValue.{CoreValue, MaybeValue, map_maybe}
+use Rattle.pc_spec_plan.specs.CoreValue.{CoreValue, MaybeValue}
 use Rattle.pc_spec_plan.specs.PlanView as plan
 use Rattle.pc_parsed.specs.Mark.{Mark}
 use Rattle.pc_dfg.specs.declared.core_def.CoreDef.{CoreDef}
@@ -33,6 +33,8 @@ use Rattle.pc_inline_state.specs.Stands.{CoreStands, MaybeStands, none_stands, s
 use Rattle.pc_inline_state.specs.Tables.{IsItem, Tables, tables_of}
 use Rattle.pc_inline_state.specs.Worlds.{HoldsTypes, slot_kind}
 use Rattle.pc_inline_canon.proofs.CoreInstanceLemmas.{found_in_push, item_held}
+use Rattle.pc_inline_state.specs.Fits.{FitsBefore}
+use Rattle.pc_inline_state.proofs.FitsLemmas.{fits_grown}
 use Rattle.pc_inline_state.proofs.GrowthLemmas.{graph_crowded, graph_grown}
 use Rattle.pc_inline_canon.proofs.KeptLemmas.{core_kept, is_item_kept}
 use Rattle.pc_inline_state.proofs.StateLemmas.{types_refl}
@@ -99,7 +101,7 @@ module _ (t : TypeTable) (ms : List ModuleRecord) (st : State) (memories : List 
       → (slice_get (slots_of st.graph k) n ≡ Some d) ⊎ IsItem ms st.graph (slot_kind k) d)
       → Prepares t ms st (record st { graph = slotted })
   slots_prepare held grows ordered slots = record {
-    keeps = graph_grown (tables_of st) slotted grows;
+    keeps = graph_grown (tables_of st) slotted grows (fits_grown st.graph slotted grows refl refl);
     sound = λ s. record {
       ordered = ordered s.ordered;
       items = record {
@@ -133,6 +135,7 @@ module _ (t : TypeTable) (ms : List ModuleRecord) (st : State) (memories : List 
       numbers = s.numbers;
       held = record { options = held s.held; functions = s.held.functions };
     };
+    resources = refl;
     side_effects = refl;
     instances = refl;
     trampolines = refl;
@@ -219,11 +222,11 @@ module _ (t : TypeTable) (ms : List ModuleRecord) (st : State) (h : ComponentDfg
       slots plan.realloc n x at = inl at
       slots plan.callback n x at = inl at
 
-module _ (ms : List ModuleRecord) (st : State) (h : ComponentDfg) (grows : graph.Grows st.graph h) (id : CoreId)
-    (d : CoreDef) (n : ℕ) (held : slice_get st.cores id.0 ≡ Some d) where
+module _ (ms : List ModuleRecord) (st : State) (h : ComponentDfg) (grows : graph.Grows st.graph h)
+    (fits : FitsBefore st.graph h) (id : CoreId) (d : CoreDef) (n : ℕ) (held : slice_get st.cores id.0 ≡ Some d) where
   -- a definition keeps its value in the graph with one more slot
   pub slot_keeps : (v : CoreValue Mark) → CoreStands st.types st.graph d v → CoreStands st.types h d v
-  slot_keeps v = core_kept st.types st.types st.graph h (types_refl st.types) grows d v
+  slot_keeps v = core_kept st.types st.types st.graph h (types_refl st.types) grows fits d v
 
   -- it is in its realloc slot
   pub realloc_stands : slice_get h.reallocs n ≡ Some d → (o : Option CoreId) → o ≡ Some id → (v : MaybeValue Mark)

@@ -20,6 +20,7 @@ use Rattle.pc_spec_reading.specs.SameTypes.{same_path}
 use Rattle.pc_spec_reading.specs.World.{World, logging}
 use Rattle.pc_dfg.specs.declared.dfg.ComponentDfg.{ComponentDfg}
 use Rattle.pc_dfg.specs.Grows as graph
+use Rattle.pc_inline_state.specs.Fits.{FitsBefore}
 use Rattle.pc_inline_state.specs.Worlds.{AreUsed, EffectStands, WorldStands, path_of}
 use Rattle.pc_inline_canon.proofs.LogLemmas.{declared_on, paths-push, trace-push, world_on}
 use Rattle.pc_inline_state.proofs.StateLemmas.{types_refl}
@@ -52,20 +53,22 @@ known_path (x ∷ is) (suc r) i at =
     by false = refl
 
 -- the graph so far does what the log says with one path more, once the path is one of its host items
-pub needed_world : (types : Types) (g h : ComponentDfg) → graph.Grows g h → (p : Path) → h.side_effects ≡ g.side_effects
+pub needed_world : (types : Types) (g h : ComponentDfg) → graph.Grows g h → FitsBefore g h → (p : Path)
+    → h.side_effects ≡ g.side_effects
     → h.instances ≡ g.instances → h.trampolines ≡ g.trampolines → h.import_types ≡ g.import_types
     → h.num_runtime_component_instances ≡ g.num_runtime_component_instances
     → map path_of h.imports ≡ with_path (map path_of g.imports) p → (w : World) → WorldStands types g w
     → WorldStands types h (logging w (needed p))
-needed_world types g h grows p effects instances trampolines import_types begun paths w s =
-    world_on types g h grows w (needed p) s
+needed_world types g h grows fits p effects instances trampolines import_types begun paths w s =
+    world_on types g h grows fits w (needed p) s
     (subst (λ es. AllZip (EffectStands types h) es (trace (w.log ++ needed p ∷ []))) (sym effects)
     (subst (AllZip (EffectStands types h) g.side_effects) (sym (trace-push w.log (needed p) ∙ append-nil (trace w.log)))
-    (zip_more (EffectStands types g) (EffectStands types h) (effect_still types types g h (types_refl types) grows)
+    (zip_more (EffectStands types g) (EffectStands types h) (effect_still types types g h (types_refl types) grows fits)
     g.side_effects (trace w.log) s.effects)))
     (ap length (filter_map-append owned_of w.log (needed p ∷ []) ∙ append-nil (instances_of w.log)) ∙ s.order
     ∙ ap length (sym instances))
-    (λ k x at. declared_on types g h grows w (needed p) s k x (subst (λ ts. slice_get ts k ≡ Some x) trampolines at))
+    (λ k x at. declared_on types g h grows fits w (needed p) s k x
+    (subst (λ ts. slice_get ts k ≡ Some x) trampolines at))
     (λ v is. absurd (let k : ⊥ = cc in k))
     (few (ap length trampolines))
     (paths ∙ ap (λ ps. with_path ps p) s.imports ∙ sym (paths-push w.log (needed p))) import_types begun refl

@@ -21,7 +21,10 @@ use Rattle.pc_inline_state.specs.Points.{IsSoundState}
 use Rattle.pc_inline_state.specs.Tables.{IsItem, tables_of}
 use Rattle.pc_inline_state.specs.Worlds.{HasItems, slot_kind}
 use Rattle.pc_spec_reading.specs.Asked.{import_path}
+use Rattle.pc_inline_state.specs.Fits.{FitsBefore}
+use Rattle.pc_inline_state.proofs.FitsLemmas.{fits_grown, fits_refl}
 use Rattle.pc_inline_state.proofs.GrowthLemmas.{graph_grown}
+use Rattle.pc_inline_state.proofs.KnowsLemmas.{knows_grown}
 use Rattle.pc_inline_canon.proofs.KeptLemmas.{frame_kept, is_item_kept}
 use Rattle.pc_inline_canon.proofs.UsedLemmas.{needed_world, path_known, path_new, used_more}
 
@@ -45,10 +48,10 @@ module _ (t : TypeTable) (ms : List ModuleRecord) (st : State) (i : ImportIndex)
         stands = λ f now p. record {
           sound = p.sound;
           here = p.here;
-          typed = p.typed;
+          converted = p.converted;
           frame = p.frame;
-          world = needed_world st.types st.graph st.graph (grows_refl st.graph) (import_path i.0) refl refl refl refl
-              refl
+          world = needed_world st.types st.graph st.graph (grows_refl st.graph) (fits_refl st.graph)
+              (import_path i.0) refl refl refl refl refl
               (path_known st.graph.imports r.0 i.0 there) now.world p.world;
           unexported = p.unexported;
         };
@@ -64,6 +67,10 @@ module _ (t : TypeTable) (ms : List ModuleRecord) (st : State) (i : ImportIndex)
     using_it = record st { graph = imported; used = u }
 
     module _ (grows : graph.Grows st.graph imported) where
+      -- what fits it fitted before
+      fits : FitsBefore st.graph imported
+      fits = fits_grown st.graph imported grows refl refl
+
       imported_items : HasItems ms st.graph → HasItems ms imported
       imported_items items = record {
         modules = λ n m args at. let old = items.modules n m args at in (
@@ -104,12 +111,12 @@ module _ (t : TypeTable) (ms : List ModuleRecord) (st : State) (i : ImportIndex)
             numbers = p.sound.numbers;
             held = record { options = p.sound.held.options; functions = p.sound.held.functions };
           };
-          here = p.here;
-          typed = p.typed;
-          frame = frame_kept ms (tables_of st) (tables_of using_it) (graph_grown (tables_of st) imported grows) f
+          here = knows_grown st.graph st.types.resources now.scope p.here imported fits;
+          converted = p.converted;
+          frame = frame_kept ms (tables_of st) (tables_of using_it) (graph_grown (tables_of st) imported grows fits) f
               now.scope
               p.frame;
-          world = needed_world st.types st.graph imported grows (import_path i.0) refl refl refl refl refl
+          world = needed_world st.types st.graph imported grows fits (import_path i.0) refl refl refl refl refl
               (path_new st.graph.imports i (p.sound.used.others i.0 unused)) now.world p.world;
           unexported = record { exports = p.unexported.exports; items = p.unexported.items };
         };

@@ -5,7 +5,7 @@ use Rattle.std.specs.List.{AllZip}
 use Rattle.pc_types.specs.declared.module_record.ModuleRecord.{ModuleRecord}
 use Rattle.pc_types.specs.declared.parsed.TypeTable.{TypeTable}
 use Rattle.pc_types.specs.declared.types.ComponentExtern.{ComponentExtern}
-use Rattle.pc_types_lists.specs.Types.{Types}
+use Rattle.pc_types_lists.specs.Types.{Resources, Types}
 use Rattle.pc_types_lists.specs.Types as builder
 use Rattle.pc_spec_plan.specs.CoreValue.{CoreValue}
 use Rattle.pc_spec_plan.specs.Log.{Entry, map_entry, trace}
@@ -26,22 +26,29 @@ use Rattle.pc_inline_state.specs.declared.state.State.{State}
 use Rattle.pc_inline_state.specs.Points.{PointStands}
 use Rattle.pc_inline_state.specs.Prepares.{Prepares}
 use Rattle.pc_inline_state.specs.Tables.{tables_of}
-use Rattle.pc_inline_state.specs.Holds.{number_of, whole_of}
-use Rattle.pc_inline_state.specs.Typed.{anyhow}
+use Rattle.pc_inline_state.specs.Fits.{Fits, FitsBefore}
+use Rattle.pc_inline_state.specs.Holds.{Numbered, number_of, whole_of}
+use Rattle.pc_inline_state.specs.KnowsSame.{KnowsSame}
 use Rattle.pc_inline_state.specs.Worlds.{EffectStands, HasTrampoline, ImportStands, IsDeclared, WorldStands}
 use Rattle.pc_inline_state.specs.Worlds.{path_of}
 use Rattle.pc_inline_canon.proofs.KeptLemmas.{core_kept, frame_kept}
 use Rattle.pc_inline_canon.proofs.MarkLemmas.{entry_twice, holds_still, still}
+use Rattle.pc_inline_state.proofs.KnowsLemmas.{converted_kept, knows_grown}
 use Rattle.pc_inline_state.proofs.ZipLemmas.{zip_more}
 
-module _ (old new : Types) (g h : ComponentDfg) (types : builder.Grows old new) (grows : graph.Grows g h) where
+module _ (old new : Types) (g h : ComponentDfg) (types : builder.KeepsTypes old new) (grows : graph.Grows g h)
+    (fits : FitsBefore g h) where
+  -- a mark is held as it was
+  abbrev on : Numbered old (Fits g) → Numbered new (Fits h)
+  on = still old new types g h fits
+
   -- a side effect does what it did
   pub effect_still : (e : SideEffect) (x : Entry Mark) → EffectStands old g e x → EffectStands new h e x
   effect_still e x s = record {
-    numbered = map_entry (still old new types) s.numbered;
-    means = subst (MeansEffect h e) (sym (entry_twice (still old new types) (number_of new anyhow) s.numbered))
+    numbered = map_entry on s.numbered;
+    means = subst (MeansEffect h e) (sym (entry_twice on (number_of new (Fits h)) s.numbered))
         (effect_kept g h grows s.means);
-    is = entry_twice (still old new types) (whole_of new anyhow) s.numbered ∙ s.is;
+    is = entry_twice on (whole_of new (Fits h)) s.numbered ∙ s.is;
   }
 
   -- an import is that of the host
@@ -49,7 +56,7 @@ module _ (old new : Types) (g h : ComponentDfg) (types : builder.Grows old new) 
   import_still i x s = record {
     name = s.name;
     extern_data = s.extern_data;
-    typed = holds_still old new types (mark.Type_ i.1.ty) (of_type x.import_type) s.typed;
+    typed = holds_still old new types g h fits (mark.Type_ i.1.ty) (of_type x.import_type) s.typed;
   }
 
   -- a trampoline is declared
@@ -58,7 +65,7 @@ module _ (old new : Types) (g h : ComponentDfg) (types : builder.Grows old new) 
   declared_still log k x d = record {
     value = d.value;
     entry = d.entry;
-    stands = core_kept old new g h types grows (def.Trampoline (record { 0 = k })) d.value d.stands;
+    stands = core_kept old new g h types grows fits (def.Trampoline (record { 0 = k })) d.value d.stands;
     signed = (d.signed.0, types.signatures x.0.0 d.signed.0 d.signed.1, d.signed.2);
   }
 
@@ -66,7 +73,7 @@ module _ (old new : Types) (g h : ComponentDfg) (types : builder.Grows old new) 
   pub trampoline_still : (v : CoreValue Mark) → HasTrampoline old g v → HasTrampoline new h v
   trampoline_still v t = record {
     trampoline = t.trampoline;
-    stands = core_kept old new g h types grows (def.Trampoline t.trampoline) v t.stands;
+    stands = core_kept old new g h types grows fits (def.Trampoline t.trampoline) v t.stands;
   }
 
   -- a graph that does no more than before
@@ -96,11 +103,12 @@ pub point_kept : (t : TypeTable) (ms : List ModuleRecord) (old new : State) → 
     → (f : Frame) (now : Moment) → PointStands t ms old f now → PointStands t ms new f now
 point_kept t ms old new p f now at = record {
   sound = p.sound at.sound;
-  here = p.keeps.types.resources ∙ at.here;
-  typed = at.typed;
+  here = subst (λ (r : Resources). KnowsSame new.graph r now.scope) (sym p.resources)
+      (knows_grown old.graph old.types.resources now.scope at.here new.graph p.keeps.fits);
+  converted = converted_kept old.types new.types p.keeps.types p.resources t f.converted at.converted;
   frame = frame_kept ms (tables_of old) (tables_of new) p.keeps f now.scope at.frame;
-  world = world_still old.types new.types old.graph new.graph p.keeps.types p.keeps.graph p.side_effects p.instances
-      p.trampolines p.imports p.import_types p.begun now.world at.world;
+  world = world_still old.types new.types old.graph new.graph p.keeps.types p.keeps.graph p.keeps.fits p.side_effects
+      p.instances p.trampolines p.imports p.import_types p.begun now.world at.world;
   unexported = record {
     exports = p.exports ∙ at.unexported.exports;
     items = p.export_items ∙ at.unexported.items;

@@ -1,6 +1,7 @@
 //! Functions: lift and lower.
 
-ghost use Rattle.std.specs.Prelude.{◌≡◌};
+ghost use Rattle.std.specs.Prelude.{◌≡◌, ◌+◌};
+ghost use Rattle.pc_types_lists.specs.Adds.{most_types};
 ghost use Rattle.pc_spec_reading.specs.Item.{lift_item, lower_item};
 ghost use Rattle.pc_inline_state.specs.Adds.{Adds};
 ghost use Rattle.pc_inline_state.specs.Points.{IsInput, IsPoint, StepsItem};
@@ -26,12 +27,14 @@ pub fn step_lift(
     requires input { IsInput context.now.table.now context.now.modules }
     requires here { IsPoint context.now.table.now context.now.modules state.old frame.old }
     ensures keeps { Keeps (tables_of state.old) (tables_of state.new) }
-    ensures adds { Adds context.now.table.now 1 4 (tables_of state.old) (tables_of state.new) }
+    ensures adds { Adds context.now.table.now (4 + most_types context.now.table.now)
+        (tables_of state.old) (tables_of state.new) }
+    ensures resources { state.new.types.resources ≡ state.old.types.resources }
     ensures same { frame.new.component_instance ≡ frame.old.component_instance }
     ensures steps { StepsItem context.now.table.now context.now.modules (lift_item func ty core opts.now)
         state.old frame.old state.new frame.new result }
 {
-    let (ty, core_type) = context.function_types(state, ty, core)?;
+    let (ty, core_type) = context.function_types(state, &mut frame.converted, ty, core)?;
     let Some(func) = at(frame.core_funcs.as_slice(), func) else {
         return Err(ItemError::Fault(ItemFault::Invalid));
     };
@@ -57,12 +60,14 @@ pub fn step_lower(
     requires input { IsInput context.now.table.now context.now.modules }
     requires here { IsPoint context.now.table.now context.now.modules state.old frame.old }
     ensures keeps { Keeps (tables_of state.old) (tables_of state.new) }
-    ensures adds { Adds context.now.table.now 1 4 (tables_of state.old) (tables_of state.new) }
+    ensures adds { Adds context.now.table.now (4 + most_types context.now.table.now)
+        (tables_of state.old) (tables_of state.new) }
+    ensures resources { state.new.types.resources ≡ state.old.types.resources }
     ensures same { frame.new.component_instance ≡ frame.old.component_instance }
     ensures steps { StepsItem context.now.table.now context.now.modules (lower_item func ty core opts.now)
         state.old frame.old state.new frame.new result }
 {
-    let (ty, core_type) = context.function_types(state, ty, core)?;
+    let (ty, core_type) = context.function_types(state, &mut frame.converted, ty, core)?;
     let Some(func) = at(frame.funcs.as_slice(), func) else {
         return Err(ItemError::Fault(ItemFault::Invalid));
     };

@@ -48,7 +48,8 @@ pub(crate) fn lower_host(
     requires there { import.0 < length state.old.graph.import_types }
     requires options { OptionsThere context.now.modules (tables_of state.old) options }
     ensures keeps { Keeps (tables_of state.old) (tables_of state.new) }
-    ensures adds { Adds context.now.table.now 0 4 (tables_of state.old) (tables_of state.new) }
+    ensures adds { Adds context.now.table.now 4 (tables_of state.old) (tables_of state.new) }
+    ensures resources { state.new.types.resources ≡ state.old.types.resources }
     ensures lowers { IfOk result
         (Lowers context.now.table.now context.now.modules state.old state.new import ty options) }
     ensures err { IfErr result (LacksRoom state.new) }

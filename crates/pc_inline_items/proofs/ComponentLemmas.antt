@@ -290,7 +290,7 @@ module _ (t : TypeTable) (ms : List ModuleRecord) (k : Option ClosureId) (s : St
         nested.3.items ms_there cs_there in
         record {
           now = next;
-          stands = framed_point t ms end f with_it now (with_value now.scope v) at_end refl
+          stands = framed_point t ms end f with_it now (with_value now.scope v) at_end refl refl refl
               (component_framed ms c f now.scope at_end.frame key (closed body chain) is);
           done = row_goes t ms now next (component_item body) refl (defined_read t ms body now definable)
               at.world.no_adapters;

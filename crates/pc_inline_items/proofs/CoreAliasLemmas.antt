@@ -12,7 +12,7 @@ use Rattle.pc_spec_reading.specs.Item.{core_alias_item}
 use Rattle.pc_spec_reading.specs.Modules.{read_core_alias}
 use Rattle.pc_spec_reading.specs.Outcome.{found, invalid}
 use Rattle.pc_spec_reading.specs.Rows.{read_row}
-use Rattle.pc_spec_reading.specs.Scope.{Moment, add_core, with_core}
+use Rattle.pc_spec_reading.specs.Scope.{Moment, Scope, add_core, with_core}
 use Rattle.pc_inline_state.specs.declared.core_item.CoreItem.{CoreItem}
 use Rattle.pc_inline_state.specs.declared.definition.CoreId.{CoreId}
 use Rattle.pc_inline_state.specs.declared.error.ItemError.TheVariants as item_error
@@ -41,6 +41,22 @@ core_same f core.Table n = refl
 core_same f core.Memory n = refl
 core_same f core.Global n = refl
 core_same f core.Tag n = refl
+
+-- for which the same types were converted
+core_done : (f : Frame) (k : CoreKind) (n : CoreId) → (with_core_id f k n).converted ≡ f.converted
+core_done f core.Func n = refl
+core_done f core.Table n = refl
+core_done f core.Memory n = refl
+core_done f core.Global n = refl
+core_done f core.Tag n = refl
+
+-- one core value more leaves the resources that a scope knows
+core_known : (s : Scope) (k : CoreKind) (v : CoreValue Mark) → (with_core s k v).known ≡ s.known
+core_known s core.Func v = refl
+core_known s core.Table v = refl
+core_known s core.Memory v = refl
+core_known s core.Global v = refl
+core_known s core.Tag v = refl
 
 module _ (t : TypeTable) (ms : List ModuleRecord) (input : IsInput t ms) (st : State) (f : Frame) (k : CoreKind) (n : ℕ)
     (name : List ℕ) where
@@ -78,7 +94,7 @@ module _ (t : TypeTable) (ms : List ModuleRecord) (input : IsInput t ms) (st : S
         now = next;
         stands = subst (λ g. PointStands t ms st' g next) (sym is)
             (framed_point t ms st' f (with_core_id f k id) now (with_core now.scope k v.0) after (core_same f k id)
-            framed);
+            (core_done f k id) (core_known now.scope k v.0) framed);
         done = row_goes t ms now next (core_alias_item k n name) refl
             (ap (λ o. found invalid o (λ (v : CoreValue Mark). Ok (add_core now k v))) v.1) at.world.no_adapters;
       })

@@ -53,7 +53,7 @@ module _ (t : TypeTable) (ms : List ModuleRecord) (st : State) (f : Frame) (item
       record {
         now = next;
         stands = subst (λ g. PointStands t ms st g next) (sym is)
-            (framed_point t ms st f _ now (with_core_instance now.scope (bag es.0)) at refl stands);
+            (framed_point t ms st f _ now (with_core_instance now.scope (bag es.0)) at refl refl refl stands);
         done = row_goes t ms now next (core_exports_item items) refl
             (ap (λ o. found invalid o (λ (es : List (List ℕ × CoreItem)). Ok (add_core_instance now (bag es)))) es.1)
             at.world.no_adapters;

@@ -40,6 +40,7 @@ use Rattle.pc_inline_canon.proofs.DefinitionLemmas.{definition_added}
 use Rattle.pc_inline_items.proofs.ExportStepLemmas.{steps_unbuilt}
 use Rattle.pc_inline_canon.proofs.FrameLemmas.{framed_point, made_framed}
 use Rattle.pc_inline_canon.proofs.KeptLemmas.{members_kept}
+use Rattle.pc_inline_state.proofs.FitsLemmas.{fits_refl}
 use Rattle.pc_inline_state.proofs.StateLemmas.{definition_prepares, prepares_trans, types_refl}
 use Rattle.pc_inline_canon.proofs.StepLemmas.{row_goes, row_stuck, steps_on, steps_stuck}
 use Rattle.pc_inline_canon.proofs.TreeLemmas.{instance_tree}
@@ -54,6 +55,7 @@ instance_prepares t ms st es = record {
   keeps = record {
     types = types_refl st.types;
     graph = graph_growth.grows_refl st.graph;
+    fits = fits_refl st.graph;
     cores = kept_refl st.cores;
     definitions = kept_refl st.definitions;
     closures = kept_refl st.closures;
@@ -68,6 +70,7 @@ instance_prepares t ms st es = record {
     numbers = s.numbers;
     held = s.held;
   };
+  resources = refl;
   side_effects = refl;
   instances = refl;
   trampolines = refl;
@@ -167,7 +170,7 @@ module _ (t : TypeTable) (ms : List ModuleRecord) (es : List (ExternName × Item
               (stands_instance held (members_kept ms b c prepares.keeps [] members (pack_values vs.0) vs.2)) in
               record {
                 now = add_value now (instance_value i);
-                stands = framed_point t ms end f with_it now _ at_end refl
+                stands = framed_point t ms end f with_it now _ at_end refl refl refl
                     (made_framed ms c f now.scope at_end.frame key i is);
                 done = row_goes t ms now (add_value now (instance_value i)) from_items (built_items es ∙ built)
                     (made_row now tree.0 vs.0 tree.1 vs.1) at.world.no_adapters;

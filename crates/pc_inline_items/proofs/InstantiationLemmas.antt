@@ -1,6 +1,6 @@
 -- How the step of a core instance ends, against its row.
 use Rattle.std.proofs.Common.{◌≡◌, ℕ, Bool, true, false, List, [], ◌∷◌, ◌++◌, length, Option, Some, None}
-use Rattle.std.proofs.Common.{◌≤◌, ◌⊎◌, Ok, Err, Result}
+use Rattle.std.proofs.Common.{◌≤◌, ◌⊎◌, inl, inr, Ok, Err, Result}
 use Rattle.std.proofs.Common.{if◌then◌else◌, refl, sym, ap, subst, ◌∙◌}
 use Rattle.std.specs.Prelude.{⊤, OnErr, OnOk, slice_get, option_and_then}
 use Rattle.std.specs.Result.{IsErrAnd}
@@ -55,6 +55,8 @@ use Rattle.pc_inline_state.specs.Stands.{stands_lifted, stands_static}
 use Rattle.pc_inline_state.specs.Tables.{Keeps, Tables, tables_of}
 use Rattle.pc_inline_state.proofs.AddsLemmas.{everywhere_few}
 use Rattle.pc_inline_state.proofs.AddsPushLemmas.{instance_adds}
+use Rattle.pc_inline_state.specs.Fits.{FitsBefore}
+use Rattle.pc_inline_state.proofs.FitsLemmas.{fits_grown}
 use Rattle.pc_inline_state.proofs.GrowthLemmas.{graph_crowded, graph_grown}
 use Rattle.pc_inline_canon.proofs.CoreInstanceLemmas.{made_point}
 use Rattle.pc_inline_canon.proofs.FrameLemmas.{framed_point, instance_framed}
@@ -100,15 +102,24 @@ IsGiven ms st f args m defs =
     (option_and_then (static_arguments ms s args) (slice_get ms m.0))
 
 module _ (b : Tables) (g : ComponentDfg) where
-  -- what is kept where the graph alone has grown
-  pub instance_keeps : graph.Grows b.graph g → Keeps b (record b { graph = g })
-  instance_keeps = graph_grown b g
+  -- what is kept where the graph alone has grown, by a core instance
+  pub instance_keeps : {A E : Type 0} (r : Result A E) (x : Instance) (owner : RuntimeComponentInstanceIndex)
+      → graph.Grows b.graph g → OnOk r (g ≡ with_instance b.graph x owner)
+      → OnErr r ((g ≡ b.graph) ⊎ (g ≡ record b.graph { instances = b.graph.instances ++ x ∷ [] }))
+      → Keeps b (record b { graph = g })
+  instance_keeps (Ok done) x owner grows ok err =
+      graph_grown b g grows
+      (fits_grown b.graph g grows (λ i. (ok i).imported_resources) (λ i. (ok i).resources))
+  instance_keeps (Err e) x owner grows ok err = graph_grown b g grows (elim err as (λ _. FitsBefore b.graph g) [
+    | inl same ↦ fits_grown b.graph g grows (λ i. (same i).imported_resources) (λ i. (same i).resources)
+    | inr more ↦ fits_grown b.graph g grows (λ i. (more i).imported_resources) (λ i. (more i).resources)
+  ])
 
   -- a core instance adds an entry to some lists
   pub instance_few : (t : TypeTable) {A E : Type 0} (r : Result A E) (x : Instance)
       (owner : RuntimeComponentInstanceIndex) → OnOk r (g ≡ with_instance b.graph x owner)
       → OnErr r ((g ≡ b.graph) ⊎ (g ≡ record b.graph { instances = b.graph.instances ++ x ∷ [] }))
-      → Adds t 0 4 b (record b { graph = g })
+      → Adds t 4 b (record b { graph = g })
   instance_few t r x owner ok err =
       everywhere_few t b (record b { graph = g }) (instance_adds b g r x owner ok err)
 
@@ -206,7 +217,7 @@ module _ (t : TypeTable) (ms : List ModuleRecord) (st : State) (f : Frame) (n : 
                   scope = with_core_instance now.scope (of_module o m.0);
                 })) order
                 (framed_point t ms st' f (record f { core_instances = f.core_instances ++ instance.Made i m ∷ [] }) _
-                (with_core_instance now.scope (of_module i.0 m.0)) entered refl frame));
+                (with_core_instance now.scope (of_module i.0 m.0)) entered refl refl refl frame));
             done = row_goes t ms now (add_static now m.0 vs.0) (instantiate_module_item n args) refl
                 (module_row now at
                 ∙ ap (λ o. found invalid o (λ (vs : List (CoreValue Mark)). Ok (add_static now m.0 vs))) vs.1)

@@ -51,6 +51,23 @@ item_same f kind.Component id = refl
 item_same f kind.Type_ id = refl
 item_same f kind.Value id = refl
 
+-- and what was converted for it
+item_done : (f : Frame) (k : ItemKind) (id : DefinitionId) → (with_item_id f k id).converted ≡ f.converted
+item_done f kind.Func id = refl
+item_done f kind.Module id = refl
+item_done f kind.Instance id = refl
+item_done f kind.Component id = refl
+item_done f kind.Type_ id = refl
+item_done f kind.Value id = refl
+
+-- one value more leaves the resources that a scope knows
+value_known : (s : Scope) (v : Value) → (with_value s v).known ≡ s.known
+value_known s (func_value f) = refl
+value_known s (module_value m) = refl
+value_known s (instance_value i) = refl
+value_known s (component_value c) = refl
+value_known s (type_value t) = refl
+
 -- what stands as a value of one kind stands as a value
 both_value : {A : Type 0} (ms : List ModuleRecord) (b : Tables) (value : A → Value) (o : Option DefinitionId)
     (w : Option A) → Both (λ id x. Stands ms b id (value x)) o w → Both (Stands ms b) o (option_map value w)
@@ -95,8 +112,8 @@ item_point : (t : TypeTable) (ms : List ModuleRecord) (st : State) (f : Frame) (
     → PointStands t ms st f now → (k : ItemKind) (id : DefinitionId) (v : Value) → Stands ms (tables_of st) id v
     → is_of_kind k v ≡ true → PointStands t ms st (with_item_id f k id) (add_value now v)
 item_point t ms st f now at k id v x is =
-    framed_point t ms st f (with_item_id f k id) now (with_value now.scope v) at (item_same f k id)
-    (item_framed ms (tables_of st) f now.scope at.frame k id v x is)
+    framed_point t ms st f (with_item_id f k id) now (with_value now.scope v) at (item_same f k id) (item_done f k id)
+    (value_known now.scope v) (item_framed ms (tables_of st) f now.scope at.frame k id v x is)
 
 -- an item whose row adds a value of a kind
 pub item_goes : (t : TypeTable) (ms : List ModuleRecord) (st : State) (f : Frame) (now : Moment)

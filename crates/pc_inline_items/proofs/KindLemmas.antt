@@ -1,5 +1,5 @@
 -- The step of a local item from that of its kind.
-use Rattle.std.proofs.Common.{◌≡◌, ℕ, List, Option, Result, map, ap, sym, subst}
+use Rattle.std.proofs.Common.{◌≡◌, ℕ, List, Option, Result, map, refl, ap, sym, subst}
 use Rattle.std.specs.Prelude.{⊤}
 use Rattle.pc_numbers.specs.declared.component_entity.StaticModuleIndex.{StaticModuleIndex}
 use Rattle.pc_numbers.specs.declared.entity_index.EntityIndex.{EntityIndex}
@@ -21,7 +21,7 @@ use Rattle.pc_inline_state.specs.declared.definition.ClosureId.{ClosureId}
 use Rattle.pc_inline_state.specs.declared.error.ItemError.{ItemError}
 use Rattle.pc_inline_state.specs.declared.frame.Frame.{Frame}
 use Rattle.pc_inline_state.specs.declared.state.State.{State}
-use Rattle.pc_inline_state.specs.Adds.{Adds, functions_in}
+use Rattle.pc_inline_state.specs.Adds.{Adds, most_added}
 use Rattle.pc_inline_state.specs.Points.{StepsItem}
 use Rattle.pc_inline_items.specs.StepsLocal.{StepsLocal}
 use Rattle.pc_inline_state.specs.Tables.{Keeps, Tables}
@@ -31,18 +31,38 @@ use Rattle.pc_inline_items.proofs.LocalLemmas.{local_plain}
 
 module _ {t : TypeTable} {a : Tables} {x y : RuntimeComponentInstanceIndex} {S T : Type 0} where
   -- what the step of a local item promises, from that of its kind, which changes no table
-  pub still : {n : ℕ} → record { same : x ≡ y; steps : S } → (S → T)
-      → record { keeps : Keeps a a; adds : Adds t n 4 a a; same : x ≡ y; steps : T }
-  still {n = n} h steps =
-      record { keeps = keeps_refl a; adds = adds_refl t n 4 a; same = h.same; steps = steps h.steps }
+  pub still : {w : ℕ} → record { same : x ≡ y; steps : S } → (S → T)
+      → record {
+        keeps : Keeps a a;
+        adds : Adds t w a a;
+        resources : a.types.resources ≡ a.types.resources;
+        same : x ≡ y;
+        steps : T;
+      }
+  still {w = w} h steps =
+      record { keeps = keeps_refl a; adds = adds_refl t w a; resources = refl; same = h.same; steps = steps h.steps }
 
   -- from one that may
   pub moved : {b : Tables} {l m : LocalInitializer} → l ≡ m
-      → record { keeps : Keeps a b; adds : Adds t (functions_in m) 4 a b; same : x ≡ y; steps : S } → (S → T)
-      → record { keeps : Keeps a b; adds : Adds t (functions_in l) 4 a b; same : x ≡ y; steps : T }
+      → record {
+        keeps : Keeps a b;
+        adds : Adds t (most_added t m) a b;
+        resources : b.types.resources ≡ a.types.resources;
+        same : x ≡ y;
+        steps : S;
+      }
+      → (S → T)
+      → record {
+        keeps : Keeps a b;
+        adds : Adds t (most_added t l) a b;
+        resources : b.types.resources ≡ a.types.resources;
+        same : x ≡ y;
+        steps : T;
+      }
   moved {b = b} is h steps = record {
     keeps = h.keeps;
-    adds = subst (λ i. Adds t (functions_in i) 4 a b) (sym is) h.adds;
+    adds = subst (λ i. Adds t (most_added t i) a b) (sym is) h.adds;
+    resources = h.resources;
     same = h.same;
     steps = steps h.steps;
   }

@@ -74,7 +74,7 @@ module _ (t : TypeTable) (ms : List ModuleRecord) (m : StaticModuleIndex) (ty : 
         stands_static in
         record {
           now = next;
-          stands = framed_point t ms end f with_it now (with_value now.scope v) at_end refl
+          stands = framed_point t ms end f with_it now (with_value now.scope v) at_end refl refl refl
               (module_framed ms (tables_of end) f now.scope at_end.frame key (static_module m.0 tree.0) is);
           done = row_goes t ms now next module_ refl (module_read now tree.0 there) at.world.no_adapters;
         }

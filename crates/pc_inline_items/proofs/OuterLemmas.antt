@@ -142,7 +142,7 @@ module _ (t : TypeTable) (ms : List ModuleRecord) (k : Option ClosureId) (st : S
       record {
         now = add_value now value;
         stands = framed_point t ms st f (record f { modules = f.modules ++ id ∷ [] }) now (with_value now.scope value)
-            at refl (module_framed ms b f now.scope at.frame id m.0 (subst (Stands ms b id) m.1 x.2));
+            at refl refl refl (module_framed ms b f now.scope at.frame id m.0 (subst (Stands ms b id) m.1 x.2));
         done = row_goes t ms now (add_value now value) (outer_item a_module c n) refl
             (outer_read t ms a_module c n now value lent) at.world.no_adapters;
       })
@@ -162,7 +162,7 @@ module _ (t : TypeTable) (ms : List ModuleRecord) (k : Option ClosureId) (st : S
       record {
         now = add_value now value;
         stands = framed_point t ms st f (record f { components = f.components ++ id ∷ [] }) now
-            (with_value now.scope value) at refl
+            (with_value now.scope value) at refl refl refl
             (component_framed ms b f now.scope at.frame id m.0 (subst (Stands ms b id) m.1 x.2));
         done = row_goes t ms now (add_value now value) (outer_item a_component c n) refl
             (outer_read t ms a_component c n now value lent) at.world.no_adapters;

@@ -80,7 +80,8 @@ pub(crate) fn step_component_exports(
     requires input { IsInput context.now.table.now context.now.modules }
     requires here { IsPoint context.now.table.now context.now.modules state.old frame.old }
     ensures keeps { Keeps (tables_of state.old) (tables_of state.new) }
-    ensures adds { Adds context.now.table.now 0 4 (tables_of state.old) (tables_of state.new) }
+    ensures adds { Adds context.now.table.now 4 (tables_of state.old) (tables_of state.new) }
+    ensures resources { state.new.types.resources ≡ state.old.types.resources }
     ensures same { frame.new.component_instance ≡ frame.old.component_instance }
     ensures steps { StepsItem context.now.table.now context.now.modules
         (component_exports_item (map named_item exports.now) ty) state.old frame.old state.new frame.new result }

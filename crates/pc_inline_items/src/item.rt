@@ -1,7 +1,7 @@
 //! One item, by its kind.
 
 ghost use Rattle.std.specs.Prelude.{◌≡◌};
-ghost use Rattle.pc_inline_state.specs.Adds.{Adds, functions_in};
+ghost use Rattle.pc_inline_state.specs.Adds.{Adds, most_added};
 ghost use Rattle.pc_inline_state.specs.Kinds.{kinds_of};
 ghost use Rattle.pc_inline_state.specs.Points.{IsInput, IsPoint};
 ghost use Rattle.pc_inline_items.specs.StepsLocal.{StepsLocal};
@@ -28,7 +28,9 @@ pub fn step(
     requires here { IsPoint context.now.table.now context.now.modules state.old frame.old }
     requires kinds { context.now.kinds ≡ kinds_of context.now.table.now }
     ensures keeps { Keeps (tables_of state.old) (tables_of state.new) }
-    ensures adds { Adds context.now.table.now (functions_in item.now) 4 (tables_of state.old) (tables_of state.new) }
+    ensures adds { Adds context.now.table.now (most_added context.now.table.now item.now)
+        (tables_of state.old) (tables_of state.new) }
+    ensures resources { state.new.types.resources ≡ state.old.types.resources }
     ensures same { frame.new.component_instance ≡ frame.old.component_instance }
     ensures steps { StepsLocal context.now.table.now context.now.modules closure item.now
         state.old frame.old state.new frame.new result }

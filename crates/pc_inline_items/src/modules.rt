@@ -95,7 +95,8 @@ pub(crate) fn step_module(
     requires input { IsInput context.now.table.now context.now.modules }
     requires here { IsPoint context.now.table.now context.now.modules state.old frame.old }
     ensures keeps { Keeps (tables_of state.old) (tables_of state.new) }
-    ensures adds { Adds context.now.table.now 0 4 (tables_of state.old) (tables_of state.new) }
+    ensures adds { Adds context.now.table.now 4 (tables_of state.old) (tables_of state.new) }
+    ensures resources { state.new.types.resources ≡ state.old.types.resources }
     ensures same { frame.new.component_instance ≡ frame.old.component_instance }
     ensures steps { StepsItem context.now.table.now context.now.modules (module_item index.0 ty)
         state.old frame.old state.new frame.new result }
@@ -183,7 +184,8 @@ pub(crate) fn step_core_instance(
     requires input { IsInput context.now.table.now context.now.modules }
     requires here { IsPoint context.now.table.now context.now.modules state.old frame.old }
     ensures keeps { Keeps (tables_of state.old) (tables_of state.new) }
-    ensures adds { Adds context.now.table.now 0 4 (tables_of state.old) (tables_of state.new) }
+    ensures adds { Adds context.now.table.now 4 (tables_of state.old) (tables_of state.new) }
+    ensures resources { state.new.types.resources ≡ state.old.types.resources }
     ensures same { frame.new.component_instance ≡ frame.old.component_instance }
     ensures steps { StepsItem context.now.table.now context.now.modules (instantiate_module_item core_module args.now)
         state.old frame.old state.new frame.new result }
@@ -218,7 +220,8 @@ pub(crate) fn step_core_alias(
     requires input { IsInput context.now.table.now context.now.modules }
     requires here { IsPoint context.now.table.now context.now.modules state.old frame.old }
     ensures keeps { Keeps (tables_of state.old) (tables_of state.new) }
-    ensures adds { Adds context.now.table.now 0 4 (tables_of state.old) (tables_of state.new) }
+    ensures adds { Adds context.now.table.now 4 (tables_of state.old) (tables_of state.new) }
+    ensures resources { state.new.types.resources ≡ state.old.types.resources }
     ensures same { frame.new.component_instance ≡ frame.old.component_instance }
     ensures steps { StepsItem context.now.table.now context.now.modules (core_alias_item kind instance name.now)
         state.old frame.old state.new frame.new result }

@@ -23,6 +23,8 @@ use Rattle.pc_inline_state.specs.Adds.{Adds}
 use Rattle.pc_inline_state.specs.Tables.{IsItem, Keeps, tables_of}
 use Rattle.pc_inline_state.specs.Worlds.{EffectStands, HasItems, HasNoExports, ImportStands, WorldStands}
 use Rattle.pc_inline_state.proofs.AddsLemmas.{adds_refl}
+use Rattle.pc_inline_state.proofs.GainedLemmas.{tables_none}
+use Rattle.pc_inline_state.proofs.FitsLemmas.{fits_grown}
 use Rattle.pc_inline_state.proofs.GrowthLemmas.{graph_grown}
 use Rattle.pc_inline_canon.proofs.KeptLemmas.{is_item_kept}
 use Rattle.pc_inline_state.proofs.StateLemmas.{types_refl}
@@ -62,17 +64,19 @@ module _ (g : ComponentDfg) (grows : graph.Grows g (begun_graph g)) where
       → WorldStands types (begun_graph g) (record w { begun = w.begun + 1; total = total })
   begun_stands types w total s =
       let still = types_refl types in
+      let fits = fits_grown g (begun_graph g) grows refl refl in
       let one = s.begun in
       record {
         effects = zip_more (EffectStands types g) (EffectStands types (begun_graph g))
-            (effect_still types types g (begun_graph g) still grows) g.side_effects (trace w.log) s.effects;
+            (effect_still types types g (begun_graph g) still grows fits) g.side_effects (trace w.log) s.effects;
         order = s.order;
-        are_declared = λ k x at. declared_still types types g (begun_graph g) still grows w.log k x
+        are_declared = λ k x at. declared_still types types g (begun_graph g) still grows fits w.log k x
             (s.are_declared k x at);
-        trampolines = λ d entry. trampoline_still types types g (begun_graph g) still grows d (s.trampolines d entry);
+        trampolines = λ d entry. trampoline_still types types g (begun_graph g) still grows fits d
+            (s.trampolines d entry);
         few_trampolines = s.few_trampolines;
         import_types = zip_more (ImportStands types g) (ImportStands types (begun_graph g))
-            (import_still types types g (begun_graph g) still grows) g.import_types w.imports s.import_types;
+            (import_still types types g (begun_graph g) still grows fits) g.import_types w.imports s.import_types;
         imports = s.imports;
         imported_resources = s.imported_resources;
         intrinsics = s.intrinsics;
@@ -108,7 +112,9 @@ begun_sound t ms st grows ordered s = record {
 -- its tables grew
 pub begun_keeps : (st : State) → graph.Grows st.graph (begun_graph st.graph)
     → Keeps (tables_of st) (tables_of (record st { graph = begun_graph st.graph }))
-begun_keeps st grows = graph_grown (tables_of st) (begun_graph st.graph) grows
+begun_keeps st grows =
+    graph_grown (tables_of st) (begun_graph st.graph) grows
+    (fits_grown st.graph (begun_graph st.graph) grows refl refl)
 
 begun_lists : (g : ComponentDfg) (l : ListName) → length (entries_of (begun_graph g) l) ≡ length (entries_of g l)
 unfolding slots_of
@@ -121,11 +127,12 @@ begun_lists g l = refl
 
 -- by one component instance
 pub begun_adds : (t : TypeTable) (st : State)
-    → Adds t 0 1 (tables_of st) (tables_of (record st { graph = begun_graph st.graph }))
+    → Adds t 1 (tables_of st) (tables_of (record st { graph = begun_graph st.graph }))
 begun_adds t st =
-    let still = adds_refl t 0 1 (tables_of st) in
+    let still = adds_refl t 1 (tables_of st) in
     record {
       types = still.types;
+      tables = tables_none t (st.graph.num_runtime_component_instances + 1) st.types st.types refl;
       entries = record {
         lists = λ l. let same = begun_lists st.graph l in omega (arith, same);
         cores = still.entries.cores;
@@ -134,4 +141,6 @@ begun_adds t st =
         instances = still.entries.instances;
         begun = omega arith;
       };
+      grows = still.grows;
+      later = omega arith;
     }

@@ -35,7 +35,7 @@ use Rattle.pc_inline_state.specs.Definitions.{component_parts}
 use Rattle.pc_inline_state.specs.Frames.{ComponentStands, SameNames}
 use Rattle.pc_inline_state.specs.Stands.{Stands, stands, stands_component}
 use Rattle.pc_inline_state.specs.Tables.{tables_of}
-use Rattle.pc_inline_state.specs.Today.{built_call, can_instantiate, is_built_call, is_built_kind, today}
+use Rattle.pc_inline_state.specs.Today.{built_call, has_no_resource, is_built_call, is_built_kind, today}
 use Rattle.pc_inline_state.specs.declared.kinds.TableKinds.{TableKinds}
 use Rattle.pc_inline_state.specs.Kinds.{kinds_of}
 use Rattle.pc_entity.proofs.Elements.{and_true}
@@ -56,8 +56,8 @@ typed_arguments t xs built = typed_named argument_of t (is_typed_argument t) (λ
 
 -- whether a call is built, as the code finds it out
 pub call_built : (t : TypeTable) (k : TableKinds) (xs : List (List ℕ × ItemKind × ℕ)) → k ≡ kinds_of t
-    → (k.can_instantiate && are_built xs) ≡ is_built_call t (map argument_of xs)
-call_built t k xs kinds = λ i. (kinds i).can_instantiate && sym (built_arguments xs) i
+    → (k.has_no_resource && are_built xs) ≡ is_built_call t (map argument_of xs)
+call_built t k xs kinds = λ i. (kinds i).has_no_resource && sym (built_arguments xs) i
 
 -- what a call that is built begins with
 call_made : (t : TypeTable) (s : Scope) (n : ℕ) (as_ : List ArgumentOf) (ty : ℕ) (c : Component)
@@ -88,14 +88,15 @@ module _ (t : TypeTable) (ms : List ModuleRecord) (st : State) (f : Frame) (n : 
   call_starved (Err x) is = subst (λ e. Calls t ms n (map argument_of xs) ty st f (Err e)) (sym is) call_unfed
 
   module _ (is_built : is_built_call t (map argument_of xs) ≡ true) where
-    can : can_instantiate t ≡ true
-    can = (and_true (can_instantiate t) (list_all (λ (a : ArgumentOf). is_built_kind a.kind) (map argument_of xs))
+    resourceless : has_no_resource t ≡ true
+    resourceless = (and_true (has_no_resource t) (list_all (λ (a : ArgumentOf). is_built_kind a.kind)
+        (map argument_of xs))
         is_built).0
 
     built : are_built xs ≡ true
     built =
         sym (built_arguments xs)
-        ∙ (and_true (can_instantiate t) (list_all (λ (a : ArgumentOf). is_built_kind a.kind) (map argument_of xs))
+        ∙ (and_true (has_no_resource t) (list_all (λ (a : ArgumentOf). is_built_kind a.kind) (map argument_of xs))
         is_built).1
 
     -- no instance type
@@ -160,7 +161,7 @@ module _ (t : TypeTable) (ms : List ModuleRecord) (st : State) (f : Frame) (n : 
                   typed
                   c.1 as_.1;
               stands = component_stands c.0 c.2 as_.0 as_.2;
-              built = can;
+              resourceless = resourceless;
               is_typed = typed;
             }
           where

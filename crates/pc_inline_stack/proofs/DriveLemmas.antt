@@ -1,5 +1,5 @@
 -- The moves of a driver of component instances, from where it begins to where it ends.
-use Rattle.std.proofs.Common.{◌≡◌, ◌<◌, ◌≤◌, ◌+◌, ◌*◌, ◌⊎◌, ◌-◌, ℕ, List, [], Option, None, Some, Result, Ok, Err}
+use Rattle.std.proofs.Common.{◌≡◌, ◌<◌, ◌≤◌, ◌+◌, ◌⊎◌, ◌-◌, ℕ, List, [], Option, None, Some, Result, Ok, Err}
 use Rattle.std.proofs.Common.{length, refl, reverse, sym, ap, subst, ◌∙◌, arith, inl, inr}
 use Rattle.std.specs.Result.{IsErrAnd}
 use Rattle.pc_types.specs.declared.error.Error.{Error}
@@ -13,22 +13,21 @@ use Rattle.pc_local.specs.Standing.{ItemsStand, no_names}
 use Rattle.pc_inline_stack.specs.declared.driver.Open.{Open}
 use Rattle.pc_inline_state.specs.declared.frame.Frame.{Frame}
 use Rattle.pc_inline_state.specs.declared.state.State.{State}
-use Rattle.pc_inline_state.specs.Adds.{Adds, item_count}
+use Rattle.pc_inline_state.specs.Adds.{Adds, most_of_items}
 use Rattle.pc_inline_stack.specs.Driving.{Counts, CountsItems, EndsIn, EndsRun, Runs, reading_from}
 use Rattle.pc_inline_state.specs.Points.{IsPoint, PointStands}
 use Rattle.pc_inline_stack.specs.Reads.{AreItems, Ends}
-use Rattle.pc_inline_stack.specs.Stacks.{Driven, Failed, Grew, HasRoom, IsPast, Reached, all_left}
+use Rattle.pc_inline_stack.specs.Stacks.{Driven, Failed, Grew, HasRoom, IsPast, Reached, all_most_left}
 use Rattle.pc_inline_stack.specs.Stacks.{AllStand, child_stands, items_of, reads_on, resume, root_stands}
 use Rattle.pc_inline_stack.specs.Stacks.{Reader, Waiting}
 use Rattle.pc_inline_state.specs.Today.{built_enter, built_items}
 use Rattle.pc_inline_state.specs.Tables.{tables_of}
-use Rattle.pc_inline_state.proofs.AddsLemmas.{adds_refl, adds_weaken}
+use Rattle.pc_inline_state.proofs.AddsLemmas.{adds_refl}
 use Rattle.pc_inline_stack.proofs.EnclosedLemmas.{root_enclosed}
-use Rattle.pc_inline_stack.proofs.LoopAddsLemmas.{as_many_items}
 use Rattle.pc_inline_stack.proofs.MoveLemmas.{reached_point}
 use Rattle.pc_inline_stack.proofs.ReadLemmas.{none_left}
 use Rattle.pc_inline_stack.proofs.ResumeLemmas.{root_ends}
-use Rattle.pc_inline_stack.proofs.StackLemmas.{grew_ends}
+use Rattle.pc_inline_stack.proofs.StackLemmas.{grew_more}
 use Rattle.pc_inline_state.proofs.StateLemmas.{keeps_refl}
 
 module _ (t : TypeTable) (ms : List ModuleRecord) (limit : ℕ) (root : Translation) where
@@ -41,7 +40,7 @@ module _ (t : TypeTable) (ms : List ModuleRecord) (limit : ℕ) (root : Translat
     uncounted_point now at = record {
       sound = at.sound;
       here = at.here;
-      typed = at.typed;
+      converted = at.converted;
       frame = at.frame;
       world = record {
         effects = at.world.effects;
@@ -77,12 +76,12 @@ module _ (t : TypeTable) (ms : List ModuleRecord) (limit : ℕ) (root : Translat
       reader = record { scope = first.scope; names = no_names; body = is };
       world = first.world;
       sound = at.sound;
-      here = at.here;
       world_stands = at.world;
       unexported = at.unexported;
       all = root_stands (record {
         frame = at.frame;
-        typed = at.typed;
+        here = at.here;
+        converted = at.converted;
         enclosed = root_enclosed ms (tables_of old) first.scope.chain;
         closed = λ k is. let x : ⊥ = cc in absurd x;
         items = stand;
@@ -91,17 +90,17 @@ module _ (t : TypeTable) (ms : List ModuleRecord) (limit : ℕ) (root : Translat
       same =
           let whole : limit - 0 ≡ limit = omega arith in
           ap (λ l. built_items t ms (built_enter t ms limit l) 0 is first) whole;
-      grew = root_grew first.world.total (all_left old.bodies.now root [] root_open) (item_count is)
-          (let many = as_many_items old.bodies.now no_names root.initializers is stand in omega (arith, many)) room;
+      grew = root_grew first.world.total (all_most_left t old.bodies.now root [] root_open)
+          (most_of_items t root.initializers) (omega arith) room;
     }
 
     -- nothing was read yet
     driven_alone : 0 < old.graph.num_runtime_component_instances
         → old.graph.num_runtime_component_instances ≤ limit → Driven t ms limit root old f old [] root_open
     driven_alone begun within = record {
-      items = 0;
+      added = 0;
       keeps = keeps_refl (tables_of old);
-      adds = adds_refl t 0 0 (tables_of old);
+      adds = adds_refl t 0 (tables_of old);
       deep = begun;
       within = within;
       starts = record {
@@ -134,14 +133,14 @@ module _ (t : TypeTable) (ms : List ModuleRecord) (limit : ℕ) (root : Translat
           | inr x ↦ x.ends
         ]
 
-    counted_fails : (is : Items) (n : ℕ) (e : Error) (o : Outcome Moment) (failed : Failed t ms limit root old f st e)
-        (total : Option ℕ) → Grew (Some n) total failed.items 0 (item_count is)
-        → CountsItems t ms limit is n old st o (Err e)
+    counted_fails : (n : ℕ) (e : Error) (o : Outcome Moment) (failed : Failed t ms limit root old f st e)
+        (total : Option ℕ) → Grew (Some n) total failed.added 0 (most_of_items t root.initializers)
+        → CountsItems t ms limit root.initializers n old st o (Err e)
     unfolding Grew EndsIn
-    counted_fails is n e o failed total grew =
+    counted_fails n e o failed total grew =
         let few = grew.3 in
         record {
-          items = failed.items;
+          added = failed.added;
           total = grew.0;
           adds = failed.adds;
           few = omega (arith, few);
@@ -157,23 +156,23 @@ module _ (t : TypeTable) (ms : List ModuleRecord) (limit : ℕ) (root : Translat
         let room : HasRoom now.world.total = subst HasRoom (sym some) below in
         elim (failed.reads is now stand at room)
         as (λ _. (reading_from t ms limit is now ≡ past)
-        ⊎ CountsItems t ms limit is n old st (reading_from t ms limit is now) (Err e)) [
+        ⊎ CountsItems t ms limit root.initializers n old st (reading_from t ms limit is now) (Err e)) [
           | inl gone ↦ inl (subst (λ k. IsPast k (reading_from t ms limit is now)) some gone)
-          | inr x ↦ inr (counted_fails is n e (reading_from t ms limit is now) failed x.total
-              (subst (λ k. Grew k x.total failed.items 0 (item_count is)) some x.grew))
+          | inr x ↦ inr (counted_fails n e (reading_from t ms limit is now) failed x.total
+              (subst (λ k. Grew k x.total failed.added 0 (most_of_items t root.initializers)) some x.grew))
         ]
 
     module _ (o : Open) (driven : Driven t ms limit root old f st [] o)
         (end : length (items_of st.bodies.now root o) ≤ o.next) where
-      root_done : (is : Items) (first : Moment) (x : Reached t ms limit root is first st [] o driven.items)
+      root_done : (is : Items) (first : Moment) (x : Reached t ms limit root is first st [] o driven.added)
           → (last : Moment) × (reading_from t ms limit is first ≡ done last) × PointStands t ms st o.frame last
           × (last.world ≡ x.world)
       root_done is first x =
           by [] o x.waiting x.reader x.all refl refl x.same
-          (reached_point t ms limit root is first st [] o driven.items x)
+          (reached_point t ms limit root is first st [] o driven.added x)
         where
           by : (ks : List Open) (p : Open) (ws : List Waiting) (r : Reader)
-              → AllStand t ms st.bodies.now root (tables_of st) ks p ws r → ks ≡ [] → p ≡ o
+              → AllStand t ms st.bodies.now root (tables_of st) st.types.resources ks p ws r → ks ≡ [] → p ≡ o
               → reads_on t ms limit ws r o.next x.world ≡ reading_from t ms limit is first
               → PointStands t ms st o.frame (record { scope = r.scope; world = x.world })
               → (last : Moment) × (reading_from t ms limit is first ≡ done last) × PointStands t ms st o.frame last
@@ -186,7 +185,7 @@ module _ (t : TypeTable) (ms : List ModuleRecord) (limit : ℕ) (root : Translat
             at,
             refl,
           )
-          by ks p ws r (child_stands h exports caller can all) none same reads at = let y : ⊥ = cc in absurd y
+          by ks p ws r (child_stands h exports caller unknown waits all) none same reads at = let y : ⊥ = cc in absurd y
 
       -- the root has ended where the reading has
       driven_runs : Runs t ms limit root.initializers old f st (Ok o.frame)
@@ -199,22 +198,22 @@ module _ (t : TypeTable) (ms : List ModuleRecord) (limit : ℕ) (root : Translat
             | inr x ↦ (let d = root_done is now x in (d.0, d.1, d.2))
           ]
 
-      counted_done : (is : Items) (first : Moment) (n : ℕ) (x : Reached t ms limit root is first st [] o driven.items)
+      counted_done : (is : Items) (first : Moment) (n : ℕ) (x : Reached t ms limit root is first st [] o driven.added)
           → first.world.total ≡ Some n
-          → CountsItems t ms limit is n old st (reading_from t ms limit is first) (Ok o.frame)
+          → CountsItems t ms limit root.initializers n old st (reading_from t ms limit is first) (Ok o.frame)
       unfolding Grew EndsIn
       counted_done is first n x some =
-          let grew : Grew (Some n) x.world.total driven.items 0 (item_count is) =
-          subst (λ k. Grew k x.world.total driven.items 0 (item_count is)) some
-          (grew_ends first.world.total x.world.total driven.items (all_left st.bodies.now root [] o) (item_count is)
-          driven.items (omega arith) x.grew) in
+          let grew : Grew (Some n) x.world.total (driven.added + 0) 0 (most_of_items t root.initializers) =
+          subst (λ k. Grew k x.world.total (driven.added + 0) 0 (most_of_items t root.initializers)) some
+          (grew_more first.world.total x.world.total x.world.total driven.added
+          (all_most_left t st.bodies.now root [] o) 0 0 (most_of_items t root.initializers) refl (omega arith) x.grew)
+          in
           let few = grew.3 in
           let d = root_done is first x in
           record {
-            items = driven.items;
+            added = driven.added;
             total = grew.0;
-            adds = adds_weaken t driven.items (4 * driven.items + 0) driven.items (4 * driven.items) (tables_of old)
-                (tables_of st) (omega arith) (omega arith) driven.adds;
+            adds = driven.adds;
             few = omega (arith, few);
             below = grew.2;
             ends = (d.0, d.1, ap (λ w. w.total) d.3 ∙ grew.1);
@@ -227,7 +226,7 @@ module _ (t : TypeTable) (ms : List ModuleRecord) (limit : ℕ) (root : Translat
           let room : HasRoom now.world.total = subst HasRoom (sym some) below in
           elim (driven.reads is now stand at room)
           as (λ _. (reading_from t ms limit is now ≡ past)
-          ⊎ CountsItems t ms limit is n old st (reading_from t ms limit is now) (Ok o.frame)) [
+          ⊎ CountsItems t ms limit root.initializers n old st (reading_from t ms limit is now) (Ok o.frame)) [
             | inl gone ↦ inl (subst (λ k. IsPast k (reading_from t ms limit is now)) some gone)
             | inr x ↦ inr (counted_done is now n x some)
           ]
@@ -239,12 +238,8 @@ module _ (t : TypeTable) (ms : List ModuleRecord) (limit : ℕ) (root : Translat
     last_driven = subst (λ k. Driven t ms limit root old f st k o) none driven
 
     -- what was added
-    pub run_adds : (n : ℕ) × Adds t n (4 * n) (tables_of old) (tables_of st)
-    run_adds = (
-      last_driven.items,
-      adds_weaken t last_driven.items (4 * last_driven.items + 0) last_driven.items
-          (4 * last_driven.items) (tables_of old) (tables_of st) (omega arith) (omega arith) last_driven.adds,
-    )
+    pub run_adds : (w : ℕ) × Adds t w (tables_of old) (tables_of st)
+    run_adds = (last_driven.added, last_driven.adds)
 
     -- the root is where the reading has ended
     pub run_ends : (g : Frame) → g ≡ o.frame → Runs t ms limit root.initializers old f st (Ok g)

@@ -1,7 +1,7 @@
 -- A child begins on a stack of component instances, or the item that begins it is refused.
-use Rattle.std.proofs.Common.{◌≡◌, ◌<◌, ◌≤◌, ◌+◌, ◌*◌, ◌⊎◌, ℕ, suc, true, false, Bool, List, [], ◌∷◌, Option, None}
+use Rattle.std.proofs.Common.{◌≡◌, ◌<◌, ◌≤◌, ◌+◌, ◌⊎◌, ℕ, suc, true, false, Bool, List, [], ◌∷◌, Option, None}
 use Rattle.std.proofs.Common.{Some}
-use Rattle.std.proofs.Common.{Result, Ok, Err, length, map, refl, sym, ap, subst, ◌∙◌, arith, inl, inr, if◌then◌else◌}
+use Rattle.std.proofs.Common.{Result, Ok, Err, length, map, refl, sym, ap, subst, ◌∙◌, arith, inl, inr}
 use Rattle.std.specs.Prelude.{slice_get, nat_lt, unwrap_or}
 use Rattle.pc_entity.specs.Lists.{value_of}
 use Rattle.pc_inline_state.specs.declared.definition.ClosureId.{ClosureId}
@@ -13,8 +13,10 @@ use Rattle.pc_numbers.specs.declared.runtime.RuntimeComponentInstanceIndex.{Runt
 use Rattle.pc_types.specs.declared.error.Place.TheVariants as place
 use Rattle.pc_types.specs.declared.module_record.ModuleRecord.{ModuleRecord}
 use Rattle.pc_types.specs.declared.parsed.TypeTable.{TypeTable}
+use Rattle.pc_types.specs.declared.types.TypeDef.{TypeDef}
+use Rattle.pc_types_builder.specs.Converted.{AreConverted}
+use Rattle.pc_types_lists.specs.Types.{Types}
 use Rattle.pc_parsed.specs.declared.payload.ItemKind.{ItemKind}
-use Rattle.pc_spec_reading.specs.Components as reading
 use Rattle.pc_spec_reading.specs.Item.{ArgumentOf, Items, and_item, instantiate_component_item}
 use Rattle.pc_spec_reading.specs.Outcome.{Fault, Outcome, fault, over, past}
 use Rattle.pc_spec_reading.specs.Scope.{Moment}
@@ -33,34 +35,36 @@ use Rattle.pc_inline_state.specs.declared.error.ItemError.{ItemError}
 use Rattle.pc_inline_state.specs.declared.error.ItemError.TheVariants as item_error
 use Rattle.pc_inline_state.specs.declared.frame.Frame.{Frame}
 use Rattle.pc_inline_state.specs.declared.state.State.{State}
-use Rattle.pc_inline_state.specs.Adds.{item_count}
-use Rattle.pc_inline_stack.specs.Begins.{Begins}
+use Rattle.pc_inline_state.specs.Adds.{most_of_items}
+use Rattle.pc_inline_stack.specs.Begins.{Begins, converting_for}
 use Rattle.pc_inline_stack.specs.Calls.{CallFollows, CallReads, Calls}
 use Rattle.pc_inline_stack.specs.Driving.{reading_from}
 use Rattle.pc_inline_state.specs.Faults.{error_of, fault_of}
 use Rattle.pc_inline_stack.specs.Reads.{Ends, items_from}
 use Rattle.pc_inline_stack.specs.Stacks.{CallerStands, Fails, Grew, IsPast, OpenStands, Reached}
-use Rattle.pc_inline_stack.specs.Stacks.{Reader, Waiting, all_left, child_stands, items_of, reads_on}
+use Rattle.pc_inline_stack.specs.Stacks.{Reader, Waiting, Waits, all_most_left, child_stands, items_of, reads_on}
 use Rattle.pc_inline_state.specs.Stands.{Stands}
 use Rattle.pc_inline_state.specs.Today.{built_call}
 use Rattle.pc_inline_state.specs.Tables.{Keeps, tables_of}
 use Rattle.pc_inline_stack.proofs.BegunLemmas.{begun_graph, begun_keeps, begun_sound, begun_stands, begun_unexported}
+use Rattle.pc_inline_stack.proofs.CurrentLemmas.{current_keeps, current_sound, current_world}
 use Rattle.pc_inline_stack.proofs.EnclosedLemmas.{enclosed_kept}
 use Rattle.pc_inline_canon.proofs.KeptLemmas.{stands_kept}
 use Rattle.pc_inline_items.proofs.LocalLemmas.{plain_is}
-use Rattle.pc_inline_stack.proofs.LoopAddsLemmas.{as_many_items}
-use Rattle.pc_inline_stack.proofs.MoveLemmas.{ends_fault, point_of, reached_left, reached_point, this_item, top_open}
+use Rattle.pc_inline_stack.proofs.LeftLemmas.{most_child, most_here}
+use Rattle.pc_inline_stack.proofs.MoveLemmas.{ends_fault, point_of, reached_point, this_item, top_open}
 use Rattle.pc_inline_stack.proofs.ResumeLemmas.{begins, begins_over, begins_past, call_refused, child_begins}
 use Rattle.pc_inline_stack.proofs.ResumeLemmas.{child_of}
 use Rattle.pc_inline_stack.proofs.ResumeLemmas.{waits_at}
-use Rattle.pc_inline_stack.proofs.StackLemmas.{all_kept, as_deep, grew_ends}
-use Rattle.pc_inline_stack.proofs.WeightLemmas.{weight_of_items}
-use Rattle.pc_inline_stack.proofs.WorkLemmas.{left_child, there_within}
+use Rattle.pc_inline_stack.proofs.StackLemmas.{all_kept, as_deep, grew_more}
+use Rattle.pc_inline_stack.proofs.WeightLemmas.{most_of_body}
+use Rattle.pc_inline_state.proofs.KnowsLemmas.{knows_grown}
+use Rattle.pc_inline_state.proofs.StateLemmas.{keeps_trans}
 use Rattle.pc_inline_state.proofs.ZipLemmas.{both_more}
 
--- a child of which nothing was read
-abbrev pub child_open : Call → RuntimeComponentInstanceIndex → Open
-child_open call c = record {
+-- a child of which nothing was read, with what was converted for it
+abbrev pub child_open : Call → RuntimeComponentInstanceIndex → List (Option TypeDef) → Open
+child_open call c done = record {
   frame = record {
     core_funcs = [];
     memories = [];
@@ -74,6 +78,7 @@ child_open call c = record {
     core_instances = [];
     arguments = call.arguments;
     component_instance = c;
+    converted = done;
   };
   closure = Some call.closure;
   body = Some call.body;
@@ -81,32 +86,32 @@ child_open call c = record {
 }
 
 -- the total grows by what a child weighs
-grew_child : (first now : Option ℕ) (weight items left more count : ℕ) → 8 * more ≤ weight
-    → has_room (grown now (1 + weight)) ≡ true → Grew first now items left count
-    → Grew first (grown now (1 + weight)) items (left + more) count
+grew_child : (first now : Option ℕ) (weight added left more count : ℕ) → more ≤ weight
+    → has_room (grown now (1 + weight)) ≡ true → Grew first now added left count
+    → Grew first (grown now (1 + weight)) (added + 1) (left + more) count
 unfolding Grew
-grew_child None now weight items left more count heavy room h = ap (λ o. grown o (1 + weight)) h
-grew_child (Some n) now weight items left more count heavy room h =
+grew_child None now weight added left more count heavy room h = ap (λ o. grown o (1 + weight)) h
+grew_child (Some n) now weight added left more count heavy room h =
     let few = h.3 in
     let is : grown now (1 + weight) ≡ Some (h.0 + (1 + weight)) = ap (λ o. grown o (1 + weight)) h.1 in
     let below : h.0 + (1 + weight) < full = ltb-true (h.0 + (1 + weight)) full (sym (ap has_room is) ∙ room) in
     (h.0 + (1 + weight), is, below, omega (arith, few, heavy))
 
 -- where it is too much, it is counted
-grew_past : (first now : Option ℕ) (weight items left count : ℕ) (o : Outcome Moment)
-    → has_room (grown now (1 + weight)) ≡ false → Grew first now items left count → o ≡ past → IsPast first o
+grew_past : (first now : Option ℕ) (weight added left count : ℕ) (o : Outcome Moment)
+    → has_room (grown now (1 + weight)) ≡ false → Grew first now added left count → o ≡ past → IsPast first o
 unfolding Grew IsPast
-grew_past None now weight items left count o full h is =
+grew_past None now weight added left count o full h is =
     let room : has_room (grown now (1 + weight)) ≡ true = ap (λ x. has_room (grown x (1 + weight))) h in
     let x : ⊥ = cc in absurd x
-grew_past (Some n) now weight items left count o full h is = is
+grew_past (Some n) now weight added left count o full h is = is
 
 module _ (t : TypeTable) (ms : List ModuleRecord) (limit : ℕ) (root : Translation) (is : Items) (first : Moment)
-    (st : State) (ks : List Open) (o : Open) (items : ℕ) (x : Reached t ms limit root is first st ks o items)
+    (st : State) (ks : List Open) (o : Open) (added : ℕ) (x : Reached t ms limit root is first st ks o added)
     (component : ℕ) (args : List (List ℕ × ItemKind × ℕ)) (ty : ℕ)
     (at : slice_get (items_of st.bodies.now root o) o.next ≡ Some (local.ComponentInstantiate component args ty)) where
   abbrev here : Moment
-  here = point_of t ms limit root is first st ks o items x
+  here = point_of t ms limit root is first st ks o added x
 
   abbrev the_args : List ArgumentOf
   the_args = map argument_of args
@@ -116,7 +121,7 @@ module _ (t : TypeTable) (ms : List ModuleRecord) (limit : ℕ) (root : Translat
       ≡ and_item (instantiate_component_item component the_args ty) (items_from (suc o.next) x.reader.body)
   unfolding plain_item
   this_call =
-      let i = this_item t ms limit root is first st ks o items x (local.ComponentInstantiate component args ty) at in
+      let i = this_item t ms limit root is first st ks o added x (local.ComponentInstantiate component args ty) at in
       i.2 ∙ ap (λ j. and_item j (items_from (suc o.next) x.reader.body))
       (sym (plain_is st.bodies.now x.reader.names (local.ComponentInstantiate component args ty)
       (instantiate_component_item component the_args ty) i.0 refl i.1))
@@ -124,7 +129,7 @@ module _ (t : TypeTable) (ms : List ModuleRecord) (limit : ℕ) (root : Translat
   call_follows : (r : Result Call ItemError) → Calls t ms component the_args ty st o.frame r
       → CallFollows t ms st the_args ty (built_call t x.reader.scope component the_args ty) r
   unfolding Calls
-  call_follows r calls = calls here (reached_point t ms limit root is first st ks o items x)
+  call_follows r calls = calls here (reached_point t ms limit root is first st ks o added x)
 
   refused : (k : Fault) → built_call t x.reader.scope component the_args ty ≡ Err k
       → reading_from t ms limit is first ≡ fault k (place.Reading x.reader.scope.component_instance o.next)
@@ -133,13 +138,12 @@ module _ (t : TypeTable) (ms : List ModuleRecord) (limit : ℕ) (root : Translat
       ∙ call_refused t ms limit x.waiting x.reader o.next x.world component the_args ty this_call k stuck
 
   -- where nothing more is read
-  pub grew_here : Grew first.world.total x.world.total (items + length ks + 1) 0 (item_count is)
-  grew_here =
-      let left = reached_left t ms limit root is first st ks o items x in
-      let within = there_within (items_of st.bodies.now root o) o.next (local.ComponentInstantiate component args ty)
-      at in
-      grew_ends first.world.total x.world.total items (all_left st.bodies.now root ks o) (item_count is)
-      (items + length ks + 1) (omega (arith, left, within)) x.grew
+  pub grew_here : (more : ℕ) → more ≤ 4
+      → Grew first.world.total x.world.total (added + more) 0 (most_of_items t root.initializers)
+  grew_here more few =
+      grew_more first.world.total x.world.total x.world.total added (all_most_left t st.bodies.now root ks o) more 0
+      (most_of_items t root.initializers) refl
+      (most_here t st.bodies.now root ks o (local.ComponentInstantiate component args ty) at more few) x.grew
 
   call_ends : (f : Frame) (e : ItemError)
       → CallFollows t ms st the_args ty (built_call t x.reader.scope component the_args ty) (Err e)
@@ -149,18 +153,18 @@ module _ (t : TypeTable) (ms : List ModuleRecord) (limit : ℕ) (root : Translat
   call_ends f (item_error.Fault k) follows =
       ends_fault t ms st f (reading_from t ms limit is first) k (place.Reading o.frame.component_instance.0 o.next)
       (refused (fault_of k) follows ∙ ap (λ n. fault (fault_of k) (place.Reading n o.next))
-      (top_open t ms limit root is first st ks o items x).frame.component_instance)
+      (top_open t ms limit root is first st ks o added x).frame.component_instance)
   call_ends f item_error.TooMany follows = follows
   call_ends f item_error.NoMemory follows = tt
 
   -- the item is refused
   pub call_fails : (f : Frame) (e : ItemError) → Calls t ms component the_args ty st o.frame (Err e)
-      → Fails t ms limit root is first st f (items + length ks + 1)
+      → Fails t ms limit root is first st f (added + 0)
       (error_of e (place.Reading o.frame.component_instance.0 o.next))
   call_fails f e calls = record {
     ends = call_ends f e (call_follows (Err e) calls);
     total = x.world.total;
-    grew = grew_here;
+    grew = grew_here 0 (omega arith);
   }
 
   module _ (call : Call) (calls : Calls t ms component the_args ty st o.frame (Ok call)) where
@@ -178,7 +182,7 @@ module _ (t : TypeTable) (ms : List ModuleRecord) (limit : ℕ) (root : Translat
         reads_call.stands.body reads_call.stands.chain) 0)
     child_reading deep =
         let c = reads_call in
-        let same = as_deep t ms st.bodies.now root (tables_of st) ks o x.waiting x.reader x.all in
+        let same = as_deep t ms st.bodies.now root (tables_of st) st.types.resources ks o x.waiting x.reader x.all in
         sym x.same ∙ child_begins t ms limit x.waiting x.reader o.next x.world component the_args ty this_call
         c.read c.done c.stands.names c.stands.body c.stands.chain c.stands.is (omega (arith, deep, same))
 
@@ -192,25 +196,34 @@ module _ (t : TypeTable) (ms : List ModuleRecord) (limit : ℕ) (root : Translat
         reads_call.stands.body reads_call.stands.chain) 0) (le-ltb x.world.begun limit (omega (arith, begun, full)))
 
     module _ (c : RuntimeComponentInstanceIndex) (g : ComponentDfg) (begins_so : Begins limit st.graph g (Ok c))
-        (grows : graph.Grows st.graph (begun_graph st.graph)) where
+        (grows : graph.Grows st.graph (begun_graph st.graph)) (done : List (Option TypeDef))
+        (none : (b : Types) → AreConverted b t done) where
+      abbrev st_begun : State
+      st_begun = record st { graph = begun_graph st.graph }
+
       abbrev st_now : State
-      st_now = record st { graph = begun_graph st.graph }
+      st_now = record st { graph = begun_graph st.graph; types = converting_for st.types c }
 
       keeps_now : Keeps (tables_of st) (tables_of st_now)
-      keeps_now = begun_keeps st grows
+      keeps_now =
+          keeps_trans (tables_of st) (tables_of st_begun) (tables_of st_now) (begun_keeps st grows)
+          (current_keeps (tables_of st_begun) c)
 
       abbrev reader_now : Reader
       reader_now = child_of x.reader x.world reads_call.read reads_call.stands.names reads_call.stands.body
           reads_call.stands.chain
 
-      child_body : items_of st.bodies.now root (child_open call c) ≡ reads_call.stands.translation.initializers
+      child_body : items_of st.bodies.now root (child_open call c done) ≡ reads_call.stands.translation.initializers
       child_body = ap (λ (y : Option Translation). (unwrap_or y root).initializers) reads_call.stands.there
 
       child_open_stands : c.0 ≡ st.graph.num_runtime_component_instances
-          → OpenStands t ms st.bodies.now root (tables_of st_now) (child_open call c) reader_now
+          → OpenStands t ms st.bodies.now root (tables_of st_now) st_now.types.resources (child_open call c done)
+          reader_now
       child_open_stands number =
           let s = reads_call.stands in
           let begun = x.world_stands.begun in
+          let knows = knows_grown st.graph st.types.resources x.reader.scope
+          (top_open t ms limit root is first st ks o added x).here st_now.graph keeps_now.fits in
           record {
             frame = record {
               core_funcs = tt;
@@ -226,11 +239,11 @@ module _ (t : TypeTable) (ms : List ModuleRecord) (limit : ℕ) (root : Translat
               arguments = λ name. both_more (Stands ms (tables_of st)) (Stands ms (tables_of st_now))
                   (stands_kept ms (tables_of st) (tables_of st_now) keeps_now) (value_of name call.arguments)
                   (value_of name reads_call.read.arguments) (s.arguments name);
-              known = (top_open t ms limit root is first st ks o items x).frame.known;
               component_instance = begun ∙ sym number;
               begun = omega (arith, number);
             };
-            typed = inr reads_call.built;
+            here = record { known = knows.known; current = number ∙ sym begun };
+            converted = none st_now.types;
             enclosed = enclosed_kept ms (tables_of st) (tables_of st_now) keeps_now s.names (Some call.closure) s.chain
                 (s.closure, s.captured) s.enclosed;
             closed = λ k same. (
@@ -253,6 +266,14 @@ module _ (t : TypeTable) (ms : List ModuleRecord) (limit : ℕ) (root : Translat
         at = this_call;
       }
 
+      -- with the resources of now it goes on
+      caller_waits : Waits st_now.types.resources o.frame st.types.resources
+      caller_waits =
+          let top = top_open t ms limit root is first st ks o added x in
+          let number : st.types.resources.current.0 ≡ o.frame.component_instance.0 =
+          top.here.current ∙ top.frame.component_instance in
+          record { known = λ n. refl; current = λ i. record { 0 = number i } }
+
       unfold_begins : (st.graph.num_runtime_component_instances < limit)
           × (c.0 ≡ st.graph.num_runtime_component_instances) × (g ≡ begun_graph st.graph)
           × (IsOrdered st.graph → IsOrdered g)
@@ -262,7 +283,8 @@ module _ (t : TypeTable) (ms : List ModuleRecord) (limit : ℕ) (root : Translat
       -- the child is read, or the total is too much
       pub child_reached : length ks < limit
           → IsPast first.world.total (reading_from t ms limit is first)
-          ⊎ Reached t ms limit root is first (record st { graph = g }) (o ∷ ks) (child_open call c) items
+          ⊎ Reached t ms limit root is first (record st { graph = g; types = converting_for st.types c }) (o ∷ ks)
+          (child_open call c done) (added + 1)
       child_reached deep =
           let b = unfold_begins in
           let s = reads_call.stands in
@@ -272,16 +294,18 @@ module _ (t : TypeTable) (ms : List ModuleRecord) (limit : ℕ) (root : Translat
           let below : nat_lt x.world.begun limit ≡ true =
           lt-ltb x.world.begun limit (omega (arith, l, begun)) in
           subst (λ h. IsPast first.world.total (reading_from t ms limit is first)
-          ⊎ Reached t ms limit root is first (record st { graph = h }) (o ∷ ks) (child_open call c) items) (sym b.2)
+          ⊎ Reached t ms limit root is first (record st { graph = h; types = converting_for st.types c }) (o ∷ ks)
+          (child_open call c done) (added + 1)) (sym b.2)
           (by (has_room (grown x.world.total (1 + weight))) refl below)
         where
           by : (room : Bool) → has_room (grown x.world.total (1 + body_weight t ms reads_call.stands.body)) ≡ room
               → nat_lt x.world.begun limit ≡ true
               → IsPast first.world.total (reading_from t ms limit is first)
-              ⊎ Reached t ms limit root is first st_now (o ∷ ks) (child_open call c) items
+              ⊎ Reached t ms limit root is first st_now (o ∷ ks) (child_open call c done) (added + 1)
           by false crowded below =
-              inl (grew_past first.world.total x.world.total (body_weight t ms reads_call.stands.body) items
-              (all_left st.bodies.now root ks o) (item_count is) (reading_from t ms limit is first) crowded x.grew
+              inl (grew_past first.world.total x.world.total (body_weight t ms reads_call.stands.body) added
+              (all_most_left t st.bodies.now root ks o) (most_of_items t root.initializers)
+              (reading_from t ms limit is first) crowded x.grew
               (child_reading deep ∙ begins_past limit (body_weight t ms reads_call.stands.body) x.world
               (reads_on t ms limit waiting_now reader_now 0) below crowded))
           by true room below =
@@ -289,28 +313,28 @@ module _ (t : TypeTable) (ms : List ModuleRecord) (limit : ℕ) (root : Translat
               let s = reads_call.stands in
               let weight = body_weight t ms s.body in
               let total = grown x.world.total (1 + weight) in
-              let left = left_child st.bodies.now root ks o (child_open call c) refl in
-              let many : length (items_of st.bodies.now root (child_open call c)) ≡ item_count s.body =
-              ap length child_body ∙ as_many_items st.bodies.now s.names s.translation.initializers s.body
-              s.stands.items in
+              let left = most_child t st.bodies.now root ks o (child_open call c done) refl in
+              let most = most_of_body t ms st.bodies.now s.names s.translation.initializers s.body s.stands.items in
+              let same = ap (most_of_items t) child_body in
               inr record {
                 waiting = waiting_now;
                 reader = reader_now;
                 world = record x.world { begun = x.world.begun + 1; total = total };
-                sound = begun_sound t ms st grows (subst (λ h. IsOrdered st.graph → IsOrdered h) b.2 b.3) x.sound;
-                here = x.here;
-                world_stands = begun_stands st.graph grows st.types x.world total x.world_stands;
+                sound = current_sound t ms st_begun c
+                    (begun_sound t ms st grows (subst (λ h. IsOrdered st.graph → IsOrdered h) b.2 b.3) x.sound);
+                world_stands = current_world st.types st_begun.graph c _
+                    (begun_stands st.graph grows st.types x.world total x.world_stands);
                 unexported = begun_unexported st.graph grows x.unexported;
                 all = child_stands (child_open_stands b.1)
                     (ap (λ (y : Option Translation). map named_item (unwrap_or y root).exports) s.there
                     ∙ s.stands.exports)
-                    caller_stands reads_call.built (all_kept t ms st.bodies.now root (tables_of st) (tables_of st_now)
-                    keeps_now ks o x.waiting
-                    x.reader x.all);
+                    caller_stands reads_call.resourceless caller_waits (all_kept t ms st.bodies.now root (tables_of st)
+                    (tables_of st_now) keeps_now st.types.resources ks o x.waiting x.reader x.all);
                 same = sym (begins limit weight x.world (reads_on t ms limit waiting_now reader_now 0) below room)
                     ∙ sym (child_reading deep);
-                grew = subst (λ k. Grew first.world.total total items k (item_count is))
-                    (sym (left ∙ ap (λ k. all_left st.bodies.now root ks o + k) many))
-                    (grew_child first.world.total x.world.total weight items (all_left st.bodies.now root ks o)
-                    (item_count s.body) (item_count is) (weight_of_items t ms s.body) room x.grew);
+                grew = subst (λ k. Grew first.world.total total (added + 1) k (most_of_items t root.initializers))
+                    (sym left)
+                    (grew_child first.world.total x.world.total weight added (all_most_left t st.bodies.now root ks o)
+                    (most_of_items t (items_of st.bodies.now root (child_open call c done)))
+                    (most_of_items t root.initializers) (omega (arith, most, same)) room x.grew);
               }

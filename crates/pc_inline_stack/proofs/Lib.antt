@@ -8,10 +8,12 @@ mod ResumeLemmas
 pub mod LoopAddsLemmas
 pub mod WeightLemmas
 mod WorkLemmas
+mod LeftLemmas
 mod StackLemmas
 mod BeginsLemmas
 mod MoveLemmas
 mod BegunLemmas
+mod CurrentLemmas
 mod EnterLemmas
 mod LeaveLemmas
 mod ChildLemmas

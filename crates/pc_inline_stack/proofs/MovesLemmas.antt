@@ -12,7 +12,10 @@ use Rattle.pc_types.specs.declared.error.Place.{Place}
 use Rattle.pc_types.specs.declared.error.Place.TheVariants as place
 use Rattle.pc_types.specs.declared.module_record.ModuleRecord.{ModuleRecord}
 use Rattle.pc_types.specs.declared.parsed.TypeTable.{TypeTable}
+use Rattle.pc_types.specs.declared.types.TypeDef.{TypeDef}
 use Rattle.pc_types.specs.Table.{table_fault}
+use Rattle.pc_types_builder.specs.Converted.{AreConverted}
+use Rattle.pc_types_lists.specs.Types.{Types}
 use Rattle.pc_parsed.specs.declared.payload.ExternName.{ExternName}
 use Rattle.pc_parsed.specs.declared.payload.ItemKind.{ItemKind}
 use Rattle.pc_spec_reading.specs.Section.{argument_of}
@@ -26,8 +29,8 @@ use Rattle.pc_inline_stack.specs.declared.driver.Open.{Open}
 use Rattle.pc_inline_state.specs.declared.error.ItemError.{ItemError}
 use Rattle.pc_inline_state.specs.declared.frame.Frame.{Frame}
 use Rattle.pc_inline_state.specs.declared.state.State.{State}
-use Rattle.pc_inline_state.specs.Adds.{Adds, functions_in}
-use Rattle.pc_inline_stack.specs.Begins.{Begins}
+use Rattle.pc_inline_state.specs.Adds.{Adds, most_added}
+use Rattle.pc_inline_stack.specs.Begins.{Begins, converting_for}
 use Rattle.pc_inline_stack.specs.Calls.{Calls, GivesBack}
 use Rattle.pc_inline_state.specs.Faults.{error_of}
 use Rattle.pc_inline_stack.specs.declared.driver.Stack.{Stack}
@@ -78,9 +81,11 @@ pub none_counted : (xs : List Open) → xs ≡ [] → AreCounted xs
 none_counted xs is = subst AreCounted (sym is) (All-nil (λ (k : Open). k.next < 18446744073709551615))
 
 -- a child of which nothing was read, by its frame
-pub child_is : (call : Call) (c : RuntimeComponentInstanceIndex) (f : Frame) → f ≡ (child_open call c).frame
-    → record { frame = f; closure = Some call.closure; body = Some call.body; next = 0 } ≡ child_open call c
-child_is call c f is = ap (λ x. record { frame = x; closure = Some call.closure; body = Some call.body; next = 0 }) is
+pub child_is : (call : Call) (c : RuntimeComponentInstanceIndex) (f : Frame) (done : List (Option TypeDef))
+    → f ≡ (child_open call c done).frame
+    → record { frame = f; closure = Some call.closure; body = Some call.body; next = 0 } ≡ child_open call c done
+child_is call c f done is =
+    ap (λ x. record { frame = x; closure = Some call.closure; body = Some call.body; next = 0 }) is
 
 module _ (t : TypeTable) (ms : List ModuleRecord) (limit : ℕ) (root : Translation) (st : State) (ks : List Open)
     (o : Open) (st' : State) (ks' : List Open) (o' : Open) where
@@ -138,38 +143,45 @@ module _ (t : TypeTable) (ms : List ModuleRecord) (limit : ℕ) (root : Translat
               begins
               grown)
 
-          -- the child is read
-          pub moves_entered : {A : Type 0} (x : A) (ks' : List Open) (o' : Open) → ks' ≡ o ∷ ks → o' ≡ child_open call c
-              → Moves t ms limit root st ks o (record st { graph = g }) ks' o' (Ok x)
-          moves_entered x ks' o' wait is =
-              subst (λ k. Moves t ms limit root st ks o (record st { graph = g }) ks' k (Ok x)) (sym is)
-              (subst (λ k. Moves t ms limit root st ks o (record st { graph = g }) k (child_open call c) (Ok x))
-              (sym wait)
-              (move_goes t ms limit root st ks o (record st { graph = g }) (o ∷ ks) (child_open call c) x
+          -- the child is read, and types are converted for it
+          pub moves_entered : {A : Type 0} (x : A) (ts : Types) → ts ≡ converting_for st.types c
+              → (done : List (Option TypeDef)) → ((b : Types) → AreConverted b t done) → (ks' : List Open) (o' : Open)
+              → ks' ≡ o ∷ ks → o' ≡ child_open call c done
+              → Moves t ms limit root st ks o (record st { graph = g; types = ts }) ks' o' (Ok x)
+          moves_entered x ts current done none ks' o' wait is =
+              subst (λ k. Moves t ms limit root st ks o (record st { graph = g; types = ts }) ks' k (Ok x)) (sym is)
+              (subst (λ k. Moves t ms limit root st ks o (record st { graph = g; types = ts }) k
+              (child_open call c done)
+              (Ok x)) (sym wait)
+              (move_goes t ms limit root st ks o (record st { graph = g; types = ts }) (o ∷ ks) (child_open call c done)
+              x
               (λ old f driven. child_driven t ms limit root old f st ks o driven component args ty at call calls c g
               begins
-              grown)))
+              grown ts current done none)))
 
     -- less is left to do where a child is read
     pub falls_entered : (call : Call) (c : RuntimeComponentInstanceIndex) (g : ComponentDfg)
-        → Begins limit st.graph g (Ok c) → (ks' : List Open) (o' : Open) → ks' ≡ o ∷ ks → o' ≡ child_open call c
-        → Falls limit root st ks o (record st { graph = g }) ks' o'
+        → Begins limit st.graph g (Ok c) → (ts : Types) (done : List (Option TypeDef)) (ks' : List Open) (o' : Open)
+        → ks' ≡ o ∷ ks → o' ≡ child_open call c done
+        → Falls limit root st ks o (record st { graph = g; types = ts }) ks' o'
     unfolding Begins
-    falls_entered call c g begins ks' o' wait is =
+    falls_entered call c g begins ts done ks' o' wait is =
         let number : g.num_runtime_component_instances ≡ st.graph.num_runtime_component_instances + 1 =
         ap (λ (h : ComponentDfg). h.num_runtime_component_instances) begins.2 in
-        subst (λ k. Falls limit root st ks o (record st { graph = g }) ks' k) (sym is)
-        (subst (λ k. Falls limit root st ks o (record st { graph = g }) k (child_open call c)) (sym wait)
-        (falls_among limit root st (record st { graph = g }) ks (o ∷ ks) o (child_open call c)
+        subst (λ k. Falls limit root st ks o (record st { graph = g; types = ts }) ks' k) (sym is)
+        (subst (λ k. Falls limit root st ks o (record st { graph = g; types = ts }) k (child_open call c done))
+        (sym wait)
+        (falls_among limit root st (record st { graph = g; types = ts }) ks (o ∷ ks) o (child_open call c done)
         (st.graph.num_runtime_component_instances + 1) refl (omega (arith, number))
-        (work_enters st.bodies.now root limit st.graph.num_runtime_component_instances ks o (child_open call c)
+        (work_enters st.bodies.now root limit st.graph.num_runtime_component_instances ks o (child_open call c done)
         call.body
         refl refl begins.0)))
 
     module _ (l : LocalInitializer) (at : slice_get (items_of st.bodies.now root o) o.next ≡ Some l)
         (plain : begins_child l ≡ false) (st' : State) (g : Frame) (keeps : Keeps (tables_of st) (tables_of st'))
-        (adds : Adds t (functions_in l) 4 (tables_of st) (tables_of st'))
-        (same : g.component_instance ≡ o.frame.component_instance) where
+        (adds : Adds t (most_added t l) (tables_of st) (tables_of st'))
+        (same : g.component_instance ≡ o.frame.component_instance)
+        (known : st'.types.resources ≡ st.types.resources) where
       -- an item is refused
       pub moves_stuck : {A : Type 0} (e : ItemError) → StepsLocal t ms o.closure l st o.frame st' g (Err e)
           → (r : Result A Error) → (p : Place) → p ≡ place.Reading g.component_instance.0 o.next
@@ -178,14 +190,15 @@ module _ (t : TypeTable) (ms : List ModuleRecord) (limit : ℕ) (root : Translat
       moves_stuck e steps r p there is ks' o' =
           move_fails t ms limit root st ks o st' ks' o' r (error_of e p) is
           (λ old f driven. subst (λ q. Failed t ms limit root old f st' (error_of e q)) (sym there)
-          (item_fails t ms limit root old f st ks o driven l at plain st' g keeps adds same e steps))
+          (item_fails t ms limit root old f st ks o driven l at plain st' g keeps adds same known e steps))
 
       -- an item is read
       pub moves_on : {A : Type 0} (x : A) (done : ⊤) → StepsLocal t ms o.closure l st o.frame st' g (Ok done)
           → Moves t ms limit root st ks o st' ks (record o { frame = g; next = o.next + 1 }) (Ok x)
       moves_on x done steps =
           move_goes t ms limit root st ks o st' ks (record o { frame = g; next = o.next + 1 }) x
-          (λ old f driven. item_goes t ms limit root old f st ks o driven l at plain st' g keeps adds same done steps)
+          (λ old f driven. item_goes t ms limit root old f st ks o driven l at plain st' g keeps adds same known done
+          steps)
 
       -- less is left to do
       pub falls_on : Falls limit root st ks o st' ks (record o { frame = g; next = o.next + 1 })
@@ -196,7 +209,7 @@ module _ (t : TypeTable) (ms : List ModuleRecord) (limit : ℕ) (root : Translat
           (work_goes st.bodies.now root limit st.graph.num_runtime_component_instances ks o g l at)
 
     module _ (caller : Open) (st' : State) (keeps : Keeps (tables_of st) (tables_of st'))
-        (adds : Adds t 0 1 (tables_of st) (tables_of st')) (g : Frame) where
+        (adds : Adds t 1 (tables_of st) (tables_of st')) (g : Frame) where
       -- there was no room for what a child exports
       pub moves_crowded : {A : Type 0} (es : List (ExternName × ItemKind × ℕ)) (child : Frame) (e : ItemError)
           → GivesBack t ms es child st caller.frame st' g (Err e) → (p : Place) → (r : Result A Error)
@@ -206,22 +219,27 @@ module _ (t : TypeTable) (ms : List ModuleRecord) (limit : ℕ) (root : Translat
           move_fails t ms limit root st (caller ∷ ks) o st' ks' o' r (error_of e p) is
           (λ old f driven. left_failed t ms limit root old f st caller ks o driven st' keeps adds child es g e gives p)
 
-      -- what waits for a child has what it exports
+      -- what waits for a child has what it exports, and types are converted for it
       moves_left : {A : Type 0} (x : A) → table_fault t ≡ None → length (items_of st.bodies.now root o) ≤ o.next
           → (es : List (ExternName × ItemKind × ℕ)) → es ≡ (body_at st.bodies.now root o.body).exports → (done : ⊤)
-          → GivesBack t ms es o.frame st caller.frame st' g (Ok done)
-          → Moves t ms limit root st (caller ∷ ks) o st' ks (record caller { frame = g; next = caller.next + 1 }) (Ok x)
-      moves_left x sound end es are done gives =
-          move_goes t ms limit root st (caller ∷ ks) o st' ks (record caller { frame = g; next = caller.next + 1 }) x
+          → GivesBack t ms es o.frame st caller.frame st' g (Ok done) → (ts : Types)
+          → ts ≡ converting_for st'.types g.component_instance
+          → Moves t ms limit root st (caller ∷ ks) o (record st' { types = ts }) ks
+          (record caller { frame = g; next = caller.next + 1 }) (Ok x)
+      moves_left x sound end es are done gives ts current =
+          move_goes t ms limit root st (caller ∷ ks) o (record st' { types = ts }) ks
+          (record caller { frame = g; next = caller.next + 1 }) x
           (λ old f driven. left_driven t ms limit root old f st caller ks o driven st' keeps adds sound end es are g
           done
-          gives)
+          gives ts current)
 
       -- less is left to do
-      falls_left : Falls limit root st (caller ∷ ks) o st' ks (record caller { frame = g; next = caller.next + 1 })
-      falls_left =
+      falls_left : (ts : Types) → Falls limit root st (caller ∷ ks) o (record st' { types = ts }) ks
+          (record caller { frame = g; next = caller.next + 1 })
+      falls_left ts =
           let more = keeps.graph.component_instances in
-          falls_among limit root st st' (caller ∷ ks) ks o (record caller { frame = g; next = caller.next + 1 })
+          falls_among limit root st (record st' { types = ts }) (caller ∷ ks) ks o
+          (record caller { frame = g; next = caller.next + 1 })
           st.graph.num_runtime_component_instances keeps.bodies more
           (work_leaves st.bodies.now root limit st.graph.num_runtime_component_instances ks o caller g)
 
@@ -298,7 +316,7 @@ none_wait (x ∷ xs) is = absurd (omega (arith, is))
 
 module _ (t : TypeTable) (ms : List ModuleRecord) (limit : ℕ) (root : Translation) (st : State) (ks : List Open)
     (o caller : Open) (st' : State) (keeps : Keeps (tables_of st) (tables_of st'))
-    (adds : Adds t 0 1 (tables_of st) (tables_of st')) (g : Frame) (next child : Open) (after : next ≡ caller)
+    (adds : Adds t 1 (tables_of st) (tables_of st')) (g : Frame) (next child : Open) (after : next ≡ caller)
     (was : child ≡ o) (es : List (ExternName × ItemKind × ℕ)) where
   -- the next of those that wait can't go on
   pub leaves_crowded : {A : Type 0} (e : ItemError) → GivesBack t ms es child.frame st next.frame st' g (Err e)
@@ -308,20 +326,25 @@ module _ (t : TypeTable) (ms : List ModuleRecord) (limit : ℕ) (root : Translat
       moves_crowded t ms limit root st ks o caller st' keeps adds g es child.frame e
       (subst (λ (k : Open). GivesBack t ms es child.frame st k.frame st' g (Err e)) after gives) p r is ks' o'
 
-  -- it goes on
+  -- it goes on, and types are converted for it
   pub leaves : {A : Type 0} (x : A) → table_fault t ≡ None → length (items_of st.bodies.now root o) ≤ o.next
       → es ≡ (body_at st.bodies.now root child.body).exports → (done : ⊤)
-      → GivesBack t ms es child.frame st next.frame st' g (Ok done)
-      → Moves t ms limit root st (caller ∷ ks) o st' ks (record next { frame = g; next = next.next + 1 }) (Ok x)
-  leaves x sound end are done gives =
-      subst (λ k. Moves t ms limit root st (caller ∷ ks) o st' ks (record k { frame = g; next = k.next + 1 }) (Ok x))
+      → GivesBack t ms es child.frame st next.frame st' g (Ok done) → (ts : Types)
+      → ts ≡ converting_for st'.types g.component_instance
+      → Moves t ms limit root st (caller ∷ ks) o (record st' { types = ts }) ks
+      (record next { frame = g; next = next.next + 1 }) (Ok x)
+  leaves x sound end are done gives ts current =
+      subst (λ k. Moves t ms limit root st (caller ∷ ks) o (record st' { types = ts }) ks
+      (record k { frame = g; next = k.next + 1 }) (Ok x))
       (sym after) (moves_left t ms limit root st ks o caller st' keeps adds g x sound end es
       (subst (λ (k : Open). es ≡ (body_at st.bodies.now root k.body).exports) was are) done
       (subst (λ (k : Open). GivesBack t ms es k.frame st caller.frame st' g (Ok done)) was
-      (subst (λ (k : Open). GivesBack t ms es child.frame st k.frame st' g (Ok done)) after gives)))
+      (subst (λ (k : Open). GivesBack t ms es child.frame st k.frame st' g (Ok done)) after gives)) ts current)
 
   -- and less is left to do
-  pub falls_leaving : Falls limit root st (caller ∷ ks) o st' ks (record next { frame = g; next = next.next + 1 })
-  falls_leaving =
-      subst (λ k. Falls limit root st (caller ∷ ks) o st' ks (record k { frame = g; next = k.next + 1 })) (sym after)
-      (falls_left t ms limit root st ks o caller st' keeps adds g)
+  pub falls_leaving : (ts : Types) → Falls limit root st (caller ∷ ks) o (record st' { types = ts }) ks
+      (record next { frame = g; next = next.next + 1 })
+  falls_leaving ts =
+      subst (λ k. Falls limit root st (caller ∷ ks) o (record st' { types = ts }) ks
+      (record k { frame = g; next = k.next + 1 })) (sym after)
+      (falls_left t ms limit root st ks o caller st' keeps adds g ts)

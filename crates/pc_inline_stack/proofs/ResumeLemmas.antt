@@ -165,13 +165,15 @@ module _ (t : TypeTable) (ms : List ModuleRecord) (limit : ℕ) where
 
       child_reads : (c : Call) (body : Items) (chain : Chain) → c.component ≡ closed body chain → length ws < limit
           → enters c r.scope.known w
-          ≡ read_body (today t) t ms limit (built_enter t ms limit (levels t ms limit (waits_at r n ty ∷ ws))) body chain
+          ≡ read_body (today t) t ms limit (built_enter t ms limit (levels t ms limit (waits_at r n ty ∷ ws))) body
+          chain
           c.arguments r.scope.known w
       unfolding enter_at
       child_reads c body chain is deep =
           let one : limit - length ws ≡ suc (limit - suc (length ws)) = omega (arith, deep) in
           ap (λ l. built_enter t ms limit l c r.scope.known w) one
-          ∙ ap (λ x. read_child (today t) t ms limit (built_enter t ms limit (levels t ms limit (waits_at r n ty ∷ ws))) x
+          ∙ ap (λ x. read_child (today t) t ms limit (built_enter t ms limit
+          (levels t ms limit (waits_at r n ty ∷ ws))) x
           c.arguments r.scope.known w) is
 
       -- a child begins

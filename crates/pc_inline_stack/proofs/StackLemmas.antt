@@ -1,8 +1,7 @@
 -- Component instances on a stack, as the tables grow and the innermost goes on.
 use Rattle.std.proofs.Common.{◌≡◌, ◌≤◌, ◌+◌, ℕ, true, List, Option, None, Some, length}
-use Rattle.std.proofs.Common.{refl, ◌∙◌, arith, sum_by}
+use Rattle.std.proofs.Common.{refl, ◌∙◌, arith}
 use Rattle.std.specs.Prelude.{slice_get}
-use Rattle.std.proofs.lemmas.List.Sums.{sum_by-cons}
 use Rattle.pc_types.specs.declared.module_record.ModuleRecord.{ModuleRecord}
 use Rattle.pc_types.specs.declared.parsed.TypeTable.{TypeTable}
 use Rattle.pc_spec_reading.specs.Item.{Item, Items, and_item, export_item, exports_in}
@@ -13,12 +12,15 @@ use Rattle.pc_inline_state.specs.declared.definition.ClosureId.{ClosureId}
 use Rattle.pc_inline_stack.specs.declared.driver.Open.{Open}
 use Rattle.pc_inline_state.specs.declared.frame.Frame.{Frame}
 use Rattle.pc_inline_stack.specs.Stacks.{AllStand, AreBuilt, Grew, OpenStands, Reader, Waiting, child_stands}
-use Rattle.pc_inline_stack.specs.Stacks.{items_left, items_of, root_stands}
+use Rattle.pc_inline_stack.specs.Stacks.{root_stands}
 use Rattle.pc_inline_state.specs.Tables.{Keeps, Tables}
 use Rattle.pc_inline_state.specs.Today.{is_built}
+use Rattle.pc_types_lists.specs.Known.{resource_of}
+use Rattle.pc_types_lists.specs.Types.{Resources}
+use Rattle.pc_inline_stack.proofs.CurrentLemmas.{converted_again, converted_still, waits_again}
 use Rattle.pc_inline_stack.proofs.EnclosedLemmas.{HasClosure, enclosed_kept}
+use Rattle.pc_inline_state.proofs.KnowsLemmas.{knows_as, knows_grown}
 use Rattle.pc_inline_canon.proofs.KeptLemmas.{frame_kept}
-use Rattle.pc_inline_stack.proofs.WorkLemmas.{there_within}
 
 -- what a component instance captured is in the table
 has_closure : (b : Tables) (k : Option ClosureId)
@@ -35,42 +37,52 @@ built_more t i is built rest = rest
 module _ (t : TypeTable) (ms : List ModuleRecord) (bodies : List Translation) (root : Translation) where
   module _ (b : Tables) where
     -- the innermost stands for its reader
-    pub top_stands : (ks : List Open) (o : Open) (ws : List Waiting) (r : Reader)
-        → AllStand t ms bodies root b ks o ws r → OpenStands t ms bodies root b o r
-    top_stands ks o ws r (root_stands h) = h
-    top_stands ks o ws r (child_stands h exports caller can all) = h
+    pub top_stands : (k : Resources) (ks : List Open) (o : Open) (ws : List Waiting) (r : Reader)
+        → AllStand t ms bodies root b k ks o ws r → OpenStands t ms bodies root b k o r
+    top_stands k ks o ws r (root_stands h) = h
+    top_stands k ks o ws r (child_stands h exports caller none waits all) = h
 
-    -- it has gone on
-    pub top_goes : (ks : List Open) (o : Open) (ws : List Waiting) (r : Reader) (g : Frame) (n : ℕ) (s : Scope)
-        → AllStand t ms bodies root b ks o ws r
-        → OpenStands t ms bodies root b (record o { frame = g; next = n }) (record r { scope = s })
-        → AllStand t ms bodies root b ks (record o { frame = g; next = n }) ws (record r { scope = s })
-    top_goes ks o ws r g n s (root_stands h) k = root_stands k
-    top_goes ks o ws r g n s (child_stands h exports caller can all) k = child_stands k exports caller can all
+    -- it has gone on with resources among which the same ones are known
+    pub top_goes : (k l : Resources) → ((n : ℕ) → resource_of l.known n ≡ resource_of k.known n) → (ks : List Open)
+        (o : Open) (ws : List Waiting) (r : Reader) (g : Frame) (n : ℕ) (s : Scope)
+        → AllStand t ms bodies root b k ks o ws r
+        → OpenStands t ms bodies root b l (record o { frame = g; next = n }) (record r { scope = s })
+        → AllStand t ms bodies root b l ks (record o { frame = g; next = n }) ws (record r { scope = s })
+    top_goes k l same ks o ws r g n s (root_stands h) x = root_stands x
+    top_goes k l same ks o ws r g n s (child_stands {j = j} {caller = c} h exports caller none waits all) x =
+        child_stands x exports caller none (waits_again k l same c.frame j waits) all
 
     -- as many wait as wait in the reading
-    pub as_deep : (ks : List Open) (o : Open) (ws : List Waiting) (r : Reader) → AllStand t ms bodies root b ks o ws r
-        → length ws ≡ length ks
-    as_deep ks o ws r (root_stands h) = refl
-    as_deep ks o ws r (child_stands {os = os} {caller = c} {ws = vs} {w = w} h exports caller can all) =
-        let same = as_deep os c vs w.reader all in omega (arith, same)
+    pub as_deep : (k : Resources) (ks : List Open) (o : Open) (ws : List Waiting) (r : Reader)
+        → AllStand t ms bodies root b k ks o ws r → length ws ≡ length ks
+    as_deep k ks o ws r (root_stands h) = refl
+    as_deep k ks o ws r (child_stands {j = j} {os = os} {caller = c} {ws = vs} {w = w} h exports caller none waits
+        all) =
+        let same = as_deep j os c vs w.reader all in omega (arith, same)
 
-    -- each that waits has an item left
-    pub callers_left : (ks : List Open) (o : Open) (ws : List Waiting) (r : Reader)
-        → AllStand t ms bodies root b ks o ws r → length ks ≤ sum_by (items_left bodies root) ks
-    callers_left ks o ws r (root_stands h) = omega arith
-    callers_left ks o ws r (child_stands {os = os} {caller = c} {ws = vs} {w = w} h exports caller can all) =
-        let rest = callers_left os c vs w.reader all in
-        let sum = sum_by-cons (items_left bodies root) c os in
-        let within = there_within (items_of bodies root c) c.next caller.local_item caller.there in
-        omega (arith, rest, sum, within)
+    -- it goes on with resources among which the same ones are known, where types are converted for the same component
+    -- instance
+    pub open_again : (k l : Resources) → ((n : ℕ) → resource_of l.known n ≡ resource_of k.known n)
+        → l.current ≡ k.current → (o : Open) (r : Reader) → OpenStands t ms bodies root b k o r
+        → OpenStands t ms bodies root b l o r
+    open_again k l same current o r h = record {
+      frame = h.frame;
+      here = knows_as b.graph k r.scope h.here l same current;
+      converted = converted_again k l same current b.types t o.frame.converted h.converted;
+      enclosed = h.enclosed;
+      closed = h.closed;
+      items = h.items;
+      kinds = h.kinds;
+    }
 
   module _ (b c : Tables) (keeps : Keeps b c) where
     -- a component instance stands when the tables have grown
-    open_kept : (o : Open) (r : Reader) → OpenStands t ms bodies root b o r → OpenStands t ms bodies root c o r
-    open_kept o r h = record {
+    open_kept : (k : Resources) (o : Open) (r : Reader) → OpenStands t ms bodies root b k o r
+        → OpenStands t ms bodies root c k o r
+    open_kept k o r h = record {
       frame = frame_kept ms b c keeps o.frame r.scope h.frame;
-      typed = h.typed;
+      here = knows_grown b.graph k r.scope h.here c.graph keeps.fits;
+      converted = converted_still b.types c.types keeps.types k t o.frame.converted h.converted;
       enclosed = enclosed_kept ms b c keeps r.names o.closure r.scope.chain (has_closure b o.closure h.closed)
           h.enclosed;
       closed = λ k is. let x = h.closed k is in (x.0, keeps.closures k.0 x.0 x.1);
@@ -79,25 +91,17 @@ module _ (t : TypeTable) (ms : List ModuleRecord) (bodies : List Translation) (r
     }
 
     -- so do all
-    pub all_kept : (ks : List Open) (o : Open) (ws : List Waiting) (r : Reader) → AllStand t ms bodies root b ks o ws r
-        → AllStand t ms bodies root c ks o ws r
-    all_kept ks o ws r (root_stands h) = root_stands (open_kept o r h)
-    all_kept ks o ws r (child_stands {os = os} {caller = k} {ws = vs} {w = w} h exports caller can all) =
-        child_stands (open_kept o r h) exports caller can (all_kept os k vs w.reader all)
+    pub all_kept : (k : Resources) (ks : List Open) (o : Open) (ws : List Waiting) (r : Reader)
+        → AllStand t ms bodies root b k ks o ws r → AllStand t ms bodies root c k ks o ws r
+    all_kept k ks o ws r (root_stands h) = root_stands (open_kept k o r h)
+    all_kept k ks o ws r (child_stands {j = j} {os = os} {caller = q} {ws = vs} {w = w} h exports caller none waits
+        all) =
+        child_stands (open_kept k o r h) exports caller none waits (all_kept j os q vs w.reader all)
 
--- an item was read that doesn't change the total
-pub grew_item : (first now next : Option ℕ) (items left fewer count : ℕ) → next ≡ now → left ≡ fewer + 1
-    → Grew first now items left count → Grew first next (items + 1) fewer count
+-- more was added, of what was left, and the total is the same
+pub grew_more : (first now next : Option ℕ) (added left more fewer count : ℕ) → next ≡ now → more + fewer ≤ left
+    → Grew first now added left count → Grew first next (added + more) fewer count
 unfolding Grew
-grew_item None now next items left fewer count same less h = same ∙ h
-grew_item (Some n) now next items left fewer count same less h =
+grew_more None now next added left more fewer count same less h = same ∙ h
+grew_more (Some n) now next added left more fewer count same less h =
     let few = h.3 in (h.0, same ∙ h.1, h.2, omega (arith, few, less))
-
--- no more are read
-pub grew_ends : (first now : Option ℕ) (items left count read : ℕ) → read ≤ items + left
-    → Grew first now items left count
-    → Grew first now read 0 count
-unfolding Grew
-grew_ends None now items left count read le h = h
-grew_ends (Some n) now items left count read le h =
-    let few = h.3 in (h.0, h.1, h.2, omega (arith, few, le))

@@ -1,6 +1,5 @@
 -- What a child begins with, and what it gives back.
 use Rattle.std.specs.Prelude.{◌≡◌, ◌++◌, ◌∷◌, ⊤, ℕ, true, List, [], length, map, Some, Result, Ok, Err, slice_get}
-use Rattle.std.specs.Prelude.{if◌then◌else◌}
 use Rattle.pc_types.specs.declared.module_record.ModuleRecord.{ModuleRecord}
 use Rattle.pc_types.specs.declared.parsed.TypeTable.{TypeTable}
 use Rattle.pc_types.specs.Table.{is_instance}
@@ -32,7 +31,7 @@ use Rattle.pc_inline_state.specs.Points.{IsFullSomewhere, PointStands}
 use Rattle.pc_inline_stack.specs.Stacks.{AreBuilt}
 use Rattle.pc_inline_state.specs.Stands.{MembersStand, Stands}
 use Rattle.pc_inline_state.specs.Tables.{Tables, tables_of}
-use Rattle.pc_inline_state.specs.Today.{can_instantiate, built_call}
+use Rattle.pc_inline_state.specs.Today.{built_call, has_no_resource}
 
 module _ (t : TypeTable) (ms : List ModuleRecord) where
   -- a call of the code stands for one of the reading
@@ -55,7 +54,7 @@ module _ (t : TypeTable) (ms : List ModuleRecord) where
     pub read : reading.Call
     pub done : reads ≡ Ok read
     pub stands : CallStands b call read
-    pub built : can_instantiate t ≡ true
+    pub resourceless : has_no_resource t ≡ true
     pub is_typed : has_entry t is_instance ty ≡ true
 
   -- a child can begin, or the item is refused as the reading says

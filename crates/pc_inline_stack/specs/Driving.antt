@@ -1,5 +1,5 @@
 -- The items of the root, read in order, with those of all component instances that they begin.
-use Rattle.std.specs.Prelude.{◌≡◌, ◌<◌, ◌≤◌, ◌+◌, ◌*◌, ◌⊎◌, ℕ, List, Result, Ok, Err, None, Some}
+use Rattle.std.specs.Prelude.{◌≡◌, ◌<◌, ◌≤◌, ◌+◌, ◌⊎◌, ℕ, List, Result, Ok, Err, None, Some}
 use Rattle.pc_types.specs.declared.error.Error.{Error}
 use Rattle.pc_types.specs.declared.module_record.ModuleRecord.{ModuleRecord}
 use Rattle.pc_types.specs.declared.parsed.TypeTable.{TypeTable}
@@ -11,7 +11,7 @@ use Rattle.pc_local.specs.declared.item.LocalInitializer.{LocalInitializer}
 use Rattle.pc_local.specs.Standing.{ItemsStand, no_names}
 use Rattle.pc_inline_state.specs.declared.frame.Frame.{Frame}
 use Rattle.pc_inline_state.specs.declared.state.State.{State}
-use Rattle.pc_inline_state.specs.Adds.{Adds, item_count}
+use Rattle.pc_inline_state.specs.Adds.{Adds, most_of_items}
 use Rattle.pc_inline_state.specs.Points.{PointStands}
 use Rattle.pc_inline_stack.specs.Reads.{Ends}
 use Rattle.pc_inline_state.specs.Tables.{tables_of}
@@ -38,20 +38,20 @@ module _ (t : TypeTable) (ms : List ModuleRecord) (limit : ℕ) where
   EndsIn total o (Ok g) = (last : Moment) × (o ≡ done last) × (last.world.total ≡ Some total)
   EndsIn total o (Err e) = Unit {0}
 
-  -- from a total on so many items were read, and each added little: the total grew by 8 for each item of a component
-  -- instance that began
-  pub record CountsItems (is : Items) (n : ℕ) (old new : State) (o : Outcome Moment) (r : Result Frame Error)
-      : Type 0 where
-    pub items : ℕ
+  -- from a total on no more was added than these items of the root add at the most, and what the total grew by: the
+  -- weights of the component instances that began
+  pub record CountsItems (ls : List LocalInitializer) (n : ℕ) (old new : State) (o : Outcome Moment)
+      (r : Result Frame Error) : Type 0 where
+    pub added : ℕ
     pub total : ℕ
-    pub adds : Adds t items (4 * items) (tables_of old) (tables_of new)
-    pub few : 8 * items + n ≤ 8 * item_count is + total
+    pub adds : Adds t added (tables_of old) (tables_of new)
+    pub few : added + n ≤ most_of_items t ls + total
     pub below : total < full
     pub ends : EndsIn total o r
 
-  -- where the total is counted, it is too much, or so many items were read
+  -- where the total is counted, it is too much, or it bounds what was added
   unfoldable pub Counts : List LocalInitializer → (old : State) → Frame → (new : State) → Result Frame Error → Type 0
   Counts ls old f new r =
       (is : Items) (now : Moment) (n : ℕ) → ItemsStand old.bodies.now no_names ls is → PointStands t ms old f now
       → now.world.total ≡ Some n → n < full
-      → (reading_from is now ≡ past) ⊎ CountsItems is n old new (reading_from is now) r
+      → (reading_from is now ≡ past) ⊎ CountsItems ls n old new (reading_from is now) r

@@ -1,6 +1,6 @@
 -- Component instances one inside another: those of the code against the readers of the reading.
-use Rattle.std.specs.Prelude.{◌≡◌, ◌<◌, ◌≤◌, ◌+◌, ◌*◌, ◌-◌, ◌⊎◌, ℕ, zero, suc, Bool, true, false, List, [], ◌∷◌}
-use Rattle.std.specs.Prelude.{All, length, map, reverse, sum_by}
+use Rattle.std.specs.Prelude.{◌≡◌, ◌<◌, ◌≤◌, ◌+◌, ◌-◌, ◌⊎◌, ℕ, zero, suc, Bool, true, false, List, [], ◌∷◌}
+use Rattle.std.specs.Prelude.{All, drop, length, map, reverse, sum_by}
 use Rattle.std.specs.Prelude.{Option, None, Some, Result, Ok, Err, slice_get, unwrap_or}
 use Rattle.std.specs.Result.{IfOk, OnOk}
 use Rattle.std.specs.List.{list_all}
@@ -9,6 +9,9 @@ use Rattle.pc_types.specs.declared.error.Error.{Error}
 use Rattle.pc_types.specs.declared.module_record.ModuleRecord.{ModuleRecord}
 use Rattle.pc_types.specs.declared.parsed.TypeTable.{TypeTable}
 use Rattle.pc_types.specs.Table.{is_instance}
+use Rattle.pc_types_lists.specs.Known.{resource_of}
+use Rattle.pc_types_lists.specs.Types.{Resources}
+use Rattle.pc_types_builder.specs.Converted.{AreConverted}
 use Rattle.pc_spec_reading.specs.Components.{read_return}
 use Rattle.pc_spec_reading.specs.Item.{ArgumentOf, ExportOf, Items, and_item, exports_in, instantiate_component_item}
 use Rattle.pc_spec_reading.specs.Outcome.{Outcome, and_then, at_item, past}
@@ -27,15 +30,15 @@ use Rattle.pc_inline_stack.specs.declared.driver.Open.{Open}
 use Rattle.pc_inline_stack.specs.declared.driver.Stack.{Stack}
 use Rattle.pc_inline_state.specs.declared.frame.Frame.{Frame}
 use Rattle.pc_inline_state.specs.declared.state.State.{State}
-use Rattle.pc_inline_state.specs.Adds.{Adds, item_count}
+use Rattle.pc_inline_state.specs.Adds.{Adds, most_added, most_of_items}
 use Rattle.pc_inline_items.specs.Captures.{IsEnclosed}
 use Rattle.pc_inline_stack.specs.Driving.{reading_from}
 use Rattle.pc_inline_state.specs.Frames.{FrameStands}
-use Rattle.pc_inline_state.specs.Points.{IsSoundState, IsTypedAsRoot, PointStands}
+use Rattle.pc_inline_state.specs.KnowsSame.{KnowsSame}
+use Rattle.pc_inline_state.specs.Points.{IsSoundState, PointStands}
 use Rattle.pc_inline_stack.specs.Reads.{Ends, items_from}
 use Rattle.pc_inline_state.specs.Tables.{Keeps, Tables, tables_of}
-use Rattle.pc_inline_state.specs.Today.{built_enter, built_items, can_instantiate, is_built_kind}
-use Rattle.pc_inline_state.specs.Typed.{no_resources}
+use Rattle.pc_inline_state.specs.Today.{built_enter, built_items, has_no_resource, is_built_kind}
 use Rattle.pc_inline_state.specs.Worlds.{HasNoExports, WorldStands}
 
 -- the body of this number, that of the root where there is none
@@ -54,6 +57,14 @@ items_left bodies root o = length (items_of bodies root o) - o.next
 -- how many items of all component instances that are being read; those that wait stand from the innermost out
 abbrev pub all_left : List Translation → (root : Translation) → (callers : List Open) → Open → ℕ
 all_left bodies root ks o = sum_by (items_left bodies root) ks + items_left bodies root o
+
+-- how much those of them add at the most that aren't read yet
+abbrev pub most_left : TypeTable → List Translation → (root : Translation) → Open → ℕ
+most_left t bodies root o = sum_by (most_added t) (drop o.next (items_of bodies root o))
+
+-- how much the items of all component instances that are being read
+abbrev pub all_most_left : TypeTable → List Translation → (root : Translation) → (callers : List Open) → Open → ℕ
+all_most_left t bodies root ks o = sum_by (most_left t bodies root) ks + most_left t bodies root o
 
 -- the items of all bodies
 abbrev pub items_in : Translation → ℕ
@@ -113,6 +124,11 @@ module _ (t : TypeTable) (ms : List ModuleRecord) (limit : ℕ) where
       resume ws r.body (built_items t ms (built_enter t ms limit (levels ws)) n (items_from n r.body)
       (record { scope = r.scope; world = w }))
 
+-- with what a caller goes on when a child ends: what is known then, and types are converted for the caller again
+pub record Waits (k : Resources) (caller : Frame) (j : Resources) : Type 0 where
+  pub known : (n : ℕ) → resource_of j.known n ≡ resource_of k.known n
+  pub current : j.current ≡ caller.component_instance
+
 module _ (t : TypeTable) (ms : List ModuleRecord) (bodies : List Translation) (root : Translation) where
   -- one that waits stands for one that waits: it is at the item that begins the child
   pub record CallerStands (o : Open) (w : Waiting) : Type 0 where
@@ -126,32 +142,35 @@ module _ (t : TypeTable) (ms : List ModuleRecord) (bodies : List Translation) (r
         ≡ and_item (instantiate_component_item component arguments w.ty) (items_from (suc o.next) w.reader.body)
 
   module _ (b : Tables) where
-    -- a component instance stands for a reader
-    pub record OpenStands (o : Open) (r : Reader) : Type 0 where
+    -- a component instance stands for a reader, where it goes on with these resources
+    pub record OpenStands (k : Resources) (o : Open) (r : Reader) : Type 0 where
       pub frame : FrameStands ms b o.frame r.scope
-      pub typed : IsTypedAsRoot t ms o.frame
+      pub here : KnowsSame b.graph k r.scope
+      pub converted : AreConverted (record b.types { resources = k }) t o.frame.converted
       pub enclosed : IsEnclosed ms b r.names o.closure r.scope.chain
       pub closed : (k : ClosureId) → o.closure ≡ Some k → (c : Closure) × (slice_get b.closures k.0 ≡ Some c)
       pub items : ItemsStand bodies r.names (items_of bodies root o) r.body
       pub kinds : AreBuilt (exports_in (items_from o.next r.body)) → AreBuilt (exports_in r.body)
 
-    -- the innermost stands for a reader, and those that wait, from the innermost out, for those that wait
-    pub data AllStand : List Open → Open → List Waiting → Reader → Type 0 where
-      root_stands : {o : Open} {r : Reader} → OpenStands o r → AllStand [] o [] r
-      child_stands : {os : List Open} {caller o : Open} {ws : List Waiting} {w : Waiting} {r : Reader} → OpenStands o r
-          → map named_item (body_at bodies root o.body).exports ≡ exports_in r.body → CallerStands caller w
-          → can_instantiate t ≡ true → AllStand os caller ws w.reader → AllStand (caller ∷ os) o (w ∷ ws) r
+    -- the innermost, which goes on with these resources, stands for a reader, and those that wait, from the innermost
+    -- out, for those that wait
+    pub data AllStand : Resources → List Open → Open → List Waiting → Reader → Type 0 where
+      root_stands : {k : Resources} {o : Open} {r : Reader} → OpenStands k o r → AllStand k [] o [] r
+      child_stands : {k j : Resources} {os : List Open} {caller o : Open} {ws : List Waiting} {w : Waiting}
+          {r : Reader} → OpenStands k o r → map named_item (body_at bodies root o.body).exports ≡ exports_in r.body
+          → CallerStands caller w → has_no_resource t ≡ true → Waits k caller.frame j
+          → AllStand j os caller ws w.reader → AllStand k (caller ∷ os) o (w ∷ ws) r
 
 -- no total is counted, or one that isn't too much
 unfoldable pub HasRoom : Option ℕ → Type 0
 HasRoom None = Unit {0}
 HasRoom (Some n) = n < full
 
--- no total is counted; or it has grown by 8 for each item, read or left, of the component instances that began
-unfoldable pub Grew : (first now : Option ℕ) → (items left count : ℕ) → Type 0
-Grew None x items left count = x ≡ None
-Grew (Some n) x items left count =
-    (m : ℕ) × (x ≡ Some m) × (m < full) × (8 * items + n + 8 * left ≤ 8 * count + m)
+-- no total is counted; or what was added and what is left to be added is no more than the root's items add, and what
+-- the total has grown by
+unfoldable pub Grew : (first now : Option ℕ) → (added left count : ℕ) → Type 0
+Grew None x added left count = x ≡ None
+Grew (Some n) x added left count = (m : ℕ) × (x ≡ Some m) × (m < full) × (added + n + left ≤ count + m)
 
 -- a total is counted, and it is too much
 unfoldable pub IsPast : (first : Option ℕ) → Outcome Moment → Type 0
@@ -159,18 +178,18 @@ IsPast None o = ⊥
 IsPast (Some n) o = o ≡ past
 
 module _ (t : TypeTable) (ms : List ModuleRecord) (limit : ℕ) (root : Translation) where
-  -- the reading from a moment on is where the code is, when so many items have been read
-  pub record Reached (is : Items) (first : Moment) (st : State) (ks : List Open) (o : Open) (items : ℕ) : Type 0 where
+  -- the reading from a moment on is where the code is, when so much has been added
+  pub record Reached (is : Items) (first : Moment) (st : State) (ks : List Open) (o : Open) (added : ℕ) : Type 0 where
     pub waiting : List Waiting
     pub reader : Reader
     pub world : World
     pub sound : IsSoundState t ms st
-    pub here : st.types.resources ≡ no_resources
     pub world_stands : WorldStands st.types st.graph world
     pub unexported : HasNoExports st.graph
-    pub all : AllStand t ms st.bodies.now root (tables_of st) ks o waiting reader
+    pub all : AllStand t ms st.bodies.now root (tables_of st) st.types.resources ks o waiting reader
     pub same : reads_on t ms limit waiting reader o.next world ≡ reading_from t ms limit is first
-    pub grew : Grew first.world.total world.total items (all_left st.bodies.now root ks o) (item_count is)
+    pub grew : Grew first.world.total world.total added (all_most_left t st.bodies.now root ks o)
+        (most_of_items t root.initializers)
 
   -- the reading began in some moment in which no total was counted
   pub record Starts (old : State) (f : Frame) : Type 0 where
@@ -180,32 +199,32 @@ module _ (t : TypeTable) (ms : List ModuleRecord) (limit : ℕ) (root : Translat
     pub at : PointStands t ms old f first
     pub uncounted : first.world.total ≡ None
 
-  -- so many items have been read, whatever the moment was in which the reading began
+  -- so much has been added, whatever the moment was in which the reading began
   pub record Driven (old : State) (f : Frame) (st : State) (ks : List Open) (o : Open) : Type 0 where
-    pub items : ℕ
+    pub added : ℕ
     pub keeps : Keeps (tables_of old) (tables_of st)
-    pub adds : Adds t items (4 * items + length ks) (tables_of old) (tables_of st)
+    pub adds : Adds t added (tables_of old) (tables_of st)
     pub deep : length ks < st.graph.num_runtime_component_instances
     pub within : st.graph.num_runtime_component_instances ≤ limit
     pub starts : Starts old f
     pub reads : (is : Items) (first : Moment) → ItemsStand old.bodies.now no_names root.initializers is
         → PointStands t ms old f first → HasRoom first.world.total
-        → IsPast first.world.total (reading_from t ms limit is first) ⊎ Reached is first st ks o items
+        → IsPast first.world.total (reading_from t ms limit is first) ⊎ Reached is first st ks o added
 
   -- the reading ends with an error
-  pub record Fails (is : Items) (first : Moment) (st : State) (f : Frame) (items : ℕ) (e : Error) : Type 0 where
+  pub record Fails (is : Items) (first : Moment) (st : State) (f : Frame) (added : ℕ) (e : Error) : Type 0 where
     pub ends : Ends t ms st f (reading_from t ms limit is first) (Err e)
     pub total : Option ℕ
-    pub grew : Grew first.world.total total items 0 (item_count is)
+    pub grew : Grew first.world.total total added 0 (most_of_items t root.initializers)
 
-  -- so it is after so many items
+  -- so it is when so much has been added
   pub record Failed (old : State) (f : Frame) (st : State) (e : Error) : Type 0 where
-    pub items : ℕ
+    pub added : ℕ
     pub keeps : Keeps (tables_of old) (tables_of st)
-    pub adds : Adds t items (4 * items) (tables_of old) (tables_of st)
+    pub adds : Adds t added (tables_of old) (tables_of st)
     pub reads : (is : Items) (first : Moment) → ItemsStand old.bodies.now no_names root.initializers is
         → PointStands t ms old f first → HasRoom first.world.total
-        → IsPast first.world.total (reading_from t ms limit is first) ⊎ Fails is first st f items e
+        → IsPast first.world.total (reading_from t ms limit is first) ⊎ Fails is first st f added e
 
   -- the code went on, or the reading ends with the error
   unfoldable pub GoesOn : {A : Type 0} → (old : State) → Frame → State → List Open → Open → Result A Error → Type 0

@@ -1,12 +1,13 @@
 //! Component instances one inside another, on a stack: an instantiation goes into the items of its component, and the
 //! component instance that it stands in goes on when these have been read.
 
-ghost use Rattle.std.specs.Prelude.{◌≡◌, ◌<◌, ◌≤◌, ◌+◌, ◌*◌, ◌++◌, ◌∷◌, ℕ, [], false, length, map, reverse};
+ghost use Rattle.std.specs.Prelude.{◌≡◌, ◌<◌, ◌≤◌, ◌+◌, ◌++◌, ◌∷◌, ℕ, [], false, length, map, reverse};
 ghost use Rattle.std.specs.Prelude.{Some, slice_get, option_and_then, OnOk};
 ghost use Rattle.pc_inline_state.specs.Definitions.{component_parts};
 ghost use Rattle.pc_local.specs.declared.item.LocalInitializer.TheVariants as local;
 ghost use Rattle.pc_spec_reading.specs.Section.{argument_of};
 ghost use Rattle.pc_inline_state.specs.Adds.{Adds};
+ghost use Rattle.pc_inline_stack.specs.Begins.{converting_for};
 ghost use Rattle.pc_inline_stack.specs.Calls.{Calls, GivesBack};
 ghost use Rattle.pc_inline_stack.specs.Driving.{Counts, Runs};
 ghost use Rattle.pc_inline_state.specs.Kinds.{kinds_of};
@@ -17,7 +18,9 @@ ghost use Rattle.pc_inline_state.specs.Tables.{Keeps, tables_of};
 ghost use Rattle.pc_inline_state.specs.Today.{is_built_call};
 
 use crate::begin::begin_instance;
-use pc_entity::{NoMemory, PrimaryMap, StaticComponentIndex, Text, TextMap};
+use pc_entity::{
+    NoMemory, PrimaryMap, RuntimeComponentInstanceIndex, StaticComponentIndex, Text, TextMap,
+};
 use pc_inline_items::{are_built, are_there, is_instance_type, members_of, step};
 use pc_inline_state::{
     ClosureId, Context, Definition, DefinitionId, Frame, ItemError, ItemFault, State, error_at,
@@ -25,6 +28,7 @@ use pc_inline_state::{
 use pc_local::{LocalInitializer, Translation};
 use pc_parsed::{ExternName, ItemKind};
 use pc_types::{Error, Unsupported};
+use pc_types_builder::{ComponentTypesBuilder, Converted};
 use std::mem;
 
 /// A component instance that is being read: what it captured, its body, and the number of its next item. The root
@@ -91,7 +95,7 @@ fn is_built_call(context: &Context<'_>, args: &[(Text, ItemKind, u32)]) -> bool
     requires kinds { context.now.kinds ≡ kinds_of context.now.table.now }
     ensures { result ≡ is_built_call context.now.table.now (map argument_of args.now) }
 {
-    context.kinds.can_instantiate && are_built(args)
+    context.kinds.has_no_resource && are_built(args)
 }
 
 /// What a child begins with.
@@ -131,6 +135,13 @@ fn call_of(
     }
 }
 
+/// Types are converted for this component instance from now on.
+fn convert_for(types: &mut ComponentTypesBuilder, instance: RuntimeComponentInstanceIndex)
+    ensures { types.new ≡ converting_for types.old instance }
+{
+    types.resources_mut().set_current_instance(instance);
+}
+
 /// An instantiation: the component instance waits at it while the items of its child are read.
 fn enter(
     context: &Context<'_>,
@@ -155,14 +166,16 @@ fn enter(
         Err(error) => return Err(error_at(error, stack.top.frame.place_of(stack.top.next))),
     };
     let instance = begin_instance(&mut state.graph, limit)?;
+    let converted = Converted::new(context.alloc, context.table);
     let child = Open {
-        frame: Frame::new(context.alloc, instance, call.arguments),
+        frame: Frame::new(context.alloc, converted, instance, call.arguments),
         closure: Some(call.closure),
         body: Some(call.body),
         next: 0,
     };
     let caller = mem::replace(&mut stack.top, child);
     push_caller(&mut stack.callers, caller)?;
+    convert_for(&mut state.types, instance);
     Ok(())
 }
 
@@ -207,7 +220,7 @@ fn add_child(
     child: &Frame,
     exports: &[(ExternName, ItemKind, u32)],
 ) -> Result<(), ItemError>
-    ensures adds { Adds context.now.table.now 0 1 (tables_of state.old) (tables_of state.new) }
+    ensures adds { Adds context.now.table.now 1 (tables_of state.old) (tables_of state.new) }
     ensures keeps { Keeps (tables_of state.old) (tables_of state.new) }
     ensures gives { GivesBack context.now.table.now context.now.modules exports.now child.now
         state.old frame.old state.new frame.new result }
@@ -239,6 +252,7 @@ fn leave(
     if let Err(error) = add_child(context, state, &mut stack.top.frame, &child.frame, exports) {
         return Err(error_at(error, stack.top.frame.place_of(stack.top.next)));
     }
+    convert_for(&mut state.types, stack.top.frame.component_instance);
     stack.top.next += 1;
     Ok(())
 }
@@ -327,7 +341,7 @@ pub fn run(
     requires begun { 0 < state.old.graph.num_runtime_component_instances }
     requires within { state.old.graph.num_runtime_component_instances ≤ limit }
     ensures keeps { Keeps (tables_of state.old) (tables_of state.new) }
-    ensures adds { (n : ℕ) × Adds context.now.table.now n (4 * n) (tables_of state.old) (tables_of state.new) }
+    ensures adds { (w : ℕ) × Adds context.now.table.now w (tables_of state.old) (tables_of state.new) }
     ensures runs { Runs context.now.table.now context.now.modules limit root.now.initializers
         state.old frame state.new result }
     ensures counts { Counts context.now.table.now context.now.modules limit root.now.initializers

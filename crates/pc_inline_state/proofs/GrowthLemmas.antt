@@ -13,8 +13,10 @@ use Rattle.pc_dfg.proofs.GrowLemmas as graph_growth
 use Rattle.pc_inline_state.specs.declared.closure.Closure.{Closure}
 use Rattle.pc_inline_state.specs.declared.definition.Definition.{Definition}
 use Rattle.pc_inline_state.specs.declared.definition.DefinitionId.{DefinitionId}
+use Rattle.pc_inline_state.specs.Fits.{FitsBefore}
 use Rattle.pc_inline_state.specs.Points.{IsFullSomewhere, full_graph}
 use Rattle.pc_inline_state.specs.Tables.{Keeps, Tables}
+use Rattle.pc_inline_state.proofs.FitsLemmas.{fits_refl}
 use Rattle.pc_inline_state.proofs.StateLemmas.{types_refl}
 
 -- a list at whose end an item was put, or that was left as it was
@@ -29,6 +31,7 @@ module _ (b : Tables) where
   cores_grown cores kept = record {
     types = types_refl b.types;
     graph = graph_growth.grows_refl b.graph;
+    fits = fits_refl b.graph;
     cores = kept;
     definitions = kept_refl b.definitions;
     closures = kept_refl b.closures;
@@ -41,6 +44,7 @@ module _ (b : Tables) where
   definitions_grown ds kept = record {
     types = types_refl b.types;
     graph = graph_growth.grows_refl b.graph;
+    fits = fits_refl b.graph;
     cores = kept_refl b.cores;
     definitions = kept;
     closures = kept_refl b.closures;
@@ -53,6 +57,7 @@ module _ (b : Tables) where
   closures_grown cs kept = record {
     types = types_refl b.types;
     graph = graph_growth.grows_refl b.graph;
+    fits = fits_refl b.graph;
     cores = kept_refl b.cores;
     definitions = kept_refl b.definitions;
     closures = kept;
@@ -66,6 +71,7 @@ module _ (b : Tables) where
   instances_grown is kept = record {
     types = types_refl b.types;
     graph = graph_growth.grows_refl b.graph;
+    fits = fits_refl b.graph;
     cores = kept_refl b.cores;
     definitions = kept_refl b.definitions;
     closures = kept_refl b.closures;
@@ -74,10 +80,11 @@ module _ (b : Tables) where
   }
 
   -- the graph has grown
-  pub graph_grown : (g : ComponentDfg) → graph.Grows b.graph g → Keeps b (record b { graph = g })
-  graph_grown g grows = record {
+  pub graph_grown : (g : ComponentDfg) → graph.Grows b.graph g → FitsBefore b.graph g → Keeps b (record b { graph = g })
+  graph_grown g grows fits = record {
     types = types_refl b.types;
     graph = grows;
+    fits = fits;
     cores = kept_refl b.cores;
     definitions = kept_refl b.definitions;
     closures = kept_refl b.closures;

@@ -1,5 +1,5 @@
--- Resource numbers can be read as paths tell them, and what is held however they are read is held so.
-use Rattle.std.proofs.Common.{◌≡◌, ◌+◌, ℕ, zero, suc, List, [], ◌∷◌, length, Some, refl, sym, ap, ◌∙◌, arith}
+-- Resource numbers can be read as paths tell them, and what is held where they fit a graph is held so.
+use Rattle.std.proofs.Common.{◌≡◌, ◌<◌, ◌+◌, ℕ, zero, suc, List, [], ◌∷◌, length, Some, ap, subst, ◌∙◌, arith}
 use Rattle.std.specs.Prelude.{slice_get}
 use Rattle.std.proofs.lemmas.Option.{none-some, same_Some}
 use Rattle.pc_numbers.specs.declared.runtime.ResourceIndex.{ResourceIndex}
@@ -8,8 +8,10 @@ use Rattle.pc_types_lists.specs.Types.{Types}
 use Rattle.pc_trampoline.specs.declared.part.Mark.{Mark}
 use Rattle.pc_trampoline.specs.declared.part.Mark.TheVariants as mark
 use Rattle.pc_parsed.specs.Mark as reading
+use Rattle.pc_dfg.specs.declared.dfg.ComponentDfg.{ComponentDfg}
+use Rattle.pc_inline_state.specs.Fits.{Fits}
 use Rattle.pc_inline_state.specs.Holds.{Holds, Numbered, ReadsAs}
-use Rattle.pc_inline_state.specs.Typed.{anyhow}
+use Rattle.pc_inline_state.specs.Worlds.{IsPlain}
 
 -- the resource of a number: that of its path, or one that was declared
 identity_at : List Path → ℕ → Identity
@@ -37,15 +39,26 @@ some_reading paths = (
   record { given = given_at paths; own = own_at paths },
 )
 
-module _ (types : Types) (reads : (ResourceIndex → Identity) → Type 0) where
-  -- what is held anyhow is held so
-  pub holds_so : (m : Mark) (w : reading.Mark) → Holds types anyhow m w → Holds types reads m w
+-- read so, they fit a graph without resources
+pub reads_fit : (g : ComponentDfg) → IsPlain g → (paths : List Path) (who : ResourceIndex → Identity)
+    → ReadsAs paths who → Fits g who
+reads_fit g plain paths who reads = record {
+  given = λ n r i at import. absurd (none-some r (subst (λ rs. slice_get rs n ≡ Some r) plain.imported_resources at));
+  own = λ n below.
+      let none : n < 0 = subst (λ ds. n < length ds) plain.resources below in
+      absurd (omega (arith, none));
+}
+
+module _ (types : Types) (fits reads : (ResourceIndex → Identity) → Type 0)
+    (fit : (who : ResourceIndex → Identity) → reads who → fits who) where
+  -- what is held where resource numbers are read in some way is held where they are read in a way that is one of those
+  pub holds_so : (m : Mark) (w : reading.Mark) → Holds types fits m w → Holds types reads m w
   unfolding Holds
-  holds_so (mark.Type_ ty) (reading.of_type tree) h = λ who r. h who tt
+  holds_so (mark.Type_ ty) (reading.of_type tree) h = λ who r. h who (fit who r)
   holds_so (mark.Type_ ty) (reading.of_signature s) h = h
   holds_so (mark.Signature n) (reading.of_type tree) h = h
   holds_so (mark.Signature n) (reading.of_signature s) h = h
 
   -- a mark with what it stands for
-  abbrev pub so : Numbered types anyhow → Numbered types reads
+  abbrev pub so : Numbered types fits → Numbered types reads
   so m = record { number = m.number; whole = m.whole; holds = holds_so m.number m.whole m.holds }

@@ -1,12 +1,14 @@
 -- What the functions of this crate rest on, and those of the crates above: the public ones are theirs too.
 pub mod ZipLemmas
+pub mod FitsLemmas
 mod LookupLemmas
 mod NumberLemmas
 pub mod StateLemmas
 pub mod RefusedLemmas
 pub mod GrowthLemmas
 pub mod HoldsLemmas
+pub mod KnowsLemmas
 pub mod AddsPushLemmas
+pub mod GainedLemmas
 pub mod AddsLemmas
-mod FewLemmas
 mod FoundLemmas

@@ -1,12 +1,14 @@
 -- What grows and does nothing: tables, types.
-use Rattle.std.proofs.Common.{List, [], ◌∷◌, ◌++◌, refl, sym, subst, ◌∙◌}
+use Rattle.std.proofs.Common.{List, [], ◌∷◌, ◌++◌, Option, refl, sym, subst, ◌∙◌}
 use Rattle.pc_entity.proofs.Growing.{append_kept, kept_refl, kept_trans}
 use Rattle.pc_entity.proofs.LookupLemmas.{kept_within}
 use Rattle.pc_types.specs.declared.module_record.ModuleRecord.{ModuleRecord}
 use Rattle.pc_types.specs.declared.parsed.TypeTable.{TypeTable}
+use Rattle.pc_types.specs.declared.types.TypeDef.{TypeDef}
 use Rattle.pc_types_lists.specs.Types.{Types}
 use Rattle.pc_types_lists.specs.Types as builder
 use Rattle.pc_types_lists.proofs.Growth as builder_growth
+use Rattle.pc_types_lists.proofs.KeptTypes as kept_types
 use Rattle.pc_dfg.specs.declared.core_def.CoreDef.{CoreDef}
 use Rattle.pc_dfg.specs.declared.dfg.ComponentDfg.{ComponentDfg}
 use Rattle.pc_dfg.proofs.GrowLemmas as graph_growth
@@ -16,35 +18,18 @@ use Rattle.pc_inline_state.specs.declared.state.State.{State}
 use Rattle.pc_inline_state.specs.Prepares.{Converts, Prepares}
 use Rattle.pc_inline_state.specs.Tables.{Keeps, Tables, tables_of}
 use Rattle.pc_inline_state.specs.Worlds.{HoldsTypes}
+use Rattle.pc_inline_state.proofs.FitsLemmas.{fits_refl}
 
--- a builder has only grown where it is as it was
-pub types_refl : (b : Types) → builder.Grows b b
-types_refl b = record {
-  funcs = kept_refl b.funcs;
-  tuples = kept_refl b.tuples;
-  records = kept_refl b.records;
-  variants = kept_refl b.variants;
-  lists = kept_refl b.lists;
-  options = kept_refl b.options;
-  results = kept_refl b.results;
-  flags = kept_refl b.flags;
-  enums = kept_refl b.enums;
-  resource_tables = kept_refl b.resource_tables;
-  future_tables = kept_refl b.future_tables;
-  stream_tables = kept_refl b.stream_tables;
-  error_context_tables = kept_refl b.error_context_tables;
-  instances = kept_refl b.instances;
-  components = kept_refl b.components;
-  modules = kept_refl b.modules;
-  signatures = kept_refl b.signatures;
-  resources = refl;
-}
+-- a builder keeps its types where it is as it was
+pub types_refl : (b : Types) → builder.KeepsTypes b b
+types_refl = kept_types.keeps_same
 
 -- tables have only grown where they are as they were
 pub keeps_refl : (b : Tables) → Keeps b b
 keeps_refl b = record {
   types = types_refl b.types;
   graph = graph_growth.grows_refl b.graph;
+  fits = fits_refl b.graph;
   cores = kept_refl b.cores;
   definitions = kept_refl b.definitions;
   closures = kept_refl b.closures;
@@ -55,8 +40,9 @@ keeps_refl b = record {
 -- and where they grew twice
 pub keeps_trans : (a b c : Tables) → Keeps a b → Keeps b c → Keeps a c
 keeps_trans a b c first second = record {
-  types = builder_growth.grows_trans a.types b.types c.types first.types second.types;
+  types = kept_types.keeps_trans a.types b.types c.types first.types second.types;
   graph = graph_growth.grows_trans a.graph b.graph c.graph first.graph second.graph;
+  fits = λ who fits. first.fits who (second.fits who fits);
   cores = kept_trans a.cores b.cores c.cores first.cores second.cores;
   definitions = kept_trans a.definitions b.definitions c.definitions first.definitions second.definitions;
   closures = kept_trans a.closures b.closures c.closures first.closures second.closures;
@@ -72,13 +58,20 @@ holds_grow old new grows g holds = record {
 }
 
 -- no type was converted
-pub converts_refl : (t : TypeTable) (a : State) → Converts t a a
-converts_refl t a = record { grows = types_refl a.types; numbers = λ n. n; rest = refl }
+pub converts_refl : (t : TypeTable) (a : State) (done : List (Option TypeDef)) → Converts t a done a done
+converts_refl t a done = record {
+  grows = builder_growth.grows_same a.types;
+  converted = λ are. are;
+  numbers = λ n. n;
+  rest = refl;
+}
 
 -- types were converted twice
-pub converts_trans : (t : TypeTable) (a b c : State) → Converts t a b → Converts t b c → Converts t a c
-converts_trans t a b c p q = record {
+pub converts_trans : (t : TypeTable) (a : State) (x : List (Option TypeDef)) (b : State) (y : List (Option TypeDef))
+    (c : State) (z : List (Option TypeDef)) → Converts t a x b y → Converts t b y c z → Converts t a x c z
+converts_trans t a x b y c z p q = record {
   grows = builder_growth.grows_trans a.types b.types c.types p.grows q.grows;
+  converted = λ are. q.converted (p.converted are);
   numbers = λ n. q.numbers (p.numbers n);
   rest = q.rest ∙ (λ i. record (p.rest i) { types = c.types; numbers = c.numbers });
 }
@@ -89,6 +82,7 @@ module _ (t : TypeTable) (ms : List ModuleRecord) where
   prepares_trans a b c p q = record {
     keeps = keeps_trans (tables_of a) (tables_of b) (tables_of c) p.keeps q.keeps;
     sound = λ s. q.sound (p.sound s);
+    resources = q.resources ∙ p.resources;
     side_effects = q.side_effects ∙ p.side_effects;
     instances = q.instances ∙ p.instances;
     trampolines = q.trampolines ∙ p.trampolines;
@@ -106,6 +100,7 @@ module _ (t : TypeTable) (ms : List ModuleRecord) where
     keeps = record {
       types = types_refl st.types;
       graph = graph_growth.grows_refl st.graph;
+      fits = fits_refl st.graph;
       cores = append_kept st.cores (d ∷ []);
       definitions = kept_refl st.definitions;
       closures = kept_refl st.closures;
@@ -120,6 +115,7 @@ module _ (t : TypeTable) (ms : List ModuleRecord) where
       numbers = s.numbers;
       held = s.held;
     };
+    resources = refl;
     side_effects = refl;
     instances = refl;
     trampolines = refl;
@@ -138,6 +134,7 @@ module _ (t : TypeTable) (ms : List ModuleRecord) where
     keeps = record {
       types = types_refl st.types;
       graph = graph_growth.grows_refl st.graph;
+      fits = fits_refl st.graph;
       cores = kept_refl st.cores;
       definitions = append_kept st.definitions (d ∷ []);
       closures = kept_refl st.closures;
@@ -152,6 +149,7 @@ module _ (t : TypeTable) (ms : List ModuleRecord) where
       numbers = s.numbers;
       held = s.held;
     };
+    resources = refl;
     side_effects = refl;
     instances = refl;
     trampolines = refl;
@@ -170,6 +168,7 @@ module _ (t : TypeTable) (ms : List ModuleRecord) where
     keeps = record {
       types = types_refl st.types;
       graph = graph_growth.grows_refl st.graph;
+      fits = fits_refl st.graph;
       cores = kept_refl st.cores;
       definitions = kept_refl st.definitions;
       closures = append_kept st.closures (d ∷ []);
@@ -184,6 +183,7 @@ module _ (t : TypeTable) (ms : List ModuleRecord) where
       numbers = s.numbers;
       held = s.held;
     };
+    resources = refl;
     side_effects = refl;
     instances = refl;
     trampolines = refl;
@@ -196,11 +196,13 @@ module _ (t : TypeTable) (ms : List ModuleRecord) where
   }
 
   -- types were converted
-  pub converts_prepares : (old new : State) → Converts t old new → Prepares t ms old new
-  converts_prepares old new c = subst (λ st. Prepares t ms old st) (sym c.rest) (record {
+  pub converts_prepares : (old : State) (before : List (Option TypeDef)) (new : State) (after : List (Option TypeDef))
+      → Converts t old before new after → Prepares t ms old new
+  converts_prepares old before new after c = subst (λ st. Prepares t ms old st) (sym c.rest) (record {
     keeps = record {
-      types = c.grows;
+      types = kept_types.grows_keeps old.types new.types c.grows;
       graph = graph_growth.grows_refl old.graph;
+      fits = fits_refl old.graph;
       cores = kept_refl old.cores;
       definitions = kept_refl old.definitions;
       closures = kept_refl old.closures;
@@ -215,6 +217,7 @@ module _ (t : TypeTable) (ms : List ModuleRecord) where
       numbers = c.numbers s.numbers;
       held = holds_grow old.types new.types c.grows old.graph s.held;
     };
+    resources = c.grows.resources;
     side_effects = refl;
     instances = refl;
     trampolines = refl;

@@ -1,12 +1,12 @@
 -- How much a call adds: to the types builder, to the graph and to the tables.
-use Rattle.std.specs.Prelude.{◌≡◌, ◌≤◌, ◌+◌, ℕ, true, length}
+use Rattle.std.specs.Prelude.{◌≤◌, ◌+◌, ℕ, List, length, sum_by}
 use Rattle.pc_types.specs.declared.parsed.TypeTable.{TypeTable}
-use Rattle.pc_types_lists.specs.Adds.{AddsTypes}
+use Rattle.pc_types_lists.specs.Adds.{AddsTypes, most_types}
+use Rattle.pc_types_lists.specs.Types.{KeepsTypes}
 use Rattle.pc_local.specs.declared.item.LocalInitializer.{LocalInitializer}
 use Rattle.pc_local.specs.declared.item.LocalInitializer.TheVariants as local
-use Rattle.pc_spec_reading.specs.Item.{Items, no_items, and_item}
 use Rattle.pc_dfg.specs.Lists.{ListName, entries_of}
-use Rattle.pc_inline_state.specs.Plain.{is_plain_table}
+use Rattle.pc_inline_state.specs.Gained.{AddsTables}
 use Rattle.pc_inline_state.specs.Tables.{Tables}
 
 -- each list of the graph and each table has at most n entries more, and no more component instances have begun
@@ -18,23 +18,32 @@ pub record AddsEntries (n : ℕ) (old new : Tables) : Type 0 where
   pub instances : length new.instances ≤ length old.instances + n
   pub begun : new.graph.num_runtime_component_instances ≤ old.graph.num_runtime_component_instances + n
 
--- the types of at most n functions over primitives, and m entries of each list
-pub record Adds (t : TypeTable) (n m : ℕ) (old new : Tables) : Type 0 where
-  pub types : is_plain_table t ≡ true → AddsTypes n old.types new.types
-  pub entries : AddsEntries m old new
+-- no list of types but that of core signatures has grown by more than w, no list of the graph and no table; what is new
+-- in that of core signatures, and which tables of futures, streams and error contexts are new, is said by itself
+pub record Adds (t : TypeTable) (w : ℕ) (old new : Tables) : Type 0 where
+  pub types : AddsTypes t w old.types new.types
+  pub tables : AddsTables t new.graph.num_runtime_component_instances old.types new.types
+  pub entries : AddsEntries w old new
+  -- types keep their numbers
+  pub grows : KeepsTypes old.types new.types
+  -- and as many component instances have begun, or more
+  pub later : old.graph.num_runtime_component_instances ≤ new.graph.num_runtime_component_instances
 
--- how many functions an item converts
-abbrev pub functions_in : LocalInitializer → ℕ
-functions_in (local.Lift func ty core opts) = 1
-functions_in (local.Lower func ty core opts) = 1
-functions_in _ = 0
+-- how much an item adds at the most: four entries, and the types of the type number that it converts
+abbrev pub most_added : TypeTable → LocalInitializer → ℕ
+most_added t (local.Lift func ty core opts) = 4 + most_types t
+most_added t (local.Lower func ty core opts) = 4 + most_types t
+most_added t _ = 4
 
--- how many imports an item is
-abbrev pub imports_in : LocalInitializer → ℕ
-imports_in (local.Import name ty) = 1
-imports_in _ = 0
+-- how much the preparation of an item adds at the most: that of an import likewise, and others aren't prepared
+abbrev pub most_prepared : TypeTable → LocalInitializer → ℕ
+most_prepared t (local.Import name ty) = 4 + most_types t
+most_prepared t _ = 0
 
--- how many items a body has
-abbrev pub item_count : Items → ℕ
-item_count no_items = 0
-item_count (and_item i is) = item_count is + 1
+-- how much these items add at the most
+abbrev pub most_of_items : TypeTable → List LocalInitializer → ℕ
+most_of_items t ls = sum_by (most_added t) ls
+
+-- and their preparation
+abbrev pub most_prepared_of : TypeTable → List LocalInitializer → ℕ
+most_prepared_of t ls = sum_by (most_prepared t) ls

@@ -1,5 +1,5 @@
 -- Component instances while their items are read, against the scopes of the reading.
-use Rattle.std.specs.Prelude.{◌≡◌, ℕ, [], List, Option, None, Some, slice_get}
+use Rattle.std.specs.Prelude.{◌≡◌, ℕ, List, Option, None, Some, slice_get}
 use Rattle.std.specs.List.{AllZip}
 use Rattle.pc_entity.specs.Lists.{value_of}
 use Rattle.pc_dfg.specs.declared.ids.InstanceId.{InstanceId}
@@ -67,7 +67,7 @@ module _ (ms : List ModuleRecord) (b : Tables) where
   abbrev pub InstanceStands : DefinitionId → Instance → Type 0
   InstanceStands n i = Stands ms b n (instance_value i)
 
-  -- a component instance that knows no resources
+  -- a component instance
   pub record FrameStands (f : Frame) (s : Scope) : Type 0 where
     pub core_funcs : ItemsStand core.Func f.core_funcs s.core_funcs
     pub memories : ItemsStand core.Memory f.memories s.memories
@@ -80,6 +80,5 @@ module _ (ms : List ModuleRecord) (b : Tables) where
     pub instances : AllZip InstanceStands f.instances s.instances
     pub components : AllZip ComponentStands f.components s.components
     pub arguments : SameNames (Stands ms b) f.arguments s.arguments
-    pub known : s.known ≡ []
     pub component_instance : s.component_instance ≡ f.component_instance.0
     pub begun : HasBegun b.graph f.component_instance.0

@@ -6,11 +6,11 @@ use Rattle.pc_types.specs.declared.parsed.TypeTable.{TypeTable}
 use Rattle.pc_parsed.specs.declared.payload.ItemKind.{ItemKind}
 use Rattle.pc_parsed.specs.declared.payload.ItemKind.TheVariants as kind
 use Rattle.pc_inline_state.specs.declared.kinds.TableKinds.{TableKinds}
-use Rattle.pc_inline_state.specs.Today.{can_instantiate, has_no_resource}
+use Rattle.pc_inline_state.specs.Today.{has_no_resource}
 
 -- what is built with a table
 abbrev pub kinds_of : TypeTable → TableKinds
-kinds_of t = record { has_no_resource = has_no_resource t; can_instantiate = can_instantiate t }
+kinds_of t = record { has_no_resource = has_no_resource t }
 
 -- the kind of item that an import takes, if that is built
 abbrev pub import_kind : TableKinds → Entity → Option ItemKind

@@ -1,16 +1,18 @@
 -- What the contracts of this crate say.
+pub mod Fits
 pub mod Holds
 pub mod Typed
 pub mod Faults
-pub mod Plain
 pub mod Today
 pub mod Tables
+pub mod Gained
 pub mod Adds
 pub mod Stands
 pub mod Worlds
 pub mod Kinds
 pub mod Index
 pub mod Frames
+pub mod KnowsSame
 pub mod Points
 pub mod Lists
 pub mod Prepares

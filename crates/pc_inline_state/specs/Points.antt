@@ -1,7 +1,8 @@
 -- A moment of the code against a moment of the reading, and what the code makes of an item.
-use Rattle.std.specs.Prelude.{◌≡◌, ◌≤◌, ◌⊎◌, ⊤, true, length, List, Result, Ok, Err, None}
+use Rattle.std.specs.Prelude.{◌≡◌, ◌≤◌, ⊤, true, length, List, Result, Ok, Err, None}
 use Rattle.std.specs.List.{list_all}
 use Rattle.pc_types_lists.specs.Types.{IsFull}
+use Rattle.pc_types_builder.specs.Converted.{AreConverted}
 use Rattle.pc_types.specs.declared.module_record.ModuleRecord.{ModuleRecord}
 use Rattle.pc_types.specs.declared.parsed.TypeTable.{TypeTable}
 use Rattle.pc_types.specs.Record.{is_sound}
@@ -17,9 +18,10 @@ use Rattle.pc_inline_state.specs.declared.frame.Frame.{Frame}
 use Rattle.pc_inline_state.specs.declared.state.State.{State}
 use Rattle.pc_inline_state.specs.Faults.{fault_of}
 use Rattle.pc_inline_state.specs.Frames.{FrameStands}
+use Rattle.pc_inline_state.specs.KnowsSame.{KnowsSame}
 use Rattle.pc_inline_state.specs.Tables.{Tables, tables_of}
-use Rattle.pc_inline_state.specs.Today.{built_row, can_instantiate}
-use Rattle.pc_inline_state.specs.Typed.{AreNumbers, no_resources}
+use Rattle.pc_inline_state.specs.Today.{built_row}
+use Rattle.pc_inline_state.specs.Typed.{AreNumbers}
 use Rattle.pc_inline_state.specs.Worlds.{AreUsed, HasItems, HasNoExports, HoldsTypes, IsPlain, WorldStands}
 
 -- a list of what all component instances share is full
@@ -47,17 +49,12 @@ module _ (t : TypeTable) (ms : List ModuleRecord) where
     pub numbers : AreNumbers st.types t st.numbers
     pub held : HoldsTypes st.types st.graph
 
-  -- a component instance in which types are converted as in the root: it is the root, or no type that is converted
-  -- hangs on the component instance
-  abbrev pub IsTypedAsRoot : Frame → Type 0
-  IsTypedAsRoot f = (f.component_instance.0 ≡ 0) ⊎ (can_instantiate t ≡ true)
-
-  -- a component instance in the code at a moment of the reading: types are converted as in the root, and no resource is
-  -- known
+  -- a component instance in the code at a moment of the reading: the types builder knows what the scope knows, and what
+  -- the component instance has converted is so
   pub record PointStands (st : State) (f : Frame) (now : Moment) : Type 0 where
     pub sound : IsSoundState st
-    pub here : st.types.resources ≡ no_resources
-    pub typed : IsTypedAsRoot f
+    pub here : KnowsSame st.graph st.types.resources now.scope
+    pub converted : AreConverted st.types t f.converted
     pub frame : FrameStands ms (tables_of st) f now.scope
     pub world : WorldStands st.types st.graph now.world
     pub unexported : HasNoExports st.graph

@@ -1,8 +1,10 @@
 -- What changes before anything is done: tables, types and slots grow, and the graph does what it did.
-use Rattle.std.specs.Prelude.{◌≡◌, List}
+use Rattle.std.specs.Prelude.{◌≡◌, List, Option}
 use Rattle.pc_types.specs.declared.module_record.ModuleRecord.{ModuleRecord}
 use Rattle.pc_types.specs.declared.parsed.TypeTable.{TypeTable}
+use Rattle.pc_types.specs.declared.types.TypeDef.{TypeDef}
 use Rattle.pc_types_lists.specs.Types as builder
+use Rattle.pc_types_builder.specs.Converted.{AreConverted}
 use Rattle.pc_inline_state.specs.declared.state.State.{State}
 use Rattle.pc_inline_state.specs.Points.{IsSoundState}
 use Rattle.pc_inline_state.specs.Tables.{Keeps, tables_of}
@@ -12,6 +14,7 @@ use Rattle.pc_inline_state.specs.Typed.{AreNumbers}
 pub record Prepares (t : TypeTable) (ms : List ModuleRecord) (old new : State) : Type 0 where
   pub keeps : Keeps (tables_of old) (tables_of new)
   pub sound : IsSoundState t ms old → IsSoundState t ms new
+  pub resources : new.types.resources ≡ old.types.resources
   pub side_effects : new.graph.side_effects ≡ old.graph.side_effects
   pub instances : new.graph.instances ≡ old.graph.instances
   pub trampolines : new.graph.trampolines ≡ old.graph.trampolines
@@ -22,8 +25,10 @@ pub record Prepares (t : TypeTable) (ms : List ModuleRecord) (old new : State) :
   pub export_items : new.graph.export_items ≡ old.graph.export_items
   pub used : new.used ≡ old.used
 
--- types were converted
-pub record Converts (t : TypeTable) (old new : State) : Type 0 where
+-- types were converted for a component instance, which had converted these before, and has those after
+pub record Converts (t : TypeTable) (old : State) (before : List (Option TypeDef)) (new : State)
+    (after : List (Option TypeDef)) : Type 0 where
   pub grows : builder.Grows old.types new.types
+  pub converted : AreConverted old.types t before → AreConverted new.types t after
   pub numbers : AreNumbers old.types t old.numbers → AreNumbers new.types t new.numbers
   pub rest : new ≡ record old { types = new.types; numbers = new.numbers }

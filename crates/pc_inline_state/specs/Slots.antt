@@ -19,9 +19,9 @@ use Rattle.pc_inline_state.specs.declared.definition.CoreId.{CoreId}
 use Rattle.pc_inline_state.specs.declared.definition.DataModel.{DataModel}
 use Rattle.pc_inline_state.specs.declared.definition.DataModel.TheVariants as model
 use Rattle.pc_inline_state.specs.declared.definition.Options.{Options}
+use Rattle.pc_inline_state.specs.Fits.{Fits}
 use Rattle.pc_inline_state.specs.Tables.{IsItem, Tables}
 use Rattle.pc_inline_state.specs.Holds.{Numbered, number_of, whole_of}
-use Rattle.pc_inline_state.specs.Typed.{anyhow}
 
 -- whether an item is a memory by its number
 abbrev pub is_memory_item : ExportItem EntityIndex → Bool
@@ -61,18 +61,18 @@ module _ (ms : List ModuleRecord) (b : Tables) where
 module _ (b : Tables) where
   -- a slot of the graph that may be left out
   pub record SlotStands (k : plan.SlotKind) (n : Option ℕ) (v : MaybeValue Mark) : Type 0 where
-    pub numbered : MaybeValue (Numbered b.types anyhow)
-    pub means : MeansSlot b.graph k n (map_maybe (number_of b.types anyhow) numbered)
-    pub is : map_maybe (whole_of b.types anyhow) numbered ≡ v
+    pub numbered : MaybeValue (Numbered b.types (Fits b.graph))
+    pub means : MeansSlot b.graph k n (map_maybe (number_of b.types (Fits b.graph)) numbered)
+    pub is : map_maybe (whole_of b.types (Fits b.graph)) numbered ≡ v
 
   -- slots of memory and realloc
   pub record SlotModelStands (m : plan.ModelEntry) (v : value.DataModel Mark) : Type 0 where
-    pub numbered : value.DataModel (Numbered b.types anyhow)
-    pub means : MeansModel b.graph m (map_model (number_of b.types anyhow) numbered)
-    pub is : map_model (whole_of b.types anyhow) numbered ≡ v
+    pub numbered : value.DataModel (Numbered b.types (Fits b.graph))
+    pub means : MeansModel b.graph m (map_model (number_of b.types (Fits b.graph)) numbered)
+    pub is : map_model (whole_of b.types (Fits b.graph)) numbered ≡ v
 
   -- an options entry of the graph
   pub record EntryStands (n : ℕ) (v : value.Options Mark) : Type 0 where
-    pub numbered : value.Options (Numbered b.types anyhow)
-    pub means : MeansOptions b.graph n (map_options (number_of b.types anyhow) numbered)
-    pub is : map_options (whole_of b.types anyhow) numbered ≡ v
+    pub numbered : value.Options (Numbered b.types (Fits b.graph))
+    pub means : MeansOptions b.graph n (map_options (number_of b.types (Fits b.graph)) numbered)
+    pub is : map_options (whole_of b.types (Fits b.graph)) numbered ≡ v

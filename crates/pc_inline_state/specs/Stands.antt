@@ -38,16 +38,16 @@ use Rattle.pc_inline_state.specs.declared.definition.Definition.TheVariants as d
 use Rattle.pc_inline_state.specs.declared.definition.DefinitionId.{DefinitionId}
 use Rattle.pc_inline_state.specs.declared.definition.ExportsId.{ExportsId}
 use Rattle.pc_inline_state.specs.declared.definition.Options.{Options}
+use Rattle.pc_inline_state.specs.Fits.{Fits}
 use Rattle.pc_inline_state.specs.Tables.{IsItem, Tables}
 use Rattle.pc_inline_state.specs.Holds.{Numbered, number_of, whole_of}
-use Rattle.pc_inline_state.specs.Typed.{anyhow}
 
 -- a definition of the graph has a value of the reading: with numbers for types it is the definition's value, with whole
 -- types the reading's
 pub record CoreStands (types : Types) (g : ComponentDfg) (d : CoreDef) (v : CoreValue Mark) : Type 0 where
-  pub numbered : CoreValue (Numbered types anyhow)
-  pub means : Means g d (map_value (number_of types anyhow) numbered)
-  pub is : map_value (whole_of types anyhow) numbered ≡ v
+  pub numbered : CoreValue (Numbered types (Fits g))
+  pub means : Means g d (map_value (number_of types (Fits g)) numbered)
+  pub is : map_value (whole_of types (Fits g)) numbered ≡ v
 
 module _ (ms : List ModuleRecord) (b : Tables) where
   -- a core item by number, of a kind
@@ -77,9 +77,10 @@ module _ (ms : List ModuleRecord) (b : Tables) where
         → OptionsStand o (value.options o.instance.0 o.string_encoding o.async_ (of_signature signature) callback
         post_return where_values_lie)
 
-  -- the function type has this tree, whatever the resources are
+  -- the function type has this tree, however resource numbers are read that fits the graph
   abbrev pub IsFunc : TypeFuncIndex → TypeTree → Type 0
-  IsFunc ty tree = (who : ResourceIndex → Identity) → HasTree b.types who (type.ComponentFunc ty) tree
+  IsFunc ty tree =
+      (who : ResourceIndex → Identity) → Fits b.graph who → HasTree b.types who (type.ComponentFunc ty) tree
 
   mutual
     -- a definition, by number

@@ -22,6 +22,7 @@ use Rattle.pc_inline_state.specs.declared.closure.Closure.{Closure}
 use Rattle.pc_inline_state.specs.declared.definition.Definition.{Definition}
 use Rattle.pc_inline_state.specs.declared.definition.DefinitionId.{DefinitionId}
 use Rattle.pc_inline_state.specs.declared.state.State.{State}
+use Rattle.pc_inline_state.specs.Fits.{FitsBefore}
 
 -- the types builder, the graph so far, and the tables: core items, definitions, what components captured, what
 -- instances export, and the bodies of the program
@@ -46,10 +47,11 @@ tables_of st = record {
   bodies = st.bodies.now;
 }
 
--- each number still names what it named
+-- each number still names what it named, and resource numbers that fit now fitted
 pub record Keeps (old new : Tables) : Type 0 where
-  pub types : builder.Grows old.types new.types
+  pub types : builder.KeepsTypes old.types new.types
   pub graph : graph.Grows old.graph new.graph
+  pub fits : FitsBefore old.graph new.graph
   pub cores : Kept old.cores new.cores
   pub definitions : Kept old.definitions new.definitions
   pub closures : Kept old.closures new.closures

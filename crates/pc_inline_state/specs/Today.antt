@@ -26,7 +26,6 @@ use Rattle.pc_spec_reading.specs.Reading.{read_items, read_root, reading_of, roo
 use Rattle.pc_spec_reading.specs.Scope.{Moment, Scope}
 use Rattle.pc_spec_reading.specs.Value.{Function, host_function}
 use Rattle.pc_spec_reading.specs.World.{World}
-use Rattle.pc_inline_state.specs.Plain.{is_plain_table}
 
 -- imports of functions: of the root no others are prepared
 abbrev pub is_built_entity : Entity → Bool
@@ -55,10 +54,6 @@ is_root_kind s _ n = false
 abbrev pub has_no_resource : TypeTable → Bool
 has_no_resource t = list_all (λ e. not (is_resource e)) t.types
 
--- a table whose components can be instantiated: it has no resource, and each function is over primitives
-abbrev pub can_instantiate : TypeTable → Bool
-can_instantiate t = has_no_resource t && is_plain_table t
-
 -- whether an entry says that an adapter was made
 abbrev pub is_made : Entry Mark → Bool
 is_made (made v) = true
@@ -73,9 +68,9 @@ module _ (t : TypeTable) where
   is_built_import (entity.Instance n) = has_no_resource t
   is_built_import _ = false
 
-  -- whether a component can be instantiated with arguments of these kinds
+  -- whether a component can be instantiated with arguments of these kinds: no type is a resource
   abbrev pub is_built_call : List ArgumentOf → Bool
-  is_built_call args = can_instantiate t && list_all (λ (a : ArgumentOf). is_built_kind a.kind) args
+  is_built_call args = has_no_resource t && list_all (λ (a : ArgumentOf). is_built_kind a.kind) args
 
   -- an item of a kind that is built, but the instantiation of a component
   abbrev pub is_built : Item → Bool

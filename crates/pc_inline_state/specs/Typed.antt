@@ -1,15 +1,12 @@
 -- Which numbers of the types builder entries and signatures of the table have.
 use Rattle.std.specs.Prelude.{◌≡◌, ◌⊎◌, ℕ, true, false, List, [], Option, None, Some, slice_get}
 use Rattle.pc_numbers.specs.declared.module_entity.ModuleInternedTypeIndex.{ModuleInternedTypeIndex}
-use Rattle.pc_numbers.specs.declared.runtime.ResourceIndex.{ResourceIndex}
 use Rattle.pc_types.specs.declared.parsed.CoreFuncSig.{CoreFuncSig}
 use Rattle.pc_types.specs.declared.parsed.TypeTable.{TypeTable}
 use Rattle.pc_types.specs.declared.type_index.TypeFuncIndex.{TypeFuncIndex}
 use Rattle.pc_types.specs.declared.types.TypeDef.TheVariants as def
 use Rattle.pc_types.specs.Table.{is_func}
-use Rattle.pc_types.specs.TypeTree.{Identity}
 use Rattle.pc_types_lists.specs.Types.{Resources, Types}
-use Rattle.pc_types_builder.specs.Converted.{AreConverted}
 use Rattle.pc_types_builder.specs.Trees.{IsEntry}
 use Rattle.pc_spec_reading.specs.Types.{has_entry}
 use Rattle.pc_inline_state.specs.declared.numbers.Numbers.{Numbers}
@@ -17,10 +14,6 @@ use Rattle.pc_inline_state.specs.declared.numbers.Numbers.{Numbers}
 -- no resource is known, and types are converted in the root
 abbrev pub no_resources : Resources
 no_resources = record { known = []; current = record { 0 = 0 } }
-
--- resource numbers are read in any way
-abbrev pub anyhow : (ResourceIndex → Identity) → Type 0
-anyhow who = Unit {0}
 
 -- the number is that of signature `n` of the table
 abbrev pub IsSignature : Types → TypeTable → ℕ → ModuleInternedTypeIndex → Type 0
@@ -32,9 +25,8 @@ abbrev pub AreSignatures : Types → TypeTable → List (Option ModuleInternedTy
 AreSignatures types t numbers =
     (n : ℕ) (i : ModuleInternedTypeIndex) → slice_get numbers n ≡ Some (Some i) → IsSignature types t n i
 
--- the numbers are those of the table's entries and signatures
+-- the numbers are those of the table's signatures
 pub record AreNumbers (types : Types) (t : TypeTable) (x : Numbers) : Type 0 where
-  pub converted : AreConverted types t x.converted
   pub signatures : AreSignatures types t x.signatures.items
 
 -- the numbers are those of a function type and of a core signature of the table

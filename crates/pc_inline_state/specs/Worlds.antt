@@ -6,7 +6,6 @@ use Rattle.pc_entity.specs.declared.packed_option.PackedOption.TheVariants as pa
 use Rattle.pc_types_lists.specs.Types.{Types}
 use Rattle.pc_dfg.specs.declared.ids.OptionsId.{OptionsId}
 use Rattle.pc_numbers.specs.declared.component_entity.StaticModuleIndex.{StaticModuleIndex}
-use Rattle.pc_numbers.specs.declared.runtime.ImportIndex.{ImportIndex}
 use Rattle.pc_numbers.specs.declared.runtime.RuntimeImportIndex.{RuntimeImportIndex}
 use Rattle.pc_numbers.specs.declared.runtime.TrampolineIndex.{TrampolineIndex}
 use Rattle.pc_types.specs.declared.module_record.ModuleRecord.{ModuleRecord}
@@ -15,8 +14,7 @@ use Rattle.pc_types.specs.declared.parsed.CoreKind.{CoreKind}
 use Rattle.pc_types.specs.declared.parsed.CoreKind.TheVariants as core
 use Rattle.pc_types.specs.declared.type_index.TypeFuncIndex.{TypeFuncIndex}
 use Rattle.pc_types.specs.declared.types.ComponentExtern.{ComponentExtern}
-use Rattle.pc_types.specs.TypeTree.{Path}
-use Rattle.pc_spec_plan.specs.CoreValue.{CoreValue, options}
+use Rattle.pc_spec_plan.specs.CoreValue.{CoreValue}
 use Rattle.pc_spec_plan.specs.Log.{Entry, declared, instances_of, map_entry, trace}
 use Rattle.pc_spec_plan.specs.PlanView as plan
 use Rattle.pc_trampoline.specs.declared.part.Mark.TheVariants as mark
@@ -36,19 +34,16 @@ use Rattle.pc_dfg.specs.declared.instance.Instance.TheVariants as source
 use Rattle.pc_dfg.specs.declared.instance.SideEffect.{SideEffect}
 use Rattle.pc_dfg.specs.Effects.{MeansEffect}
 use Rattle.pc_dfg.specs.Numbers.{SignedTrampoline, slots_of}
+pub use Rattle.pc_inline_state.specs.Fits.{path_of}
+use Rattle.pc_inline_state.specs.Fits.{Fits}
 use Rattle.pc_inline_state.specs.Stands.{CoreStands}
 use Rattle.pc_inline_state.specs.Tables.{IsItem}
 use Rattle.pc_inline_state.specs.Today.{is_made}
 use Rattle.pc_inline_state.specs.Holds.{Holds, Numbered, number_of, whole_of}
-use Rattle.pc_inline_state.specs.Typed.{anyhow}
 
 -- a trampoline has the core signature of what is declared
 abbrev pub IsSigned : Types → SignedTrampoline → CoreValue Mark → Type 0
 IsSigned types x v = (s : CoreFuncSig) × (slice_get types.signatures x.0.0 ≡ Some s) × (signature_of v ≡ Some s)
-
--- the path to a host item
-abbrev pub path_of : ImportIndex × List (List ℕ) → Path
-path_of i = record { import = i.0.0; names = i.1 }
 
 -- the kind of what is in a slot
 abbrev pub slot_kind : plan.SlotKind → CoreKind
@@ -114,15 +109,15 @@ pub record AreUsed (g : ComponentDfg) (used : List (Option RuntimeImportIndex)) 
 module _ (types : Types) (g : ComponentDfg) where
   -- a side effect does what an entry says
   pub record EffectStands (e : SideEffect) (x : Entry Mark) : Type 0 where
-    pub numbered : Entry (Numbered types anyhow)
-    pub means : MeansEffect g e (map_entry (number_of types anyhow) numbered)
-    pub is : map_entry (whole_of types anyhow) numbered ≡ x
+    pub numbered : Entry (Numbered types (Fits g))
+    pub means : MeansEffect g e (map_entry (number_of types (Fits g)) numbered)
+    pub is : map_entry (whole_of types (Fits g)) numbered ≡ x
 
   -- an import of the root is one that the host gives, its type under its number
   pub record ImportStands (i : List ℕ × ComponentExtern) (h : HostImport) : Type 0 where
     pub name : i.0 ≡ h.name.name
     pub extern_data : i.1.data_ ≡ extern_data h.name
-    pub typed : Holds types anyhow (mark.Type_ i.1.ty) (of_type h.import_type)
+    pub typed : Holds types (Fits g) (mark.Type_ i.1.ty) (of_type h.import_type)
 
   -- a trampoline is declared, and has the core signature of its lowering
   pub record IsDeclared (log : List (Entry Mark)) (k : ℕ) (x : SignedTrampoline) : Type 0 where

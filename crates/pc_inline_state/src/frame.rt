@@ -10,6 +10,7 @@ use pc_dfg::InstanceId;
 use pc_entity::{NoMemory, RuntimeComponentInstanceIndex, Seq, StaticModuleIndex, TextMap};
 use pc_parsed::ItemKind;
 use pc_types::{CoreKind, Place};
+use pc_types_builder::Converted;
 use std::alloc::Global;
 
 /// A core instance, as its component instance knows it.
@@ -24,7 +25,8 @@ pub enum CoreInstance {
     Bag(TextMap<(CoreKind, CoreId)>),
 }
 
-/// A component instance while its items are read: what its indices count into, and its arguments by name.
+/// A component instance while its items are read: what its indices count into, its arguments by name, and the types
+/// that were converted for it.
 pub struct Frame {
     pub core_funcs: Seq<CoreId>,
     pub memories: Seq<CoreId>,
@@ -38,12 +40,14 @@ pub struct Frame {
     pub core_instances: Seq<CoreInstance>,
     pub arguments: TextMap<DefinitionId>,
     pub component_instance: RuntimeComponentInstanceIndex,
+    pub converted: Converted,
 }
 
 impl Frame {
     /// A component instance in which nothing was read yet.
     pub fn new(
         alloc: Global,
+        converted: Converted,
         component_instance: RuntimeComponentInstanceIndex,
         arguments: TextMap<DefinitionId>,
     ) -> Frame
@@ -60,6 +64,7 @@ impl Frame {
           core_instances = [];
           arguments = arguments;
           component_instance = component_instance;
+          converted = converted;
         } }
     {
         Frame {
@@ -75,6 +80,7 @@ impl Frame {
             core_instances: Seq::new(alloc),
             arguments,
             component_instance,
+            converted,
         }
     }
 
@@ -159,10 +165,12 @@ impl Drop for Frame {
             core_instances,
             arguments,
             component_instance: _,
+            converted,
         } = self;
         drop_core_items(core_funcs, memories, tables, globals, tags);
         drop_items(modules, funcs, components, instances);
         drop_named(core_instances, arguments);
+        drop_converted(converted);
     }
 }
 
@@ -182,3 +190,5 @@ fn drop_items(
 ) {}
 
 fn drop_named(_core_instances: Seq<CoreInstance>, _arguments: TextMap<DefinitionId>) {}
+
+fn drop_converted(_converted: Converted) {}

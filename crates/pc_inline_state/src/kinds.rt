@@ -4,7 +4,6 @@ ghost use Rattle.std.specs.Prelude.{◌≡◌};
 ghost use Rattle.pc_inline_state.specs.Kinds.{kinds_of};
 ghost use Rattle.pc_inline_state.specs.Today.{has_no_resource, is_built_kind};
 
-use crate::plain::is_plain_table;
 use pc_parsed::ItemKind;
 use pc_types::TypeTable;
 
@@ -21,9 +20,8 @@ pub fn is_built_kind(kind: ItemKind) -> bool
 /// What is built with a type table, found out once.
 #[derive(Clone, Copy)]
 pub struct TableKinds {
+    /// Whether no entry is a resource.
     pub has_no_resource: bool,
-    /// Whether components can be instantiated: there is no resource, and each function is over primitives.
-    pub can_instantiate: bool,
 }
 
 /// Whether no entry of a table is a resource.
@@ -37,9 +35,7 @@ fn has_no_resource(table: &TypeTable) -> bool
 pub fn kinds_of(table: &TypeTable) -> TableKinds
     ensures { result ≡ kinds_of table.now }
 {
-    let has_no_resource = has_no_resource(table);
     TableKinds {
-        has_no_resource,
-        can_instantiate: has_no_resource && is_plain_table(table),
+        has_no_resource: has_no_resource(table),
     }
 }

@@ -16,7 +16,6 @@ mod frame;
 mod kinds;
 mod lookup;
 mod numbers;
-mod plain;
 mod state;
 mod types;
 
@@ -30,6 +29,5 @@ pub use frame::{CoreInstance, Frame};
 pub use kinds::{TableKinds, is_built_kind, kinds_of};
 pub use lookup::at;
 pub use numbers::Numbers;
-pub use plain::is_plain_table;
 pub use state::State;
 pub use types::is_func_type;

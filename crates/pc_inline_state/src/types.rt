@@ -1,16 +1,18 @@
 //! The types builder's numbers of function types and of core signatures.
 
-ghost use Rattle.std.specs.Prelude.{◌≡◌, ◌&&◌, None, Some, false, true, length, option_and_then, slice_get, slice_set};
+ghost use Rattle.std.specs.Prelude.{◌≡◌, ◌<◌, ◌&&◌, List, None, Option, Some, false, true, length, option_and_then};
+ghost use Rattle.std.specs.Prelude.{slice_get, slice_set};
 ghost use Rattle.std.specs.Prelude.{IfErr, IfOk};
+ghost use Rattle.pc_types.specs.declared.types.TypeDef.{TypeDef};
 ghost use Rattle.pc_types.specs.declared.types.TypeDef.TheVariants as def;
 ghost use Rattle.pc_types.specs.Record.{has_signature};
 ghost use Rattle.pc_types.specs.Table.{is_func, table_fault};
 ghost use Rattle.pc_types_lists.specs.Types as builder;
-ghost use Rattle.pc_types_builder.specs.Few.{AddsFuncs, AddsSignature};
+ghost use Rattle.pc_types_lists.specs.Adds.{most_types};
+ghost use Rattle.pc_types_builder.specs.Converted.{AreConverted};
 ghost use Rattle.pc_types_builder.specs.Trees.{IsEntry};
 ghost use Rattle.pc_spec_reading.specs.Types.{has_entry};
 ghost use Rattle.pc_inline_state.specs.Adds.{Adds};
-ghost use Rattle.pc_inline_state.specs.Plain.{is_plain_table};
 ghost use Rattle.pc_inline_state.specs.Prepares.{Converts};
 ghost use Rattle.pc_inline_state.specs.Refused.{LacksRoomOr};
 ghost use Rattle.pc_inline_state.specs.Tables.{tables_of};
@@ -22,7 +24,7 @@ use crate::error::{ItemError, ItemFault};
 use crate::state::State;
 use pc_entity::ModuleInternedTypeIndex;
 use pc_types::{TypeError, TypeFuncIndex, TypeTable};
-use pc_types_builder::ComponentTypesBuilder;
+use pc_types_builder::{ComponentTypesBuilder, Converted};
 
 /// Whether a number is of a function type.
 pub fn is_func_type(table: &TypeTable, ty: u32) -> bool
@@ -61,12 +63,20 @@ fn note(
 }
 
 impl<'a> Context<'a> {
-    /// The builder's number of a function type, by its table number.
-    pub fn func_type(&self, state: &mut State<'_>, ty: u32) -> Result<TypeFuncIndex, ItemError>
+    /// The builder's number of a function type, by its table number, for a component instance that has begun and has
+    /// converted these.
+    pub fn func_type(
+        &self,
+        state: &mut State<'_>,
+        converted: &mut Converted,
+        ty: u32,
+    ) -> Result<TypeFuncIndex, ItemError>
         requires sound { table_fault self.now.table.now ≡ None }
-        requires numbers { AreNumbers state.old.types self.now.table.now state.old.numbers }
-        ensures converts { Converts self.now.table.now state.old state.new }
-        ensures few { is_plain_table self.now.table.now ≡ true → AddsFuncs 1 2 state.old.types state.new.types }
+        requires converted { AreConverted state.old.types self.now.table.now converted.old }
+        requires begun { state.old.types.resources.current.0 < state.old.graph.num_runtime_component_instances }
+        ensures converts { Converts self.now.table.now state.old converted.old state.new converted.new }
+        ensures adds { Adds self.now.table.now (most_types self.now.table.now)
+            (tables_of state.old) (tables_of state.new) }
         ensures is { IfOk result (λ i. (has_entry self.now.table.now is_func ty ≡ true)
             × IsEntry state.new.types self.now.table.now ty (def.ComponentFunc i)) }
         ensures err { IfErr result
@@ -75,11 +85,7 @@ impl<'a> Context<'a> {
         if !is_func_type(self.table, ty) {
             return Err(ItemError::Fault(ItemFault::BadType));
         }
-        Ok(
-            state
-                .types
-                .convert_func_with(self.table, ty, &mut state.numbers.converted)?,
-        )
+        Ok(state.types.convert_func_with(self.table, ty, converted)?)
     }
 
     /// The builder's number of a core signature, by its table number.
@@ -89,8 +95,9 @@ impl<'a> Context<'a> {
         core: u32,
     ) -> Result<ModuleInternedTypeIndex, ItemError>
         requires numbers { AreNumbers state.old.types self.now.table.now state.old.numbers }
-        ensures converts { Converts self.now.table.now state.old state.new }
-        ensures few { AddsSignature state.old.types state.new.types }
+        ensures converts { (done : List (Option TypeDef))
+            → Converts self.now.table.now state.old done state.new done }
+        ensures adds { Adds self.now.table.now 0 (tables_of state.old) (tables_of state.new) }
         ensures is { IfOk result (λ i. IsSignature state.new.types self.now.table.now core i) }
         ensures err { IfErr result
             (LacksRoomOr item_fault.BadType (slice_get self.now.table.now.core_funcs core ≡ None) state.new) }
@@ -103,22 +110,27 @@ impl<'a> Context<'a> {
         Ok(index)
     }
 
-    /// The builder's numbers of the type and of the core signature of a function.
+    /// The builder's numbers of the type and of the core signature of a function, for a component instance that has
+    /// begun and has converted these types.
     pub fn function_types(
         &self,
         state: &mut State<'_>,
+        converted: &mut Converted,
         ty: u32,
         core: u32,
     ) -> Result<(TypeFuncIndex, ModuleInternedTypeIndex), ItemError>
         requires sound { table_fault self.now.table.now ≡ None }
         requires numbers { AreNumbers state.old.types self.now.table.now state.old.numbers }
-        ensures converts { Converts self.now.table.now state.old state.new }
-        ensures adds { Adds self.now.table.now 1 0 (tables_of state.old) (tables_of state.new) }
+        requires converted { AreConverted state.old.types self.now.table.now converted.old }
+        requires begun { state.old.types.resources.current.0 < state.old.graph.num_runtime_component_instances }
+        ensures converts { Converts self.now.table.now state.old converted.old state.new converted.new }
+        ensures adds { Adds self.now.table.now (most_types self.now.table.now)
+            (tables_of state.old) (tables_of state.new) }
         ensures are { IfOk result (λ r. AreOfFunction state.new.types self.now.table.now ty core r.0 r.1) }
         ensures err { IfErr result (LacksRoomOr item_fault.BadType
             (HasNoFunction self.now.table.now ty core) state.new) }
     {
-        let ty = self.func_type(state, ty)?;
+        let ty = self.func_type(state, converted, ty)?;
         let core_type = self.signature(state, core)?;
         Ok((ty, core_type))
     }

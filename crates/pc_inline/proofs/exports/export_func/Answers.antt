@@ -1,3 +1,5 @@
+use Rattle.pc_inline_state.specs.Tables.{tables_of}
+use Rattle.pc_inline.proofs.KeepsLemmas.{name_keeps}
 use Rattle.pc_inline.proofs.ExportAddsLemmas.{named_few, reached_few}
 use Rattle.pc_inline.proofs.ExportAllLemmas.{numbers_push}
 use Rattle.pc_inline.proofs.ExportLemmas.{made_exports, refused_exports, unfed_exports}
@@ -46,3 +48,9 @@ pub returns-clause-adds : goal.returns-clause-adds
 returns-clause-adds c =
     let e = c.push_export.ensures in
     named_few _ _ _ _ c.push_export.result _ c.reach_node.ensures.adds e.rest e.ok e.err
+
+pub returns-clause-keeps : goal.returns-clause-keeps
+returns-clause-keeps c =
+    let e = c.push_export.ensures in
+    name_keeps (tables_of c.args.state.now) (tables_of c.reach_node.new.state) c.reach_node.ensures.keeps _ e.grows _
+    e.rest

@@ -1,7 +1,9 @@
 use Rattle.std.proofs.Common.{Some, ap, sym, ◌∙◌}
 use Rattle.pc_inline_state.specs.AddsEach.{in_reached}
+use Rattle.pc_inline_state.specs.Tables.{tables_of}
 use Rattle.pc_inline_state.proofs.AddsLemmas.{each_refl}
 use Rattle.pc_inline.proofs.ExportAddsLemmas.{options_reached}
+use Rattle.pc_inline.proofs.KeepsLemmas.{item_keeps}
 use Rattle.pc_inline.proofs.ReachLemmas.{function_held, reaches_item}
 use Rattle.pc_inline.proofs.ReachNodeLemmas.{host_reaches, item_few, item_reaches, lifted_options, memory_reaches}
 use Rattle.pc_inline.proofs.ReachNodeLemmas.{options_reaches}
@@ -58,3 +60,10 @@ pub returns-clause-adds : goal.returns-clause-adds
 returns-clause-adds c =
     let e = c.push_export_item.ensures in
     item_few c.push_export_item.result _ c.options_entry.ensures.adds e.rest e.ok e.err
+
+pub returns-clause-keeps : goal.returns-clause-keeps
+returns-clause-keeps c =
+    let e = c.push_export_item.ensures in
+    item_keeps (tables_of c.args.state.now) (tables_of c.options_entry.new.state)
+    c.options_entry.ensures.prepares.keeps _
+    e.grows _ e.rest

@@ -1,6 +1,6 @@
 use Rattle.std.proofs.Common.{ap, ◌∙◌}
-use Rattle.pc_inline.proofs.RunLemmas.{gains_nothing, run_counts, run_ends, run_gains, run_keeps, run_unfed}
-use Rattle.pc_inline.proofs.RunLemmas.{stands_among}
+use Rattle.pc_inline.proofs.RunLemmas.{gains_nothing, run_counts, run_ends, run_gained, run_gains}
+use Rattle.pc_inline.proofs.RunLemmas.{run_keeps, run_unfed, stands_among}
 use Rattle.pc_inline.proofs.inliner.inline_run.Goals as goal
 
 pub inline_root-inlined-requires-clause-fresh : goal.inline_root-inlined-requires-clause-fresh
@@ -18,8 +18,8 @@ returns-clause-inlines c body stands =
     run_ends _ _ _ _ (c.in_ok-modules.ensures ∙ c.as_slice.ensures) _ c.inline_root-inlined.new.state _
     (c.swap.ensures.x_after ∙ c.take_graph-graph.ensures.types) _ _ c.new-state.ensures.bodies body stands
     c.args.types.now _ c.new-state.result (c.replace-builder.ensures.value ∙ c.forget_resources.ensures)
-    c.new-state.ensures.types _ c.take_graph-graph.ensures.graph _ c.inline_root-inlined.ensures.few
-    c.inline_root-inlined.ensures.inlines _ c.and.ensures
+    c.new-state.ensures.types c.types_are_distinct.ensures _ c.take_graph-graph.ensures.graph _
+    c.inline_root-inlined.ensures.few c.inline_root-inlined.ensures.inlines _ c.and.ensures
 
 pub returns-clause-few : goal.returns-clause-few
 returns-clause-few c body stands counted =
@@ -35,22 +35,31 @@ returns-clause-keeps c =
     (c.replace-builder.ensures.value ∙ c.forget_resources.ensures) c.new-state.ensures.types
     c.inline_root-inlined.ensures.keeps (c.swap.ensures.x_after ∙ c.take_graph-graph.ensures.types)
 
+pub returns-clause-tables : goal.returns-clause-tables
+returns-clause-tables c =
+    let s = c.requires.stands in
+    run_gained _ _ c.args.limit _ (c.in_ok-modules.ensures ∙ c.as_slice.ensures) c.args.program.now.root
+    c.inline_root-inlined.new.state _ (c.swap.ensures.x_after ∙ c.take_graph-graph.ensures.types) _ _
+    c.new-state.ensures.bodies s.0 s.1 c.args.types.now _ c.new-state.result
+    (c.replace-builder.ensures.value ∙ c.forget_resources.ensures) c.new-state.ensures.types _
+    c.take_graph-graph.ensures.graph _ c.inline_root-inlined.ensures.adds _ c.and.ensures
+
 pub returns-clause-adds : goal.returns-clause-adds
-returns-clause-adds c body stands plain counted =
+returns-clause-adds c body stands counted =
     run_gains _ _ _ _ (c.in_ok-modules.ensures ∙ c.as_slice.ensures) _ c.inline_root-inlined.new.state _
     (c.swap.ensures.x_after ∙ c.take_graph-graph.ensures.types) _ _ c.new-state.ensures.bodies body stands
     c.args.types.now _ c.new-state.result (c.replace-builder.ensures.value ∙ c.forget_resources.ensures)
-    c.new-state.ensures.types plain _ c.inline_root-inlined.ensures.adds c.inline_root-inlined.ensures.few counted
+    c.new-state.ensures.types _ c.inline_root-inlined.ensures.adds c.inline_root-inlined.ensures.few counted
 
 pub returns-in_err-modules-clause-inlines : goal.returns-in_err-modules-clause-inlines
 returns-in_err-modules-clause-inlines c body stands = run_unfed _ _ _ body _ _ _ c.from_residual.ensures.1
 
 pub returns-in_err-modules-clause-adds : goal.returns-in_err-modules-clause-adds
-returns-in_err-modules-clause-adds c body stands plain counted = gains_nothing _ _ _ body _ counted
+returns-in_err-modules-clause-adds c body stands counted = gains_nothing _ _ _ body _ counted
 
 pub returns-in_err-numbers-clause-inlines : goal.returns-in_err-numbers-clause-inlines
 returns-in_err-numbers-clause-inlines c body stands =
     run_unfed _ _ _ body _ _ _ c.from_residual-in_err-numbers.ensures.1
 
 pub returns-in_err-numbers-clause-adds : goal.returns-in_err-numbers-clause-adds
-returns-in_err-numbers-clause-adds c body stands plain counted = gains_nothing _ _ _ body _ counted
+returns-in_err-numbers-clause-adds c body stands counted = gains_nothing _ _ _ body _ counted

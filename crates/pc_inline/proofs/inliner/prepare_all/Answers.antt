@@ -1,6 +1,6 @@
 use Rattle.std.proofs.Common.{Some, ap, sym, ◌∙◌, arith}
 use Rattle.std.proofs.lemmas.Option.{slice_get-get_or}
-use Rattle.pc_inline_state.specs.Adds.{imports_in}
+use Rattle.pc_inline_state.specs.Adds.{most_prepared}
 use Rattle.pc_inline.proofs.DriverLemmas.{error_there, item_prepared, item_unprepared, items_prepared, none_prepared}
 use Rattle.pc_inline_stack.proofs.LoopAddsLemmas.{added_all, added_last, added_more}
 use Rattle.pc_inline_state.proofs.StateLemmas.{keeps_trans}
@@ -18,7 +18,8 @@ loop-n-preserved c =
     record {
       prepared = item_prepared _ _ _ _ _ _ _ _ c.requires.items _ at _ _ c.in_default.ensures.same
           c.loop-n.invariant.prepared c.in_default.ensures.steps c.in_default.ensures.keeps;
-      adds = added_more _ imports_in c.args.items.now c.loop-n.n _ c.loop-n-test.true c.index-items-n.is _ _ _
+      adds = added_more _ (most_prepared c.args.context.now.table.now) c.args.items.now c.loop-n.n _
+          c.loop-n-test.true c.index-items-n.is _ _ _
           c.loop-n.invariant.adds c.in_default.ensures.adds;
     }
 
@@ -28,7 +29,8 @@ returns-in-Err c =
     record {
       keeps = keeps_trans _ _ _ c.loop-n.invariant.prepared.keeps c.in-Err.ensures.keeps;
       same = c.in-Err.ensures.same ∙ c.loop-n.invariant.prepared.place;
-      adds = added_last _ imports_in c.args.items.now c.loop-n.n _ c.loop-n-test.true c.index-items-n.is _ _ _
+      adds = added_last _ (most_prepared c.args.context.now.table.now) c.args.items.now c.loop-n.n _
+          c.loop-n-test.true c.index-items-n.is _ _ _
           c.loop-n.invariant.adds c.in-Err.ensures.adds;
       prepared = item_unprepared _ _ _ _ _ _ _ _ c.requires.items _ at _ _ c.in-Err.ensures.same
           c.loop-n.invariant.prepared c.in-Err.error c.in-Err.ensures.steps _
@@ -39,6 +41,7 @@ pub returns : goal.returns
 returns c = record {
   keeps = c.loop-n.invariant.prepared.keeps;
   same = c.loop-n.invariant.prepared.place;
-  adds = added_all _ imports_in c.args.items.now c.loop-n.n _ _ c.loop-n.auto.n-end c.loop-n.invariant.adds;
+  adds = added_all _ (most_prepared c.args.context.now.table.now) c.args.items.now c.loop-n.n _ _ c.loop-n.auto.n-end
+      c.loop-n.invariant.adds;
   prepared = items_prepared _ _ _ _ _ _ _ _ c.loop-n.invariant.prepared (omega (arith, c.loop-n-test.false)) tt;
 }

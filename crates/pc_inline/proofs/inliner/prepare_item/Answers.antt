@@ -1,6 +1,6 @@
-use Rattle.std.proofs.Common.{◌*◌, rules, refl, sym, subst}
+use Rattle.std.proofs.Common.{rules, refl, sym, subst}
 use Rattle.pc_local.specs.Plain.{plain_item}
-use Rattle.pc_inline_state.specs.Adds.{Adds, imports_in}
+use Rattle.pc_inline_state.specs.Adds.{Adds, most_prepared}
 use Rattle.pc_inline_state.specs.Tables.{tables_of}
 use Rattle.pc_inline_state.proofs.AddsLemmas.{adds_refl}
 use Rattle.pc_inline.proofs.DriverLemmas.{import_prepares, other_prepares}
@@ -14,13 +14,13 @@ returns-in-Import-clause-steps c =
 
 pub returns-in-Import-clause-adds : goal.returns-in-Import-clause-adds
 returns-in-Import-clause-adds c =
-    subst (λ l. Adds c.args.context.now.table.now (imports_in l) (4 * imports_in l) (tables_of c.args.state.now)
-    (tables_of c.prepare.new.state)) (sym c.in-Import.is) c.prepare.ensures.adds
+    subst (λ l. Adds c.args.context.now.table.now (most_prepared c.args.context.now.table.now l)
+    (tables_of c.args.state.now) (tables_of c.prepare.new.state)) (sym c.in-Import.is) c.prepare.ensures.adds
 
 pub returns-in_default : goal.returns-in_default
 returns-in_default c = record {
   keeps = keeps_refl _;
   same = refl;
-  adds = adds_refl _ _ _ _;
+  adds = adds_refl _ _ _;
   steps = other_prepares _ _ _ _ _ c.in_default.not-Import;
 }

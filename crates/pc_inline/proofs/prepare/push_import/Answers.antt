@@ -5,6 +5,8 @@ use Rattle.pc_inline_state.proofs.AddsLemmas.{each_refl}
 use Rattle.pc_inline_state.proofs.RefusedLemmas.{memory_lacks}
 use Rattle.pc_inline_state.specs.AddsEach.{nowhere}
 use Rattle.pc_inline_state.specs.Tables.{tables_of}
+use Rattle.pc_inline_state.proofs.StateLemmas.{keeps_trans}
+use Rattle.pc_inline.proofs.KeepsLemmas.{import_keeps}
 use Rattle.pc_inline.proofs.PrepareLemmas.{gives_import, import_adds}
 use Rattle.pc_inline.proofs.prepare.push_import.Goals as goal
 
@@ -39,3 +41,16 @@ returns-clause-gives c =
     gives_import c.args.state.now _ _ _ _ _ c.in_ok-number.ensures.key e.rest c.in_ok-number.ensures.ok e.ordered
     c.push_unused.ensures.rest c.in_ok-push_unused.ensures.ok _ c.push_definition.ensures.key
     c.push_definition.ensures.ok
+
+pub returns-in_err-push_unused-clause-keeps : goal.returns-in_err-push_unused-clause-keeps
+returns-in_err-push_unused-clause-keeps c =
+    let e = c.push_import_type.ensures in
+    import_keeps (tables_of c.args.state.now) c.push_import_type.new.self e.grows _ e.rest _
+    (ap tables_of c.push_unused.ensures.rest)
+
+pub returns-clause-keeps : goal.returns-clause-keeps
+returns-clause-keeps c =
+    let e = c.push_import_type.ensures in
+    keeps_trans (tables_of c.args.state.now) (tables_of c.push_unused.new.self) (tables_of c.push_definition.new.self)
+    (import_keeps (tables_of c.args.state.now) c.push_import_type.new.self e.grows _ e.rest _
+    (ap tables_of c.push_unused.ensures.rest)) c.push_definition.ensures.keeps

@@ -1,8 +1,9 @@
 use Rattle.std.proofs.Common.{sym, ◌∙◌}
-use Rattle.pc_inline_canon.proofs.ConvertedLemmas.{lift_adds}
+use Rattle.pc_inline_canon.proofs.ConvertedLemmas.{lift_adds, lower_keeps}
 use Rattle.pc_inline_canon.proofs.GotLemmas.{got_by}
 use Rattle.pc_inline_canon.proofs.LiftLemmas.{lift_lacks, lift_made, lift_misses, lift_misses_option}
 use Rattle.pc_inline_canon.proofs.PassedLemmas.{passed_lacking, passed_unfed}
+use Rattle.pc_inline_state.proofs.GainedLemmas.{current_begun}
 use Rattle.pc_inline_canon.proofs.functions.step_lift.Goals as goal
 
 pub returns-in_err-ty-clause-steps : goal.returns-in_err-ty-clause-steps
@@ -11,12 +12,12 @@ returns-in_err-ty-clause-steps c =
 
 pub returns-in_default-clause-steps : goal.returns-in_default-clause-steps
 returns-in_default-clause-steps c =
-    lift_misses _ _ _ _ _ _ _ _ _ c.in_ok-ty.ensures.converts _ _ c.in_ok-ty.ensures.are
+    lift_misses _ _ _ _ _ _ _ _ _ _ c.in_ok-ty.ensures.converts _ _ c.in_ok-ty.ensures.are
     (got_by _ _ _ c.as_slice.ensures _ _ c.at.ensures c.in_default.is)
 
 pub returns-in_default-options_in-clause-steps : goal.returns-in_default-options_in-clause-steps
 returns-in_default-options_in-clause-steps c =
-    lift_misses_option _ _ _ _ _ _ _ _ _ c.in_ok-ty.ensures.converts _ _ c.in_ok-ty.ensures.are _
+    lift_misses_option _ _ _ _ _ _ _ _ _ _ c.in_ok-ty.ensures.converts _ _ c.in_ok-ty.ensures.are _
     (got_by _ _ _ c.as_slice.ensures _ _ c.at.ensures c.in-Some.is)
     (sym c.options_in.ensures ∙ c.in_default-options_in.is)
 
@@ -29,7 +30,7 @@ returns-in_err-push-clause-steps c = passed_unfed _ _ _ _ _ _ _ _ c.from_residua
 
 pub returns-clause-steps : goal.returns-clause-steps
 returns-clause-steps c =
-    lift_made _ _ _ _ _ _ _ _ _ c.in_ok-ty.ensures.converts _ _ c.in_ok-ty.ensures.are _
+    lift_made _ _ _ _ _ _ _ _ _ _ c.in_ok-ty.ensures.converts _ _ c.in_ok-ty.ensures.are _
     (got_by _ _ _ c.as_slice.ensures _ _ c.at.ensures c.in-Some.is) _
     (sym c.options_in.ensures ∙ c.in-Some-options_in.is) _ c.in_ok-id.ensures.key tt _ _ c.in_ok-id.ensures.ok
     c.in_ok-push.ensures.ok
@@ -42,3 +43,20 @@ returns-in_err-push-clause-adds c = lift_adds _ _ _ _ c.function_types.ensures.a
 
 pub returns-clause-adds : goal.returns-clause-adds
 returns-clause-adds c = lift_adds _ _ _ _ c.function_types.ensures.adds c.push_definition.ensures.adds
+
+pub returns-in_err-push-clause-keeps : goal.returns-in_err-push-clause-keeps
+returns-in_err-push-clause-keeps c = lower_keeps _ _ _ _ _ _ c.in_ok-ty.ensures.converts c.push_definition.ensures.keeps
+
+pub returns-clause-keeps : goal.returns-clause-keeps
+returns-clause-keeps c = lower_keeps _ _ _ _ _ _ c.in_ok-ty.ensures.converts c.push_definition.ensures.keeps
+
+-- what a step asks for is there at a point
+pub function_types-requires : goal.function_types-requires
+function_types-requires c =
+    let at = c.requires.here.1 in
+    record {
+      sound = c.requires.input.table;
+      numbers = at.sound.numbers;
+      converted = at.converted;
+      begun = current_begun _ _ _ _ _ at;
+    }

@@ -4,6 +4,7 @@ use Rattle.pc_inline_canon.proofs.GotLemmas.{got_by}
 use Rattle.pc_inline_canon.proofs.LowerLemmas.{lower_adapts, lower_lacks, lower_misses, lower_misses_option}
 use Rattle.pc_inline_canon.proofs.LowerLemmas.{lower_ready, lower_steps}
 use Rattle.pc_inline_canon.proofs.PassedLemmas.{passed_lacking, passed_unfed}
+use Rattle.pc_inline_state.proofs.GainedLemmas.{current_begun}
 use Rattle.pc_inline_canon.proofs.functions.step_lower.Goals as goal
 
 pub returns-in_err-ty-clause-steps : goal.returns-in_err-ty-clause-steps
@@ -12,24 +13,24 @@ returns-in_err-ty-clause-steps c =
 
 pub returns-in_default-clause-steps : goal.returns-in_default-clause-steps
 returns-in_default-clause-steps c =
-    lower_misses _ _ _ _ _ _ _ _ _ c.in_ok-ty.ensures.converts _ _ c.in_ok-ty.ensures.are
+    lower_misses _ _ _ _ _ _ _ _ _ _ c.in_ok-ty.ensures.converts _ _ c.in_ok-ty.ensures.are
     (got_by _ _ _ c.as_slice.ensures _ _ c.at.ensures c.in_default.is)
 
 pub returns-in_default-options_in-clause-steps : goal.returns-in_default-options_in-clause-steps
 returns-in_default-options_in-clause-steps c =
-    lower_misses_option _ _ _ _ _ _ _ _ _ c.in_ok-ty.ensures.converts _ _ c.in_ok-ty.ensures.are _
+    lower_misses_option _ _ _ _ _ _ _ _ _ _ c.in_ok-ty.ensures.converts _ _ c.in_ok-ty.ensures.are _
     (got_by _ _ _ c.as_slice.ensures _ _ c.at.ensures c.in-Some.is)
     (sym c.options_in.ensures ∙ c.in_default-options_in.is)
 
 pub returns-in_default-host_func-clause-steps : goal.returns-in_default-host_func-clause-steps
 returns-in_default-host_func-clause-steps c =
-    lower_adapts _ _ _ _ _ _ _ _ _ c.in_ok-ty.ensures.converts _ _ c.in_ok-ty.ensures.are _
+    lower_adapts _ _ _ _ _ _ _ _ _ _ c.in_ok-ty.ensures.converts _ _ c.in_ok-ty.ensures.are _
     (got_by _ _ _ c.as_slice.ensures _ _ c.at.ensures c.in-Some.is) _
     (sym c.options_in.ensures ∙ c.in-Some-options_in.is) (sym c.host_func.ensures ∙ c.in_default-host_func.is)
 
 pub lower_host-requires : goal.lower_host-requires
 lower_host-requires c =
-    let ready = lower_ready _ _ c.args.func c.args.ty c.args.core c.args.opts.now _ c.args.frame.now _
+    let ready = lower_ready _ _ c.args.func c.args.ty c.args.core c.args.opts.now _ c.args.frame.now _ _
     c.in_ok-ty.ensures.converts _ _ c.in_ok-ty.ensures.are c.requires.here c.in-Some.func
     (got_by _ _ _ c.as_slice.ensures _ _ c.at.ensures c.in-Some.is) c.in-Some-options_in.options
     (sym c.options_in.ensures ∙ c.in-Some-options_in.is) c.in-Some-host_func.import
@@ -45,20 +46,24 @@ returns-in_err-push-clause-steps c = passed_unfed _ _ _ _ _ _ _ _ c.from_residua
 
 pub returns-clause-steps : goal.returns-clause-steps
 returns-clause-steps c =
-    lower_steps _ _ _ _ _ _ _ _ _ c.in_ok-ty.ensures.converts _ _ c.in_ok-ty.ensures.are _
+    lower_steps _ _ _ _ _ _ _ _ _ _ c.in_ok-ty.ensures.converts _ _ c.in_ok-ty.ensures.are _
     (got_by _ _ _ c.as_slice.ensures _ _ c.at.ensures c.in-Some.is) _
     (sym c.options_in.ensures ∙ c.in-Some-options_in.is) c.in-Some-host_func.import
     (sym c.host_func.ensures ∙ c.in-Some-host_func.is) c.lower_host.new.state c.in_ok-id.id c.in_ok-id.ensures.lowers _
-    (λ i. record c.args.frame.now { core_funcs = c.in_ok-push.ensures.ok i }) tt
+    (λ i. record c.args.frame.now {
+      core_funcs = c.in_ok-push.ensures.ok i;
+      converted = c.function_types.new.converted;
+    })
+    tt
 
 pub returns-in_err-id-clause-keeps : goal.returns-in_err-id-clause-keeps
-returns-in_err-id-clause-keeps c = lower_keeps _ _ _ _ c.in_ok-ty.ensures.converts c.lower_host.ensures.keeps
+returns-in_err-id-clause-keeps c = lower_keeps _ _ _ _ _ _ c.in_ok-ty.ensures.converts c.lower_host.ensures.keeps
 
 pub returns-in_err-push-clause-keeps : goal.returns-in_err-push-clause-keeps
-returns-in_err-push-clause-keeps c = lower_keeps _ _ _ _ c.in_ok-ty.ensures.converts c.lower_host.ensures.keeps
+returns-in_err-push-clause-keeps c = lower_keeps _ _ _ _ _ _ c.in_ok-ty.ensures.converts c.lower_host.ensures.keeps
 
 pub returns-clause-keeps : goal.returns-clause-keeps
-returns-clause-keeps c = lower_keeps _ _ _ _ c.in_ok-ty.ensures.converts c.lower_host.ensures.keeps
+returns-clause-keeps c = lower_keeps _ _ _ _ _ _ c.in_ok-ty.ensures.converts c.lower_host.ensures.keeps
 
 pub returns-in_err-id-clause-adds : goal.returns-in_err-id-clause-adds
 returns-in_err-id-clause-adds c = lower_adds _ _ _ _ c.function_types.ensures.adds c.lower_host.ensures.adds
@@ -68,3 +73,14 @@ returns-in_err-push-clause-adds c = lower_adds _ _ _ _ c.function_types.ensures.
 
 pub returns-clause-adds : goal.returns-clause-adds
 returns-clause-adds c = lower_adds _ _ _ _ c.function_types.ensures.adds c.lower_host.ensures.adds
+
+-- what a step asks for is there at a point
+pub function_types-requires : goal.function_types-requires
+function_types-requires c =
+    let at = c.requires.here.1 in
+    record {
+      sound = c.requires.input.table;
+      numbers = at.sound.numbers;
+      converted = at.converted;
+      begun = current_begun _ _ _ _ _ at;
+    }

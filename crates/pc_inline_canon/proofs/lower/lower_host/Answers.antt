@@ -1,4 +1,5 @@
-use Rattle.std.proofs.Common.{refl}
+use Rattle.std.proofs.Common.{ap, refl, ◌∙◌}
+use Rattle.pc_types_lists.specs.Types.{Types}
 use Rattle.pc_dfg.specs.Lists as list
 use Rattle.pc_inline_canon.proofs.LowerHostLemmas.{import_few, lowered_few, lowered_keeps, options_few, trampoline_few}
 use Rattle.pc_inline_canon.proofs.LowerHostLemmas.{trampoline_keeps}
@@ -19,6 +20,7 @@ returns-in_err-entry-clause-keeps c =
 pub returns-in_err-number-clause-keeps : goal.returns-in_err-number-clause-keeps
 returns-in_err-number-clause-keeps c =
     trampoline_keeps c.use_import.ensures.keeps c.options_entry.ensures.prepares.keeps c.push_trampoline.ensures.grows
+    c.push_trampoline.ensures.rest
 
 pub returns-in_err-number-clause-err : goal.returns-in_err-number-clause-err
 returns-in_err-number-clause-err c =
@@ -27,8 +29,8 @@ returns-in_err-number-clause-err c =
 
 pub returns-clause-keeps : goal.returns-clause-keeps
 returns-clause-keeps c =
-    lowered_keeps c.use_import.ensures.keeps c.options_entry.ensures.prepares.keeps c.push_trampoline.ensures.grows _
-    c.push_core.ensures.keeps
+    lowered_keeps c.use_import.ensures.keeps c.options_entry.ensures.prepares.keeps c.push_trampoline.ensures.grows
+    c.push_trampoline.ensures.rest _ c.push_core.ensures.keeps
 
 pub returns-clause-lowers : goal.returns-clause-lowers
 returns-clause-lowers c =
@@ -56,3 +58,19 @@ pub returns-clause-adds : goal.returns-clause-adds
 returns-clause-adds c =
     lowered_few _ c.use_import.ensures.adds c.options_entry.ensures.adds c.push_trampoline.ensures.rest
     c.push_trampoline.ensures.put _ c.push_core.ensures.adds
+
+pub returns-in_err-index-clause-resources : goal.returns-in_err-index-clause-resources
+returns-in_err-index-clause-resources c = ap (λ (t : Types). t.resources) c.use_import.ensures.adds.types
+
+pub returns-in_err-entry-clause-resources : goal.returns-in_err-entry-clause-resources
+returns-in_err-entry-clause-resources c =
+    c.options_entry.ensures.prepares.resources ∙ ap (λ (t : Types). t.resources) c.use_import.ensures.adds.types
+
+pub returns-in_err-number-clause-resources : goal.returns-in_err-number-clause-resources
+returns-in_err-number-clause-resources c =
+    c.options_entry.ensures.prepares.resources ∙ ap (λ (t : Types). t.resources) c.use_import.ensures.adds.types
+
+pub returns-clause-resources : goal.returns-clause-resources
+returns-clause-resources c =
+    ap (λ (t : Types). t.resources) c.push_core.ensures.adds.types ∙ c.options_entry.ensures.prepares.resources
+    ∙ ap (λ (t : Types). t.resources) c.use_import.ensures.adds.types

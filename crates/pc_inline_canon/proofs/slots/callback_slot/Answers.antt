@@ -5,6 +5,7 @@ use Rattle.pc_inline_state.specs.AddsEach.{in_slots}
 use Rattle.pc_inline_state.specs.Slots.{MaybeThere}
 use Rattle.pc_inline_state.proofs.AddsLemmas.{each_refl}
 use Rattle.pc_inline_state.proofs.AddsPushLemmas.{callback_adds}
+use Rattle.pc_inline_state.proofs.FitsLemmas.{fits_grown}
 use Rattle.pc_inline_state.proofs.RefusedLemmas.{memory_lacks, push_lacks}
 use Rattle.pc_inline_canon.proofs.SlotLemmas.{callback_crowded, callback_held, callback_prepares, callback_stands}
 use Rattle.pc_inline_canon.proofs.SlotLemmas.{none_held, slot_none, there_usable}
@@ -28,7 +29,9 @@ returns-in_ok-push_callback-in-Some-clause-prepares c =
 
 pub returns-in_ok-push_callback-in-Some-clause-slot : goal.returns-in_ok-push_callback-in-Some-clause-slot
 returns-in_ok-push_callback-in-Some-clause-slot c v stands =
-    callback_stands _ c.args.state.now _ c.push_callback.ensures.grows _ _ _ c.in_ok-def-in-Some.ensures
+    callback_stands _ c.args.state.now _ c.push_callback.ensures.grows
+    (fits_grown _ _ c.push_callback.ensures.grows (λ i. (c.push_callback.ensures.rest i).imported_resources)
+    (λ i. (c.push_callback.ensures.rest i).resources)) _ _ _ c.in_ok-def-in-Some.ensures
     c.in_ok-push_callback-in-Some.ensures.held _ c.in-Some.is v stands
 
 pub returns-in-None-clause-slot : goal.returns-in-None-clause-slot

@@ -6,6 +6,7 @@ use Rattle.pc_inline_state.specs.Slots.{MaybeThere}
 use Rattle.pc_inline_state.specs.Tables.{IsItem}
 use Rattle.pc_inline_state.proofs.AddsLemmas.{each_refl}
 use Rattle.pc_inline_state.proofs.AddsPushLemmas.{memory_adds}
+use Rattle.pc_inline_state.proofs.FitsLemmas.{fits_grown}
 use Rattle.pc_inline_state.proofs.RefusedLemmas.{push_lacks}
 use Rattle.pc_inline_canon.proofs.MemoryLemmas.{memory_crowded, memory_held, memory_prepares, memory_stands}
 use Rattle.pc_inline_canon.proofs.SlotLemmas.{none_held, slot_none, there_usable}
@@ -27,7 +28,9 @@ returns-in_ok-push_memory-in-Some-clause-prepares c =
 
 pub returns-in_ok-push_memory-in-Some-clause-slot : goal.returns-in_ok-push_memory-in-Some-clause-slot
 returns-in_ok-push_memory-in-Some-clause-slot c v stands =
-    memory_stands _ c.args.state.now _ c.push_memory.ensures.grows _ _ _ _ c.index.ensures c.memory_of-memory.ensures
+    memory_stands _ c.args.state.now _ c.push_memory.ensures.grows
+    (fits_grown _ _ c.push_memory.ensures.grows (λ i. (c.push_memory.ensures.rest i).imported_resources)
+    (λ i. (c.push_memory.ensures.rest i).resources)) _ _ _ _ c.index.ensures c.memory_of-memory.ensures
     c.in_ok-push_memory-in-Some.ensures.held _ c.in-Some.is v stands
 
 pub returns-in-None-clause-slot : goal.returns-in-None-clause-slot

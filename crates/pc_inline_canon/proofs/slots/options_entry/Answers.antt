@@ -38,8 +38,9 @@ returns-clause-prepares c =
 pub returns-clause-entry : goal.returns-clause-entry
 returns-clause-entry c =
     entry_after _ _ _ _ _ _ c.data_model.ensures.prepares c.callback_slot.ensures.prepares
-    c.post_return_slot.ensures.prepares _ _ _ c.push_options.ensures.grows _ c.in_ok-push_options.ensures.held refl refl
-    refl refl c.in_ok-data_model.ensures.model c.in_ok-callback.ensures.slot c.in_ok-post_return.ensures.slot
+    c.post_return_slot.ensures.prepares _ _ _ c.push_options.ensures.grows c.push_options.ensures.rest _
+    c.in_ok-push_options.ensures.held refl refl refl refl c.in_ok-data_model.ensures.model
+    c.in_ok-callback.ensures.slot c.in_ok-post_return.ensures.slot
 
 pub returns-clause-held : goal.returns-clause-held
 returns-clause-held c = entry_held c.push_options.new.self _ _ c.in_ok-push_options.ensures.held

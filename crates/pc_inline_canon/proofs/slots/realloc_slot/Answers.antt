@@ -5,6 +5,7 @@ use Rattle.pc_inline_state.specs.AddsEach.{in_slots}
 use Rattle.pc_inline_state.specs.Slots.{MaybeThere}
 use Rattle.pc_inline_state.proofs.AddsLemmas.{each_refl}
 use Rattle.pc_inline_state.proofs.AddsPushLemmas.{realloc_adds}
+use Rattle.pc_inline_state.proofs.FitsLemmas.{fits_grown}
 use Rattle.pc_inline_state.proofs.RefusedLemmas.{memory_lacks, push_lacks}
 use Rattle.pc_inline_canon.proofs.SlotLemmas.{realloc_crowded, realloc_held, realloc_prepares, realloc_stands}
 use Rattle.pc_inline_canon.proofs.SlotLemmas.{none_held, slot_none, there_usable}
@@ -27,7 +28,9 @@ returns-in_ok-push_realloc-in-Some-clause-prepares c =
 
 pub returns-in_ok-push_realloc-in-Some-clause-slot : goal.returns-in_ok-push_realloc-in-Some-clause-slot
 returns-in_ok-push_realloc-in-Some-clause-slot c v stands =
-    realloc_stands _ c.args.state.now _ c.push_realloc.ensures.grows _ _ _ c.in_ok-def-in-Some.ensures
+    realloc_stands _ c.args.state.now _ c.push_realloc.ensures.grows
+    (fits_grown _ _ c.push_realloc.ensures.grows (λ i. (c.push_realloc.ensures.rest i).imported_resources)
+    (λ i. (c.push_realloc.ensures.rest i).resources)) _ _ _ c.in_ok-def-in-Some.ensures
     c.in_ok-push_realloc-in-Some.ensures.held _ c.in-Some.is v stands
 
 pub returns-in-None-clause-slot : goal.returns-in-None-clause-slot

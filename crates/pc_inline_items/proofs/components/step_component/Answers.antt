@@ -5,7 +5,7 @@ use Rattle.pc_inline_state.proofs.StateLemmas.{keeps_trans}
 use Rattle.pc_inline_items.proofs.CaptureLemmas.{all_same}
 use Rattle.pc_inline_items.proofs.ComponentLemmas.{component_done, component_lacks, module_lacks}
 use Rattle.pc_inline_items.proofs.LocalLemmas.{local_crowded, local_unfed}
-use Rattle.pc_inline_items.proofs.WholeLemmas.{made, unmoved}
+use Rattle.pc_inline_items.proofs.WholeLemmas.{made, resources_same, resources_twice, unmoved}
 use Rattle.pc_inline_items.proofs.components.step_component.Goals as goal
 
 pub returns-in_err-modules : goal.returns-in_err-modules
@@ -29,24 +29,28 @@ returns-in_default-2 c =
 pub returns-in_err-captured : goal.returns-in_err-captured
 returns-in_err-captured c =
     made c.push_closure.ensures.keeps (definition_few _ _ _ c.push_closure.ensures.adds)
+    (resources_same c.push_closure.ensures.adds)
     (local_crowded _ _ _ _ _ _ _ _ _ _ c.from_residual-in_err-captured.ensures.1 c.in_err-captured.ensures.lacks)
 
 pub returns-in_err-id : goal.returns-in_err-id
 returns-in_err-id c =
     made (keeps_trans _ _ _ c.push_closure.ensures.keeps c.push_definition.ensures.keeps)
     (component_few _ _ _ _ c.push_closure.ensures.adds c.push_definition.ensures.adds)
+    (resources_twice c.push_closure.ensures.adds c.push_definition.ensures.adds)
     (local_crowded _ _ _ _ _ _ _ _ _ _ c.from_residual-in_err-id.ensures.1 c.in_err-id.ensures.lacks)
 
 pub returns-in_err-push : goal.returns-in_err-push
 returns-in_err-push c =
     made (keeps_trans _ _ _ c.push_closure.ensures.keeps c.push_definition.ensures.keeps)
     (component_few _ _ _ _ c.push_closure.ensures.adds c.push_definition.ensures.adds)
+    (resources_twice c.push_closure.ensures.adds c.push_definition.ensures.adds)
     (local_unfed _ _ _ _ _ _ _ _ _ c.from_residual-in_err-push.ensures.1)
 
 pub returns : goal.returns
 returns c =
     made (keeps_trans _ _ _ c.push_closure.ensures.keeps c.push_definition.ensures.keeps)
     (component_few _ _ _ _ c.push_closure.ensures.adds c.push_definition.ensures.adds)
+    (resources_twice c.push_closure.ensures.adds c.push_definition.ensures.adds)
     (component_done _ _ _ _ c.args.vars.now c.args.state.now c.args.frame.now _ _
     (all_same module_variable c.as_slice.ensures c.captured_modules.ensures c.as_slice-2.ensures
     ∙ sym c.in_ok-modules.ensures ∙ c.in-Some.is)

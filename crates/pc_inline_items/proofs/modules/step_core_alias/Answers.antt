@@ -26,12 +26,14 @@ returns-in_default-export c =
 pub returns-in_err-id : goal.returns-in_err-id
 returns-in_err-id c =
     made c.found_id.ensures.prepares.keeps (core_few _ _ _ c.found_id.ensures.adds)
+    c.found_id.ensures.prepares.resources
     (steps_lacking _ _ _ _ _ _ _ _ _ c.from_residual.ensures.1 c.in_err-id.ensures.err)
 
 pub returns-in_err-push_core : goal.returns-in_err-push_core
 returns-in_err-push_core c = record {
   keeps = c.found_id.ensures.prepares.keeps;
   adds = core_few _ _ _ c.found_id.ensures.adds;
+  resources = c.found_id.ensures.prepares.resources;
   same = ap (λ (f : Frame). f.component_instance) c.in_err-push_core.ensures.err;
   steps = steps_memory _ _ _ _ _ _ _ _ c.from_residual-in_err-push_core.ensures.1;
 }
@@ -40,6 +42,7 @@ pub returns : goal.returns
 returns c = record {
   keeps = c.found_id.ensures.prepares.keeps;
   adds = core_few _ _ _ c.found_id.ensures.adds;
+  resources = c.found_id.ensures.prepares.resources;
   same = ap (λ (f : Frame). f.component_instance) c.in_ok-push_core.ensures.ok ∙ core_same _ _ _;
   steps = alias_made _ _ c.requires.input c.args.state.now c.args.frame.now c.args.kind c.args.instance
       c.args.name.now _ _ c.in-Some-export.item c.in_ok-id.id _

@@ -1,4 +1,4 @@
-use Rattle.std.proofs.Common.{sym, ◌∙◌}
+use Rattle.std.proofs.Common.{refl, sym, ◌∙◌}
 use Rattle.pc_inline_canon.proofs.GotLemmas.{got_none, got_some}
 use Rattle.pc_inline_canon.proofs.StepLemmas.{steps_memory}
 use Rattle.pc_inline_items.proofs.InstantiationLemmas.{instance_few, instance_full, instance_keeps, module_made}
@@ -31,20 +31,20 @@ returns-in_default-2 c =
 pub returns-in_err-instance : goal.returns-in_err-instance
 returns-in_err-instance c =
     let p = c.push_instance.ensures in
-    made (instance_keeps _ _ p.grows) (instance_few _ _ _ _ _ _ p.ok p.err)
+    made (instance_keeps _ _ _ _ _ p.grows p.ok p.err) (instance_few _ _ _ _ _ _ p.ok p.err) refl
     (instance_full _ _ _ _ _ _ _ _ _ _ c.in_err-instance.was p.full.0 p.grows
     c.from_residual-in_err-instance.ensures.1)
 
 pub returns-in_err-push : goal.returns-in_err-push
 returns-in_err-push c =
     let p = c.push_instance.ensures in
-    made (instance_keeps _ _ p.grows) (instance_few _ _ _ _ _ _ p.ok p.err)
+    made (instance_keeps _ _ _ _ _ p.grows p.ok p.err) (instance_few _ _ _ _ _ _ p.ok p.err) refl
     (steps_memory _ _ _ _ _ _ _ _ c.from_residual-in_err-push.ensures.1)
 
 pub returns : goal.returns
 returns c =
     let p = c.push_instance.ensures in
-    made (instance_keeps _ _ p.grows) (instance_few _ _ _ _ _ _ p.ok p.err)
+    made (instance_keeps _ _ _ _ _ p.grows p.ok p.err) (instance_few _ _ _ _ _ _ p.ok p.err) refl
     (module_made _ _ c.args.state.now c.args.frame.now c.args.core_module c.args.args.now c.in-Some.field-0.now
     (got_some _ _ _ c.as_slice.ensures _ c.in-Some.ensures.lookup.3.0 c.in-Some.ensures.lookup.1) _
     (sym c.core_module.ensures ∙ c.in-Some-core_module.is) c.in-Some-2.defs _ _ c.in_ok-instance.instance _ _

@@ -29,13 +29,15 @@ returns-in_err-push_caller c =
 pub returns : goal.returns
 returns c =
     let waits = one_waits _ _ _ _ c.in_ok-push_caller.ensures c.replace-caller.ensures.value in
-    let child = c.replace-caller.ensures.after ∙ child_is c.in-Ok.call _ _ c.new.ensures in
+    let done = c.new-converted.result in
+    let child = c.replace-caller.ensures.after ∙ child_is c.in-Ok.call _ _ done c.new.ensures in
     record {
       moves = moves_entered _ _ _ c.args.root.now c.args.state.now _ c.args.stack.now.top _ _ _ c.requires.item
           c.in-Ok.call c.in-Ok.ensures c.in_ok-instance.instance c.begin_instance.new.graph
-          c.in_ok-instance.ensures.begins c.begin_instance.ensures.grows _ _ _ waits child;
+          c.in_ok-instance.ensures.begins c.begin_instance.ensures.grows _ _ c.convert_for.ensures done
+          c.new-converted.ensures.converted _ _ waits child;
       falls = falls_entered c.args.context.now.table.now c.args.context.now.modules _ c.args.root.now c.args.state.now
           _ c.args.stack.now.top c.in-Ok.call c.in_ok-instance.instance c.begin_instance.new.graph
-          c.in_ok-instance.ensures.begins _ _ waits child;
+          c.in_ok-instance.ensures.begins _ done _ _ waits child;
       waits = one_counted _ _ _ _ c.in_ok-push_caller.ensures c.replace-caller.ensures.value c.requires.next;
     }

@@ -20,10 +20,10 @@ returns c = record {
       c.in_default.ensures.keeps c.in_default.ensures.adds c.add_child.new.frame c.replace-child.new.dest
       c.replace-child.result c.replace-child.ensures.after c.replace-child.ensures.value _ _ c.requires.input.table
       c.requires.ended (c.as_slice-exports.ensures ∙ ap (λ (tr : Translation). tr.exports) c.body_at.ensures) _
-      c.in_default.ensures.gives;
+      c.in_default.ensures.gives _ c.convert_for.ensures;
   falls = falls_leaving c.args.context.now.table.now c.args.context.now.modules _ c.args.root.now c.args.state.now _
       c.args.stack.now.top c.args.caller c.add_child.new.state c.in_default.ensures.keeps c.in_default.ensures.adds
       c.add_child.new.frame c.replace-child.new.dest c.replace-child.result c.replace-child.ensures.after
-      c.replace-child.ensures.value c.as_slice-exports.result.now;
+      c.replace-child.ensures.value c.as_slice-exports.result.now _;
   waits = λ each. each;
 }

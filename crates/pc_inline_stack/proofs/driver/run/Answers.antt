@@ -23,7 +23,7 @@ returns-in_err-turn c =
     let error = c.from_residual.ensures.1 in
     record {
       keeps = failed.keeps;
-      adds = (failed.items, failed.adds);
+      adds = (failed.added, failed.adds);
       runs = run_fails _ _ _ c.args.root.now c.args.state.now c.args.frame _ _ failed _ error;
       counts = run_fails_counts _ _ _ c.args.root.now c.args.state.now c.args.frame _ _ failed _ error;
     }

@@ -1,9 +1,9 @@
-use Rattle.std.proofs.Common.{inl, inr}
+use Rattle.std.proofs.Common.{[], inl, inr}
 use Rattle.pc_types_builder.proofs.TreeLemmas.{entry_grows}
 use Rattle.pc_inline_state.proofs.RefusedLemmas.{cause_lacks}
 use Rattle.pc_inline_state.proofs.StateLemmas.{converts_trans}
 use Rattle.pc_types.specs.declared.types.TypeDef.TheVariants as def
-use Rattle.pc_inline_state.proofs.AddsLemmas.{adds_func, adds_function}
+use Rattle.pc_inline_state.proofs.AddsLemmas.{adds_function}
 use Rattle.pc_inline_state.proofs.context.Context.function_types.Goals as goal
 
 pub returns-in_err-ty-clause-err : goal.returns-in_err-ty-clause-err
@@ -12,7 +12,7 @@ returns-in_err-ty-clause-err c =
 
 pub returns-in_err-core_type-clause-converts : goal.returns-in_err-core_type-clause-converts
 returns-in_err-core_type-clause-converts c =
-    converts_trans _ _ _ _ c.in_ok-ty.ensures.converts c.in_err-core_type.ensures.converts
+    converts_trans _ _ _ _ _ _ _ c.in_ok-ty.ensures.converts (c.in_err-core_type.ensures.converts _)
 
 pub returns-in_err-core_type-clause-err : goal.returns-in_err-core_type-clause-err
 returns-in_err-core_type-clause-err c =
@@ -21,31 +21,22 @@ returns-in_err-core_type-clause-err c =
 
 pub returns-clause-converts : goal.returns-clause-converts
 returns-clause-converts c =
-    converts_trans _ _ _ _ c.in_ok-ty.ensures.converts c.in_ok-core_type.ensures.converts
+    converts_trans _ _ _ _ _ _ _ c.in_ok-ty.ensures.converts (c.in_ok-core_type.ensures.converts _)
 
 pub returns-clause-are : goal.returns-clause-are
 returns-clause-are c = record {
   there = c.in_ok-ty.ensures.is.0;
-  entry = entry_grows c.func_type.new.state.types c.signature.new.state.types c.in_ok-core_type.ensures.converts.grows
+  entry = entry_grows c.func_type.new.state.types c.signature.new.state.types
+      (c.in_ok-core_type.ensures.converts []).grows
       c.args.self.now.table.now c.args.ty (def.ComponentFunc c.in_ok-ty.ty) c.in_ok-ty.ensures.is.1;
   signature = c.in_ok-core_type.ensures.is;
 }
 
 pub returns-in_err-ty-clause-adds : goal.returns-in_err-ty-clause-adds
-returns-in_err-ty-clause-adds c =
-    adds_func c.args.self.now.table.now c.args.state.now c.func_type.new.state c.func_type.ensures.converts
-    c.func_type.ensures.few
+returns-in_err-ty-clause-adds c = c.func_type.ensures.adds
 
 pub returns-in_err-core_type-clause-adds : goal.returns-in_err-core_type-clause-adds
-returns-in_err-core_type-clause-adds c =
-    adds_function c.args.self.now.table.now c.args.state.now c.func_type.new.state c.signature.new.state
-    c.func_type.ensures.converts c.signature.ensures.converts
-    (converts_trans _ _ _ _ c.func_type.ensures.converts c.signature.ensures.converts) c.func_type.ensures.few
-    c.signature.ensures.few
+returns-in_err-core_type-clause-adds c = adds_function _ _ _ _ c.func_type.ensures.adds c.signature.ensures.adds
 
 pub returns-clause-adds : goal.returns-clause-adds
-returns-clause-adds c =
-    adds_function c.args.self.now.table.now c.args.state.now c.func_type.new.state c.signature.new.state
-    c.func_type.ensures.converts c.signature.ensures.converts
-    (converts_trans _ _ _ _ c.func_type.ensures.converts c.signature.ensures.converts) c.func_type.ensures.few
-    c.signature.ensures.few
+returns-clause-adds c = adds_function _ _ _ _ c.func_type.ensures.adds c.signature.ensures.adds

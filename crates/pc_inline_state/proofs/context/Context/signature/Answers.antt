@@ -1,18 +1,23 @@
 use Rattle.std.proofs.Common.{Err, ap, refl, sym, subst}
 use Rattle.pc_types_builder.specs.Types.{IsFull}
 use Rattle.pc_types_builder.proofs.TreeLemmas.{converted_grows}
+use Rattle.pc_inline_state.specs.Tables.{tables_of}
 use Rattle.pc_inline_state.specs.Typed.{AreSignatures}
 use Rattle.pc_inline_state.proofs.NumberLemmas.{signatures_grow, signatures_noted}
 use Rattle.pc_inline_state.proofs.RefusedLemmas.{type_lacks}
-use Rattle.pc_inline_state.proofs.FewLemmas.{no_signature}
+use Rattle.pc_inline_state.proofs.StateLemmas.{converts_refl}
+use Rattle.pc_inline_state.proofs.AddsLemmas.{adds_refl, signed_adds}
 use Rattle.pc_inline_state.proofs.context.Context.signature.Goals as goal
 
+pub returns-in-Some-clause-converts : goal.returns-in-Some-clause-converts
+returns-in-Some-clause-converts c done = converts_refl c.args.self.now.table.now c.args.state.now done
+
 pub returns-in_err-index-clause-converts : goal.returns-in_err-index-clause-converts
-returns-in_err-index-clause-converts c = record {
+returns-in_err-index-clause-converts c done = record {
   grows = c.in_err-index.ensures.grows;
+  converted = converted_grows c.args.state.now.types c.core_sig.new.self c.in_err-index.ensures.grows
+      c.args.self.now.table.now done;
   numbers = λ n. record {
-    converted = converted_grows c.args.state.now.types c.core_sig.new.self c.in_err-index.ensures.grows
-        c.args.self.now.table.now c.args.state.now.numbers.converted n.converted;
     signatures = signatures_grow c.args.state.now.types c.core_sig.new.self c.in_err-index.ensures.grows
         c.args.self.now.table.now c.args.state.now.numbers.signatures.items n.signatures;
   };
@@ -25,11 +30,11 @@ returns-in_err-index-clause-err c =
     (λ is. subst IsFull (sym c.in_err-index.ensures.err) (c.in_err-index.ensures.full (ap Err is)).1.full)
 
 pub returns-clause-converts : goal.returns-clause-converts
-returns-clause-converts c = record {
+returns-clause-converts c done = record {
   grows = c.in_ok-index.ensures.grows;
+  converted = converted_grows c.args.state.now.types c.core_sig.new.self c.in_ok-index.ensures.grows
+      c.args.self.now.table.now done;
   numbers = λ n. record {
-    converted = converted_grows c.args.state.now.types c.core_sig.new.self c.in_ok-index.ensures.grows
-        c.args.self.now.table.now c.args.state.now.numbers.converted n.converted;
     signatures = subst (AreSignatures c.core_sig.new.self c.args.self.now.table.now) (sym c.note.ensures)
         (signatures_noted c.core_sig.new.self c.args.self.now.table.now c.args.state.now.numbers.signatures.items
         c.args.core c.in_ok-index.index c.in_ok-index.ensures.ok
@@ -39,11 +44,15 @@ returns-clause-converts c = record {
   rest = refl;
 }
 
-pub returns-in-Some-clause-few : goal.returns-in-Some-clause-few
-returns-in-Some-clause-few c = no_signature c.args.state.now.types
+pub returns-in-Some-clause-adds : goal.returns-in-Some-clause-adds
+returns-in-Some-clause-adds c = adds_refl _ _ (tables_of c.args.state.now)
 
-pub returns-in_err-index-clause-few : goal.returns-in_err-index-clause-few
-returns-in_err-index-clause-few c = c.core_sig.ensures.few
+pub returns-in_err-index-clause-adds : goal.returns-in_err-index-clause-adds
+returns-in_err-index-clause-adds c =
+    signed_adds c.args.self.now.table.now (tables_of c.args.state.now) c.core_sig.new.self c.core_sig.ensures.grows
+    c.core_sig.ensures.few c.core_sig.ensures.rest
 
-pub returns-clause-few : goal.returns-clause-few
-returns-clause-few c = c.core_sig.ensures.few
+pub returns-clause-adds : goal.returns-clause-adds
+returns-clause-adds c =
+    signed_adds c.args.self.now.table.now (tables_of c.args.state.now) c.core_sig.new.self c.core_sig.ensures.grows
+    c.core_sig.ensures.few c.core_sig.ensures.rest
