@@ -33,3 +33,5 @@ mod streams;
 mod structure;
 #[cfg(test)]
 mod translator;
+#[cfg(test)]
+mod types;

@@ -82,8 +82,8 @@ number_sum a b c d c' held same room =
       lt-ltb d 4294967295 (omega (arith, below)),
     ) refl
 
--- what is held is counted
-pub held_counted : (t : TypeTable) (held : ℕ) (ps : List Payload) → held ≤ counted t held ps
+-- what is held is counted, and so are the core signatures of the table
+pub held_counted : (t : TypeTable) (held : ℕ) (ps : List Payload) → length t.core_funcs + held ≤ counted t held ps
 unfolding counted
 held_counted t held ps = omega arith
 

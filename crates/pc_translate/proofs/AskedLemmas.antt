@@ -25,7 +25,8 @@ use Rattle.pc_spec_reading.specs.SameTypes.{same_names, same_path}
 use Rattle.pc_dfg.specs.declared.dfg.ComponentDfg.{ComponentDfg}
 use Rattle.pc_dfg_finish.specs.Finishes.{Finishes}
 use Rattle.pc_inline.specs.Inlines.{GraphStands}
-use Rattle.pc_inline_state.proofs.HoldsLemmas.{holds_so}
+use Rattle.pc_inline_state.proofs.HoldsLemmas.{holds_so, reads_fit}
+use Rattle.pc_inline_state.specs.Fits.{Fits}
 use Rattle.pc_inline_state.specs.Holds.{ReadsAs}
 use Rattle.pc_inline_state.specs.Worlds as world
 use Rattle.pc_inline_state.specs.Worlds.{ImportStands}
@@ -103,8 +104,9 @@ module _ (types : Types) (ms : List ModuleRecord) (g : ComponentDfg) (r : Readin
         (λ x h s. record {
           name = s.name;
           extern_data = s.extern_data;
-          typed = holds_so types (ReadsAs r.imported_resources) (mark.Type_ x.1.ty) (reading.of_type h.import_type)
-              s.typed;
+          typed = holds_so types (Fits g) (ReadsAs r.imported_resources)
+              (reads_fit g stands.plain r.imported_resources) (mark.Type_ x.1.ty)
+              (reading.of_type h.import_type) s.typed;
         })
         g.import_types r.imports stands.world.import_types);
     imports = paths_are;

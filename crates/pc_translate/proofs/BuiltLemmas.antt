@@ -1,6 +1,6 @@
 -- Local items are of kinds that are built where the items are for which they stand.
 use Rattle.std.proofs.Common.{◌≡◌, ◌&&◌, ℕ, Bool, true, false, List, [], ◌∷◌, map, Option, None, Some}
-use Rattle.std.proofs.Common.{refl, sym, ap, subst, ◌∙◌, true≢false, if◌then◌else◌}
+use Rattle.std.proofs.Common.{refl, sym, ap, subst, ◌∙◌, if◌then◌else◌}
 use Rattle.std.specs.Prelude.{is_some}
 use Rattle.std.specs.List.{list_all}
 use Rattle.std.proofs.lemmas.Option.{none-some, same_Some}
@@ -28,8 +28,7 @@ use Rattle.pc_local.specs.Program.{ProgramStands}
 use Rattle.pc_local.specs.Standing.{ItemStands, ItemsStand, Names, stand_more, stand_none, stands_component}
 use Rattle.pc_local.specs.Standing.{stands_module, stands_nested, stands_plain}
 use Rattle.pc_spec_reading.specs.Section.{argument_of, named_item}
-use Rattle.pc_inline_state.specs.Plain.{is_plain_table}
-use Rattle.pc_inline_state.specs.Today.{can_instantiate, has_no_resource, is_built_import, is_built_item, is_built_kind}
+use Rattle.pc_inline_state.specs.Today.{has_no_resource, is_built_import, is_built_item, is_built_kind}
 use Rattle.pc_translate.proofs.AnswerLemmas.{built_none}
 use Rattle.pc_translate.specs.Causes.{CanBeRead, HasCause, HasOwnCause, HasRoot, are_built, built_answer, built_meaning}
 use Rattle.pc_translate.specs.Causes.{is_built_input}
@@ -96,7 +95,7 @@ module _ (t : TypeTable) where
   plain_built (local.Import name ty) i h = ap (is_built_item t) (sym (same_Some _ i h)) ∙ entity_built ty
   plain_built (local.ComponentInstantiate c args ty) i h =
       ap (is_built_item t) (sym (same_Some _ i h))
-      ∙ ap (λ b. can_instantiate t && b) (list_all-map (λ (a : ArgumentOf). is_built_kind a.kind) argument_of args)
+      ∙ ap (λ b. has_no_resource t && b) (list_all-map (λ (a : ArgumentOf). is_built_kind a.kind) argument_of args)
   plain_built (local.ComponentSynthetic exports ty) i h =
       ap (is_built_item t) (sym (same_Some _ i h))
       ∙ list_all-map (λ (e : ExportOf). is_built_kind e.kind) named_item exports
@@ -130,11 +129,6 @@ root_built : (t : TypeTable) (exposed : Option (List ℕ)) (ps : List Payload) (
 root_built t exposed ps program b stands is =
     (stands.body, stands.nests, items_built t program.components _ _ _ stands.root.items ∙ is)
 
--- what a conjunction that holds tells
-and_holds : (a b : Bool) → (a && b) ≡ true → (a ≡ true) × (b ≡ true)
-and_holds true b h = (refl, h)
-and_holds false b h = absurd (true≢false (sym h))
-
 module _ (t : TypeTable) (exposed : Option (List ℕ)) (ps : List Payload) (program : LocalProgram)
     (stands : ProgramStands exposed ps program) (numbered : is_numbered t ps ≡ true)
     (sound : static_fault t exposed ps ≡ None) where
@@ -144,21 +138,17 @@ module _ (t : TypeTable) (exposed : Option (List ℕ)) (ps : List Payload) (prog
   root_is b is = root_built t exposed ps program b stands is
 
   -- where the test holds, the payloads can be read
-  pub can_be_read : (is_plain_table t && list_all (is_built_local (kinds_of t)) program.root.initializers) ≡ true
-      → CanBeRead t exposed ps
-  can_be_read holds =
-      let test = list_all (is_built_local (kinds_of t)) program.root.initializers in
-      let both = and_holds (is_plain_table t) test holds in
-      record { numbered = numbered; sound = sound; plain = both.0; built = root_is true both.1 }
+  pub can_be_read : list_all (is_built_local (kinds_of t)) program.root.initializers ≡ true → CanBeRead t exposed ps
+  can_be_read holds = record { numbered = numbered; sound = sound; built = root_is true holds }
 
   -- where it fails, that is the cause
-  pub is_unbuilt : (is_plain_table t && list_all (is_built_local (kinds_of t)) program.root.initializers) ≡ false
+  pub is_unbuilt : list_all (is_built_local (kinds_of t)) program.root.initializers ≡ false
       → (e : Error) → e ≡ not_built → HasOwnCause t exposed ps e
   unfolding HasOwnCause built_answer
   is_unbuilt fails e is limit held =
       let items = items_built t program.components _ _ _ stands.root.items in
       let input : is_built_input t exposed ps ≡ false =
-      ap (λ b. is_plain_table t && b) (ap (is_some_and (are_built t)) stands.nests ∙ items) ∙ fails in
+      ap (is_some_and (are_built t)) stands.nests ∙ items ∙ fails in
       subst (λ (x : Error). HasCause t exposed limit held ps x) (sym is)
       (built_none (is_numbered t ps) (is_built_input t exposed ps) (static_fault t exposed ps)
       (built_meaning t exposed limit ps) numbered sound input)

@@ -1,13 +1,13 @@
 -- Why a translation is refused, from what its steps answer.
 use Rattle.std.proofs.Common.{◌≡◌, ℕ, ◌⊎◌, inl, inr, List, map, ◌∙◌, Option, None, Some, Result, Ok, Err, IfErr, true}
-use Rattle.std.proofs.Common.{false, refl, sym, ap, subst, arith}
+use Rattle.std.proofs.Common.{false, refl, sym, ap, subst}
 use Rattle.std.specs.Prelude.{nat_lt, option_map}
 use Rattle.std.specs.List.{list_all}
 use Rattle.std.specs.Result.{IsErrAnd}
 use Rattle.std.proofs.lemmas.Option.{same_Some}
 use Rattle.std.proofs.lemmas.Simd.{map-map}
-use Rattle.pc_entity.proofs.Elements.{true_and}
 use Rattle.pc_types_lists.specs.Types.{IsBuilder, Types, types_held}
+use Rattle.pc_types_lists.proofs.FewLemmas.{few_none}
 use Rattle.pc_types.specs.declared.error.Error.{Error}
 use Rattle.pc_types.specs.declared.error.Error.TheVariants as error
 use Rattle.pc_types.specs.declared.error.Place.{Place}
@@ -38,8 +38,8 @@ use Rattle.pc_local.specs.declared.item.LocalProgram.{LocalProgram}
 use Rattle.pc_local.specs.Program.{ProgramStands}
 use Rattle.pc_local.specs.Standing.{BodyStands, no_names}
 use Rattle.pc_inline.specs.Inlines.{EndsAs as IsEnd, HasNoRoom, IsFault, export_name}
+use Rattle.pc_inline_state.proofs.GainedLemmas.{tables_none}
 use Rattle.pc_inline_stack.specs.Totals.{GainsFew}
-use Rattle.pc_inline_state.specs.Plain.{is_plain_table}
 use Rattle.pc_translate.proofs.AnswerLemmas.{built_end, built_fault, end_answer, fault_answer, full_answer, full_first}
 use Rattle.pc_translate.proofs.AnswerLemmas.{held_counted, past_answer}
 use Rattle.pc_translate.proofs.PassingLemmas.{passed_err}
@@ -54,10 +54,11 @@ module _ (t : TypeTable) (exposed : Option (List ℕ)) (limit : ℕ) (ps : List 
   -- nothing was gained
   pub gains_nothing : (types : Types) → Gains t exposed limit ps types types
   unfolding Gains
-  gains_nothing types body root = record {
-    functions = 0;
-    types = record { rest = refl; funcs = omega arith; tuples = omega arith; signatures = omega arith };
-    few = inr (omega arith);
+  gains_nothing types body root start = record {
+    added = 0;
+    types = few_none t 0 types types refl;
+    tables = tables_none t 1 types types refl;
+    few = inr (inl refl);
   }
 
   -- what holds of the body of a program holds of the root of its payloads
@@ -69,25 +70,22 @@ module _ (t : TypeTable) (exposed : Option (List ℕ)) (limit : ℕ) (ps : List 
       (subst (λ (ms : List ModuleRecord). P ms stands.body) stands.modules (holds stands.body stands.root))
 
   -- what was gained for the body of a program was gained for its payloads
-  pub gains : (program : LocalProgram) (old new : Types) → ProgramStands exposed ps program → CanBeRead t exposed ps
-      → ((body : Items) → BodyStands program.components no_names program.root body → is_plain_table t ≡ true
+  pub gains : (program : LocalProgram) (old new : Types) → ProgramStands exposed ps program
+      → ((body : Items) → BodyStands program.components no_names program.root body
       → (start : ℕ) → GainsFew t program.modules limit start body old new)
       → Gains t exposed limit ps old new
   unfolding Gains
-  gains program old new stands can few =
-      of_root program stands (λ ms body. GainsFew t ms limit (counted t (types_held old) ps) body old new)
-      (λ body is. few body is can.plain (counted t (types_held old) ps))
+  gains program old new stands few =
+      of_root program stands (λ ms body. (start : ℕ) → GainsFew t ms limit start body old new) few
 
   -- also where it is counted
   pub counts_gained : (program : LocalProgram) (old new : Types) → ProgramStands exposed ps program
-      → CanBeRead t exposed ps
-      → ((body : Items) → BodyStands program.components no_names program.root body → is_plain_table t ≡ true
+      → ((body : Items) → BodyStands program.components no_names program.root body
       → (start : ℕ) → GainsCounted t program.modules limit start body old new)
       → CountsGained t exposed limit ps old new
   unfolding CountsGained
-  counts_gained program old new stands can few =
-      of_root program stands (λ ms body. GainsCounted t ms limit (counted t (types_held old) ps) body old new)
-      (λ body is. few body is can.plain (counted t (types_held old) ps))
+  counts_gained program old new stands few =
+      of_root program stands (λ ms body. (start : ℕ) → GainsCounted t ms limit start body old new) few
 
 module _ (t : TypeTable) (exposed : Option (List ℕ)) (limit held : ℕ) (ps : List Payload) where
   -- where a reading ends so, no total counted, so does the answer
@@ -96,10 +94,8 @@ module _ (t : TypeTable) (exposed : Option (List ℕ)) (limit held : ℕ) (ps : 
       → (built_answer t exposed limit ps ≡ Some (ending o)) × (answer_from t exposed limit None ps ≡ Some (ending o))
   unfolding built_answer answer_from meaning
   both_answer can o means built =
-      let there : is_some_and (are_built t) (root_of exposed ps) ≡ true =
-      ap (is_some_and (are_built t)) can.built.1 ∙ can.built.2 in
       let input : is_built_input t exposed ps ≡ true =
-      true_and (is_plain_table t) (is_some_and (are_built t) (root_of exposed ps)) can.plain there in (
+      ap (is_some_and (are_built t)) can.built.1 ∙ can.built.2 in (
         built_end (is_numbered t ps) (is_built_input t exposed ps) (static_fault t exposed ps)
             (built_meaning t exposed limit ps) o can.numbered can.sound input built,
         end_answer (static_fault t exposed ps) (reading t exposed limit None ps) o can.sound means,
@@ -110,10 +106,8 @@ module _ (t : TypeTable) (exposed : Option (List ℕ)) (limit held : ℕ) (ps : 
       → built_answer t exposed limit ps ≡ Some (ending o)
   unfolding built_answer
   built_alone can o built =
-      let there : is_some_and (are_built t) (root_of exposed ps) ≡ true =
-      ap (is_some_and (are_built t)) can.built.1 ∙ can.built.2 in
       let input : is_built_input t exposed ps ≡ true =
-      true_and (is_plain_table t) (is_some_and (are_built t) (root_of exposed ps)) can.plain there in
+      ap (is_some_and (are_built t)) can.built.1 ∙ can.built.2 in
       built_end (is_numbered t ps) (is_built_input t exposed ps) (static_fault t exposed ps)
       (built_meaning t exposed limit ps) o can.numbered can.sound input built
 
@@ -164,7 +158,7 @@ module _ (t : TypeTable) (exposed : Option (List ℕ)) (limit held : ℕ) (ps : 
     past_cause : HasNoRoom t (modules_of ps) limit body held → HasCause t exposed limit held ps error.TooMany
     past_cause h = (
       too_much can.sound (root_past t exposed limit ps body root (counted t held ps)
-          (h can.plain (counted t held ps) (held_counted t held ps))),
+          (h (counted t held ps) (held_counted t held ps))),
       inr can,
     )
 

@@ -30,11 +30,11 @@ use Rattle.pc_dfg.proofs.UniqueLemmas.{means_unique}
 use Rattle.pc_dfg_finish.specs.Finishes.{Finishes, StandsForOne}
 use Rattle.pc_inline.specs.Inlines.{GraphStands}
 use Rattle.pc_inline_canon.proofs.MarkLemmas.{value_twice}
-use Rattle.pc_inline_state.proofs.HoldsLemmas.{so}
+use Rattle.pc_inline_state.proofs.HoldsLemmas.{reads_fit, so}
 use Rattle.pc_inline_state.specs.Tables.{IsItem}
 use Rattle.pc_inline_state.specs.Today.{is_made}
+use Rattle.pc_inline_state.specs.Fits.{Fits}
 use Rattle.pc_inline_state.specs.Holds.{ReadsAs, number_of, whole_of}
-use Rattle.pc_inline_state.specs.Typed.{anyhow}
 use Rattle.pc_inline_state.specs.Worlds.{EffectStands}
 use Rattle.pc_translate.proofs.ListLemmas.{none_counted}
 use Rattle.pc_translate.proofs.WiredLemmas.{no_adapters, none_at, occurring_item}
@@ -64,8 +64,8 @@ no_owners types g none [] (x ∷ xs) h = absurd h
 no_owners types g none (e ∷ es) [] h = absurd h
 no_owners types g none (e ∷ es) (x ∷ xs) h =
     let one : resource_owner x ≡ None = ap resource_owner (sym h.0.is)
-    ∙ owner_mapped (whole_of types anyhow) h.0.numbered ∙ sym (owner_mapped (number_of types anyhow) h.0.numbered)
-    ∙ none_declared g e (map_entry (number_of types anyhow) h.0.numbered) none h.0.means in
+    ∙ owner_mapped (whole_of types (Fits g)) h.0.numbered ∙ sym (owner_mapped (number_of types (Fits g)) h.0.numbered)
+    ∙ none_declared g e (map_entry (number_of types (Fits g)) h.0.numbered) none h.0.means in
     let rest = no_owners types g none es xs h.1 in
     λ i. cons_option (one i) (rest i)
 
@@ -105,7 +105,7 @@ module _ (types : Types) (ms : List ModuleRecord) (g : ComponentDfg) (r : Readin
   declared_one modules s n one =
       let x = stands.world.are_declared one.trampoline.0 one.entry one.at in
       let reads = ReadsAs r.imported_resources in
-      let as_read = so types reads in
+      let as_read = so types (Fits g) reads (reads_fit g stands.plain r.imported_resources) in
       let whole = value_twice as_read (whole_of types reads) x.stands.numbered ∙ x.stands.is in
       record {
         value = map_value as_read x.stands.numbered;

@@ -1,5 +1,5 @@
 -- The exports of a plan have their items, and it counts what it has.
-use Rattle.std.proofs.Common.{◌≡◌, ◌<◌, ℕ, List, length, map, Some, sym, ap, subst, ◌∙◌}
+use Rattle.std.proofs.Common.{◌≡◌, ℕ, List, length, map, sym, ap, subst, ◌∙◌}
 use Rattle.std.specs.Prelude.{slice_get}
 use Rattle.pc_types_lists.specs.Types.{Types}
 use Rattle.pc_types.specs.declared.module_record.ModuleRecord.{ModuleRecord}

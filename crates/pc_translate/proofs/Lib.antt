@@ -16,6 +16,9 @@ mod TranslatesLemmas
 pub mod SomeTypesLemmas
 -- the types of handed-in modules
 mod ModuleTypeLemmas
+mod ModuleTreeLemmas
+mod AddsModulesLemmas
+mod FewPlacesLemmas
 -- a body has a plan, or a cause for want of one
 mod PassingLemmas
 mod PlanningLemmas

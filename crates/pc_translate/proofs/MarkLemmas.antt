@@ -15,8 +15,8 @@ use Rattle.pc_dfg.specs.Lists.{NamedExport}
 use Rattle.pc_dfg.specs.Nodes.{MeansName}
 use Rattle.pc_inline.specs.Exports.{NameStands}
 use Rattle.pc_inline_canon.proofs.MarkLemmas.{entry_twice, node_twice}
+use Rattle.pc_inline_state.specs.Fits.{Fits}
 use Rattle.pc_inline_state.specs.Holds.{Numbered, number_of, whole_of}
-use Rattle.pc_inline_state.specs.Typed.{anyhow}
 use Rattle.pc_inline_state.specs.Worlds.{EffectStands}
 
 module _ {τ υ ω : Type 0} (f : τ → υ) (h : υ → ω) where
@@ -69,9 +69,9 @@ instances_traced {τ} (e ∷ log) = by e (instances_traced log)
 module _ (types : Types) (g : ComponentDfg) where
   -- entries that have each type twice: with numbers they are what side effects do, with whole types those of a reading
   pub record Entries (es : List SideEffect) (xs : List (Entry reading.Mark)) : Type 0 where
-    pub entries : List (Entry (Numbered types anyhow))
-    pub mean : AllZip (MeansEffect g) es (map (map_entry (number_of types anyhow)) entries)
-    pub are : map (map_entry (whole_of types anyhow)) entries ≡ xs
+    pub entries : List (Entry (Numbered types (Fits g)))
+    pub mean : AllZip (MeansEffect g) es (map (map_entry (number_of types (Fits g))) entries)
+    pub are : map (map_entry (whole_of types (Fits g))) entries ≡ xs
 
   pub all_entries : (es : List SideEffect) (xs : List (Entry reading.Mark)) → AllZip (EffectStands types g) es xs
       → Entries es xs
@@ -91,10 +91,10 @@ module _ (types : Types) (g : ComponentDfg) where
 
   -- nodes that have each type twice: with numbers they are what names export, with whole types those of a reading
   pub record Nodes (es : List NamedExport) (xs : List (NamedNode reading.Mark)) : Type 0 where
-    pub nodes : List (NamedNode (Numbered types anyhow))
+    pub nodes : List (NamedNode (Numbered types (Fits g)))
     pub mean : (converted : ℕ → Mark)
-        → AllZip (MeansName g converted) es (map (map_named (number_of types anyhow)) nodes)
-    pub are : map (map_named (whole_of types anyhow)) nodes ≡ xs
+        → AllZip (MeansName g converted) es (map (map_named (number_of types (Fits g))) nodes)
+    pub are : map (map_named (whole_of types (Fits g))) nodes ≡ xs
 
   pub all_nodes : (es : List NamedExport) (xs : List (NamedNode reading.Mark)) → AllZip (NameStands types g) es xs
       → Nodes es xs

@@ -19,11 +19,11 @@ use Rattle.pc_info.specs.Apart.{AreApart}
 use Rattle.pc_dfg_finish.specs.Finishes.{Finishes, StandsForOne}
 use Rattle.pc_inline.specs.Exports.{ExportsStand}
 use Rattle.pc_inline.specs.Inlines.{GraphStands}
+use Rattle.pc_inline_state.specs.Fits.{Fits}
 use Rattle.pc_inline_state.specs.Holds.{ReadsAs, number_of, whole_of}
-use Rattle.pc_inline_state.specs.Typed.{anyhow}
 use Rattle.pc_translate.specs.Planning.{as_handed_in}
 use Rattle.pc_translate.specs.Typed.{TypedAs}
-use Rattle.pc_inline_state.proofs.HoldsLemmas.{so}
+use Rattle.pc_inline_state.proofs.HoldsLemmas.{reads_fit, so}
 use Rattle.pc_translate.proofs.MarkLemmas.{Nodes, all_entries, all_nodes, entries_twice, instances_mapped, named_twice}
 use Rattle.pc_translate.proofs.WiredLemmas.{wired}
 
@@ -52,9 +52,9 @@ module _ (types : Types) (ms : List ModuleRecord) (g : ComponentDfg) (r : Readin
   runs converted stands finishes =
       let es = all_entries types g g.side_effects (trace r.log) stands.world.effects in
       let ns = nodes_of stands.exports in
-      let entries = map (map_entry (number_of types anyhow)) es.entries in
-      let nodes = map (map_named (number_of types anyhow)) ns.nodes in
-      let as_read = so types reads in
+      let entries = map (map_entry (number_of types (Fits g))) es.entries in
+      let nodes = map (map_named (number_of types (Fits g))) ns.nodes in
+      let as_read = so types (Fits g) reads (reads_fit g stands.plain r.imported_resources) in
       let is_wired = wired g stands.plain ms stands.items in
       let d = finishes.does (map as_handed_in ms) entries nodes is_wired es.mean (ns.mean converted) in
       let numbered = entries_twice as_read (number_of types reads) es.entries in

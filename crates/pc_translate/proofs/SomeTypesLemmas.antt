@@ -13,7 +13,6 @@ use Rattle.pc_spec_reading.specs.Nest.{root_of}
 use Rattle.pc_spec_reading.specs.Outcome.{Outcome}
 use Rattle.pc_spec_reading.specs.Reading.{Reading, reading, reading_of}
 use Rattle.pc_spec_reading.specs.Section.{modules_of}
-use Rattle.pc_spec_reading.specs.Total.{counted}
 use Rattle.pc_translate.specs.Causes.{HasCause, meaning}
 use Rattle.pc_translate.specs.Translation.{CountsGained, GainsCounted, IsPlanOf, IsRefusalOf, Translates}
 use Rattle.pc_spec_reading.specs.Guard.{everything}
@@ -22,10 +21,10 @@ module _ (t : TypeTable) (exposed : Option (List ℕ)) (limit : ℕ) (ps : List 
     (fresh : old ≡ no_types) where
   -- what was gained by one who held nothing
   counted_by : CountsGained t exposed limit ps old types → (body : Items) → root_of exposed ps ≡ Some body
-      → GainsCounted t (modules_of ps) limit (counted t 0 ps) body no_types types
+      → (start : ℕ) → GainsCounted t (modules_of ps) limit start body no_types types
   unfolding CountsGained
   counted_by gained body root =
-      subst (λ (o : Types). GainsCounted t (modules_of ps) limit (counted t (types_held o) ps) body o types) fresh
+      subst (λ (o : Types). (start : ℕ) → GainsCounted t (modules_of ps) limit start body o types) fresh
       (gained body root)
 
   -- payloads that mean something have a root

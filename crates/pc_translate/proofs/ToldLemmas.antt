@@ -6,11 +6,13 @@ use Rattle.pc_types_lists.specs.Types.{IsBuilder, Types}
 use Rattle.pc_dfg.specs.declared.ids.OptionsId.{OptionsId}
 use Rattle.pc_numbers.specs.declared.module_entity.ModuleInternedTypeIndex.{ModuleInternedTypeIndex}
 use Rattle.pc_numbers.specs.declared.runtime.ImportIndex.{ImportIndex}
+use Rattle.pc_numbers.specs.declared.runtime.ResourceIndex.{ResourceIndex}
 use Rattle.pc_numbers.specs.declared.runtime.RuntimeImportIndex.{RuntimeImportIndex}
 use Rattle.pc_numbers.specs.declared.runtime.TrampolineIndex.{TrampolineIndex}
 use Rattle.pc_types.specs.declared.module_record.ModuleRecord.{ModuleRecord}
 use Rattle.pc_types.specs.declared.parsed.CoreFuncSig.{CoreFuncSig}
 use Rattle.pc_types.specs.declared.types.TypeKind.TheVariants as kind
+use Rattle.pc_types.specs.TypeTree.{Identity}
 use Rattle.pc_spec_plan.specs.CoreValue as value
 use Rattle.pc_spec_plan.specs.CoreValue.{CoreValue, map_value}
 use Rattle.pc_spec_plan.specs.PlanView as plan
@@ -35,8 +37,8 @@ use Rattle.pc_dfg.specs.Numbers.{SignedTrampoline, graph_numbers, trampoline_ent
 use Rattle.pc_dfg.specs.Told.{IsLowering, IsSigned, IsTold, Unsaid}
 use Rattle.pc_inline.specs.Inlines.{GraphStands}
 use Rattle.pc_inline_state.specs.Tables.{IsItem}
+use Rattle.pc_inline_state.specs.Fits.{Fits}
 use Rattle.pc_inline_state.specs.Holds.{Holds, Numbered, number_of, whole_of}
-use Rattle.pc_inline_state.specs.Typed.{anyhow}
 use Rattle.pc_inline_state.specs.Worlds.{path_of, slot_kind}
 use Rattle.pc_translate.proofs.AskedLemmas.{once_each}
 use Rattle.pc_translate.proofs.DeclaredLemmas.{no_intrinsic}
@@ -111,9 +113,9 @@ module _ (g : ComponentDfg) where
   entry_means {v = v} x at (means_trampoline {x = y} is means) =
       subst (λ z. MeansTrampoline g (trampoline_entry z) v) (same_Some y x (sym is ∙ at)) means
 
-module _ (types : Types) where
+module _ (types : Types) (reads : (ResourceIndex → Identity) → Type 0) where
   -- a core signature that is there twice, as a number and whole
-  held_whole : (number : Mark) (whole : reading.Mark) → Holds types anyhow number whole → (n : ModuleInternedTypeIndex)
+  held_whole : (number : Mark) (whole : reading.Mark) → Holds types reads number whole → (n : ModuleInternedTypeIndex)
       → number ≡ mark.Signature n → (s : CoreFuncSig) → whole ≡ reading.of_signature s
       → slice_get types.signatures n.0 ≡ Some s
   unfolding Holds
@@ -125,17 +127,17 @@ module _ (types : Types) where
   held_whole (mark.Signature k) (reading.of_type tree) holds n same s is = absurd holds
 
   -- the core signature of a lowering that is there twice
-  signed_whole : (v : CoreValue (Numbered types anyhow)) (n : ModuleInternedTypeIndex) (s : CoreFuncSig)
-      → LoweredWith (map_value (number_of types anyhow) v) (mark.Signature n)
-      → signature_of (map_value (whole_of types anyhow) v) ≡ Some s → slice_get types.signatures n.0 ≡ Some s
+  signed_whole : (v : CoreValue (Numbered types reads)) (n : ModuleInternedTypeIndex) (s : CoreFuncSig)
+      → LoweredWith (map_value (number_of types reads) v) (mark.Signature n)
+      → signature_of (map_value (whole_of types reads) v) ≡ Some s → slice_get types.signatures n.0 ≡ Some s
   signed_whole (value.lowered path ty (value.options c encoding is_async m callback post_return model)) n s under is =
       held_whole m.number m.whole m.holds n under s (whole_signature m.whole is)
     where
       whole_signature : (w : reading.Mark)
-          → signature_of (value.lowered path (whole_of types anyhow ty)
-          (value.options c encoding is_async w (value.map_maybe (whole_of types anyhow) callback)
-          (value.map_maybe (whole_of types anyhow) post_return)
-          (value.map_model (whole_of types anyhow) model))) ≡ Some s
+          → signature_of (value.lowered path (whole_of types reads ty)
+          (value.options c encoding is_async w (value.map_maybe (whole_of types reads) callback)
+          (value.map_maybe (whole_of types reads) post_return)
+          (value.map_model (whole_of types reads) model))) ≡ Some s
           → w ≡ reading.of_signature s
       whole_signature (reading.of_signature t) h = ap reading.of_signature (same_Some t s h)
       whole_signature (reading.of_type tree) h = absurd (none-some s h)
@@ -152,7 +154,7 @@ module _ (types : Types) (ms : List ModuleRecord) (g : ComponentDfg) (r : Readin
       let o = lowers.0 in
       let means = entry_means g x at declared.stands.means in
       let s = declared.signed in
-      let whole = signed_whole types declared.stands.numbered (signature_at g o) s.0
+      let whole = signed_whole types (Fits g) declared.stands.numbered (signature_at g o) s.0
       (lowering_marked g means o lowers.1) (ap signature_of declared.stands.is ∙ s.2) in
       ap (λ k. record { 0 = k }) (builder.distinct kind.Signature x.0.0 (signature_at g o).0 s.0 s.1 whole)
       ∙ sym lowers.2

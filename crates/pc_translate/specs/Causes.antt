@@ -1,5 +1,5 @@
 -- Why a translation is refused.
-use Rattle.std.specs.Prelude.{◌≡◌, ◌⊎◌, ◌&&◌, ℕ, Bool, true, false, List, Option, None, Some, Result, Ok, Err}
+use Rattle.std.specs.Prelude.{◌≡◌, ◌⊎◌, ◌&&◌, ℕ, Bool, true, false, List, Option, None, Some, Result, Err}
 use Rattle.std.specs.Prelude.{option_map, if◌then◌else◌}
 use Rattle.pc_types.specs.declared.error.Error.{Error}
 use Rattle.pc_types.specs.declared.error.Error.TheVariants as error
@@ -15,7 +15,6 @@ use Rattle.pc_spec_reading.specs.Nest.{root_of}
 use Rattle.pc_spec_reading.specs.Outcome.{Outcome}
 use Rattle.pc_spec_reading.specs.Reading.{Reading, reading}
 use Rattle.pc_spec_reading.specs.Section.{modules_of}
-use Rattle.pc_inline_state.specs.Plain.{is_plain_table}
 use Rattle.pc_inline_state.specs.Today.{built_reading, is_built_item}
 
 -- what payloads mean; no total is counted yet
@@ -36,20 +35,18 @@ abbrev pub are_built : TypeTable → Items → Bool
 are_built t no_items = true
 are_built t (and_item i is) = is_built_item t i && are_built t is
 
--- the functions of a table are over primitives, and the items of the root are of kinds that are built
+-- the items of the root are of kinds that are built
 abbrev pub is_built_input : TypeTable → (exposed : Option (List ℕ)) → List Payload → Bool
-is_built_input t exposed ps = is_plain_table t && is_some_and (are_built t) (root_of exposed ps)
+is_built_input t exposed ps = is_some_and (are_built t) (root_of exposed ps)
 
--- an input can be numbered, has no static fault, its functions are over primitives, and its root's items are of kinds
--- that are built
+-- an input can be numbered, has no static fault, and its root's items are of kinds that are built
 pub record CanBeRead (t : TypeTable) (exposed : Option (List ℕ)) (ps : List Payload) : Type 0 where
   pub numbered : is_numbered t ps ≡ true
   pub sound : static_fault t exposed ps ≡ None
-  pub plain : is_plain_table t ≡ true
   pub built : HasRoot exposed ps (λ body. are_built t body ≡ true)
 
 -- the answer as far as it is built, in the order of answers. Of the total nothing is counted but whether each list can
--- be numbered; and what isn't built in the table or the root is told at the first payload, before the reading
+-- be numbered; and what isn't built in the root is told at the first payload, before the reading
 unfoldable pub built_answer : TypeTable → (exposed : Option (List ℕ)) → (limit : ℕ) → List Payload
     → Option (Result Reading Error)
 built_answer t exposed limit ps =

@@ -1,5 +1,5 @@
 -- Whether the lists of a plan fit each other.
-use Rattle.std.specs.Prelude.{◌≡◌, ◌<◌, ℕ, List, length, take, slice_get, Some, false}
+use Rattle.std.specs.Prelude.{◌≡◌, ◌<◌, ℕ, length, take, slice_get, Some, false}
 use Rattle.pc_spec_plan.specs.PlanView.{Initializer}
 use Rattle.pc_names.specs.Stands.{StandsFor}
 use Rattle.pc_info.specs.declared.component.Component.{Component}

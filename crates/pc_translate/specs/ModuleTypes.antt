@@ -1,12 +1,14 @@
 -- The types of handed-in modules that a graph exports, as numbers of the types builder.
-use Rattle.std.specs.Prelude.{◌≡◌, ℕ, true, List, length, Option, Some, slice_get, IsSome, IsSomeAnd, IfSome}
+use Rattle.std.specs.Prelude.{◌≡◌, ◌≤◌, ◌<◌, ◌+◌, ℕ, true, List, length, Option, Some, slice_get, Contains}
+use Rattle.std.specs.Prelude.{IsSome, IsSomeAnd, IfSome}
 use Rattle.pc_numbers.specs.declared.component_entity.StaticModuleIndex.{StaticModuleIndex}
 use Rattle.pc_types.specs.declared.parsed.TypeTable.{TypeTable}
 use Rattle.pc_types.specs.declared.type_index.TypeModuleIndex.{TypeModuleIndex}
 use Rattle.pc_types.specs.declared.types.TypeDef.TheVariants as def
 use Rattle.pc_types.specs.Table.{is_module, is_some_and}
-use Rattle.pc_types_builder.specs.Types.{IsTooFullFor, Types}
+use Rattle.pc_types_builder.specs.Types.{IsFull, IsTooFullFor, Types}
 use Rattle.pc_types_builder.specs.Trees.{IsEntry}
+use Rattle.pc_types_builder.specs.Asked.{IsReachedSignature}
 use Rattle.pc_dfg.specs.declared.export.Export.{Export}
 use Rattle.pc_dfg.specs.declared.export.Export.TheVariants as export
 use Rattle.pc_dfg_finish.specs.ModuleTypes.{static_type, type_at}
@@ -23,11 +25,37 @@ HasNoModule es = (n ty : ℕ) (m : StaticModuleIndex) → slice_get es n ≡ Som
 abbrev pub HasModuleType : TypeTable → Export → Type 0
 HasModuleType t e = IfSome (static_type e) (IsModuleType t)
 
+-- a handed-in module with this type of the table is among the exports
+abbrev pub IsExported : List Export → ℕ → Type 0
+IsExported es n = (e : Export) × Contains es e × (static_type e ≡ Some n)
+
+-- nothing is added but module types and core signatures: the types of entries with P, and signatures that these name
+pub record AddsModules (t : TypeTable) (P : ℕ → Type 0) (old new : Types) : Type 0 where
+  pub rest : new ≡ record old { modules = new.modules; signatures = new.signatures }
+  pub modules : (i : ℕ) → length old.modules ≤ i → i < length new.modules
+      → (n : ℕ) × P n × IsEntry new t n (def.Module (record { 0 = i }))
+  pub signatures : (i : ℕ) → length old.signatures ≤ i → i < length new.signatures
+      → (n : ℕ) × P n × IsReachedSignature new t n i
+
 -- an export's module type has no place in the lists of a builder
 abbrev pub HasNoPlace : Types → TypeTable → Export → Type 0
 HasNoPlace b t e =
     IsSomeAnd (static_type e)
     (λ ty. IsTooFullFor b (λ next. (i : TypeModuleIndex) × IsEntry next t ty (def.Module i)))
+
+-- a list of a builder is full, or has too few places left for as many module types as the table has entries, or for as
+-- many core signatures as it has
+pub data HasFewPlaces (t : TypeTable) (b : Types) : Type 0 where
+  of_any : IsFull b → HasFewPlaces t b
+  of_modules : 4294967294 ≤ length b.modules + length t.types → HasFewPlaces t b
+  of_signatures : 4294967294 ≤ length b.signatures + length t.core_funcs → HasFewPlaces t b
+
+-- there were few places before a call, and now there is none for the type of one of the exports
+pub record LacksPlace (t : TypeTable) (es : List Export) (old new : Types) : Type 0 where
+  pub before : HasFewPlaces t old
+  pub item : Export
+  pub exported : Contains es item
+  pub no_place : HasNoPlace new t item
 
 -- a place for each entry of the table, where each type that stands there is that of the entry
 pub record AreModuleTypes (b : Types) (t : TypeTable) (types : List (Option TypeModuleIndex)) : Type 0 where

@@ -36,7 +36,7 @@ module _ (kinds : TableKinds) where
   is_built_local (local.ModuleInstantiate m args) = true
   is_built_local (local.ModuleSynthetic items) = true
   is_built_local (local.ComponentStatic index vars) = true
-  is_built_local (local.ComponentInstantiate c args ty) = kinds.can_instantiate && are_built args
+  is_built_local (local.ComponentInstantiate c args ty) = kinds.has_no_resource && are_built args
   is_built_local (local.ComponentSynthetic exports ty) = are_built exports
   is_built_local (local.AliasCoreExport k n name) = true
   is_built_local (local.AliasComponentExport k n name) = is_built_kind k

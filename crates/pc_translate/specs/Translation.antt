@@ -1,7 +1,7 @@
 -- The theorem: the plan that a translation answers does what the nested reading of the payloads says.
-use Rattle.std.specs.Prelude.{◌≡◌, ◌≤◌, ◌<◌, ◌+◌, ◌*◌, ◌⊎◌, ℕ, true, List, map, length, option_map, Option, Some}
+use Rattle.std.specs.Prelude.{◌≡◌, ◌<◌, ◌+◌, ◌⊎◌, ℕ, true, List, map, length, option_map, Option, None, Some}
 use Rattle.pc_types_lists.specs.Adds.{AddsTypes}
-use Rattle.pc_types_lists.specs.Types.{IsBuilder, Types, no_types, types_held}
+use Rattle.pc_types_lists.specs.Types.{IsBuilder, Types, no_types}
 use Rattle.pc_types.specs.declared.error.Error.{Error}
 use Rattle.pc_types.specs.declared.module_record.ModuleRecord.{ModuleRecord}
 use Rattle.pc_types.specs.declared.parsed.TypeTable.{TypeTable}
@@ -22,10 +22,11 @@ use Rattle.pc_spec_reading.specs.Answer.{HasTotal, IsPast}
 use Rattle.pc_spec_reading.specs.Item.{Items}
 use Rattle.pc_spec_reading.specs.Nest.{root_of}
 use Rattle.pc_spec_reading.specs.Outcome.{done}
-use Rattle.pc_spec_reading.specs.Reading.{Reading}
+use Rattle.pc_spec_reading.specs.Guard.{everything}
+use Rattle.pc_spec_reading.specs.Reading.{Reading, reading_of}
 use Rattle.pc_spec_reading.specs.Section.{modules_of}
-use Rattle.pc_spec_reading.specs.Total.{counted}
 use Rattle.pc_spec_reading.specs.World.{full}
+use Rattle.pc_inline_state.specs.Gained.{AddsTables}
 use Rattle.pc_inline_stack.specs.Totals.{GainsFew}
 use Rattle.pc_translate.specs.Asked.{AreSigned, AsksHost, Declares}
 use Rattle.pc_translate.specs.Causes.{CanBeRead, HasCause, HasRoot, built_meaning, meaning}
@@ -77,35 +78,42 @@ pub record Translates (t : TypeTable) (exposed : Option (List ℕ)) (limit : ℕ
   -- where the run ends no value stands twice: in the slots of a kind, as an options entry, as a trampoline
   pub values_apart : AreApart (view plan modules) typed.never_stuck.last
 
--- a builder gains the types of few functions over primitives, unless the total of the root's reading is too much. The
--- total begins with what the input has and the types that were held before
+-- no list of types but that of core signatures grows by much, unless the total of the root's reading is too much; new
+-- core signatures are the table's, and new tables of futures, streams and error contexts are those of entries. So it is
+-- wherever the total begins
 unfoldable pub Gains : TypeTable → (exposed : Option (List ℕ)) → (limit : ℕ) → List Payload → (old new : Types) → Type 0
 Gains t exposed limit ps old new =
-    (body : Items) → root_of exposed ps ≡ Some body
-    → GainsFew t (modules_of ps) limit (counted t (types_held old) ps) body old new
+    (body : Items) → root_of exposed ps ≡ Some body → (start : ℕ)
+    → GainsFew t (modules_of ps) limit start body old new
 
--- a builder gained the types of so many functions over primitives. From where it begins the total of the reading grows
--- by at least 8 times as many, unless it is too much
+-- no list of types but that of core signatures grew by more than `added`, and new core signatures are the table's. From
+-- where it begins the total of the reading grows by more than `added`, unless it is too much. The reading is done, and
+-- each new table of futures, streams or error contexts is that of an entry in a component instance that begins in it
 pub record GainsCounted (t : TypeTable) (ms : List ModuleRecord) (limit start : ℕ) (body : Items) (old new : Types)
     : Type 0 where
-  pub functions : ℕ
-  pub types : AddsTypes functions old new
+  pub added : ℕ
+  pub types : AddsTypes t added old new
   pub few : IsPast t ms limit start body
-      ⊎ ((total : ℕ) × HasTotal t ms limit start body total × (total < full) × (start + 8 * functions ≤ total))
+      ⊎ ((total : ℕ) × HasTotal t ms limit start body total × (total < full) × (start + added < total))
+  pub result : Reading
+  pub outcome : reading_of everything t ms limit None body ≡ done result
+  pub tables : AddsTables t result.begun old new
 
--- so it is where payloads were translated
+-- so it is where payloads were translated, wherever the total begins
 unfoldable pub CountsGained : TypeTable → (exposed : Option (List ℕ)) → (limit : ℕ) → List Payload
     → (old new : Types) → Type 0
 CountsGained t exposed limit ps old new =
-    (body : Items) → root_of exposed ps ≡ Some body
-    → GainsCounted t (modules_of ps) limit (counted t (types_held old) ps) body old new
+    (body : Items) → root_of exposed ps ≡ Some body → (start : ℕ)
+    → GainsCounted t (modules_of ps) limit start body old new
 
--- the types of a builder that held none before the payloads were translated: those of functions over primitives, of no
--- more than their reading counts
+-- the types of a builder that held none before the payloads were translated: of each kind but core signatures fewer
+-- than their reading counts, wherever the total begins, and no tables but those of entries in component instances that
+-- begin
 pub record AreGained (t : TypeTable) (exposed : Option (List ℕ)) (limit : ℕ) (ps : List Payload) (types : Types)
     : Type 0 where
   pub builder : IsBuilder types
-  pub few : HasRoot exposed ps (λ body. GainsCounted t (modules_of ps) limit (counted t 0 ps) body no_types types)
+  pub few : HasRoot exposed ps (λ body. (start : ℕ)
+      → GainsCounted t (modules_of ps) limit start body no_types types)
 
 -- a plan and its modules are what a translation is to answer, with a types builder that held no types before
 unfoldable pub IsPlanOf : TypeTable → (exposed : Option (List ℕ)) → (limit : ℕ) → List Payload

@@ -1,13 +1,12 @@
 //! Programs whose items are of kinds that are built.
 
-ghost use Rattle.std.specs.Prelude.{◌≡◌, ◌&&◌};
+ghost use Rattle.std.specs.Prelude.{◌≡◌};
 ghost use Rattle.std.specs.List.{list_all};
 ghost use Rattle.pc_inline_state.specs.Kinds.{kinds_of};
-ghost use Rattle.pc_inline_state.specs.Plain.{is_plain_table};
 ghost use Rattle.pc_translate.specs.Planning.{is_built_local};
 
 use pc_inline_items::{are_built, import_kind};
-use pc_inline_state::{TableKinds, is_built_kind, is_plain_table, kinds_of};
+use pc_inline_state::{TableKinds, is_built_kind, kinds_of};
 use pc_local::{LocalInitializer, LocalProgram};
 use pc_types::TypeTable;
 
@@ -27,7 +26,7 @@ fn is_built_item(kinds: TableKinds, item: &LocalInitializer) -> bool
         | LocalInitializer::AliasModule(_)
         | LocalInitializer::AliasComponent(_) => true,
         LocalInitializer::ComponentInstantiate { args, .. } => {
-            kinds.can_instantiate && are_built(args.as_slice())
+            kinds.has_no_resource && are_built(args.as_slice())
         }
         LocalInitializer::ComponentSynthetic { exports, .. } => are_built(exports.as_slice()),
         LocalInitializer::AliasComponentExport { kind, .. }
@@ -44,11 +43,9 @@ fn are_built_items(kinds: TableKinds, program: &LocalProgram) -> bool
     items.iter().all(|item| is_built_item(kinds, item))
 }
 
-/// Whether each function of a type table is over primitives, and each item of the root of a program is of a kind that
-/// is built.
+/// Whether each item of the root of a program is of a kind that is built with this type table.
 pub(crate) fn is_built(table: &TypeTable, program: &LocalProgram) -> bool
-    ensures { result ≡ (is_plain_table table.now
-        && list_all (is_built_local (kinds_of table.now)) program.now.root.initializers) }
+    ensures { result ≡ list_all (is_built_local (kinds_of table.now)) program.now.root.initializers }
 {
-    is_plain_table(table) && are_built_items(kinds_of(table), program)
+    are_built_items(kinds_of(table), program)
 }

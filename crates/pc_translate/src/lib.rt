@@ -1,8 +1,8 @@
 //! The translator: payloads go in, and out come a plan and its core modules.
 //!
 //! It is three calls: the local program of the payloads (`pc_local`), the graph that stands for its reading
-//! (`pc_inline`), and the plan that the graph becomes (`pc_dfg_finish`). That the plan does what the nested reading says
-//! follows from what these promise; `specs/Translation.antt` has that statement.
+//! (`pc_inline`), and the plan that the graph becomes (`pc_dfg_finish`). That the plan does what the nested reading
+//! says follows from what these promise; `specs/Translation.antt` has that statement.
 #![tactic(auto)]
 
 mod built;

@@ -1,7 +1,7 @@
 //! The types of the handed-in modules that a graph exports. They are the only types that the graph has by numbers of
 //! the table. Many exports may have one wide type, so each entry of the table is converted once.
 
-ghost use Rattle.std.specs.Prelude.{◌≡◌, None, Err, All, Contains, IfOk, OnOk, IsSome};
+ghost use Rattle.std.specs.Prelude.{◌≡◌, None, Some, Err, All, Contains, IfOk, OnOk, IsSome};
 ghost use Rattle.pc_types.specs.declared.type_index.TypeModuleIndex.{TypeModuleIndex};
 ghost use Rattle.pc_types.specs.declared.types.TypeDef.TheVariants as def;
 ghost use Rattle.pc_types.specs.Table.{table_fault};
@@ -10,8 +10,8 @@ ghost use Rattle.pc_types_builder.specs.Trees.{IsEntry};
 ghost use Rattle.pc_dfg.specs.declared.export.Export.{Export};
 ghost use Rattle.pc_dfg_linearize.specs.declared.error.FinishError.TheVariants as refusal;
 ghost use Rattle.pc_dfg_finish.specs.ModuleTypes.{IsTyped, static_type, type_at};
-ghost use Rattle.pc_translate.specs.ModuleTypes.{AreModuleTypes, HasModuleType, HasNoModule, HasNoPlace, IsModuleType};
-ghost use Rattle.pc_translate.specs.ModuleTypes.{StayTyped};
+ghost use Rattle.pc_translate.specs.ModuleTypes.{AddsModules, AreModuleTypes, HasModuleType, HasNoModule, HasNoPlace};
+ghost use Rattle.pc_translate.specs.ModuleTypes.{IsExported, IsModuleType, LacksPlace, StayTyped};
 
 use pc_dfg::Export;
 use pc_dfg_finish::{FinishError, ModuleTypes};
@@ -28,6 +28,7 @@ fn none_converted(alloc: Global, table: &TypeTable) -> Result<ModuleTypes, NoMem
 }
 
 /// The type of a module type of the table.
+#[tactic(auto, using(crate::proofs::AddsModulesLemmas::adds_module))]
 fn converted(
     types: &mut ComponentTypesBuilder,
     table: &TypeTable,
@@ -37,6 +38,7 @@ fn converted(
     requires is_module { IsModuleType table.now ty }
     ensures tree { IfOk result (λ i. IsEntry types.new table.now ty (def.Module i)) }
     ensures grows { Grows types.old types.new }
+    ensures adds { AddsModules table.now (λ n. n ≡ ty) types.old types.new }
     ensures full { result ≡ Err refusal.TooMany
         → IsTooFullFor types.new (λ b. (i : TypeModuleIndex) × IsEntry b table.now ty (def.Module i)) }
 {
@@ -49,6 +51,7 @@ fn converted(
 }
 
 /// Converts a module type of the table, unless that was done.
+#[tactic(auto, using(crate::proofs::AddsModulesLemmas::adds_none))]
 fn convert(
     types: &mut ComponentTypesBuilder,
     table: &TypeTable,
@@ -59,6 +62,7 @@ fn convert(
     requires is_module { IsModuleType table.now ty }
     requires done { AreModuleTypes types.old table.now done.old }
     ensures grows { Grows types.old types.new }
+    ensures adds { AddsModules table.now (λ n. n ≡ ty) types.old types.new }
     ensures done { OnOk result (AreModuleTypes types.new table.now done.new) }
     ensures keeps { OnOk result (StayTyped done.old done.new) }
     ensures here { OnOk result (IsSome (type_at done.new ty)) }
@@ -93,6 +97,7 @@ fn convert_item(
     requires is_module { HasModuleType table.now item.now }
     requires done { AreModuleTypes types.old table.now done.old }
     ensures grows { Grows types.old types.new }
+    ensures adds { AddsModules table.now (λ n. static_type item.now ≡ Some n) types.old types.new }
     ensures done { OnOk result (AreModuleTypes types.new table.now done.new) }
     ensures keeps { OnOk result (StayTyped done.old done.new) }
     ensures here { OnOk result (IsTyped done.new item.now) }
@@ -105,8 +110,8 @@ fn convert_item(
     }
 }
 
-/// Converts the types of the handed-in modules among these exports.
-pub(crate) fn module_types(
+/// Converts the types of the handed-in modules among these exports, one after another.
+fn convert_items(
     alloc: Global,
     types: &mut ComponentTypesBuilder,
     table: &TypeTable,
@@ -115,6 +120,7 @@ pub(crate) fn module_types(
     requires sound { table_fault table.now ≡ None }
     requires are_modules { All (HasModuleType table.now) items.now }
     ensures grows { Grows types.old types.new }
+    ensures adds { AddsModules table.now (IsExported items.now) types.old types.new }
     ensures types { IfOk result (λ m. AreModuleTypes types.new table.now m) }
     ensures typed { IfOk result (λ m. All (IsTyped m) items.now) }
     ensures full { result ≡ Err refusal.TooMany
@@ -126,4 +132,26 @@ pub(crate) fn module_types(
         convert_item(types, table, &mut done, item)?;
     }
     Ok(done)
+}
+
+/// Converts the types of the handed-in modules among these exports.
+pub(crate) fn module_types(
+    alloc: Global,
+    types: &mut ComponentTypesBuilder,
+    table: &TypeTable,
+    items: &[Export],
+) -> Result<ModuleTypes, FinishError>
+    requires sound { table_fault table.now ≡ None }
+    requires are_modules { All (HasModuleType table.now) items.now }
+    ensures grows { Grows types.old types.new }
+    ensures adds { AddsModules table.now (IsExported items.now) types.old types.new }
+    ensures types { IfOk result (λ m. AreModuleTypes types.new table.now m) }
+    ensures typed { IfOk result (λ m. All (IsTyped m) items.now) }
+    ensures full { result ≡ Err refusal.TooMany → LacksPlace table.now items.now types.old types.new }
+    ensures unchanged { HasNoModule items.now → types.new ≡ types.old }
+{
+    let converted = convert_items(alloc, types, table, items);
+    // No two types are equal, so no more were added than the table has entries and signatures.
+    types.types_are_distinct();
+    converted
 }

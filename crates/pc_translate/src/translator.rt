@@ -11,7 +11,6 @@ ghost use Rattle.pc_spec_reading.specs.Item.{Items};
 ghost use Rattle.pc_local.specs.Program.{ProgramStands};
 ghost use Rattle.pc_local.specs.Standing.{BodyStands, no_names};
 ghost use Rattle.pc_inline.specs.Inlines.{export_name};
-ghost use Rattle.pc_inline_state.specs.Plain.{is_plain_table};
 ghost use Rattle.pc_inline_stack.specs.Totals.{GainsFew};
 ghost use Rattle.pc_translate.specs.Causes.{CanBeRead, HasCause, HasOwnCause};
 ghost use Rattle.pc_translate.specs.Planning.{Plans, as_handed_in, error_of_finish};
@@ -50,8 +49,7 @@ fn translations(
     Ok(PrimaryMap::from_vec(translations))
 }
 
-/// The local program of payloads, where each function of the type table and each item of the root is of a kind that is
-/// built.
+/// The local program of payloads, where each item of the root is of a kind that is built.
 fn built_program(
     alloc: Global,
     table: &TypeTable,
@@ -100,10 +98,10 @@ fn plan_of(
         → Plans table.now program.now.modules tunables.now.max_component_instances body types.old types.new result }
     ensures keeps { KeepsTypes types.old types.new }
     ensures adds { (body : Items) → BodyStands program.now.components no_names program.now.root body
-        → is_plain_table table.now ≡ true → (start : ℕ)
+        → (start : ℕ)
         → GainsFew table.now program.now.modules tunables.now.max_component_instances start body types.old types.new }
     ensures counts { (body : Items) → BodyStands program.now.components no_names program.now.root body
-        → is_plain_table table.now ≡ true → (start : ℕ) → IfOk result (λ _. GainsCounted table.now program.now.modules
+        → (start : ℕ) → IfOk result (λ _. GainsCounted table.now program.now.modules
         tunables.now.max_component_instances start body types.old types.new) }
 {
     let graph = inline_run(
@@ -138,11 +136,15 @@ pub fn translate(
 
     ensures keeps { KeepsTypes types.old types.new }
 
+    // It gains nothing where the payloads can't be read.
+    ensures early { (CanBeRead table.now (option_map (λ name. name.now) exposed.entry) payloads.now → ⊥)
+        → types.new ≡ types.old }
+
     // The builder gains few types, unless the total of the reading is too much.
     ensures adds { Gains table.now (option_map (λ name. name.now) exposed.entry)
         tunables.now.max_component_instances payloads.now types.old types.new }
 
-    // And a plan's are those of so many functions as the reading counts.
+    // And those of a plan are fewer than the reading counts.
     ensures counts { IfOk result (λ _. CountsGained table.now (option_map (λ name. name.now) exposed.entry)
         tunables.now.max_component_instances payloads.now types.old types.new) }
 {
@@ -266,11 +268,15 @@ impl<'a> Translator<'a> {
 
         ensures keeps { KeepsTypes self.entry.types.now self.exit.0.now }
 
+        // It gains nothing where the payloads can't be read.
+        ensures early { (CanBeRead self.entry.table.now (option_map (λ name. name.now) self.entry.exposed) component.now
+            → ⊥) → self.exit.0.now ≡ self.entry.types.now }
+
         // The builder gains few types, unless the total of the reading is too much.
         ensures adds { Gains self.entry.table.now (option_map (λ name. name.now) self.entry.exposed)
             self.entry.tunables.now.max_component_instances component.now self.entry.types.now self.exit.0.now }
 
-        // And a plan's are those of so many functions as the reading counts.
+        // And those of a plan are fewer than the reading counts.
         ensures counts { IfOk result (λ _. CountsGained self.entry.table.now
             (option_map (λ name. name.now) self.entry.exposed) self.entry.tunables.now.max_component_instances
             component.now self.entry.types.now self.exit.0.now) }

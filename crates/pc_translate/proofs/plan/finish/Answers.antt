@@ -1,9 +1,13 @@
-use Rattle.std.proofs.Common.{All, Contains, inl, inr, subst}
-use Rattle.pc_dfg.specs.declared.export.Export.{Export}
+use Rattle.std.proofs.Common.{All, inl, inr, subst}
 use Rattle.pc_dfg_finish.specs.ModuleTypes.{IsTyped}
-use Rattle.pc_translate.specs.ModuleTypes.{HasNoPlace}
+use Rattle.pc_translate.specs.ModuleTypes.{AddsModules, IsExported, LacksPlace}
 use Rattle.pc_translate.proofs.ModuleTypeLemmas.{all_finished, none_lent}
 use Rattle.pc_translate.proofs.plan.finish.Goals as goal
+
+pub returns-in_err-module_types-clause-adds : goal.returns-in_err-module_types-clause-adds
+returns-in_err-module_types-clause-adds c =
+    subst (λ es. AddsModules c.args.table.now (IsExported es) c.args.types.now c.module_types.new.types)
+    c.as_slice.ensures c.in_err-module_types.ensures.adds
 
 pub returns-in_err-module_types-clause-unchanged : goal.returns-in_err-module_types-clause-unchanged
 returns-in_err-module_types-clause-unchanged c none =
@@ -13,8 +17,12 @@ pub returns-in_err-module_types-clause-full : goal.returns-in_err-module_types-c
 returns-in_err-module_types-clause-full c is =
     let too_many = rw is at c.from_residual.ensures.1 in
     let full = c.in_err-module_types.ensures.full (cc too_many) in
-    inr (subst (λ es. (e : Export) × Contains es e × HasNoPlace c.module_types.new.types c.args.table.now e)
-    c.as_slice.ensures full)
+    inr (subst (λ es. LacksPlace c.args.table.now es c.args.types.now c.module_types.new.types) c.as_slice.ensures full)
+
+pub returns-clause-adds : goal.returns-clause-adds
+returns-clause-adds c =
+    subst (λ es. AddsModules c.args.table.now (IsExported es) c.args.types.now c.module_types.new.types)
+    c.as_slice.ensures c.in_ok-module_types.ensures.adds
 
 pub returns-clause-unchanged : goal.returns-clause-unchanged
 returns-clause-unchanged c none = c.in_ok-module_types.ensures.unchanged (none_lent _ _ c.as_slice.ensures none)

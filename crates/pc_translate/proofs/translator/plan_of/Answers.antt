@@ -35,11 +35,12 @@ returns-clause-keeps c =
     c.in_ok-graph.ensures.keeps
 
 pub returns-clause-adds : goal.returns-clause-adds
-returns-clause-adds c = λ body stands plain start.
+returns-clause-adds c = λ body stands start.
     still_gains _ _ _ body _ _ _ (c.in_ok-graph.ensures.inlines body stands) _ c.finish.ensures.unchanged start
-    (c.in_ok-graph.ensures.adds body stands plain start)
+    (c.in_ok-graph.ensures.adds body stands start)
 
 pub returns-clause-counts : goal.returns-clause-counts
-returns-clause-counts c = λ body stands plain start.
+returns-clause-counts c = λ body stands start.
     of_each _ _ (still_counts _ _ _ body _ _ _ (c.in_ok-graph.ensures.inlines body stands) _ c.finish.ensures.unchanged
-    start (c.in_ok-graph.ensures.few body stands start) plain (c.in_ok-graph.ensures.adds body stands plain start))
+    c.in_ok-graph.ensures.tables start (c.in_ok-graph.ensures.few body stands start)
+    (c.in_ok-graph.ensures.adds body stands start))

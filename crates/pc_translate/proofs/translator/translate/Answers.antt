@@ -33,22 +33,30 @@ returns-in_err-plan-clause-refused c =
     c.in_ok-program.ensures.program c.in_ok-program.ensures.can _ _ c.from_residual-in_err-plan.ensures.1
     c.in_err-plan.ensures.plan
 
+pub returns-in_err-plan-clause-early : goal.returns-in_err-plan-clause-early
+returns-in_err-plan-clause-early c not_read = absurd (not_read c.in_ok-program.ensures.can)
+
 pub returns-in_err-plan-clause-adds : goal.returns-in_err-plan-clause-adds
 returns-in_err-plan-clause-adds c =
-    gains _ _ _ _ _ _ _ c.in_ok-program.ensures.program c.in_ok-program.ensures.can c.plan_of.ensures.adds
+    gains _ _ _ _ _ _ _ c.in_ok-program.ensures.program c.plan_of.ensures.adds
+
+pub returns-in_err-modules-clause-early : goal.returns-in_err-modules-clause-early
+returns-in_err-modules-clause-early c not_read = absurd (not_read c.in_ok-program.ensures.can)
 
 pub returns-in_err-modules-clause-adds : goal.returns-in_err-modules-clause-adds
 returns-in_err-modules-clause-adds c =
-    gains _ _ _ _ _ _ _ c.in_ok-program.ensures.program c.in_ok-program.ensures.can c.plan_of.ensures.adds
+    gains _ _ _ _ _ _ _ c.in_ok-program.ensures.program c.plan_of.ensures.adds
+
+pub returns-clause-early : goal.returns-clause-early
+returns-clause-early c not_read = absurd (not_read c.in_ok-program.ensures.can)
 
 pub returns-clause-adds : goal.returns-clause-adds
 returns-clause-adds c =
-    gains _ _ _ _ _ _ _ c.in_ok-program.ensures.program c.in_ok-program.ensures.can c.plan_of.ensures.adds
+    gains _ _ _ _ _ _ _ c.in_ok-program.ensures.program c.plan_of.ensures.adds
 
 pub returns-clause-counts : goal.returns-clause-counts
 returns-clause-counts c =
-    counts_gained _ _ _ _ _ _ _ c.in_ok-program.ensures.program c.in_ok-program.ensures.can
-    c.in_ok-plan.ensures.counts
+    counts_gained _ _ _ _ _ _ _ c.in_ok-program.ensures.program c.in_ok-plan.ensures.counts
 
 -- what is left out here is read off the clause; a `Translates` that is written out would be compared field by field
 pub returns-clause-translated : goal.returns-clause-translated
