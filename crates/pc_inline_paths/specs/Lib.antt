@@ -1,0 +1,4 @@
+-- What the public contracts rest on.
+pub mod Paths
+-- What the functions inside promise each other.
+pub mod Steps
