@@ -1,0 +1,14 @@
+-- what held definitions name, they named before
+pub mod BackLemmas
+-- graphs that have got slots and trampolines
+pub mod AddsLemmas
+-- slots and full lists
+mod SlotLemmas
+-- what helpers stand for
+mod HelperLemmas
+-- definitions for imports one after the other
+mod ArgumentLemmas
+-- what stands in the imports of an adapter
+mod OwnLemmas
+-- how many entries the imports of an adapter cost
+mod FewLemmas

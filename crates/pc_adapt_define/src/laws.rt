@@ -1,0 +1,52 @@
+//! Laws of the definitions that stand for the imports of an adapter. Each function does nothing: its contract is the
+//! law.
+
+ghost use Rattle.std.specs.Prelude.{◌≡◌, ℕ, List, All, false, Some, slice_get};
+ghost use Rattle.std.specs.List.{AllZip};
+ghost use Rattle.pc_numbers.specs.declared.module_entity.ModuleInternedTypeIndex.{ModuleInternedTypeIndex};
+ghost use Rattle.pc_spec_plan.specs.CoreValue.{CoreValue};
+ghost use Rattle.pc_trampoline.specs.declared.part.Mark.{Mark};
+ghost use Rattle.pc_dfg.specs.declared.adapter.Adapter.{Adapter};
+ghost use Rattle.pc_dfg.specs.declared.core_def.CoreDef.{CoreDef};
+ghost use Rattle.pc_dfg.specs.declared.core_def.CoreDef.TheVariants as def;
+ghost use Rattle.pc_dfg.specs.declared.dfg.ComponentDfg.{ComponentDfg};
+ghost use Rattle.pc_dfg.specs.declared.ids.AdapterId.{AdapterId};
+ghost use Rattle.pc_dfg.specs.Held.{IsHeld};
+ghost use Rattle.pc_dfg.specs.Means.{Means};
+ghost use Rattle.pc_dfg.specs.Names.{in_adapter, OneNames, Thing};
+ghost use Rattle.pc_dfg.specs.Ordered.{IsOrdered};
+ghost use Rattle.pc_spec_adapt.specs.Asked.{FunctionFacts};
+ghost use Rattle.pc_spec_adapt.specs.Planned.{planned};
+ghost use Rattle.pc_adapt.specs.Imports.{imports_of};
+ghost use Rattle.pc_adapt.specs.Planned.{is_wide};
+ghost use Rattle.pc_adapt_define.specs.Adds.{Adds};
+ghost use Rattle.pc_adapt_define.specs.Define.{AreDefined, in_import};
+
+/// The imports of an adapter of an ordered graph are held, as `define_all` asks.
+pub fn imports_are_held()
+    ensures { (g : ComponentDfg) (a : ℕ) (x : Adapter) (lift lower : FunctionFacts) → IsOrdered g
+        → slice_get g.adapters a ≡ Some x → All (λ i. All (IsHeld g) (in_import i)) (imports_of lift lower x) }
+{}
+
+/// What stands for the imports of an adapter has, one by one, the values that are planned for it.
+pub fn arguments_are_planned()
+    ensures { (g h : ComponentDfg) (a : AdapterId) (x : Adapter) (v : CoreValue Mark) (lift lower : FunctionFacts)
+        (before after : List CoreDef) → slice_get g.adapters a.0 ≡ Some x → Means g (def.Adapter a) v
+        → (all : AreDefined g h x.lower_options.core_type (imports_of lift lower x) before after)
+        → AllZip (λ d p. Means h d p.value) all.defs
+        (planned lift lower false (is_wide x.lift_options.data_model) (is_wide x.lower_options.data_model) v) }
+{}
+
+/// It names nothing but what the adapter named.
+pub fn arguments_name_no_more()
+    ensures { (g h : ComponentDfg) (x : Adapter) (lift lower : FunctionFacts) (before after : List CoreDef) (y : Thing)
+        → IsOrdered g → (all : AreDefined g h x.lower_options.core_type (imports_of lift lower x) before after)
+        → OneNames h all.defs y → OneNames g (in_adapter x) y }
+{}
+
+/// It costs few entries: at most nine memories, one callback, one post-return function and twelve trampolines.
+pub fn arguments_add_few()
+    ensures { (g h : ComponentDfg) (s : ModuleInternedTypeIndex) (x : Adapter) (lift lower : FunctionFacts)
+        (before after : List CoreDef) → AreDefined g h s (imports_of lift lower x) before after
+        → Adds 9 1 1 12 g h }
+{}

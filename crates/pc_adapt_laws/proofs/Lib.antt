@@ -1,0 +1,5 @@
+-- an adapter is told from its record
+mod FoundLemmas
+-- what is planned is short, and is named
+mod ShortLemmas
+mod FineLemmas

@@ -1,0 +1,9 @@
+-- what held definitions name, they named before
+mod BackLemmas
+-- modules of a good split are grouped
+mod GroupedLemmas
+-- lists that are put together one by one
+mod RecordLemmas
+-- as what is imported what is planned
+mod EntityLemmas
+mod MemberLemmas

@@ -1,0 +1,3 @@
+-- What the laws rest on.
+pub mod Same
+pub mod Made
