@@ -1,0 +1,6 @@
+-- Worked rows.
+pub mod TwoAdapters
+pub mod OtherPlans
+pub mod Logs
+pub mod Memories
+pub mod Runs
