@@ -1,2 +1,5 @@
 -- Lemmas that the answers cite.
 pub mod Inputs
+mod Taken
+mod Agree
+mod Payloads

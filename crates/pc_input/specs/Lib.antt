@@ -4,4 +4,6 @@ pub mod Module
 pub mod Payload
 pub mod Input
 -- What the functions inside promise each other.
-pub mod Bytes
+pub mod Takes
+pub mod Content
+pub mod Root

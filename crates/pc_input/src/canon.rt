@@ -4,7 +4,6 @@
 //! are, tells the functions apart first. So each name stands in one place, in a table of those with the same parts.
 
 ghost use Rattle.std.specs.Prelude.{◌≡◌, map};
-ghost use Rattle.serde_json.specs.View.{view};
 ghost use Rattle.pc_entity.specs.Lists.{value_of};
 ghost use Rattle.pc_input.specs.Canon.{of_nothing, of_signature, thread_of_signature};
 ghost use Rattle.pc_input.specs.Canon.{of_index, of_flag, of_options, of_one, of_cancel, of_copy, of_slot, of_start};
@@ -15,10 +14,10 @@ ghost use Rattle.pc_input_values.specs.Reads.{Reads};
 
 use crate::entry::{ReadEntry, entries};
 use pc_entity::Seq;
-use pc_input_values::{DecodeError, Form, ReadForm, headed, read};
+use pc_input_tokens::{Tree, headed};
+use pc_input_values::{DecodeError, Form, ReadForm, read};
 use pc_parsed::{CanonItem, CanonOption};
 use pc_types::WasmValType;
-use serde_json::Value;
 use std::alloc::Global;
 
 /// A canonical function of a name alone. A component that has one is refused later on.
@@ -118,14 +117,14 @@ fn of_options(name: &str, core: u32, opts: Seq<CanonOption>) -> Option<CanonItem
 
 /// A canonical function of a signature and one part. The part's shape tells apart what it may be.
 #[tactic(auto, unfolding(crate::specs::Canon::of_one))]
-fn of_one<F: Form>(
+fn of_one<F: Form, V: Tree>(
     form: &F,
     alloc: Global,
     name: &str,
     core: u32,
-    part: &Value,
+    part: &V,
 ) -> Result<CanonItem, DecodeError>
-    ensures { Reads result (of_one core name.now (view part.now)) }
+    ensures { Reads result (of_one core name.now (V.means part.now)) }
 {
     if let Some(async_) = part.as_bool() {
         return of_flag(name, core, async_).ok_or(DecodeError::BadForm);
@@ -191,15 +190,15 @@ fn of_start(name: &str, core: u32, ty: u32, table: u32) -> Option<CanonItem>
 
 /// A canonical function of a signature and two parts, of which the second is a number.
 #[tactic(auto, unfolding(crate::specs::Canon::of_two_numbered))]
-fn of_two_numbered<F: Form>(
+fn of_two_numbered<F: Form, V: Tree>(
     form: &F,
     alloc: Global,
     name: &str,
     core: u32,
-    a: &Value,
-    b: &Value,
+    a: &V,
+    b: &V,
 ) -> Result<CanonItem, DecodeError>
-    ensures { Reads result (of_two_numbered core name.now (view a.now) (view b.now)) }
+    ensures { Reads result (of_two_numbered core name.now (V.means a.now) (V.means b.now)) }
 {
     if a.is_number() {
         let ty = u32::read(form, alloc, a)?;
@@ -212,14 +211,14 @@ fn of_two_numbered<F: Form>(
 }
 
 /// `task.return` of a signature, with its result and options.
-fn task_return<F: Form>(
+fn task_return<F: Form, V: Tree>(
     form: &F,
     alloc: Global,
     core: u32,
-    a: &Value,
-    b: &Value,
+    a: &V,
+    b: &V,
 ) -> Result<CanonItem, DecodeError>
-    ensures { Reads result (task_return core (view a.now) (view b.now)) }
+    ensures { Reads result (task_return core (V.means a.now) (V.means b.now)) }
 {
     let result = read(form, alloc, a)?;
     let opts = entries(form, alloc, b)?;
@@ -228,15 +227,15 @@ fn task_return<F: Form>(
 
 /// A canonical function of a signature and two parts, of which the second has options.
 #[tactic(auto, unfolding(crate::specs::Canon::of_two_with_options))]
-fn of_two_with_options<F: Form>(
+fn of_two_with_options<F: Form, V: Tree>(
     form: &F,
     alloc: Global,
     name: &str,
     core: u32,
-    a: &Value,
-    b: &Value,
+    a: &V,
+    b: &V,
 ) -> Result<CanonItem, DecodeError>
-    ensures { Reads result (of_two_with_options core name.now (view a.now) (view b.now)) }
+    ensures { Reads result (of_two_with_options core name.now (V.means a.now) (V.means b.now)) }
 {
     if name == "task.return" {
         return task_return(form, alloc, core, a, b);
@@ -248,15 +247,15 @@ fn of_two_with_options<F: Form>(
 
 /// A canonical function of a signature and two parts. The second's shape tells apart what they may be.
 #[tactic(auto, unfolding(crate::specs::Canon::of_two))]
-fn of_two<F: Form>(
+fn of_two<F: Form, V: Tree>(
     form: &F,
     alloc: Global,
     name: &str,
     core: u32,
-    a: &Value,
-    b: &Value,
+    a: &V,
+    b: &V,
 ) -> Result<CanonItem, DecodeError>
-    ensures { Reads result (of_two core name.now (view a.now) (view b.now)) }
+    ensures { Reads result (of_two core name.now (V.means a.now) (V.means b.now)) }
 {
     if let Some(async_) = b.as_bool() {
         let ty = u32::read(form, alloc, a)?;
@@ -289,16 +288,17 @@ fn of_function(
 
 /// `lift` or `lower`, by its four parts.
 #[tactic(auto, unfolding(crate::specs::Canon::of_four))]
-fn of_four<F: Form>(
+fn of_four<F: Form, V: Tree>(
     form: &F,
     alloc: Global,
     name: &str,
-    func: &Value,
-    ty: &Value,
-    core: &Value,
-    opts: &Value,
+    func: &V,
+    ty: &V,
+    core: &V,
+    opts: &V,
 ) -> Result<CanonItem, DecodeError>
-    ensures { Reads result (of_four name.now (view func.now) (view ty.now) (view core.now) (view opts.now)) }
+    ensures { Reads result (of_four name.now (V.means func.now) (V.means ty.now) (V.means core.now)
+        (V.means opts.now)) }
 {
     let func = u32::read(form, alloc, func)?;
     let ty = u32::read(form, alloc, ty)?;
@@ -308,14 +308,14 @@ fn of_four<F: Form>(
 }
 
 /// A canonical function of a signature and what follows it.
-fn of_rest<F: Form>(
+fn of_rest<F: Form, V: Tree>(
     form: &F,
     alloc: Global,
     name: &str,
     core: u32,
-    parts: &[Value],
+    parts: &[V],
 ) -> Result<CanonItem, DecodeError>
-    ensures { Reads result (of_rest core name.now (map view parts.now)) }
+    ensures { Reads result (of_rest core name.now (map V.means parts.now)) }
 {
     match parts {
         [] => of_signature(name, core).ok_or(DecodeError::BadForm),
@@ -326,14 +326,14 @@ fn of_rest<F: Form>(
 }
 
 /// A canonical function of a signature, yet to be read, and what follows it.
-fn with_signature<F: Form>(
+fn with_signature<F: Form, V: Tree>(
     form: &F,
     alloc: Global,
     name: &str,
-    core: &Value,
-    rest: &[Value],
+    core: &V,
+    rest: &[V],
 ) -> Result<CanonItem, DecodeError>
-    ensures { Reads result (with_signature name.now (view core.now) (map view rest.now)) }
+    ensures { Reads result (with_signature name.now (V.means core.now) (map V.means rest.now)) }
 {
     let core = u32::read(form, alloc, core)?;
     of_rest(form, alloc, name, core, rest)
@@ -341,13 +341,13 @@ fn with_signature<F: Form>(
 
 /// A canonical function, by its name and what follows it.
 #[tactic(auto, unfolding(crate::specs::Canon::canon_from))]
-fn from_parts<F: Form>(
+fn from_parts<F: Form, V: Tree>(
     form: &F,
     alloc: Global,
     name: &str,
-    parts: &[Value],
+    parts: &[V],
 ) -> Result<CanonItem, DecodeError>
-    ensures { Reads result (canon_from name.now (map view parts.now)) }
+    ensures { Reads result (canon_from name.now (map V.means parts.now)) }
 {
     match parts {
         [] => of_nothing(name).ok_or(DecodeError::BadForm),
@@ -360,7 +360,11 @@ impl ReadEntry for CanonItem {
     ghost shape = { λ _. canon_item };
 
     #[tactic(auto, unfolding(crate::specs::Canon::canon_item))]
-    fn read<F: Form>(form: &F, alloc: Global, value: &Value) -> Result<CanonItem, DecodeError> {
+    fn read<F: Form, V: Tree>(
+        form: &F,
+        alloc: Global,
+        value: &V,
+    ) -> Result<CanonItem, DecodeError> {
         match headed(value) {
             Some((name, parts)) => from_parts(form, alloc, name, parts),
             None => Err(DecodeError::BadForm),

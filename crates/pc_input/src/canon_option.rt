@@ -1,15 +1,14 @@
 //! The options of canonical functions: a word, or an array of a word and a number.
 
 ghost use Rattle.std.specs.Prelude.{◌≡◌, option_map, map};
-ghost use Rattle.serde_json.specs.View.{view};
 ghost use Rattle.pc_entity.specs.Lists.{value_of};
 ghost use Rattle.pc_input.specs.Canon.{option_words, option_kinds, option_from, canon_option};
 ghost use Rattle.pc_input_values.specs.Reads.{Reads};
 
 use crate::entry::ReadEntry;
-use pc_input_values::{DecodeError, Form, ReadForm, headed};
+use pc_input_tokens::{Tree, headed};
+use pc_input_values::{DecodeError, Form, ReadForm};
 use pc_parsed::CanonOption;
-use serde_json::Value;
 use std::alloc::Global;
 
 /// An option that is a word.
@@ -43,13 +42,13 @@ fn numbered_option(kind: &str, n: u32) -> Option<CanonOption>
 }
 
 /// An option of what follows its name.
-fn option_from<F: Form>(
+fn option_from<F: Form, V: Tree>(
     form: &F,
     alloc: Global,
     kind: &str,
-    parts: &[Value],
+    parts: &[V],
 ) -> Result<CanonOption, DecodeError>
-    ensures { Reads result (option_from kind.now (map view parts.now)) }
+    ensures { Reads result (option_from kind.now (map V.means parts.now)) }
 {
     match parts {
         [n] => {
@@ -64,7 +63,11 @@ impl ReadEntry for CanonOption {
     ghost shape = { λ _. canon_option };
 
     #[tactic(auto, unfolding(crate::specs::Canon::canon_option))]
-    fn read<F: Form>(form: &F, alloc: Global, value: &Value) -> Result<CanonOption, DecodeError> {
+    fn read<F: Form, V: Tree>(
+        form: &F,
+        alloc: Global,
+        value: &V,
+    ) -> Result<CanonOption, DecodeError> {
         if let Some(word) = value.as_str() {
             return option_word(word).ok_or(DecodeError::BadForm);
         }

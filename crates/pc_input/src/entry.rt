@@ -5,15 +5,16 @@
 
 ghost use Rattle.std.specs.Prelude.{Option, map};
 ghost use Rattle.serde_json.specs.Data.{Data};
-ghost use Rattle.serde_json.specs.View.{view};
 ghost use Rattle.pc_entity.specs.Lists.{map_all};
-ghost use Rattle.pc_input_values.specs.Rules.{Rules, section};
+ghost use Rattle.pc_input_values.specs.Rules.{Rules, section, plain};
 ghost use Rattle.pc_input_values.specs.Reads.{Reads};
+ghost use Rattle.pc_input.specs.Takes.{Takes};
 ghost use Rattle.pc_input_values.specs.Tree.{each};
 
+use json::Reader;
 use pc_entity::Seq;
-use pc_input_values::{DecodeError, Form, list};
-use serde_json::Value;
+use pc_input_tokens::{Refusal, Tree, take_tree};
+use pc_input_values::{DecodeError, Form, Plain};
 use std::alloc::Global;
 
 /// A type that an entry of a list is read as.
@@ -21,17 +22,28 @@ pub trait ReadEntry {
     ghost shape: { Rules → Data → Option Self };
 
     /// An entry, read as this type.
-    fn read<F: Form>(form: &F, alloc: Global, value: &Value) -> Result<Self, DecodeError>
-        ensures { Reads result (shape (F.rules form.now) (view value.now)) };
+    fn read<F: Form, V: Tree>(form: &F, alloc: Global, value: &V) -> Result<Self, DecodeError>
+        ensures { Reads result (shape (F.rules form.now) (V.means value.now)) };
+
+    /// The next value, read as this type.
+    fn take(alloc: Global, reader: &mut Reader<'_>, depth: usize) -> Result<Self, DecodeError>
+        ensures { Takes (shape plain) depth reader.old result reader.new }
+    {
+        match take_tree(alloc, reader, depth) {
+            Ok(value) => Self::read(&Plain, alloc, &value),
+            Err(Refusal::NotJson) => Err(DecodeError::NotJson),
+            Err(Refusal::NoMemory) => Err(DecodeError::NoMemory),
+        }
+    }
 }
 
 /// Each value, read.
-fn all<T: ReadEntry + Drop, F: Form>(
+fn all<T: ReadEntry + Drop, F: Form, V: Tree>(
     form: &F,
     alloc: Global,
-    values: &[Value],
+    values: &[V],
 ) -> Result<Seq<T>, DecodeError>
-    ensures { Reads result (map_all (T.shape (F.rules form.now)) (map view values.now)) }
+    ensures { Reads result (map_all (T.shape (F.rules form.now)) (map V.means values.now)) }
 {
     let mut found = Seq::with_capacity(alloc, values.len())?;
     for value in values {
@@ -41,26 +53,26 @@ fn all<T: ReadEntry + Drop, F: Form>(
 }
 
 /// The elements of an array, each read.
-pub(crate) fn entries<T: ReadEntry + Drop, F: Form>(
+pub(crate) fn entries<T: ReadEntry + Drop, F: Form, V: Tree>(
     form: &F,
     alloc: Global,
-    value: &Value,
+    value: &V,
 ) -> Result<Seq<T>, DecodeError>
-    ensures { Reads result (each (T.shape (F.rules form.now)) (view value.now)) }
+    ensures { Reads result (each (T.shape (F.rules form.now)) (V.means value.now)) }
 {
-    match list(value) {
+    match value.list() {
         Some(values) => all(form, alloc, values),
         None => Err(DecodeError::BadForm),
     }
 }
 
 /// The entries of a section, each read.
-pub(crate) fn section<T: ReadEntry + Drop, F: Form>(
+pub(crate) fn section<T: ReadEntry + Drop, F: Form, V: Tree>(
     form: &F,
     alloc: Global,
-    value: &Value,
+    value: &V,
 ) -> Result<Seq<T>, DecodeError>
-    ensures { Reads result (section (F.rules form.now) (T.shape (F.rules form.now)) (view value.now)) }
+    ensures { Reads result (section (F.rules form.now) (T.shape (F.rules form.now)) (V.means value.now)) }
 {
     match form.entries(value) {
         Some(entries) => all(form, alloc, entries),

@@ -1,20 +1,16 @@
 //! The whole input.
 
-ghost use Rattle.std.specs.Prelude.{◌≡◌, Some, IfOk, IfErr, codes};
-ghost use Rattle.serde_json.specs.View.{view};
-ghost use Rattle.pc_input.specs.Input.{input_from, input_of, input_in, HasCause};
-ghost use Rattle.pc_input.specs.Payload.{payload_of};
-ghost use Rattle.pc_input.specs.Bytes.{HasTree};
+ghost use Rattle.std.specs.Prelude.{◌≡◌, Some, IfOk, IfErr};
+ghost use Rattle.pc_input.specs.Input.{input_of, input_in, HasCause};
+ghost use Rattle.pc_input.specs.Takes.{IsOver, OfText};
 ghost use Rattle.pc_input_values.specs.Rules.{plain};
-ghost use Rattle.pc_input_values.specs.Reads.{Reads};
-ghost use Rattle.pc_input_values.specs.Tree.{each, field};
 
-use crate::entry::entries;
+use crate::root::take_input;
+use json::{Reader, Scratch};
 use pc_entity::{Seq, Text};
-use pc_input_values::{DecodeError, Form, Plain, field, has_members};
+use pc_input_values::DecodeError;
 use pc_parsed::{Payload, Tunables};
 use pc_types::TypeTable;
-use serde_json::Value;
 use std::alloc::Global;
 
 /// What a translation is asked for.
@@ -30,66 +26,51 @@ pub struct Input {
     pub payloads: Seq<Payload>,
 }
 
-/// The payloads, in written order.
-fn payloads<F: Form>(form: &F, alloc: Global, value: &Value) -> Result<Seq<Payload>, DecodeError>
-    ensures { Reads result (field (codes "payloads") (each (payload_of (F.rules form.now))) (view value.now)) }
+/// Whether no token is left.
+fn is_over(reader: &mut Reader<'_>) -> bool
+    ensures { IsOver result reader.old }
 {
-    match value.get("payloads") {
-        Some(list) => entries(form, alloc, list),
-        None => Err(DecodeError::BadForm),
+    match reader.next() {
+        Some(_) => false,
+        None => true,
     }
 }
 
-/// The members that an input has in every form.
-fn members<F: Form>(form: &F, alloc: Global, value: &Value) -> Result<Input, DecodeError>
-    ensures { Reads result (input_from (F.rules form.now) (view value.now)) }
+/// The input that a text stands for.
+fn input_of_text(alloc: Global, text: &str) -> Result<Input, DecodeError>
+    ensures { OfText (input_of plain) text.now result }
 {
-    let max_component_instances = field(form, alloc, value, "limit")?;
-    let intrinsics = field(form, alloc, value, "intrinsics")?;
-    let table = field(form, alloc, value, "types")?;
-    let payloads = payloads(form, alloc, value)?;
-    Ok(Input {
-        tunables: Tunables {
-            max_component_instances,
-        },
-        intrinsics,
-        table,
-        payloads,
-    })
-}
-
-/// The input that a tree stands for.
-fn decode_tree(alloc: Global, value: &Value) -> Result<Input, DecodeError>
-    ensures { Reads result (input_of plain (view value.now)) }
-{
-    if has_members(4, value) {
-        members(&Plain, alloc, value)
-    } else {
-        Err(DecodeError::BadForm)
-    }
-}
-
-/// The tree that JSON's reader makes of bytes.
-fn tree(alloc: Global, bytes: &[u8]) -> Result<Value, DecodeError>
-    ensures { HasTree bytes.now result }
-{
-    match Value::from_slice(alloc, bytes) {
-        Ok(value) => Ok(value),
-        Err(e) => {
-            if e.is_memory() {
-                Err(DecodeError::NoMemory)
+    let mut scratch = Scratch::new(alloc);
+    let Ok(mut reader) = Reader::new(text, &mut scratch) else {
+        return Err(DecodeError::NoMemory);
+    };
+    match take_input(alloc, &mut reader) {
+        Ok(input) => {
+            if is_over(&mut reader) {
+                Ok(input)
             } else {
                 Err(DecodeError::NotJson)
             }
         }
+        Err(DecodeError::BadForm) => {
+            if is_over(&mut reader) {
+                Err(DecodeError::BadForm)
+            } else {
+                Err(DecodeError::NotJson)
+            }
+        }
+        Err(DecodeError::NotJson) => Err(DecodeError::NotJson),
+        Err(DecodeError::NoMemory) => Err(DecodeError::NoMemory),
     }
 }
 
-/// The input that bytes stand for. The tree that JSON's reader makes of the bytes is gone when this returns.
+/// The input that bytes stand for. No tree of the whole text is made.
 pub fn decode_input(alloc: Global, bytes: &[u8]) -> Result<Input, DecodeError>
     ensures ok { IfOk result (λ input. input_in bytes.now ≡ Some input) }
     ensures err { IfErr result (HasCause bytes.now) }
 {
-    let value = tree(alloc, bytes)?;
-    decode_tree(alloc, &value)
+    match simdutf8::compat::from_utf8(bytes) {
+        Ok(text) => input_of_text(alloc, text),
+        Err(_) => Err(DecodeError::NotJson),
+    }
 }

@@ -1,22 +1,23 @@
 //! Payloads: a word, or an object whose key names the section.
 
 ghost use Rattle.std.specs.Prelude.{◌≡◌};
-ghost use Rattle.serde_json.specs.View.{view};
 ghost use Rattle.pc_entity.specs.Lists.{value_of};
 ghost use Rattle.pc_input.specs.Payload.{instance_sections, payload_words, payload_keys, payload_of};
 ghost use Rattle.pc_input_values.specs.Tree.{by_row};
 ghost use Rattle.pc_input_values.specs.Reads.{Reads};
 
+use crate::content::take_payload;
 use crate::entry::{ReadEntry, section};
 use crate::module::core_module;
-use pc_input_values::{DecodeError, Form, tagged};
+use json::Reader;
+use pc_input_tokens::Tree;
+use pc_input_values::{DecodeError, Form};
 use pc_parsed::{Encoding, Payload};
-use serde_json::Value;
 use std::alloc::Global;
 
 /// A payload without content.
 #[tactic(auto, unfolding(crate::specs::Payload::payload_words))]
-fn bare(word: &str) -> Option<Payload>
+pub(crate) fn bare(word: &str) -> Option<Payload>
     ensures { result ≡ value_of word.now payload_words }
 {
     match word {
@@ -36,13 +37,13 @@ fn bare(word: &str) -> Option<Payload>
 }
 
 /// A payload of core modules, instances or aliases, by its key.
-fn instance_section<F: Form>(
+fn instance_section<F: Form, V: Tree>(
     form: &F,
     alloc: Global,
     key: &str,
-    value: &Value,
+    value: &V,
 ) -> Result<Payload, DecodeError>
-    ensures { Reads result (by_row (instance_sections (F.rules form.now)) key.now (view value.now)) }
+    ensures { Reads result (by_row (instance_sections (F.rules form.now)) key.now (V.means value.now)) }
 {
     match key {
         "module" => core_module(form, alloc, value),
@@ -57,13 +58,13 @@ fn instance_section<F: Form>(
 
 /// A payload with content, by its key.
 #[tactic(auto, unfolding(crate::specs::Payload::payload_keys))]
-fn with_content<F: Form>(
+fn with_content<F: Form, V: Tree>(
     form: &F,
     alloc: Global,
     key: &str,
-    value: &Value,
+    value: &V,
 ) -> Result<Payload, DecodeError>
-    ensures { Reads result (by_row (payload_keys (F.rules form.now)) key.now (view value.now)) }
+    ensures { Reads result (by_row (payload_keys (F.rules form.now)) key.now (V.means value.now)) }
 {
     match key {
         "types" => Ok(Payload::ComponentTypeSection(section(form, alloc, value)?)),
@@ -78,13 +79,17 @@ impl ReadEntry for Payload {
     ghost shape = { payload_of };
 
     #[tactic(auto, unfolding(crate::specs::Payload::payload_of))]
-    fn read<F: Form>(form: &F, alloc: Global, value: &Value) -> Result<Payload, DecodeError> {
+    fn read<F: Form, V: Tree>(form: &F, alloc: Global, value: &V) -> Result<Payload, DecodeError> {
         if let Some(word) = value.as_str() {
             return bare(word).ok_or(DecodeError::BadForm);
         }
-        match tagged(value) {
+        match value.tagged() {
             Some((key, body)) => with_content(form, alloc, key, body),
             None => Err(DecodeError::BadForm),
         }
+    }
+
+    fn take(alloc: Global, reader: &mut Reader<'_>, depth: usize) -> Result<Payload, DecodeError> {
+        take_payload(alloc, reader, depth)
     }
 }

@@ -1,18 +1,17 @@
 //! The entries of a component's sections.
 
 ghost use Rattle.pc_input.specs.Payload.{type_item, import_item, export_entry, instance_item};
-ghost use Rattle.serde_json.specs.View.{view};
 ghost use Rattle.pc_input.specs.Payload.{component_instance_item, alias_item};
 ghost use Rattle.pc_input.specs.Payload.{instance_keys, component_instance_keys, alias_keys};
 ghost use Rattle.pc_input_values.specs.Tree.{by_row};
 ghost use Rattle.pc_input_values.specs.Reads.{Reads};
 
 use crate::entry::ReadEntry;
-use pc_input_values::{DecodeError, Form, read, tagged};
+use pc_input_tokens::Tree;
+use pc_input_values::{DecodeError, Form, read};
 use pc_parsed::{
     AliasItem, ComponentInstanceItem, ExportEntry, ImportItem, InstanceItem, TypeItem,
 };
-use serde_json::Value;
 use std::alloc::Global;
 
 /// `"other"`, or `{"resource":[id,rep,dtor]}` with a destructor or null.
@@ -20,7 +19,7 @@ impl ReadEntry for TypeItem {
     ghost shape = { λ _. type_item };
 
     #[tactic(auto, unfolding(crate::specs::Payload::type_item))]
-    fn read<F: Form>(form: &F, alloc: Global, value: &Value) -> Result<TypeItem, DecodeError> {
+    fn read<F: Form, V: Tree>(form: &F, alloc: Global, value: &V) -> Result<TypeItem, DecodeError> {
         if let Some(word) = value.as_str() {
             return if word == "other" {
                 Ok(TypeItem::Other)
@@ -28,7 +27,7 @@ impl ReadEntry for TypeItem {
                 Err(DecodeError::BadForm)
             };
         }
-        match tagged(value) {
+        match value.tagged() {
             Some(("resource", body)) => {
                 let (id, rep, dtor) = read(form, alloc, body)?;
                 Ok(TypeItem::Resource { id, rep, dtor })
@@ -43,7 +42,11 @@ impl ReadEntry for ImportItem {
     ghost shape = { import_item };
 
     #[tactic(auto, unfolding(crate::specs::Payload::import_item))]
-    fn read<F: Form>(form: &F, alloc: Global, value: &Value) -> Result<ImportItem, DecodeError> {
+    fn read<F: Form, V: Tree>(
+        form: &F,
+        alloc: Global,
+        value: &V,
+    ) -> Result<ImportItem, DecodeError> {
         let (name, ty) = read(form, alloc, value)?;
         Ok(ImportItem { name, ty })
     }
@@ -54,20 +57,24 @@ impl ReadEntry for ExportEntry {
     ghost shape = { export_entry };
 
     #[tactic(auto, unfolding(crate::specs::Payload::export_entry))]
-    fn read<F: Form>(form: &F, alloc: Global, value: &Value) -> Result<ExportEntry, DecodeError> {
+    fn read<F: Form, V: Tree>(
+        form: &F,
+        alloc: Global,
+        value: &V,
+    ) -> Result<ExportEntry, DecodeError> {
         let (name, kind, index) = read(form, alloc, value)?;
         Ok(ExportEntry { name, kind, index })
     }
 }
 
 /// A core instance, by its key.
-fn instance<F: Form>(
+fn instance<F: Form, V: Tree>(
     form: &F,
     alloc: Global,
     key: &str,
-    body: &Value,
+    body: &V,
 ) -> Result<InstanceItem, DecodeError>
-    ensures { Reads result (by_row (instance_keys (F.rules form.now)) key.now (view body.now)) }
+    ensures { Reads result (by_row (instance_keys (F.rules form.now)) key.now (V.means body.now)) }
 {
     match key {
         "instantiate" => {
@@ -84,8 +91,12 @@ impl ReadEntry for InstanceItem {
     ghost shape = { instance_item };
 
     #[tactic(auto, unfolding(crate::specs::Payload::instance_item))]
-    fn read<F: Form>(form: &F, alloc: Global, value: &Value) -> Result<InstanceItem, DecodeError> {
-        match tagged(value) {
+    fn read<F: Form, V: Tree>(
+        form: &F,
+        alloc: Global,
+        value: &V,
+    ) -> Result<InstanceItem, DecodeError> {
+        match value.tagged() {
             Some((key, body)) => instance(form, alloc, key, body),
             None => Err(DecodeError::BadForm),
         }
@@ -93,13 +104,13 @@ impl ReadEntry for InstanceItem {
 }
 
 /// A component instance, by its key.
-fn component_instance<F: Form>(
+fn component_instance<F: Form, V: Tree>(
     form: &F,
     alloc: Global,
     key: &str,
-    body: &Value,
+    body: &V,
 ) -> Result<ComponentInstanceItem, DecodeError>
-    ensures { Reads result (by_row (component_instance_keys (F.rules form.now)) key.now (view body.now)) }
+    ensures { Reads result (by_row (component_instance_keys (F.rules form.now)) key.now (V.means body.now)) }
 {
     match key {
         "instantiate" => {
@@ -123,12 +134,12 @@ impl ReadEntry for ComponentInstanceItem {
     ghost shape = { component_instance_item };
 
     #[tactic(auto, unfolding(crate::specs::Payload::component_instance_item))]
-    fn read<F: Form>(
+    fn read<F: Form, V: Tree>(
         form: &F,
         alloc: Global,
-        value: &Value,
+        value: &V,
     ) -> Result<ComponentInstanceItem, DecodeError> {
-        match tagged(value) {
+        match value.tagged() {
             Some((key, body)) => component_instance(form, alloc, key, body),
             None => Err(DecodeError::BadForm),
         }
@@ -136,13 +147,13 @@ impl ReadEntry for ComponentInstanceItem {
 }
 
 /// An alias, by its key.
-fn alias<F: Form>(
+fn alias<F: Form, V: Tree>(
     form: &F,
     alloc: Global,
     key: &str,
-    body: &Value,
+    body: &V,
 ) -> Result<AliasItem, DecodeError>
-    ensures { Reads result (by_row (alias_keys (F.rules form.now)) key.now (view body.now)) }
+    ensures { Reads result (by_row (alias_keys (F.rules form.now)) key.now (V.means body.now)) }
 {
     match key {
         "export" => {
@@ -174,8 +185,12 @@ impl ReadEntry for AliasItem {
     ghost shape = { alias_item };
 
     #[tactic(auto, unfolding(crate::specs::Payload::alias_item))]
-    fn read<F: Form>(form: &F, alloc: Global, value: &Value) -> Result<AliasItem, DecodeError> {
-        match tagged(value) {
+    fn read<F: Form, V: Tree>(
+        form: &F,
+        alloc: Global,
+        value: &V,
+    ) -> Result<AliasItem, DecodeError> {
+        match value.tagged() {
             Some((key, body)) => alias(form, alloc, key, body),
             None => Err(DecodeError::BadForm),
         }

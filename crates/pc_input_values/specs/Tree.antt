@@ -1,17 +1,9 @@
 -- How a tree of JSON is taken apart. Each function is None where the tree has another shape.
-use Rattle.std.specs.Prelude.{ℕ, ◌^◌, ◌==◌, List, [], ◌∷◌, Bool, false, ⊤, Option, Some, None, option_map, is_some}
-use Rattle.std.specs.Prelude.{nat_lt, if◌then◌else◌}
-use Rattle.std.specs.Option.{option_map_or}
-use Rattle.serde_json.specs.Data.{Data, Items, no_items, item, Members, no_members, member}
-use Rattle.serde_json.specs.Events.{members_len}
-use Rattle.serde_json.specs.Find.{get, as_null, as_number, as_u64, as_str, as_array, as_object}
+use Rattle.std.specs.Prelude.{ℕ, ◌^◌, List, [], ◌∷◌, ⊤, Option, Some, None, option_map, is_some, nat_lt, if◌then◌else◌}
+use Rattle.serde_json.specs.Data.{Data}
+use Rattle.serde_json.specs.Find.{get, as_null, as_number, as_u64, as_str}
 use Rattle.pc_entity.specs.Lists.{map_all, value_of}
-
-infixl 10 ◌>>=◌
--- f of the value, where there is one
-abbrev pub ◌>>=◌ : {A B : Type 0} → Option A → (A → Option B) → Option B
-(Some x) >>= f = f x
-None >>= f = None
+pub use Rattle.pc_input_tokens.specs.Shape.{◌>>=◌, elements, list_of, head_from, headed, has_members, only, tagged}
 
 -- a whole number from 0 to 4294967295, written without fraction and exponent
 abbrev pub whole : Data → Option ℕ
@@ -33,15 +25,6 @@ abbrev pub making : {A B : Type 0} → (A → B) → (Data → Option A) → Dat
 making make f d = option_map make (f d)
 
 -- ---- arrays
-
--- the elements, as a list
-abbrev pub elements : Items → List Data
-elements no_items = []
-elements (item d ds) = d ∷ elements ds
-
--- the elements of an array
-abbrev pub list_of : Data → Option (List Data)
-list_of d = option_map elements (as_array d)
 
 -- an array, with each element read by f
 abbrev pub each : {A : Type 0} → (Data → Option A) → Data → Option (List A)
@@ -82,15 +65,6 @@ abbrev pub of_triple : {A B C D : Type 0} → (A → B → C → D) → (Data �
     → Data → Option D
 of_triple {A} {B} {C} make f g h d = option_map (λ (t : A × B × C). make t.0 t.1 t.2) (triple f g h d)
 
--- the text at the head of a list, and the elements after it
-abbrev pub head_from : List Data → Option (List ℕ × List Data)
-head_from [] = None
-head_from (d ∷ rest) = option_map (λ w. (w, rest)) (as_str d)
-
--- the text at the head of an array, and the elements after it
-abbrev pub headed : Data → Option (List ℕ × List Data)
-headed d = list_of d >>= head_from
-
 -- a value that a word makes of a number after it, by a table of makers
 abbrev pub numbered : {A : Type 0} → List (List ℕ × (ℕ → A)) → List ℕ → Data → Option A
 numbered table w d = do
@@ -99,10 +73,6 @@ numbered table w d = do
 
 -- ---- objects
 
--- whether the tree is an object of exactly n members
-abbrev pub has_members : ℕ → Data → Bool
-has_members n d = option_map_or (λ ms. members_len ms == n) (as_object d) false
-
 -- goes on at an object of exactly n members
 abbrev pub exactly : ℕ → Data → Option ⊤
 exactly n d = if has_members n d then Some tt else None
@@ -110,16 +80,6 @@ exactly n d = if has_members n d then Some tt else None
 -- the member under a key, read by f
 abbrev pub field : {A : Type 0} → List ℕ → (Data → Option A) → Data → Option A
 field key f d = get key d >>= f
-
--- the one member among members, as key and value
-abbrev pub only : Members → Option (List ℕ × Data)
-only no_members = None
-only (member k d no_members) = Some (k, d)
-only (member k d (member l e ms)) = None
-
--- the one member of an object, as key and value
-abbrev pub tagged : Data → Option (List ℕ × Data)
-tagged d = as_object d >>= only
 
 -- what the row of a key reads
 abbrev pub by_row : {A : Type 0} → List (List ℕ × (Data → Option A)) → List ℕ → Data → Option A

@@ -4,7 +4,6 @@
 
 ghost use Rattle.std.specs.Prelude.{◌≡◌, ◌∷◌, [], ℕ, List, Option, option_map, map, option_and_then};
 ghost use Rattle.serde_json.specs.Data.{Data};
-ghost use Rattle.serde_json.specs.View.{view};
 ghost use Rattle.serde_json.specs.Find.{as_bool, get};
 ghost use Rattle.pc_entity.specs.Lists.{map_all, value_of};
 ghost use Rattle.pc_input_values.specs.Rules.{Rules, plain};
@@ -12,9 +11,8 @@ ghost use Rattle.pc_input_values.specs.Reads.{Reads};
 ghost use Rattle.pc_input_values.specs.Tree.{whole, word, or_null, list_of, each, two, pair, three, triple, field};
 
 use crate::DecodeError;
-use crate::tree::list;
 use pc_entity::{Seq, Text};
-use serde_json::Value;
+use pc_input_tokens::Tree;
 use std::alloc::Global;
 
 /// What two input forms may differ in.
@@ -22,12 +20,12 @@ pub trait Form {
     ghost rules: { Self → Rules };
 
     /// The text of a value that stands where a name is due.
-    fn name(&self, alloc: Global, value: &Value) -> Result<Text, DecodeError>
-        ensures { Reads result ((rules self.now).name (view value.now)) };
+    fn name<V: Tree>(&self, alloc: Global, value: &V) -> Result<Text, DecodeError>
+        ensures { Reads result ((rules self.now).name (V.means value.now)) };
 
     /// The entries of the value of a section's key.
-    fn entries<'a>(&self, value: &'a Value) -> Option<&'a [Value]>
-        ensures { option_map (λ vs. map view vs.now) result ≡ (rules self.now).entries (view value.now) };
+    fn entries<'a, V: Tree>(&self, value: &'a V) -> Option<&'a [V]>
+        ensures { option_map (λ vs. map V.means vs.now) result ≡ (rules self.now).entries (V.means value.now) };
 }
 
 /// Form 1: a name is a text, and a section has an array of entries.
@@ -36,15 +34,15 @@ pub struct Plain;
 impl Form for Plain {
     ghost rules = { λ _. plain };
 
-    fn name(&self, alloc: Global, value: &Value) -> Result<Text, DecodeError> {
+    fn name<V: Tree>(&self, alloc: Global, value: &V) -> Result<Text, DecodeError> {
         let Some(text) = value.as_str() else {
             return Err(DecodeError::BadForm);
         };
         Ok(Text::copy_of(alloc, text)?)
     }
 
-    fn entries<'a>(&self, value: &'a Value) -> Option<&'a [Value]> {
-        list(value)
+    fn entries<'a, V: Tree>(&self, value: &'a V) -> Option<&'a [V]> {
+        value.list()
     }
 }
 
@@ -53,8 +51,8 @@ pub trait ReadForm {
     ghost shape: { Rules → Data → Option Self };
 
     /// A value, read as this type.
-    fn read<F: Form>(form: &F, alloc: Global, value: &Value) -> Result<Self, DecodeError>
-        ensures { Reads result (shape (F.rules form.now) (view value.now)) };
+    fn read<F: Form, V: Tree>(form: &F, alloc: Global, value: &V) -> Result<Self, DecodeError>
+        ensures { Reads result (shape (F.rules form.now) (V.means value.now)) };
 }
 
 /// A type whose values are words. A word is the same in every form.
@@ -69,7 +67,7 @@ pub trait Word {
 impl<W: Word> ReadForm for W {
     ghost shape = { λ _. word W.words };
 
-    fn read<F: Form>(_form: &F, _alloc: Global, value: &Value) -> Result<W, DecodeError> {
+    fn read<F: Form, V: Tree>(_form: &F, _alloc: Global, value: &V) -> Result<W, DecodeError> {
         let Some(word) = value.as_str() else {
             return Err(DecodeError::BadForm);
         };
@@ -80,7 +78,7 @@ impl<W: Word> ReadForm for W {
 impl ReadForm for u32 {
     ghost shape = { λ _. whole };
 
-    fn read<F: Form>(_form: &F, _alloc: Global, value: &Value) -> Result<u32, DecodeError> {
+    fn read<F: Form, V: Tree>(_form: &F, _alloc: Global, value: &V) -> Result<u32, DecodeError> {
         let Some(n) = value.as_u64() else {
             return Err(DecodeError::BadForm);
         };
@@ -95,7 +93,7 @@ impl ReadForm for u32 {
 impl ReadForm for bool {
     ghost shape = { λ _. as_bool };
 
-    fn read<F: Form>(_form: &F, _alloc: Global, value: &Value) -> Result<bool, DecodeError> {
+    fn read<F: Form, V: Tree>(_form: &F, _alloc: Global, value: &V) -> Result<bool, DecodeError> {
         value.as_bool().ok_or(DecodeError::BadForm)
     }
 }
@@ -103,7 +101,7 @@ impl ReadForm for bool {
 impl ReadForm for Text {
     ghost shape = { λ rules. rules.name };
 
-    fn read<F: Form>(form: &F, alloc: Global, value: &Value) -> Result<Text, DecodeError> {
+    fn read<F: Form, V: Tree>(form: &F, alloc: Global, value: &V) -> Result<Text, DecodeError> {
         form.name(alloc, value)
     }
 }
@@ -111,7 +109,11 @@ impl ReadForm for Text {
 impl<T: ReadForm> ReadForm for Option<T> {
     ghost shape = { λ rules. or_null (T.shape rules) };
 
-    fn read<F: Form>(form: &F, alloc: Global, value: &Value) -> Result<Option<T>, DecodeError> {
+    fn read<F: Form, V: Tree>(
+        form: &F,
+        alloc: Global,
+        value: &V,
+    ) -> Result<Option<T>, DecodeError> {
         if value.is_null() {
             Ok(None)
         } else {
@@ -121,14 +123,14 @@ impl<T: ReadForm> ReadForm for Option<T> {
 }
 
 /// Two values, each read.
-fn two<A: ReadForm + Drop, B: ReadForm, F: Form>(
+fn two<A: ReadForm + Drop, B: ReadForm, F: Form, V: Tree>(
     form: &F,
     alloc: Global,
-    a: &Value,
-    b: &Value,
+    a: &V,
+    b: &V,
 ) -> Result<(A, B), DecodeError>
     ensures { Reads result (two (A.shape (F.rules form.now)) (B.shape (F.rules form.now))
-        (view a.now ∷ view b.now ∷ [])) }
+        (V.means a.now ∷ V.means b.now ∷ [])) }
 {
     let first = A::read(form, alloc, a)?;
     let second = B::read(form, alloc, b)?;
@@ -138,8 +140,8 @@ fn two<A: ReadForm + Drop, B: ReadForm, F: Form>(
 impl<A: ReadForm + Drop, B: ReadForm> ReadForm for (A, B) {
     ghost shape = { λ rules. pair (A.shape rules) (B.shape rules) };
 
-    fn read<F: Form>(form: &F, alloc: Global, value: &Value) -> Result<(A, B), DecodeError> {
-        match list(value) {
+    fn read<F: Form, V: Tree>(form: &F, alloc: Global, value: &V) -> Result<(A, B), DecodeError> {
+        match value.list() {
             Some([a, b]) => two(form, alloc, a, b),
             _ => Err(DecodeError::BadForm),
         }
@@ -147,15 +149,15 @@ impl<A: ReadForm + Drop, B: ReadForm> ReadForm for (A, B) {
 }
 
 /// Three values, each read.
-fn three<A: ReadForm + Drop, B: ReadForm + Drop, C: ReadForm, F: Form>(
+fn three<A: ReadForm + Drop, B: ReadForm + Drop, C: ReadForm, F: Form, V: Tree>(
     form: &F,
     alloc: Global,
-    a: &Value,
-    b: &Value,
-    c: &Value,
+    a: &V,
+    b: &V,
+    c: &V,
 ) -> Result<(A, B, C), DecodeError>
     ensures { Reads result (three (A.shape (F.rules form.now)) (B.shape (F.rules form.now))
-        (C.shape (F.rules form.now)) (view a.now ∷ view b.now ∷ view c.now ∷ [])) }
+        (C.shape (F.rules form.now)) (V.means a.now ∷ V.means b.now ∷ V.means c.now ∷ [])) }
 {
     let (first, second) = two(form, alloc, a, b)?;
     let third = C::read(form, alloc, c)?;
@@ -165,8 +167,12 @@ fn three<A: ReadForm + Drop, B: ReadForm + Drop, C: ReadForm, F: Form>(
 impl<A: ReadForm + Drop, B: ReadForm + Drop, C: ReadForm> ReadForm for (A, B, C) {
     ghost shape = { λ rules. triple (A.shape rules) (B.shape rules) (C.shape rules) };
 
-    fn read<F: Form>(form: &F, alloc: Global, value: &Value) -> Result<(A, B, C), DecodeError> {
-        match list(value) {
+    fn read<F: Form, V: Tree>(
+        form: &F,
+        alloc: Global,
+        value: &V,
+    ) -> Result<(A, B, C), DecodeError> {
+        match value.list() {
             Some([a, b, c]) => three(form, alloc, a, b, c),
             _ => Err(DecodeError::BadForm),
         }
@@ -176,8 +182,8 @@ impl<A: ReadForm + Drop, B: ReadForm + Drop, C: ReadForm> ReadForm for (A, B, C)
 impl<T: ReadForm + Drop> ReadForm for Seq<T> {
     ghost shape = { λ rules. each (T.shape rules) };
 
-    fn read<F: Form>(form: &F, alloc: Global, value: &Value) -> Result<Seq<T>, DecodeError> {
-        match list(value) {
+    fn read<F: Form, V: Tree>(form: &F, alloc: Global, value: &V) -> Result<Seq<T>, DecodeError> {
+        match value.list() {
             Some(values) => all(form, alloc, values),
             None => Err(DecodeError::BadForm),
         }
@@ -185,12 +191,12 @@ impl<T: ReadForm + Drop> ReadForm for Seq<T> {
 }
 
 /// Each value, read.
-fn all<T: ReadForm + Drop, F: Form>(
+fn all<T: ReadForm + Drop, F: Form, V: Tree>(
     form: &F,
     alloc: Global,
-    values: &[Value],
+    values: &[V],
 ) -> Result<Seq<T>, DecodeError>
-    ensures { Reads result (map_all (T.shape (F.rules form.now)) (map view values.now)) }
+    ensures { Reads result (map_all (T.shape (F.rules form.now)) (map V.means values.now)) }
 {
     let mut found = Seq::with_capacity(alloc, values.len())?;
     for value in values {
@@ -200,13 +206,13 @@ fn all<T: ReadForm + Drop, F: Form>(
 }
 
 /// The member under a key, read.
-pub fn field<T: ReadForm, F: Form>(
+pub fn field<T: ReadForm, F: Form, V: Tree>(
     form: &F,
     alloc: Global,
-    value: &Value,
+    value: &V,
     key: &str,
 ) -> Result<T, DecodeError>
-    ensures { Reads result (field key.now (T.shape (F.rules form.now)) (view value.now)) }
+    ensures { Reads result (field key.now (T.shape (F.rules form.now)) (V.means value.now)) }
 {
     match value.get(key) {
         Some(member) => T::read(form, alloc, member),
@@ -215,8 +221,12 @@ pub fn field<T: ReadForm, F: Form>(
 }
 
 /// A value, read as the type that the caller wants.
-pub fn read<T: ReadForm, F: Form>(form: &F, alloc: Global, value: &Value) -> Result<T, DecodeError>
-    ensures { Reads result (T.shape (F.rules form.now) (view value.now)) }
+pub fn read<T: ReadForm, F: Form, V: Tree>(
+    form: &F,
+    alloc: Global,
+    value: &V,
+) -> Result<T, DecodeError>
+    ensures { Reads result (T.shape (F.rules form.now) (V.means value.now)) }
 {
     T::read(form, alloc, value)
 }

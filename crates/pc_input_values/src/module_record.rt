@@ -1,18 +1,21 @@
 //! What a core module has, without its type.
 
-ghost use Rattle.serde_json.specs.View.{view};
 ghost use Rattle.pc_input_values.specs.Record.{counts, record_members};
 ghost use Rattle.pc_input_values.specs.Reads.{Reads};
 
 use crate::DecodeError;
 use crate::form::{Form, ReadForm, field};
+use pc_input_tokens::Tree;
 use pc_types::ModuleRecord;
-use serde_json::Value;
 use std::alloc::Global;
 
 /// How many tables, globals and tags there are.
-fn counts<F: Form>(form: &F, alloc: Global, value: &Value) -> Result<(u32, u32, u32), DecodeError>
-    ensures { Reads result (counts (view value.now)) }
+fn counts<F: Form, V: Tree>(
+    form: &F,
+    alloc: Global,
+    value: &V,
+) -> Result<(u32, u32, u32), DecodeError>
+    ensures { Reads result (counts (V.means value.now)) }
 {
     let tables = field(form, alloc, value, "tables")?;
     let globals = field(form, alloc, value, "globals")?;
@@ -24,7 +27,11 @@ fn counts<F: Form>(form: &F, alloc: Global, value: &Value) -> Result<(u32, u32, 
 impl ReadForm for ModuleRecord {
     ghost shape = { record_members };
 
-    fn read<F: Form>(form: &F, alloc: Global, value: &Value) -> Result<ModuleRecord, DecodeError> {
+    fn read<F: Form, V: Tree>(
+        form: &F,
+        alloc: Global,
+        value: &V,
+    ) -> Result<ModuleRecord, DecodeError> {
         let imports = field(form, alloc, value, "imports")?;
         let funcs = field(form, alloc, value, "funcs")?;
         let memories = field(form, alloc, value, "memories")?;

@@ -1,7 +1,6 @@
 //! The entries of the type table.
 
 ghost use Rattle.std.specs.Prelude.{◌≡◌, option_map, map};
-ghost use Rattle.serde_json.specs.View.{view};
 ghost use Rattle.pc_entity.specs.Lists.{value_of};
 ghost use Rattle.pc_input_values.specs.Types.{core_sig, val_type, entity, entity_from, entity_kinds, core_entity};
 ghost use Rattle.pc_input_values.specs.Types.{core_entity_from, core_entity_of};
@@ -13,12 +12,11 @@ ghost use Rattle.pc_input_values.specs.Reads.{Reads};
 
 use crate::DecodeError;
 use crate::form::{Form, ReadForm, field, read};
-use crate::tree::{has_members, headed, tagged};
 use pc_entity::{Seq, Text};
+use pc_input_tokens::{Tree, headed};
 use pc_types::{
     CoreEntity, CoreFuncSig, DeclType, Entity, PrimType, TypeTable, ValType, WasmValType,
 };
-use serde_json::Value;
 use std::alloc::Global;
 
 /// `[[params],[results]]`.
@@ -26,7 +24,11 @@ impl ReadForm for CoreFuncSig {
     ghost shape = { λ _. core_sig };
 
     #[tactic(auto, unfolding(crate::specs::Types::core_sig))]
-    fn read<F: Form>(form: &F, alloc: Global, value: &Value) -> Result<CoreFuncSig, DecodeError> {
+    fn read<F: Form, V: Tree>(
+        form: &F,
+        alloc: Global,
+        value: &V,
+    ) -> Result<CoreFuncSig, DecodeError> {
         let (params, results) = <(Seq<WasmValType>, Seq<WasmValType>)>::read(form, alloc, value)?;
         Ok(CoreFuncSig { params, results })
     }
@@ -37,7 +39,7 @@ impl ReadForm for ValType {
     ghost shape = { λ _. val_type };
 
     #[tactic(auto, unfolding(crate::specs::Types::val_type))]
-    fn read<F: Form>(form: &F, alloc: Global, value: &Value) -> Result<ValType, DecodeError> {
+    fn read<F: Form, V: Tree>(form: &F, alloc: Global, value: &V) -> Result<ValType, DecodeError> {
         if value.is_number() {
             Ok(ValType::Type_(u32::read(form, alloc, value)?))
         } else {
@@ -62,13 +64,13 @@ fn numbered_entity(kind: &str, n: u32) -> Option<Entity>
 }
 
 /// An entity of what follows the word of its kind.
-fn entity_from<F: Form>(
+fn entity_from<F: Form, V: Tree>(
     form: &F,
     alloc: Global,
     kind: &str,
-    parts: &[Value],
+    parts: &[V],
 ) -> Result<Entity, DecodeError>
-    ensures { Reads result (entity_from kind.now (map view parts.now)) }
+    ensures { Reads result (entity_from kind.now (map V.means parts.now)) }
 {
     match parts {
         [] => {
@@ -91,7 +93,7 @@ impl ReadForm for Entity {
     ghost shape = { λ _. entity };
 
     #[tactic(auto, unfolding(crate::specs::Types::entity))]
-    fn read<F: Form>(form: &F, alloc: Global, value: &Value) -> Result<Entity, DecodeError> {
+    fn read<F: Form, V: Tree>(form: &F, alloc: Global, value: &V) -> Result<Entity, DecodeError> {
         match headed(value) {
             Some((kind, parts)) => entity_from(form, alloc, kind, parts),
             None => Err(DecodeError::BadForm),
@@ -113,13 +115,13 @@ fn bare_core_entity(kind: &str) -> Option<CoreEntity>
 }
 
 /// A core entity of the word of its kind and one part.
-fn core_entity_of<F: Form>(
+fn core_entity_of<F: Form, V: Tree>(
     form: &F,
     alloc: Global,
     kind: &str,
-    part: &Value,
+    part: &V,
 ) -> Result<CoreEntity, DecodeError>
-    ensures { Reads result (core_entity_of kind.now (view part.now)) }
+    ensures { Reads result (core_entity_of kind.now (V.means part.now)) }
 {
     match kind {
         "func" => Ok(CoreEntity::Func(u32::read(form, alloc, part)?)),
@@ -131,13 +133,13 @@ fn core_entity_of<F: Form>(
 }
 
 /// A core entity of what follows the word of its kind.
-fn core_entity_from<F: Form>(
+fn core_entity_from<F: Form, V: Tree>(
     form: &F,
     alloc: Global,
     kind: &str,
-    parts: &[Value],
+    parts: &[V],
 ) -> Result<CoreEntity, DecodeError>
-    ensures { Reads result (core_entity_from kind.now (map view parts.now)) }
+    ensures { Reads result (core_entity_from kind.now (map V.means parts.now)) }
 {
     match parts {
         [] => bare_core_entity(kind).ok_or(DecodeError::BadForm),
@@ -151,7 +153,11 @@ impl ReadForm for CoreEntity {
     ghost shape = { λ _. core_entity };
 
     #[tactic(auto, unfolding(crate::specs::Types::core_entity))]
-    fn read<F: Form>(form: &F, alloc: Global, value: &Value) -> Result<CoreEntity, DecodeError> {
+    fn read<F: Form, V: Tree>(
+        form: &F,
+        alloc: Global,
+        value: &V,
+    ) -> Result<CoreEntity, DecodeError> {
         match headed(value) {
             Some((kind, parts)) => core_entity_from(form, alloc, kind, parts),
             None => Err(DecodeError::BadForm),
@@ -161,8 +167,12 @@ impl ReadForm for CoreEntity {
 
 /// A function type, by its members.
 #[tactic(auto, unfolding(crate::specs::Types::func_members))]
-fn func_members<F: Form>(form: &F, alloc: Global, value: &Value) -> Result<DeclType, DecodeError>
-    ensures { Reads result (func_members (F.rules form.now) (view value.now)) }
+fn func_members<F: Form, V: Tree>(
+    form: &F,
+    alloc: Global,
+    value: &V,
+) -> Result<DeclType, DecodeError>
+    ensures { Reads result (func_members (F.rules form.now) (V.means value.now)) }
 {
     let params = field(form, alloc, value, "params")?;
     let result = field(form, alloc, value, "result")?;
@@ -176,10 +186,10 @@ fn func_members<F: Form>(form: &F, alloc: Global, value: &Value) -> Result<DeclT
 
 /// `{"params":[["name",V],...],"result":V?,"async":bool}`.
 #[tactic(auto, unfolding(crate::specs::Types::func_type))]
-fn func_type<F: Form>(form: &F, alloc: Global, value: &Value) -> Result<DeclType, DecodeError>
-    ensures { Reads result (func_type (F.rules form.now) (view value.now)) }
+fn func_type<F: Form, V: Tree>(form: &F, alloc: Global, value: &V) -> Result<DeclType, DecodeError>
+    ensures { Reads result (func_type (F.rules form.now) (V.means value.now)) }
 {
-    if has_members(3, value) {
+    if value.has_members(3) {
         func_members(form, alloc, value)
     } else {
         Err(DecodeError::BadForm)
@@ -187,13 +197,13 @@ fn func_type<F: Form>(form: &F, alloc: Global, value: &Value) -> Result<DeclType
 }
 
 /// An entry over resources, streams or futures, by its key.
-fn handle_entry<F: Form>(
+fn handle_entry<F: Form, V: Tree>(
     form: &F,
     alloc: Global,
     key: &str,
-    value: &Value,
+    value: &V,
 ) -> Result<DeclType, DecodeError>
-    ensures { Reads result (by_row handle_keys key.now (view value.now)) }
+    ensures { Reads result (by_row handle_keys key.now (V.means value.now)) }
 {
     match key {
         "own" => Ok(DeclType::Own(read(form, alloc, value)?)),
@@ -206,13 +216,13 @@ fn handle_entry<F: Form>(
 
 /// An entry over value types, resources, streams or futures, by its key.
 #[tactic(auto, unfolding(crate::specs::Types::value_keys))]
-fn value_entry<F: Form>(
+fn value_entry<F: Form, V: Tree>(
     form: &F,
     alloc: Global,
     key: &str,
-    value: &Value,
+    value: &V,
 ) -> Result<DeclType, DecodeError>
-    ensures { Reads result (by_row value_keys key.now (view value.now)) }
+    ensures { Reads result (by_row value_keys key.now (V.means value.now)) }
 {
     match key {
         "val" => Ok(DeclType::Val(read(form, alloc, value)?)),
@@ -228,13 +238,13 @@ fn value_entry<F: Form>(
 }
 
 /// An entry whose parts have names, or one over value types, by its key.
-fn named_entry<F: Form>(
+fn named_entry<F: Form, V: Tree>(
     form: &F,
     alloc: Global,
     key: &str,
-    value: &Value,
+    value: &V,
 ) -> Result<DeclType, DecodeError>
-    ensures { Reads result (by_row (named_keys (F.rules form.now)) key.now (view value.now)) }
+    ensures { Reads result (by_row (named_keys (F.rules form.now)) key.now (V.means value.now)) }
 {
     match key {
         "record" => Ok(DeclType::Record(read(form, alloc, value)?)),
@@ -247,13 +257,13 @@ fn named_entry<F: Form>(
 
 /// An entry that is an object, by its key.
 #[tactic(auto, unfolding(crate::specs::Types::entry_keys))]
-fn entry<F: Form>(
+fn entry<F: Form, V: Tree>(
     form: &F,
     alloc: Global,
     key: &str,
-    value: &Value,
+    value: &V,
 ) -> Result<DeclType, DecodeError>
-    ensures { Reads result (by_row (entry_keys (F.rules form.now)) key.now (view value.now)) }
+    ensures { Reads result (by_row (entry_keys (F.rules form.now)) key.now (V.means value.now)) }
 {
     match key {
         "func" => func_type(form, alloc, value),
@@ -277,7 +287,7 @@ impl ReadForm for DeclType {
     ghost shape = { decl_type };
 
     #[tactic(auto, unfolding(crate::specs::Types::decl_type))]
-    fn read<F: Form>(form: &F, alloc: Global, value: &Value) -> Result<DeclType, DecodeError> {
+    fn read<F: Form, V: Tree>(form: &F, alloc: Global, value: &V) -> Result<DeclType, DecodeError> {
         if let Some(word) = value.as_str() {
             return if word == "resource" {
                 Ok(DeclType::Resource)
@@ -285,7 +295,7 @@ impl ReadForm for DeclType {
                 Err(DecodeError::BadForm)
             };
         }
-        match tagged(value) {
+        match value.tagged() {
             Some((key, body)) => entry(form, alloc, key, body),
             None => Err(DecodeError::BadForm),
         }
@@ -297,8 +307,12 @@ impl ReadForm for TypeTable {
     ghost shape = { type_table };
 
     #[tactic(auto, unfolding(crate::specs::Types::type_table))]
-    fn read<F: Form>(form: &F, alloc: Global, value: &Value) -> Result<TypeTable, DecodeError> {
-        if !has_members(2, value) {
+    fn read<F: Form, V: Tree>(
+        form: &F,
+        alloc: Global,
+        value: &V,
+    ) -> Result<TypeTable, DecodeError> {
+        if !value.has_members(2) {
             return Err(DecodeError::BadForm);
         }
         Ok(TypeTable {

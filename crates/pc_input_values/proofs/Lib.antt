@@ -1,2 +1,0 @@
--- Lemmas that the answers cite.
-pub mod Trees
