@@ -566,6 +566,31 @@ def many_children(room):
     return nesting(CHILD, fill('{"component-instances":[', lambda n: ONE_CHILD, "]}", count))
 
 
+# a component that makes an instance of module 0 and lifts its function under the type with this number
+LIFTING_CHILD = ('"component","version",{"aliases":[{"outer":["core-module",1,0]}]},' + INSTANCE + "," + ALIAS
+                 + ',{"canon":[["lift",0,%d,0,[]]]},"end"')
+
+
+def lifting_children(room, entry, func):
+    """Many instances of a component that lifts a function, over as long a table of entries and a last function."""
+    entries = room // 2 // (len(entry(1000000)) + 1)
+    filled = fill(NEST_TYPES[:-2] + ",", lambda n: entry(n + 4), ",%s]}" % (func % (entries + 3)), entries)
+    count = min(room // 2 // (len(ONE_CHILD) + 1), MOST - 1)
+    begins = fill('{"component-instances":[', lambda n: ONE_CHILD, "]}", count)
+    return document(filled, ['"version"', ONE_FUNC, LIFTING_CHILD % (entries + 4), begins, '"end"'], MOST)
+
+
+def children_over_a_long_table(room):
+    """Instances that lift a function over one entry of a long table."""
+    return lifting_children(room, lambda n: '{"list":"u8"}', '{"func":{"params":[["a",%d]],"result":null,"async":false}}')
+
+
+def children_with_a_long_type(room):
+    """Instances that lift a function over the last of very many types, each a list of the one before."""
+    return lifting_children(room, lambda n: '{"list":"u8"}' if n == 4 else '{"list":%d}' % (n - 1),
+                            '{"func":{"params":[["a",%d]],"result":null,"async":false}}')
+
+
 def children_in_children(room):
     """Components within components, each instantiated by the one around it."""
     opened, close = '"component","version"', '"end",' + BEGINS_CHILD
@@ -666,7 +691,8 @@ FAMILIES = {
     unused_imports: 0, used_imports: 0, long_signature_lowered: 0, lifts_with_post_return: 0, options_in_one_slot: 0,
     options_of_one_function: 0, repeated_options: 0, versions_of_one_name: 0, exports_that_hash_alike: 0,
     module_names_that_hash_alike: 0, bag_that_hashes_alike: 0, arguments_that_hash_alike: 0, imports_that_hash_alike: 0,
-    types_that_hash_alike: 0, many_children: 0, children_in_children: 0, child_of_itself: 1, children_with_arguments: 0,
+    types_that_hash_alike: 0, many_children: 0,
+    children_over_a_long_table: 0, children_with_a_long_type: 0, children_in_children: 0, child_of_itself: 1, children_with_arguments: 0,
     child_with_imports: 0, exports_of_a_child: 0, items_of_an_instance: 0, instances_of_instances: 0,
     aliases_of_one_member: 0, captures_of_a_child: 0, captures_at_each_level: 0, many_ends: 1, not_utf8: 1,
 }

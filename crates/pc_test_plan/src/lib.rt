@@ -1,4 +1,4 @@
-//! Tests of what a plan is made of: `pc_info`, `pc_trampoline`, `pc_dfg`, `pc_offsets`, and the graph of `pc_dfg`.
+//! Tests of what a plan is made of: `pc_info`, `pc_trampoline`, `pc_offsets`, and `pc_dfg` with its interned lists.
 #![tactic(auto)]
 
 #[cfg(test)]
