@@ -12,3 +12,4 @@ mod NextLemmas
 mod RoomLemmas
 -- The layers above rest on these too.
 pub mod NameLemmas
+pub mod SoundLemmas

@@ -55,17 +55,17 @@ use Rattle.pc_local.proofs.PassLemmas.{no_error, no_fault}
 use Rattle.pc_local.proofs.StandLemmas.{export_of, exports_cons, option_append}
 
 -- what has no first part has neither part
-or_none : {A : Type 0} (a b : Option A) → option_or a b ≡ None → (a ≡ None) × (b ≡ None)
+pub or_none : {A : Type 0} (a b : Option A) → option_or a b ≡ None → (a ≡ None) × (b ≡ None)
 or_none None b h = (refl, h)
 or_none (Some x) b h = absurd (none-some x (sym h))
 
 -- what isn't so has a fault
-unless_none : (b : Bool) (f : StaticFault) → unless b f ≡ None → b ≡ true
+pub unless_none : (b : Bool) (f : StaticFault) → unless b f ≡ None → b ≡ true
 unless_none true f h = refl
 unless_none false f h = absurd (none-some f (sym h))
 
 -- a list without a static fault has a sound table, and payloads without an error
-static_parts : (t : TypeTable) (exposed : Option (List ℕ)) (ps : List Payload) → static_fault t exposed ps ≡ None
+pub static_parts : (t : TypeTable) (exposed : Option (List ℕ)) (ps : List Payload) → static_fault t exposed ps ≡ None
     → (table_fault t ≡ None) × (payloads_error t exposed [] ps ≡ None)
 unfolding static_fault
 static_parts t exposed ps h =
@@ -83,7 +83,7 @@ table_sound t exposed ps h = (static_parts t exposed ps h).0
 
 module _ (t : TypeTable) (exposed : Option (List ℕ)) where
   -- a payload without a fault, and what follows
-  step : (passed : List Payload) (p : Payload) (ps : List Payload) → payloads_error t exposed passed (p ∷ ps) ≡ None
+  pub step : (passed : List Payload) (p : Payload) (ps : List Payload) → payloads_error t exposed passed (p ∷ ps) ≡ None
       → (content_fault t exposed (around passed) p ≡ None) × (payloads_error t exposed (p ∷ passed) ps ≡ None)
   step passed p ps h =
       let both =
@@ -188,7 +188,7 @@ exports_distinct acc fwd n (e ∷ es) same distinct h =
     (distinct_push fwd name distinct new) both.1
 
 -- the names under which a body exports
-abbrev names_in : Items → List (List ℕ)
+abbrev pub names_in : Items → List (List ℕ)
 names_in is = map (λ (e : ExportOf). e.name.name) (exports_in is)
 
 -- the exports of items in front of others
@@ -288,33 +288,33 @@ exports_exposing x (and_item (Item.outer_item a b c) is) = exports_exposing x is
 exports_exposing x (and_item (Item.export_item e) is) = ap (λ (l : List ExportOf). e ∷ l) (exports_exposing x is)
 
 -- after these names, in whatever order, the rest of a body exports no name twice
-abbrev ExportsApart : (own : List (List ℕ)) → Items → Type 0
+abbrev pub ExportsApart : (own : List (List ℕ)) → Items → Type 0
 ExportsApart own is =
     (fwd : List (List ℕ)) → HaveSame own fwd → distinct_names fwd ≡ true → distinct_names (fwd ++ names_in is) ≡ true
 
 -- the same of each open body: the innermost one has exported its own names, and those around it theirs
-abbrev AllApart : (own : List (List ℕ)) → (outer_names : ℕ → List (List ℕ)) → List Items → Type 0
+abbrev pub AllApart : (own : List (List ℕ)) → (outer_names : ℕ → List (List ℕ)) → List Items → Type 0
 AllApart own outer_names [] = ⊤
 AllApart own outer_names (is ∷ outside) =
     ExportsApart own is × AllApart (outer_names 0) (λ (n : ℕ). outer_names (suc n)) outside
 
 -- the rests of the open bodies, from the innermost out
-abbrev bodies_left : Rest → List Items
+abbrev pub bodies_left : Rest → List Items
 bodies_left at_end = []
 bodies_left (within is outside) = is ∷ outside
 bodies_left (opening is outside) = is ∷ outside
 bodies_left broken = []
 
 -- the names that the innermost open body has exported
-abbrev own_names : (passed : List Payload) → List (List ℕ)
+abbrev pub own_names : (passed : List Payload) → List (List ℕ)
 own_names passed = flat_map exported_names (own_payloads passed)
 
 -- the names that the bodies around it have exported
-abbrev outer_names_of : (passed : List Payload) → ℕ → List (List ℕ)
+abbrev pub outer_names_of : (passed : List Payload) → ℕ → List (List ℕ)
 outer_names_of passed n = flat_map exported_names (own_from (suc n) passed)
 
 -- after payloads, what is left exports no name twice
-abbrev LeftApart : (passed : List Payload) → Rest → Type 0
+abbrev pub LeftApart : (passed : List Payload) → Rest → Type 0
 LeftApart passed r = AllApart (own_names passed) (outer_names_of passed) (bodies_left r)
 
 -- a body that ends exports nothing more
@@ -414,7 +414,7 @@ module _ (t : TypeTable) (exposed : Option (List ℕ)) where
       items_apart (own_names passed) (outer_names_of passed) (filter_map Section.alias_item es) r (aliases_export es) h
 
   -- payloads without an error export no name twice in one body
-  rest_apart : (m : ℕ) (passed ps : List Payload) → payloads_error t exposed passed ps ≡ None
+  pub rest_apart : (m : ℕ) (passed ps : List Payload) → payloads_error t exposed passed ps ≡ None
       → LeftApart passed (rest_of m ps)
   unfolding rest_of
   rest_apart m passed [] h = tt

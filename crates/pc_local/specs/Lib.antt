@@ -2,6 +2,7 @@
 pub mod Plain
 pub mod Standing
 pub mod Program
+pub mod Sound
 -- What the functions inside promise each other.
 pub mod Entries
 pub mod Captured
