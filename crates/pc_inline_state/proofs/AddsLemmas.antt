@@ -1,5 +1,6 @@
 -- How much calls add, one after another.
-use Rattle.std.proofs.Common.{◌≡◌, ℕ, ◌+◌, ◌<◌, ◌≤◌, ◌∙◌, length, ap, sym, subst, refl, arith}
+use Rattle.std.proofs.Common.{◌≡◌, ℕ, ◌+◌, ◌*◌, ◌<◌, ◌≤◌, ◌∙◌, length, ap, sym, subst, refl, arith}
+use Rattle.std.proofs.Math.Nat.{add-mul}
 use Rattle.pc_types.specs.declared.parsed.TypeTable.{TypeTable}
 use Rattle.pc_types_lists.specs.Adds.{AddsTypes, most_types}
 use Rattle.pc_types_lists.specs.Types.{Grows, KeepsTypes, Types}
@@ -8,7 +9,7 @@ use Rattle.pc_types_lists.proofs.KeptTypes.{grows_keeps, keeps_same, keeps_trans
 use Rattle.pc_types_builder.specs.Asked.{AddsAsked}
 use Rattle.pc_dfg.specs.Lists as list
 use Rattle.pc_dfg.specs.Lists.{ListName, entries_of}
-use Rattle.pc_inline_state.specs.Adds.{Adds}
+use Rattle.pc_inline_state.specs.Adds.{Adds, most_converted}
 use Rattle.pc_inline_state.specs.AddsEach.{AddsEach, everywhere, in_imports, in_options, in_slots, in_trampolines, nowhere}
 use Rattle.pc_inline_state.specs.Gained.{AddsTables}
 use Rattle.pc_inline_state.specs.Tables.{Tables}
@@ -18,6 +19,10 @@ use Rattle.pc_inline_state.proofs.GainedLemmas.{asked_tables, no_tables, tables_
 -- one sum of bounds
 two_bounds : (a b c n m : ℕ) → b ≤ a + n → c ≤ b + m → c ≤ a + (n + m)
 two_bounds a b c n m h k = omega (arith, h, k)
+
+-- how many resources a graph has, imported and declared
+abbrev resources_of : Tables → ℕ
+resources_of b = length b.graph.imported_resources + length b.graph.resources
 
 -- nothing was added
 pub each_refl : (w : ListName → ℕ) (c d : ℕ) (b : Tables) → AddsEach w c d b b
@@ -29,6 +34,7 @@ each_refl w c d b = record {
   closures = omega arith;
   instances = omega arith;
   begun = refl;
+  resources = omega arith;
 }
 
 -- entries in these lists, and in those
@@ -45,6 +51,8 @@ each_trans v w c1 d1 c2 d2 a b x h k = record {
   instances = two_bounds (length a.instances) (length b.instances) (length x.instances) d1 d2 h.instances
       k.instances;
   begun = k.begun ∙ h.begun;
+  resources = two_bounds (resources_of a) (resources_of b) (resources_of x) (v list.resources) (w list.resources)
+      h.resources k.resources;
 }
 
 -- bounds may be raised
@@ -58,6 +66,7 @@ each_weaken v w c1 d1 c2 d2 a b le lec led h = record {
   closures = let le2 = h.closures in omega (arith, led, le2);
   instances = let le2 = h.instances in omega (arith, led, le2);
   begun = h.begun;
+  resources = let le1 = le list.resources in let le2 = h.resources in omega (arith, le1, le2);
 }
 
 -- a state of the same tables
@@ -78,6 +87,7 @@ module _ (t : TypeTable) where
       closures = let le2 = h.closures in omega (arith, led, le2);
       instances = let le2 = h.instances in omega (arith, led, le2);
       begun = let same = h.begun in omega (arith, same);
+      resources = let le1 = le list.resources in let le2 = h.resources in omega (arith, le1, le2);
     };
     grows = subst (KeepsTypes a.types) (sym h.types) (keeps_same a.types);
     later = let same = h.begun in omega (arith, same);
@@ -95,6 +105,7 @@ module _ (t : TypeTable) where
       closures = omega arith;
       instances = omega arith;
       begun = omega arith;
+      resources = omega arith;
     };
     grows = keeps_same b.types;
     later = omega arith;
@@ -121,6 +132,7 @@ module _ (t : TypeTable) where
               e2.instances;
           begun = two_bounds a.graph.num_runtime_component_instances b.graph.num_runtime_component_instances
               x.graph.num_runtime_component_instances n m e1.begun e2.begun;
+          resources = two_bounds (resources_of a) (resources_of b) (resources_of x) n m e1.resources e2.resources;
         };
         grows = keeps_trans a.types b.types x.types h.grows k.grows;
         later = let le1 = h.later in let le2 = k.later in omega (arith, le1, le2);
@@ -138,6 +150,7 @@ module _ (t : TypeTable) where
       closures = let le2 = h.entries.closures in omega (arith, le, le2);
       instances = let le2 = h.entries.instances in omega (arith, le, le2);
       begun = let le2 = h.entries.begun in omega (arith, le, le2);
+      resources = let le2 = h.entries.resources in omega (arith, le, le2);
     };
     grows = h.grows;
     later = h.later;
@@ -160,6 +173,7 @@ module _ (t : TypeTable) where
         closures = omega arith;
         instances = omega arith;
         begun = omega arith;
+        resources = omega arith;
       };
       grows = grows_keeps b.types types g;
       later = omega arith;
@@ -190,8 +204,25 @@ module _ (t : TypeTable) where
 
   -- types, and after that entries in some lists
   pub adds_then : (m : ℕ) (a b x : Tables) → m ≤ 4 → Adds t (most_types t) a b → Adds t m b x
-      → Adds t (4 + most_types t) a x
-  adds_then m a b x le h k = adds_both (most_types t) m (4 + most_types t) a b x (omega (arith, le)) h k
+      → Adds t (most_converted t 1) a x
+  adds_then m a b x le h k = adds_both (most_types t) m (most_converted t 1) a b x (omega (arith, le)) h k
+
+  -- one conversion
+  pub converted_one : (a b : Tables) → Adds t (most_types t) a b → Adds t (1 * (1 + most_types t)) a b
+  converted_one a b h = adds_weaken (most_types t) (1 * (1 + most_types t)) a b (omega arith) h
+
+  -- some conversions, and then others
+  pub converted_both : (n m : ℕ) (a b x : Tables) → Adds t (n * (1 + most_types t)) a b
+      → Adds t (m * (1 + most_types t)) b x → Adds t ((n + m) * (1 + most_types t)) a x
+  converted_both n m a b x h k =
+      subst (λ w. Adds t w a x) (sym (add-mul n m (1 + most_types t)))
+      (adds_trans (n * (1 + most_types t)) (m * (1 + most_types t)) a b x h k)
+
+  -- some conversions, and after that entries in some lists
+  pub converted_then : (n m : ℕ) (a b x : Tables) → m ≤ 4 → Adds t (n * (1 + most_types t)) a b → Adds t m b x
+      → Adds t (most_converted t n) a x
+  converted_then n m a b x le h k =
+      adds_both (n * (1 + most_types t)) m (most_converted t n) a b x (omega (arith, le)) h k
 
 -- what the slots of a memory and of the function that makes room add
 pub model_adds : (a b x : Tables) → AddsEach (in_slots 1) 0 0 a b → AddsEach (in_slots 1) 0 0 b x
@@ -257,7 +288,7 @@ module _ (t : TypeTable) (a b : Tables) where
 
 -- what an import of the root adds: a function type, an import, and a definition
 pub prepared_adds : (t : TypeTable) (a b x y : Tables) → Adds t (most_types t) a b → AddsEach everywhere 0 0 b x
-    → AddsEach nowhere 0 1 x y → Adds t (4 + most_types t) a y
+    → AddsEach nowhere 0 1 x y → Adds t (most_converted t 1) a y
 prepared_adds t a b x y h k m =
     adds_then t 4 a b y (omega arith) h
     (adds_each t (λ l. everywhere l + nowhere l) 0 1 4 b y (λ l. omega arith) (omega arith) (omega arith)

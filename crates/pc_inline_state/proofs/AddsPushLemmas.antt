@@ -19,7 +19,7 @@ use Rattle.pc_dfg.specs.Pushed.{Changes, IsPut, with_instance}
 use Rattle.pc_dfg.proofs.PushLemmas.{result_changes}
 use Rattle.pc_inline_state.specs.declared.closure.Closure.{Closure}
 use Rattle.pc_inline_state.specs.declared.definition.Definition.{Definition}
-use Rattle.pc_inline_state.specs.declared.definition.DefinitionId.{DefinitionId}
+use Rattle.pc_inline_state.specs.declared.state.Member.{Member}
 use Rattle.pc_inline_state.specs.AddsEach.{AddsEach, everywhere, in_imports, in_slots, in_trampolines, nowhere}
 use Rattle.pc_inline_state.specs.Tables.{Tables}
 
@@ -47,8 +47,8 @@ module _ (b : Tables) where
   -- a graph of which that holds, in these tables
   in_graph : (w : ListName → ℕ) (g : ComponentDfg) → Lists w g
       → g.num_runtime_component_instances ≡ b.graph.num_runtime_component_instances
-      → AddsEach w 0 0 b (record b { graph = g })
-  in_graph w g lists begun = record {
+      → g.imported_resources ≡ b.graph.imported_resources → AddsEach w 0 0 b (record b { graph = g })
+  in_graph w g lists begun imported = record {
     types = refl;
     lists = lists;
     cores = omega arith;
@@ -56,6 +56,7 @@ module _ (b : Tables) where
     closures = omega arith;
     instances = omega arith;
     begun = begun;
+    resources = let few = lists list.resources in let same = ap length imported in omega (arith, few, same);
   }
 
   memory_lists : (ys : List (CoreExport MemoryIndex)) → length ys ≤ length b.graph.memories + 1
@@ -133,51 +134,51 @@ module _ (b : Tables) where
     -- a graph that is another one by its record
     pub from_rest : (w : ListName → ℕ) (h : ComponentDfg) → g ≡ h → Lists w h
         → h.num_runtime_component_instances ≡ b.graph.num_runtime_component_instances
-        → AddsEach w 0 0 b (record b { graph = g })
-    from_rest w h rest lists begun =
-        subst (λ x. AddsEach w 0 0 b (record b { graph = x })) (sym rest) (in_graph w h lists begun)
+        → h.imported_resources ≡ b.graph.imported_resources → AddsEach w 0 0 b (record b { graph = g })
+    from_rest w h rest lists begun imported =
+        subst (λ x. AddsEach w 0 0 b (record b { graph = x })) (sym rest) (in_graph w h lists begun imported)
 
     -- a memory
     pub memory_adds : (x : CoreExport MemoryIndex) → g ≡ record b.graph { memories = g.memories }
         → IsPut b.graph.memories g.memories x → AddsEach (in_slots 1) 0 0 b (record b { graph = g })
     memory_adds x rest put =
         from_rest (in_slots 1) (record b.graph { memories = g.memories }) rest
-        (memory_lists g.memories (changes_few b.graph.memories g.memories x put.0)) refl
+        (memory_lists g.memories (changes_few b.graph.memories g.memories x put.0)) refl refl
 
     -- a function that makes room
     pub realloc_adds : (x : CoreDef) → g ≡ record b.graph { reallocs = g.reallocs }
         → IsPut b.graph.reallocs g.reallocs x → AddsEach (in_slots 1) 0 0 b (record b { graph = g })
     realloc_adds x rest put =
         from_rest (in_slots 1) (record b.graph { reallocs = g.reallocs }) rest
-        (realloc_lists g.reallocs (changes_few b.graph.reallocs g.reallocs x put.0)) refl
+        (realloc_lists g.reallocs (changes_few b.graph.reallocs g.reallocs x put.0)) refl refl
 
     -- a callback
     pub callback_adds : (x : CoreDef) → g ≡ record b.graph { callbacks = g.callbacks }
         → IsPut b.graph.callbacks g.callbacks x → AddsEach (in_slots 1) 0 0 b (record b { graph = g })
     callback_adds x rest put =
         from_rest (in_slots 1) (record b.graph { callbacks = g.callbacks }) rest
-        (callback_lists g.callbacks (changes_few b.graph.callbacks g.callbacks x put.0)) refl
+        (callback_lists g.callbacks (changes_few b.graph.callbacks g.callbacks x put.0)) refl refl
 
     -- a post-return function
     pub post_return_adds : (x : CoreDef) → g ≡ record b.graph { post_returns = g.post_returns }
         → IsPut b.graph.post_returns g.post_returns x → AddsEach (in_slots 1) 0 0 b (record b { graph = g })
     post_return_adds x rest put =
         from_rest (in_slots 1) (record b.graph { post_returns = g.post_returns }) rest
-        (post_return_lists g.post_returns (changes_few b.graph.post_returns g.post_returns x put.0)) refl
+        (post_return_lists g.post_returns (changes_few b.graph.post_returns g.post_returns x put.0)) refl refl
 
     -- an options entry
     pub options_adds : (x : CanonicalOptions) → g ≡ record b.graph { options = g.options }
         → IsPut b.graph.options g.options x → AddsEach one_option 0 0 b (record b { graph = g })
     options_adds x rest put =
         from_rest one_option (record b.graph { options = g.options }) rest
-        (options_lists g.options (changes_few b.graph.options g.options x put.0)) refl
+        (options_lists g.options (changes_few b.graph.options g.options x put.0)) refl refl
 
     -- a trampoline
     pub trampoline_adds : (x : SignedTrampoline) → g ≡ record b.graph { trampolines = g.trampolines }
         → IsPut b.graph.trampolines g.trampolines x → AddsEach in_trampolines 0 0 b (record b { graph = g })
     trampoline_adds x rest put =
         from_rest in_trampolines (record b.graph { trampolines = g.trampolines }) rest
-        (trampoline_lists g.trampolines (changes_few b.graph.trampolines g.trampolines x put.0)) refl
+        (trampoline_lists g.trampolines (changes_few b.graph.trampolines g.trampolines x put.0)) refl refl
 
     module _ {A E : Type 0} (r : Result A E) where
       -- a host item that is used
@@ -188,7 +189,7 @@ module _ (b : Tables) where
           from_rest in_imports (record b.graph { imports = g.imports }) rest
           (import_lists g.imports (changes_few b.graph.imports g.imports x
           (result_changes r b.graph.imports g.imports x ok
-          (err_at r (λ e. ap (λ (h : ComponentDfg). h.imports) e) err)))) refl
+          (err_at r (λ e. ap (λ (h : ComponentDfg). h.imports) e) err)))) refl refl
         where
           err_at : (s : Result A E) → (g ≡ b.graph → g.imports ≡ b.graph.imports) → OnErr s (g ≡ b.graph)
               → OnErr s (g.imports ≡ b.graph.imports)
@@ -203,7 +204,7 @@ module _ (b : Tables) where
           from_rest everywhere (record b.graph { import_types = g.import_types }) rest
           (import_type_lists g.import_types (changes_few b.graph.import_types g.import_types x
           (result_changes r b.graph.import_types g.import_types x ok
-          (err_at r (λ e. ap (λ (h : ComponentDfg). h.import_types) e) err)))) refl
+          (err_at r (λ e. ap (λ (h : ComponentDfg). h.import_types) e) err)))) refl refl
         where
           err_at : (s : Result A E) → (g ≡ b.graph → g.import_types ≡ b.graph.import_types) → OnErr s (g ≡ b.graph)
               → OnErr s (g.import_types ≡ b.graph.import_types)
@@ -220,11 +221,11 @@ module _ (b : Tables) where
           by : (s : Result A E) → OnOk s (g ≡ with_instance b.graph x owner)
               → OnErr s ((g ≡ b.graph) ⊎ (g ≡ record b.graph { instances = b.graph.instances ++ x ∷ [] }))
               → AddsEach everywhere 0 0 b (record b { graph = g })
-          by (Ok y) is none = from_rest everywhere (with_instance b.graph x owner) is (instance_lists x owner) refl
+          by (Ok y) is none = from_rest everywhere (with_instance b.graph x owner) is (instance_lists x owner) refl refl
           by (Err e) none is = elim is as (λ _. AddsEach everywhere 0 0 b (record b { graph = g })) [
-            | inl same ↦ from_rest everywhere b.graph same (λ l. omega arith) refl
+            | inl same ↦ from_rest everywhere b.graph same (λ l. omega arith) refl refl
             | inr more ↦ from_rest everywhere (record b.graph { instances = b.graph.instances ++ x ∷ [] }) more
-                (alone_lists x) refl
+                (alone_lists x) refl refl
           ]
 
   module _ {A E : Type 0} (r : Result A E) where
@@ -239,6 +240,7 @@ module _ (b : Tables) where
       closures = omega arith;
       instances = omega arith;
       begun = refl;
+      resources = omega arith;
     }
 
     -- a definition
@@ -252,6 +254,7 @@ module _ (b : Tables) where
       closures = omega arith;
       instances = omega arith;
       begun = refl;
+      resources = omega arith;
     }
 
     -- what a component captured
@@ -265,10 +268,11 @@ module _ (b : Tables) where
       closures = changes_few b.closures cs x (result_changes r b.closures cs x ok err);
       instances = omega arith;
       begun = refl;
+      resources = omega arith;
     }
 
     -- what an instance exports
-    pub instance_exports_adds : (is : List (List (List ℕ × DefinitionId))) (x : List (List ℕ × DefinitionId))
+    pub instance_exports_adds : (is : List (List (List ℕ × Member))) (x : List (List ℕ × Member))
         → OnOk r (is ≡ b.instances ++ x ∷ []) → OnErr r (is ≡ b.instances)
         → AddsEach nowhere 0 1 b (record b { instances = is })
     instance_exports_adds is x ok err = record {
@@ -279,4 +283,5 @@ module _ (b : Tables) where
       closures = omega arith;
       instances = changes_few b.instances is x (result_changes r b.instances is x ok err);
       begun = refl;
+      resources = omega arith;
     }

@@ -1,5 +1,5 @@
 -- What a core instance has under a name: as an argument of a core module, and as a core item of the table.
-use Rattle.std.proofs.Common.{◌≡◌, List, [], ◌∷◌, ◌++◌, length, Result, Ok, Err, Some, refl, sym}
+use Rattle.std.proofs.Common.{◌≡◌, ℕ, List, [], ◌∷◌, ◌++◌, length, Result, Ok, Err, Some, refl, sym}
 use Rattle.std.proofs.Common.{ap, subst, ◌∙◌}
 use Rattle.std.specs.Prelude.{slice_get, IfOk, OnOk}
 use Rattle.std.proofs.lemmas.Option.{same_Some}
@@ -7,9 +7,11 @@ use Rattle.pc_entity.proofs.Growing.{slice_get-append_seam}
 use Rattle.pc_dfg.specs.declared.ids.InstanceId.{InstanceId}
 use Rattle.pc_numbers.specs.declared.entity_index.EntityIndex.{EntityIndex}
 use Rattle.pc_types.specs.declared.module_record.ModuleRecord.{ModuleRecord}
+use Rattle.pc_types.specs.declared.parsed.CoreEntity.{CoreEntity}
 use Rattle.pc_types.specs.declared.parsed.CoreKind.{CoreKind}
+use Rattle.pc_types.specs.declared.parsed.TypeTable.{TypeTable}
 use Rattle.pc_info.specs.declared.core_def.ExportItem.TheVariants as export
-use Rattle.pc_spec_plan.specs.CoreValue.{CoreValue, exported, by_index}
+use Rattle.pc_spec_plan.specs.CoreValue.{CoreValue, exported, by_index, by_name}
 use Rattle.pc_parsed.specs.Mark.{Mark}
 use Rattle.pc_dfg.specs.declared.core_def.CoreDef.{CoreDef}
 use Rattle.pc_dfg.specs.declared.core_def.CoreDef.TheVariants as def
@@ -20,13 +22,18 @@ use Rattle.pc_inline_state.specs.declared.core_item.CoreItem.TheVariants as item
 use Rattle.pc_inline_state.specs.declared.definition.CoreId.{CoreId}
 use Rattle.pc_inline_state.specs.declared.error.ItemError.{ItemError}
 use Rattle.pc_inline_state.specs.declared.state.State.{State}
-use Rattle.pc_inline_state.specs.Found.{ArgumentStands, ItemFound, entity_found, known_found}
+use Rattle.pc_inline_state.specs.Bags.{module_export}
+use Rattle.pc_inline_state.specs.Found.{ArgumentStands, FoundThere, ItemFound, entity_found, known_found, named_found}
 use Rattle.pc_inline_state.specs.Stands.{CoreStands, ItemStands}
-use Rattle.pc_inline_state.specs.Tables.{IsItem, Tables, is_entity, tables_of}
+use Rattle.pc_inline_state.specs.Tables.{IsHostInstance, IsItem, Tables, is_entity, is_named, tables_of}
 
 -- an entity of a core instance as a definition
 abbrev pub entity_def : InstanceId → EntityIndex → CoreDef
 entity_def i e = def.Export (record { instance = i; item = export.Index e })
+
+-- an item of a core instance by its name as a definition
+abbrev pub named_def : InstanceId → List ℕ → CoreDef
+named_def i name = def.Export (record { instance = i; item = export.Name name })
 
 module _ (ms : List ModuleRecord) (b : Tables) where
   -- an entity that was found is an argument
@@ -68,20 +75,80 @@ module _ (ms : List ModuleRecord) (b : Tables) where
       λ k v found. subst (λ y. ArgumentStands ms b y v) (sym copied)
       (known_argument k n d v held (subst (λ y. ItemFound ms b k y v) is found))
 
--- an entity that goes to the end of the table is a core item there
+  -- an item by its name that was found is an argument
+  named_argument : (i : InstanceId) (n place : ℕ) (e x : List ℕ × CoreEntity) → module_export b.table n place ≡ Some e
+      → module_export b.table n place ≡ Some x → IsHostInstance b.graph i
+      → CoreStands b.types b.graph (named_def i e.0) (exported i.0 (by_name x.0))
+  named_argument i n place e x at found host =
+      subst (λ (y : List ℕ × CoreEntity). CoreStands b.types b.graph (named_def i y.0) (exported i.0 (by_name x.0)))
+      (same_Some x e (sym found ∙ at))
+      (record { numbered = exported i.0 (by_name x.0); means = means_export; is = refl })
+
+  -- the same, and it is a core item of its kind
+  named_usable : (k : CoreKind) (i : InstanceId) (n place : ℕ) (e : List ℕ × CoreEntity) (v : CoreValue Mark)
+      → module_export b.table n place ≡ Some e → ItemFound ms b k (item.Named i n place) v
+      → CoreStands b.types b.graph (named_def i e.0) v × IsItem ms b.graph k (named_def i e.0)
+  named_usable k i n place e v at (named_found found is host) =
+      (named_argument i n place e _ at found host, is_named host)
+
+  -- the definition of an item by its name is the argument that was found there
+  pub named_arguments : (r : Result CoreDef NoMemory) (t : TypeTable) (x : CoreItem) (i : InstanceId) (n place : ℕ)
+      → b.table ≡ t → x ≡ item.Named i n place → FoundThere ms b x
+      → IfOk r (λ d. (e : List ℕ × CoreEntity) → module_export t n place ≡ Some e → d ≡ named_def i e.0)
+      → IfOk r (λ d. (k : CoreKind) (v : CoreValue Mark) → ItemFound ms b k x v → ArgumentStands ms b d v)
+  named_arguments (Err e) t x i n place table is there made = tt
+  named_arguments (Ok d) t x i n place table is there made =
+      λ k v found. let e = subst (λ y. FoundThere ms b y) is there in
+      let u = named_usable k i n place e.0 v e.1 (subst (λ y. ItemFound ms b k y v) is found) in
+      subst (λ y. ArgumentStands ms b y v) (sym (made e.0 (subst (λ y. module_export y n place ≡ Some e.0) table e.1)))
+      (record { kind = k; stands = u.0; usable = u.1 })
+
+-- a definition that goes to the end of the table is a core item there
+definition_ids : (ms : List ModuleRecord) (old new : State) (r : Result CoreId ItemError) (d : CoreDef)
+    (P : CoreKind → CoreValue Mark → Type 0)
+    → ((k : CoreKind) (v : CoreValue Mark) → P k v
+    → CoreStands old.types old.graph d v × IsItem ms old.graph k d)
+    → IfOk r (λ id. id.0 ≡ length old.cores) → OnOk r (new ≡ record old { cores = old.cores ++ d ∷ [] })
+    → IfOk r (λ id. (k : CoreKind) (v : CoreValue Mark) → P k v → ItemStands ms (tables_of new) k id v)
+definition_ids ms old new (Err f) d P stands at more = tt
+definition_ids ms old new (Ok id) d P stands at more =
+    λ k v p. subst (λ st. ItemStands ms (tables_of st) k id v) (sym more)
+    (record {
+      definition = d;
+      held = ap (slice_get (old.cores ++ d ∷ [])) at ∙ slice_get-append_seam old.cores d [];
+      stands = (stands k v p).0;
+      usable = (stands k v p).1;
+    })
+
+-- an entity that goes there is
 pub entity_ids : (ms : List ModuleRecord) (old new : State) (r : Result CoreId ItemError) (x : CoreItem) (d : CoreDef)
     (i : InstanceId) (e : EntityIndex) → x ≡ item.Entity i e → d ≡ entity_def i e
     → IfOk r (λ id. id.0 ≡ length old.cores) → OnOk r (new ≡ record old { cores = old.cores ++ d ∷ [] })
     → IfOk r (λ id. (k : CoreKind) (v : CoreValue Mark) → ItemFound ms (tables_of old) k x v
     → ItemStands ms (tables_of new) k id v)
-entity_ids ms old new (Err f) x d i e is def at more = tt
-entity_ids ms old new (Ok id) x d i e is def at more =
-    λ k v found. let entity = subst (λ y. ItemFound ms (tables_of old) k y v) is found in
-    let a = entity_argument ms (tables_of old) k i e v entity in
-    subst (λ st. ItemStands ms (tables_of st) k id v) (sym more)
-    (record {
-      definition = d;
-      held = ap (slice_get (old.cores ++ d ∷ [])) at ∙ slice_get-append_seam old.cores d [];
-      stands = subst (λ y. CoreStands old.types old.graph y v) (sym def) a.stands;
-      usable = subst (λ y. IsItem ms old.graph k y) (sym def) (entity_usable ms (tables_of old) k i e v entity);
-    })
+entity_ids ms old new r x d i e is def at more =
+    definition_ids ms old new r d (λ k v. ItemFound ms (tables_of old) k x v)
+    (λ k v found.
+    let entity = subst (λ y. ItemFound ms (tables_of old) k y v) is found in (
+      subst (λ y. CoreStands old.types old.graph y v) (sym def) (entity_argument ms (tables_of old) k i e v entity).stands,
+      subst (λ y. IsItem ms old.graph k y) (sym def) (entity_usable ms (tables_of old) k i e v entity),
+    )) at more
+
+-- and an item by its name that goes there is
+pub named_ids : (ms : List ModuleRecord) (old new : State) (r : Result CoreId ItemError) (t : TypeTable) (x : CoreItem)
+    (d : CoreDef) (i : InstanceId) (n place : ℕ) → old.table.now ≡ t → x ≡ item.Named i n place
+    → FoundThere ms (tables_of old) x
+    → ((e : List ℕ × CoreEntity) → module_export t n place ≡ Some e → d ≡ named_def i e.0)
+    → IfOk r (λ id. id.0 ≡ length old.cores) → OnOk r (new ≡ record old { cores = old.cores ++ d ∷ [] })
+    → IfOk r (λ id. (k : CoreKind) (v : CoreValue Mark) → ItemFound ms (tables_of old) k x v
+    → ItemStands ms (tables_of new) k id v)
+named_ids ms old new r t x d i n place table is there made at more =
+    let e = subst (λ y. FoundThere ms (tables_of old) y) is there in
+    let def = made e.0 (subst (λ y. module_export y n place ≡ Some e.0) table e.1) in
+    definition_ids ms old new r d (λ k v. ItemFound ms (tables_of old) k x v)
+    (λ k v found.
+    let u = named_usable ms (tables_of old) k i n place e.0 v e.1
+    (subst (λ y. ItemFound ms (tables_of old) k y v) is found) in (
+      subst (λ y. CoreStands old.types old.graph y v) (sym def) u.0,
+      subst (λ y. IsItem ms old.graph k y) (sym def) u.1,
+    )) at more

@@ -12,7 +12,7 @@ use Rattle.pc_dfg.specs.Lists.{ListName, entries_of}
 use Rattle.pc_dfg.proofs.GrowLemmas as graph_growth
 use Rattle.pc_inline_state.specs.declared.closure.Closure.{Closure}
 use Rattle.pc_inline_state.specs.declared.definition.Definition.{Definition}
-use Rattle.pc_inline_state.specs.declared.definition.DefinitionId.{DefinitionId}
+use Rattle.pc_inline_state.specs.declared.state.Member.{Member}
 use Rattle.pc_inline_state.specs.Fits.{FitsBefore}
 use Rattle.pc_inline_state.specs.Points.{IsFullSomewhere, full_graph}
 use Rattle.pc_inline_state.specs.Tables.{Keeps, Tables}
@@ -36,7 +36,9 @@ module _ (b : Tables) where
     definitions = kept_refl b.definitions;
     closures = kept_refl b.closures;
     instances = kept_refl b.instances;
+    paths = kept_refl b.paths;
     bodies = refl;
+    table = refl;
   }
 
   -- the table of definitions has grown
@@ -49,7 +51,9 @@ module _ (b : Tables) where
     definitions = kept;
     closures = kept_refl b.closures;
     instances = kept_refl b.instances;
+    paths = kept_refl b.paths;
     bodies = refl;
+    table = refl;
   }
 
   -- what components captured has grown
@@ -62,11 +66,13 @@ module _ (b : Tables) where
     definitions = kept_refl b.definitions;
     closures = kept;
     instances = kept_refl b.instances;
+    paths = kept_refl b.paths;
     bodies = refl;
+    table = refl;
   }
 
   -- what instances export has grown
-  pub instances_grown : (is : List (List (List ℕ × DefinitionId))) → Kept b.instances is
+  pub instances_grown : (is : List (List (List ℕ × Member))) → Kept b.instances is
       → Keeps b (record b { instances = is })
   instances_grown is kept = record {
     types = types_refl b.types;
@@ -76,7 +82,9 @@ module _ (b : Tables) where
     definitions = kept_refl b.definitions;
     closures = kept_refl b.closures;
     instances = kept;
+    paths = kept_refl b.paths;
     bodies = refl;
+    table = refl;
   }
 
   -- the graph has grown
@@ -89,7 +97,9 @@ module _ (b : Tables) where
     definitions = kept_refl b.definitions;
     closures = kept_refl b.closures;
     instances = kept_refl b.instances;
+    paths = kept_refl b.paths;
     bodies = refl;
+    table = refl;
   }
 
   -- a list that was full is

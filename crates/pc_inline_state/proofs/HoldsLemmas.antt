@@ -1,17 +1,20 @@
 -- Resource numbers can be read as paths tell them, and what is held where they fit a graph is held so.
-use Rattle.std.proofs.Common.{◌≡◌, ◌<◌, ◌+◌, ℕ, zero, suc, List, [], ◌∷◌, length, Some, ap, subst, ◌∙◌, arith}
+use Rattle.std.proofs.Common.{◌≡◌, ◌+◌, ℕ, zero, suc, List, [], ◌∷◌, length, Some, sym, ap, ◌∙◌, arith}
+use Rattle.std.specs.List.{AllZip}
 use Rattle.std.specs.Prelude.{slice_get}
 use Rattle.std.proofs.lemmas.Option.{none-some, same_Some}
 use Rattle.pc_numbers.specs.declared.runtime.ResourceIndex.{ResourceIndex}
+use Rattle.pc_numbers.specs.declared.runtime.RuntimeImportIndex.{RuntimeImportIndex}
 use Rattle.pc_types.specs.TypeTree.{Identity, Path, declared, imported}
 use Rattle.pc_types_lists.specs.Types.{Types}
 use Rattle.pc_trampoline.specs.declared.part.Mark.{Mark}
 use Rattle.pc_trampoline.specs.declared.part.Mark.TheVariants as mark
 use Rattle.pc_parsed.specs.Mark as reading
 use Rattle.pc_dfg.specs.declared.dfg.ComponentDfg.{ComponentDfg}
-use Rattle.pc_inline_state.specs.Fits.{Fits}
+use Rattle.pc_dfg.specs.Means.{HasPath}
+use Rattle.pc_inline_state.specs.Fits.{Fits, path_of}
 use Rattle.pc_inline_state.specs.Holds.{Holds, Numbered, ReadsAs}
-use Rattle.pc_inline_state.specs.Worlds.{IsPlain}
+use Rattle.pc_inline_state.proofs.ZipLemmas.{both_there, zip_at, zip_length}
 
 -- the resource of a number: that of its path, or one that was declared
 identity_at : List Path → ℕ → Identity
@@ -39,14 +42,18 @@ some_reading paths = (
   record { given = given_at paths; own = own_at paths },
 )
 
--- read so, they fit a graph without resources
-pub reads_fit : (g : ComponentDfg) → IsPlain g → (paths : List Path) (who : ResourceIndex → Identity)
-    → ReadsAs paths who → Fits g who
-reads_fit g plain paths who reads = record {
-  given = λ n r i at import. absurd (none-some r (subst (λ rs. slice_get rs n ≡ Some r) plain.imported_resources at));
+-- read so, they fit a graph whose imported resources stand at these paths
+pub reads_fit : (g : ComponentDfg) (paths : List Path)
+    → AllZip (λ (r : RuntimeImportIndex). HasPath g r.0) g.imported_resources paths
+    → (who : ResourceIndex → Identity) → ReadsAs paths who → Fits g who
+reads_fit g paths zip who reads = record {
+  given = λ n r i at import.
+      let there = both_there (λ (r : RuntimeImportIndex). HasPath g r.0) (slice_get g.imported_resources n)
+      (slice_get paths n) r (zip_at (λ (r : RuntimeImportIndex). HasPath g r.0) g.imported_resources paths n zip) at in
+      reads.given n there.0 there.1 ∙ ap imported (ap path_of (same_Some _ i (sym there.2 ∙ import)));
   own = λ n below.
-      let none : n < 0 = subst (λ ds. n < length ds) plain.resources below in
-      absurd (omega (arith, none));
+      let same = zip_length (λ (r : RuntimeImportIndex). HasPath g r.0) g.imported_resources paths zip in
+      ap (λ k. who (record { 0 = k + n })) same ∙ reads.own n;
 }
 
 module _ (types : Types) (fits reads : (ResourceIndex → Identity) → Type 0)

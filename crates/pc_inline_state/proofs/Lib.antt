@@ -3,7 +3,11 @@ pub mod ZipLemmas
 pub mod FitsLemmas
 mod LookupLemmas
 mod NumberLemmas
+pub mod MembersLemmas
 pub mod StateLemmas
+pub mod TrailLemmas
+pub mod PathLemmas
+pub mod EntryLemmas
 pub mod RefusedLemmas
 pub mod GrowthLemmas
 pub mod HoldsLemmas

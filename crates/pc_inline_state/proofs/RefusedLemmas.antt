@@ -47,6 +47,13 @@ cause_lacks_at k P Q st (item_error.Fault j) f h = (h.0, f h.1)
 cause_lacks_at k P Q st item_error.TooMany f h = h
 cause_lacks_at k P Q st item_error.NoMemory f h = h
 
+free_lacks_at : (k : ItemFault) (P : Type 0) (st : State) (e : ItemError) → (P → ⊥) → LacksRoomOr k P st e
+    → LacksRoom st e
+unfolding LacksRoomOr LacksRoom
+free_lacks_at k P st (item_error.Fault j) free h = free h.1
+free_lacks_at k P st item_error.TooMany free h = h
+free_lacks_at k P st item_error.NoMemory free h = h
+
 module _ {T : Type 0} (r : Result T ItemError) (st : State) where
   -- an error of the types builder
   pub type_lacks : (cause : Type 0) (x : TypeError) → IsErrAnd r (λ e. e ≡ of_type_error x)
@@ -78,6 +85,13 @@ module _ {T : Type 0} (r : Result T ItemError) (st : State) where
   cause_lacks k P Q x is f h =
       if_err r (λ e. e ≡ x) (LacksRoomOr k Q st) is
       (λ e same. subst (LacksRoomOr k Q st) (sym same) (cause_lacks_at k P Q st x f h))
+
+  -- an error that is handed on, whose fault has no cause
+  pub free_lacks : (k : ItemFault) (P : Type 0) (x : ItemError) → IsErrAnd r (λ e. e ≡ x) → (P → ⊥)
+      → LacksRoomOr k P st x → IfErr r (LacksRoom st)
+  free_lacks k P x is free h =
+      if_err r (λ e. e ≡ x) (LacksRoom st) is
+      (λ e same. subst (LacksRoom st) (sym same) (free_lacks_at k P st x free h))
 
 -- a table lacks room for one entry more for want of memory
 pub no_memory_lacks : {T : Type 0} (r : Result T ItemError) (n : ℕ) → IsErrAnd r (λ e. e ≡ item_error.NoMemory)

@@ -1,24 +1,32 @@
 -- What grows and does nothing: tables, types.
-use Rattle.std.proofs.Common.{List, [], ◌∷◌, ◌++◌, Option, refl, sym, subst, ◌∙◌}
+use Rattle.std.proofs.Common.{◌≡◌, ◌<◌, ℕ, List, [], ◌∷◌, ◌++◌, length, Option, Some, refl, sym, subst, ◌∙◌}
+use Rattle.std.specs.Prelude.{Contains, Err, Ok, OnErr, OnOk, Result}
 use Rattle.pc_entity.proofs.Growing.{append_kept, kept_refl, kept_trans}
 use Rattle.pc_entity.proofs.LookupLemmas.{kept_within}
 use Rattle.pc_types.specs.declared.module_record.ModuleRecord.{ModuleRecord}
 use Rattle.pc_types.specs.declared.parsed.TypeTable.{TypeTable}
 use Rattle.pc_types.specs.declared.types.TypeDef.{TypeDef}
+use Rattle.pc_types.specs.declared.types.TypeDef.TheVariants as type
 use Rattle.pc_types_lists.specs.Types.{Types}
 use Rattle.pc_types_lists.specs.Types as builder
 use Rattle.pc_types_lists.proofs.Growth as builder_growth
 use Rattle.pc_types_lists.proofs.KeptTypes as kept_types
+use Rattle.pc_types_builder.proofs.TreeLemmas.{tree_keeps}
 use Rattle.pc_dfg.specs.declared.core_def.CoreDef.{CoreDef}
 use Rattle.pc_dfg.specs.declared.dfg.ComponentDfg.{ComponentDfg}
 use Rattle.pc_dfg.proofs.GrowLemmas as graph_growth
 use Rattle.pc_inline_state.specs.declared.closure.Closure.{Closure}
 use Rattle.pc_inline_state.specs.declared.definition.Definition.{Definition}
+use Rattle.pc_inline_state.specs.declared.definition.ExportsId.{ExportsId}
+use Rattle.pc_inline_state.specs.declared.state.Member.{Member}
+use Rattle.pc_inline_state.specs.Definitions.{exports_of}
 use Rattle.pc_inline_state.specs.declared.state.State.{State}
 use Rattle.pc_inline_state.specs.Prepares.{Converts, Prepares}
 use Rattle.pc_inline_state.specs.Tables.{Keeps, Tables, tables_of}
-use Rattle.pc_inline_state.specs.Worlds.{HoldsTypes}
+use Rattle.pc_inline_state.specs.Fits.{FitsBefore}
+use Rattle.pc_inline_state.specs.Worlds.{HoldsModule, HoldsTypes}
 use Rattle.pc_inline_state.proofs.FitsLemmas.{fits_refl}
+use Rattle.pc_inline_state.proofs.MembersLemmas.{definition_earlier, members_earlier}
 
 -- a builder keeps its types where it is as it was
 pub types_refl : (b : Types) → builder.KeepsTypes b b
@@ -34,7 +42,9 @@ keeps_refl b = record {
   definitions = kept_refl b.definitions;
   closures = kept_refl b.closures;
   instances = kept_refl b.instances;
+  paths = kept_refl b.paths;
   bodies = refl;
+  table = refl;
 }
 
 -- and where they grew twice
@@ -47,14 +57,31 @@ keeps_trans a b c first second = record {
   definitions = kept_trans a.definitions b.definitions c.definitions first.definitions second.definitions;
   closures = kept_trans a.closures b.closures c.closures first.closures second.closures;
   instances = kept_trans a.instances b.instances c.instances first.instances second.instances;
+  paths = kept_trans a.paths b.paths c.paths first.paths second.paths;
   bodies = second.bodies ∙ first.bodies;
+  table = second.table ∙ first.table;
+}
+
+-- a module type of the table is held in a builder and a graph that have grown
+pub module_grows : (old new : Types) → builder.KeepsTypes old new → (t : TypeTable) (g h : ComponentDfg)
+    → FitsBefore g h → (ty : ℕ) → HoldsModule old t g ty → HoldsModule new t h ty
+module_grows old new keeps t g h fits ty held = record {
+  there = held.there;
+  known = held.known;
+  component_instance = held.component_instance;
+  tree = held.tree;
+  is = held.is;
+  number = held.number;
+  holds = λ who now. tree_keeps old new keeps who (type.Module held.number) held.tree (held.holds who (fits who now));
 }
 
 -- a builder that has grown holds what it held
-holds_grow : (old new : Types) → builder.Grows old new → (g : ComponentDfg) → HoldsTypes old g → HoldsTypes new g
-holds_grow old new grows g holds = record {
+holds_grow : (old new : Types) → builder.Grows old new → (t : TypeTable) (g : ComponentDfg) → HoldsTypes old t g
+    → HoldsTypes new t g
+holds_grow old new grows t g holds = record {
   options = λ k x at. kept_within old.signatures new.signatures grows.signatures x.core_type.0 (holds.options k x at);
-  functions = λ n ty f o at. kept_within old.funcs new.funcs grows.funcs ty.0 (holds.functions n ty f o at);
+  modules = λ n ty m at. module_grows old new (kept_types.grows_keeps old new grows) t g g (fits_refl g) ty
+      (holds.modules n ty m at);
 }
 
 -- no type was converted
@@ -87,10 +114,13 @@ module _ (t : TypeTable) (ms : List ModuleRecord) where
     instances = q.instances ∙ p.instances;
     trampolines = q.trampolines ∙ p.trampolines;
     imports = q.imports ∙ p.imports;
+    imported_resources = q.imported_resources ∙ p.imported_resources;
+    declared_resources = q.declared_resources ∙ p.declared_resources;
     import_types = q.import_types ∙ p.import_types;
     begun = q.begun ∙ p.begun;
     exports = q.exports ∙ p.exports;
     export_items = q.export_items ∙ p.export_items;
+    paths = q.paths ∙ p.paths;
     used = q.used ∙ p.used;
   }
 
@@ -105,7 +135,9 @@ module _ (t : TypeTable) (ms : List ModuleRecord) where
       definitions = kept_refl st.definitions;
       closures = kept_refl st.closures;
       instances = kept_refl st.instances;
+      paths = kept_refl st.paths;
       bodies = refl;
+      table = refl;
     };
     sound = λ s. record {
       ordered = s.ordered;
@@ -114,23 +146,30 @@ module _ (t : TypeTable) (ms : List ModuleRecord) where
       used = s.used;
       numbers = s.numbers;
       held = s.held;
+      table = s.table;
+      bodies = s.bodies;
+      members = s.members;
     };
     resources = refl;
     side_effects = refl;
     instances = refl;
     trampolines = refl;
     imports = refl;
+    imported_resources = refl;
+    declared_resources = refl;
     import_types = refl;
     begun = refl;
     exports = refl;
     export_items = refl;
+    paths = refl;
     used = refl;
   }
 
-  -- one more definition
+  -- one more definition, which exports what one of the lists says, if it is an instance
   pub definition_prepares : (st : State) (d : Definition)
+      → ((k : ExportsId) → exports_of d ≡ Some k → k.0 < length st.instances)
       → Prepares t ms st (record st { definitions = st.definitions ++ d ∷ [] })
-  definition_prepares st d = record {
+  definition_prepares st d new = record {
     keeps = record {
       types = types_refl st.types;
       graph = graph_growth.grows_refl st.graph;
@@ -139,7 +178,9 @@ module _ (t : TypeTable) (ms : List ModuleRecord) where
       definitions = append_kept st.definitions (d ∷ []);
       closures = kept_refl st.closures;
       instances = kept_refl st.instances;
+      paths = kept_refl st.paths;
       bodies = refl;
+      table = refl;
     };
     sound = λ s. record {
       ordered = s.ordered;
@@ -148,16 +189,65 @@ module _ (t : TypeTable) (ms : List ModuleRecord) where
       used = s.used;
       numbers = s.numbers;
       held = s.held;
+      table = s.table;
+      bodies = s.bodies;
+      members = definition_earlier st.definitions st.instances s.members d new;
     };
     resources = refl;
     side_effects = refl;
     instances = refl;
     trampolines = refl;
     imports = refl;
+    imported_resources = refl;
+    declared_resources = refl;
     import_types = refl;
     begun = refl;
     exports = refl;
     export_items = refl;
+    paths = refl;
+    used = refl;
+  }
+
+  -- what one more instance exports: definitions that are there
+  pub instance_prepares : (st : State) (es : List (List ℕ × Member))
+      → ((e : List ℕ × Member) → Contains es e → e.1.item.0 < length st.definitions)
+      → Prepares t ms st (record st { instances = st.instances ++ es ∷ [] })
+  instance_prepares st es held = record {
+    keeps = record {
+      types = types_refl st.types;
+      graph = graph_growth.grows_refl st.graph;
+      fits = fits_refl st.graph;
+      cores = kept_refl st.cores;
+      definitions = kept_refl st.definitions;
+      closures = kept_refl st.closures;
+      instances = append_kept st.instances (es ∷ []);
+      paths = kept_refl st.paths;
+      bodies = refl;
+      table = refl;
+    };
+    sound = λ s. record {
+      ordered = s.ordered;
+      items = s.items;
+      plain = s.plain;
+      used = s.used;
+      numbers = s.numbers;
+      held = s.held;
+      table = s.table;
+      bodies = s.bodies;
+      members = members_earlier st.definitions st.instances s.members es held;
+    };
+    resources = refl;
+    side_effects = refl;
+    instances = refl;
+    trampolines = refl;
+    imports = refl;
+    imported_resources = refl;
+    declared_resources = refl;
+    import_types = refl;
+    begun = refl;
+    exports = refl;
+    export_items = refl;
+    paths = refl;
     used = refl;
   }
 
@@ -173,7 +263,9 @@ module _ (t : TypeTable) (ms : List ModuleRecord) where
       definitions = kept_refl st.definitions;
       closures = append_kept st.closures (d ∷ []);
       instances = kept_refl st.instances;
+      paths = kept_refl st.paths;
       bodies = refl;
+      table = refl;
     };
     sound = λ s. record {
       ordered = s.ordered;
@@ -182,16 +274,22 @@ module _ (t : TypeTable) (ms : List ModuleRecord) where
       used = s.used;
       numbers = s.numbers;
       held = s.held;
+      table = s.table;
+      bodies = s.bodies;
+      members = s.members;
     };
     resources = refl;
     side_effects = refl;
     instances = refl;
     trampolines = refl;
     imports = refl;
+    imported_resources = refl;
+    declared_resources = refl;
     import_types = refl;
     begun = refl;
     exports = refl;
     export_items = refl;
+    paths = refl;
     used = refl;
   }
 
@@ -207,7 +305,9 @@ module _ (t : TypeTable) (ms : List ModuleRecord) where
       definitions = kept_refl old.definitions;
       closures = kept_refl old.closures;
       instances = kept_refl old.instances;
+      paths = kept_refl old.paths;
       bodies = refl;
+      table = refl;
     };
     sound = λ s. record {
       ordered = s.ordered;
@@ -215,16 +315,74 @@ module _ (t : TypeTable) (ms : List ModuleRecord) where
       plain = s.plain;
       used = s.used;
       numbers = c.numbers s.numbers;
-      held = holds_grow old.types new.types c.grows old.graph s.held;
+      held = holds_grow old.types new.types c.grows t old.graph s.held;
+      table = s.table;
+      bodies = s.bodies;
+      members = s.members;
     };
     resources = c.grows.resources;
     side_effects = refl;
     instances = refl;
     trampolines = refl;
     imports = refl;
+    imported_resources = refl;
+    declared_resources = refl;
     import_types = refl;
     begun = refl;
     exports = refl;
     export_items = refl;
+    paths = refl;
     used = refl;
   })
+
+  -- nothing was done
+  pub prepares_refl : (st : State) → Prepares t ms st st
+  prepares_refl st = record {
+    keeps = keeps_refl (tables_of st);
+    sound = λ s. s;
+    resources = refl;
+    side_effects = refl;
+    instances = refl;
+    trampolines = refl;
+    imports = refl;
+    imported_resources = refl;
+    declared_resources = refl;
+    import_types = refl;
+    begun = refl;
+    exports = refl;
+    export_items = refl;
+    paths = refl;
+    used = refl;
+  }
+
+  -- where a state is what it was, or another that is prepared
+  pushed : {A E : Type 0} (r : Result A E) (old new next : State) → Prepares t ms old next → OnOk r (new ≡ next)
+      → OnErr r (new ≡ old) → Prepares t ms old new
+  pushed (Ok x) old new next more ok err = subst (Prepares t ms old) (sym ok) more
+  pushed (Err e) old new next more ok err = subst (Prepares t ms old) (sym err) (prepares_refl old)
+
+  module _ {A E : Type 0} (r : Result A E) (old new : State) where
+    -- a core item was pushed, if there was room
+    pub core_pushed : (d : CoreDef) → OnOk r (new ≡ record old { cores = old.cores ++ d ∷ [] })
+        → OnErr r (new ≡ old) → Prepares t ms old new
+    core_pushed d = pushed r old new (record old { cores = old.cores ++ d ∷ [] }) (core_prepares old d)
+
+    -- a definition
+    pub definition_pushed : (d : Definition) → ((k : ExportsId) → exports_of d ≡ Some k → k.0 < length old.instances)
+        → OnOk r (new ≡ record old { definitions = old.definitions ++ d ∷ [] })
+        → OnErr r (new ≡ old) → Prepares t ms old new
+    definition_pushed d known =
+        pushed r old new (record old { definitions = old.definitions ++ d ∷ [] }) (definition_prepares old d known)
+
+    -- what a component captured
+    pub closure_pushed : (d : Closure) → OnOk r (new ≡ record old { closures = old.closures ++ d ∷ [] })
+        → OnErr r (new ≡ old) → Prepares t ms old new
+    closure_pushed d = pushed r old new (record old { closures = old.closures ++ d ∷ [] }) (closure_prepares old d)
+
+    -- what an instance exports: definitions that are there
+    pub instance_pushed : (es : List (List ℕ × Member))
+        → ((e : List ℕ × Member) → Contains es e → e.1.item.0 < length old.definitions)
+        → OnOk r (new ≡ record old { instances = old.instances ++ es ∷ [] })
+        → OnErr r (new ≡ old) → Prepares t ms old new
+    instance_pushed es held =
+        pushed r old new (record old { instances = old.instances ++ es ∷ [] }) (instance_prepares old es held)

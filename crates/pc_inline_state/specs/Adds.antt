@@ -1,8 +1,10 @@
 -- How much a call adds: to the types builder, to the graph and to the tables.
-use Rattle.std.specs.Prelude.{◌≤◌, ◌+◌, ℕ, List, length, sum_by}
+use Rattle.std.specs.Prelude.{◌≤◌, ◌+◌, ◌*◌, ℕ, Bool, true, false, List, count_by, length, sum_by}
 use Rattle.pc_types.specs.declared.parsed.TypeTable.{TypeTable}
 use Rattle.pc_types_lists.specs.Adds.{AddsTypes, most_types}
 use Rattle.pc_types_lists.specs.Types.{KeepsTypes}
+use Rattle.pc_parsed.specs.declared.payload.ItemKind.{ItemKind}
+use Rattle.pc_parsed.specs.declared.payload.ItemKind.TheVariants as kind
 use Rattle.pc_local.specs.declared.item.LocalInitializer.{LocalInitializer}
 use Rattle.pc_local.specs.declared.item.LocalInitializer.TheVariants as local
 use Rattle.pc_dfg.specs.Lists.{ListName, entries_of}
@@ -17,6 +19,8 @@ pub record AddsEntries (n : ℕ) (old new : Tables) : Type 0 where
   pub closures : length new.closures ≤ length old.closures + n
   pub instances : length new.instances ≤ length old.instances + n
   pub begun : new.graph.num_runtime_component_instances ≤ old.graph.num_runtime_component_instances + n
+  pub resources : length new.graph.imported_resources + length new.graph.resources
+      ≤ length old.graph.imported_resources + length old.graph.resources + n
 
 -- no list of types but that of core signatures has grown by more than w, no list of the graph and no table; what is new
 -- in that of core signatures, and which tables of futures, streams and error contexts are new, is said by itself
@@ -29,15 +33,36 @@ pub record Adds (t : TypeTable) (w : ℕ) (old new : Tables) : Type 0 where
   -- and as many component instances have begun, or more
   pub later : old.graph.num_runtime_component_instances ≤ new.graph.num_runtime_component_instances
 
--- how much an item adds at the most: four entries, and the types of the type number that it converts
+-- whether an index is a type number
+abbrev pub is_type_kind : ItemKind → Bool
+is_type_kind kind.Type_ = true
+is_type_kind k = false
+
+-- how many of these indices are type numbers
+abbrev pub types_among : {N : Type 0} → List (N × ItemKind × ℕ) → ℕ
+types_among {N} xs = count_by (λ (x : N × ItemKind × ℕ). is_type_kind x.1) xs
+
+-- four entries, and what so many conversions add at the most
+abbrev pub most_converted : TypeTable → ℕ → ℕ
+most_converted t n = 4 + n * (1 + most_types t)
+
+-- how much an item adds at the most where it is read: four entries, and the types of the type numbers that it converts
 abbrev pub most_added : TypeTable → LocalInitializer → ℕ
-most_added t (local.Lift func ty core opts) = 4 + most_types t
-most_added t (local.Lower func ty core opts) = 4 + most_types t
+most_added t (local.Lift func ty core opts) = most_converted t 1
+most_added t (local.Lower func ty core opts) = most_converted t 1
+most_added t (local.ModuleStatic index ty) = most_converted t 1
+most_added t (local.ComponentSynthetic exports ty) = most_converted t (1 + types_among exports)
+most_added t (local.ComponentInstantiate component args ty) = most_converted t (1 + types_among args)
 most_added t _ = 4
+
+-- how much the exports of a component instance add at the most when it ends: the types that it exports
+abbrev pub most_given : TypeTable → LocalInitializer → ℕ
+most_given t (local.Export name kind.Type_ n) = 1 + most_types t
+most_given t _ = 0
 
 -- how much the preparation of an item adds at the most: that of an import likewise, and others aren't prepared
 abbrev pub most_prepared : TypeTable → LocalInitializer → ℕ
-most_prepared t (local.Import name ty) = 4 + most_types t
+most_prepared t (local.Import name ty) = most_converted t 1
 most_prepared t _ = 0
 
 -- how much these items add at the most

@@ -14,6 +14,8 @@ pub record AddsEach (more : ListName → ℕ) (cores_more definitions_more : ℕ
   pub closures : length new.closures ≤ length old.closures + definitions_more
   pub instances : length new.instances ≤ length old.instances + definitions_more
   pub begun : new.graph.num_runtime_component_instances ≡ old.graph.num_runtime_component_instances
+  pub resources : length new.graph.imported_resources + length new.graph.resources
+      ≤ length old.graph.imported_resources + length old.graph.resources + more list.resources
 
 -- nothing in any list
 abbrev pub nowhere : ListName → ℕ

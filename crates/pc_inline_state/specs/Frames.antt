@@ -7,6 +7,8 @@ use Rattle.pc_numbers.specs.declared.component_entity.StaticModuleIndex.{StaticM
 use Rattle.pc_types.specs.declared.module_record.ModuleRecord.{ModuleRecord}
 use Rattle.pc_types.specs.declared.parsed.CoreKind.{CoreKind}
 use Rattle.pc_types.specs.declared.parsed.CoreKind.TheVariants as core
+use Rattle.pc_types.specs.Table.{is_module}
+use Rattle.pc_types.specs.TypeTree.{TypeTree}
 use Rattle.pc_spec_plan.specs.CoreValue.{CoreValue}
 use Rattle.pc_parsed.specs.Mark.{Mark}
 use Rattle.pc_spec_reading.specs.Scope as reading
@@ -21,8 +23,8 @@ use Rattle.pc_inline_state.specs.declared.definition.DefinitionId.{DefinitionId}
 use Rattle.pc_inline_state.specs.declared.frame.CoreInstance.{CoreInstance}
 use Rattle.pc_inline_state.specs.declared.frame.CoreInstance.TheVariants as instance
 use Rattle.pc_inline_state.specs.declared.frame.Frame.{Frame}
-use Rattle.pc_inline_state.specs.Stands.{ItemStands, Stands}
-use Rattle.pc_inline_state.specs.Tables.{Tables}
+use Rattle.pc_inline_state.specs.Stands.{IsTableTree, ItemStands, Stands}
+use Rattle.pc_inline_state.specs.Tables.{IsHostInstance, Tables}
 
 -- both are there and stand so, or neither is there
 pub data Both {A B : Type 0} (R : A → B → Type 0) : Option A → Option B → Type 0 where
@@ -48,6 +50,8 @@ module _ (ms : List ModuleRecord) (b : Tables) where
     made_stands : {i : InstanceId} {m : StaticModuleIndex} {args : List CoreDef}
         → slice_get b.graph.instances i.0 ≡ Some (source.Static m args)
         → CoreInstanceStands (instance.Made i m) (reading.of_module i.0 m.0)
+    host_stands : {i : InstanceId} {entry : ℕ} {tree : TypeTree} → IsHostInstance b.graph i
+        → IsTableTree ms b is_module entry tree → CoreInstanceStands (instance.Host i entry) (reading.of_host_module i.0 tree)
     bag_stands : {xs : List (List ℕ × (CoreKind × CoreId))} {items : List (List ℕ × CoreItem)}
         → SameNames BagItemStands xs items → CoreInstanceStands (instance.Bag xs) (reading.bag items)
 

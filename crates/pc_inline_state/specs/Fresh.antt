@@ -14,7 +14,9 @@ pub record IsFresh (t : TypeTable) (st : State) : Type 0 where
   pub definitions : st.definitions ≡ []
   pub closures : st.closures ≡ []
   pub instances : st.instances ≡ []
+  pub paths : st.paths ≡ []
   pub used : st.used.items ≡ []
+  pub table : st.table.now ≡ t
   pub resources : st.types.resources ≡ no_resources
   pub numbers : AreNumbers st.types t st.numbers
 

@@ -9,7 +9,11 @@ pub mod Gained
 pub mod Adds
 pub mod Stands
 pub mod Worlds
-pub mod Kinds
+pub mod Members
+pub mod Named
+pub mod Trails
+pub mod Ready
+pub mod TakesPath
 pub mod Index
 pub mod Frames
 pub mod KnowsSame

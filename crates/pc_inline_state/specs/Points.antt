@@ -1,5 +1,5 @@
 -- A moment of the code against a moment of the reading, and what the code makes of an item.
-use Rattle.std.specs.Prelude.{◌≡◌, ◌≤◌, ⊤, true, length, List, Result, Ok, Err, None}
+use Rattle.std.specs.Prelude.{◌≡◌, ◌≤◌, ◌+◌, ⊤, true, length, List, Result, Ok, Err, None}
 use Rattle.std.specs.List.{list_all}
 use Rattle.pc_types_lists.specs.Types.{IsFull}
 use Rattle.pc_types_builder.specs.Converted.{AreConverted}
@@ -19,6 +19,8 @@ use Rattle.pc_inline_state.specs.declared.state.State.{State}
 use Rattle.pc_inline_state.specs.Faults.{fault_of}
 use Rattle.pc_inline_state.specs.Frames.{FrameStands}
 use Rattle.pc_inline_state.specs.KnowsSame.{KnowsSame}
+use Rattle.pc_inline_state.specs.Members.{AreEarlier}
+use Rattle.pc_local.specs.Sound.{AreSoundBodies}
 use Rattle.pc_inline_state.specs.Tables.{Tables, tables_of}
 use Rattle.pc_inline_state.specs.Today.{built_row}
 use Rattle.pc_inline_state.specs.Typed.{AreNumbers}
@@ -33,6 +35,8 @@ pub data IsFullSomewhere (b : Tables) : Type 0 where
   full_definitions : 4294967295 ≤ length b.definitions → IsFullSomewhere b
   full_closures : 4294967295 ≤ length b.closures → IsFullSomewhere b
   full_exports : 4294967295 ≤ length b.instances → IsFullSomewhere b
+  -- imported and declared resources share their numbers
+  full_resources : 4294967295 ≤ length b.graph.imported_resources + length b.graph.resources → IsFullSomewhere b
 
 module _ (t : TypeTable) (ms : List ModuleRecord) where
   -- what is asked of the input: a sound table, and sound records of the modules that were handed in
@@ -45,9 +49,12 @@ module _ (t : TypeTable) (ms : List ModuleRecord) where
     pub ordered : IsOrdered st.graph
     pub items : HasItems ms st.graph
     pub plain : IsPlain st.graph
-    pub used : AreUsed st.graph st.used.items
+    pub used : AreUsed st.graph st.paths st.used.items
     pub numbers : AreNumbers st.types t st.numbers
-    pub held : HoldsTypes st.types st.graph
+    pub held : HoldsTypes st.types t st.graph
+    pub table : st.table.now ≡ t
+    pub bodies : AreSoundBodies (length ms) st.bodies.now
+    pub members : AreEarlier st.definitions st.instances
 
   -- a component instance in the code at a moment of the reading: the types builder knows what the scope knows, and what
   -- the component instance has converted is so

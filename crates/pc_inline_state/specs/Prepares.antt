@@ -19,10 +19,13 @@ pub record Prepares (t : TypeTable) (ms : List ModuleRecord) (old new : State) :
   pub instances : new.graph.instances ≡ old.graph.instances
   pub trampolines : new.graph.trampolines ≡ old.graph.trampolines
   pub imports : new.graph.imports ≡ old.graph.imports
+  pub imported_resources : new.graph.imported_resources ≡ old.graph.imported_resources
+  pub declared_resources : new.graph.resources ≡ old.graph.resources
   pub import_types : new.graph.import_types ≡ old.graph.import_types
   pub begun : new.graph.num_runtime_component_instances ≡ old.graph.num_runtime_component_instances
   pub exports : new.graph.exports ≡ old.graph.exports
   pub export_items : new.graph.export_items ≡ old.graph.export_items
+  pub paths : new.paths ≡ old.paths
   pub used : new.used ≡ old.used
 
 -- types were converted for a component instance, which had converted these before, and has those after

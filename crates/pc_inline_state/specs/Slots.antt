@@ -23,12 +23,13 @@ use Rattle.pc_inline_state.specs.Fits.{Fits}
 use Rattle.pc_inline_state.specs.Tables.{IsItem, Tables}
 use Rattle.pc_inline_state.specs.Holds.{Numbered, number_of, whole_of}
 
--- whether an item is a memory by its number
+-- whether an item may be a memory: by its number it is one, by a name it may be anything
 abbrev pub is_memory_item : ExportItem EntityIndex → Bool
 is_memory_item (item.Index (entity.Memory m)) = true
+is_memory_item (item.Name name) = true
 is_memory_item i = false
 
--- whether a definition is a memory
+-- whether a definition may be a memory
 abbrev pub is_memory : CoreDef → Bool
 is_memory (def.Export e) = is_memory_item e.item
 is_memory d = false

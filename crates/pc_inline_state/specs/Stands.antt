@@ -1,17 +1,21 @@
 -- What the numbers of the tables stand for: the values of the reading, with whole types.
-use Rattle.std.specs.Prelude.{◌≡◌, ◌<◌, ℕ, true, false, [], ◌∷◌, length, List, Option, None, Some, slice_get}
+use Rattle.std.specs.Prelude.{◌≡◌, ◌<◌, ℕ, Bool, true, [], ◌∷◌, length, List, Option, None, Some, slice_get}
 use Rattle.pc_numbers.specs.declared.component_entity.StaticComponentIndex.{StaticComponentIndex}
 use Rattle.pc_numbers.specs.declared.component_entity.StaticModuleIndex.{StaticModuleIndex}
-use Rattle.pc_numbers.specs.declared.runtime.ImportIndex.{ImportIndex}
 use Rattle.pc_numbers.specs.declared.runtime.ResourceIndex.{ResourceIndex}
 use Rattle.pc_types.specs.declared.module_record.ModuleRecord.{ModuleRecord}
 use Rattle.pc_types.specs.declared.parsed.CoreFuncSig.{CoreFuncSig}
 use Rattle.pc_types.specs.declared.parsed.CoreKind.{CoreKind}
 use Rattle.pc_types.specs.declared.parsed.CoreKind.TheVariants as core
+use Rattle.pc_types.specs.declared.parsed.DeclType.{DeclType}
+use Rattle.pc_types.specs.declared.type_index.TypeComponentInstanceIndex.{TypeComponentInstanceIndex}
 use Rattle.pc_types.specs.declared.type_index.TypeFuncIndex.{TypeFuncIndex}
+use Rattle.pc_types.specs.declared.type_index.TypeModuleIndex.{TypeModuleIndex}
+use Rattle.pc_types.specs.declared.types.ComponentExtern.{ComponentExtern}
+use Rattle.pc_types.specs.declared.types.TypeDef.{TypeDef}
 use Rattle.pc_types.specs.declared.types.TypeDef.TheVariants as type
-use Rattle.pc_types.specs.Names.{has_name}
-use Rattle.pc_types.specs.TypeTree.{Identity, TypeTree}
+use Rattle.pc_types.specs.Table.{is_instance, is_module}
+use Rattle.pc_types.specs.TypeTree.{Identity, Path, TypeTree, tree_of}
 use Rattle.pc_types_lists.specs.Types.{Types}
 use Rattle.pc_types_lists.specs.Trees.{HasTree}
 use Rattle.pc_spec_plan.specs.CoreValue as value
@@ -24,8 +28,12 @@ use Rattle.pc_parsed.specs.declared.payload.ExternName.{ExternName}
 use Rattle.pc_parsed.specs.Mark.{Mark, of_signature}
 use Rattle.pc_spec_reading.specs.Item.{Items, Lent, a_component, a_module}
 use Rattle.pc_spec_reading.specs.Value.{Chain, NamedValues, Value, and_value, closed, component_value, func_value}
-use Rattle.pc_spec_reading.specs.Value.{host_function, instance_value, lent_in, lifted_function, made_instance, module_value}
-use Rattle.pc_spec_reading.specs.Value.{no_values, static_module}
+use Rattle.pc_spec_reading.specs.HostTypes.{tree_along}
+use Rattle.pc_spec_reading.specs.Nodes.{extern_data}
+use Rattle.pc_spec_reading.specs.Types.{has_entry}
+use Rattle.pc_spec_reading.specs.Value.{host_function, host_instance, host_module, instance_value, lent_in}
+use Rattle.pc_spec_reading.specs.Value.{lifted_function, made_instance, module_value, no_values, static_module}
+use Rattle.pc_spec_reading.specs.Value.{type_value}
 use Rattle.pc_local.specs.declared.item.Translation.{Translation}
 use Rattle.pc_local.specs.Standing.{BodyStands, Names, OnlyLeaving}
 use Rattle.pc_inline_state.specs.declared.closure.Closure.{Closure}
@@ -38,6 +46,8 @@ use Rattle.pc_inline_state.specs.declared.definition.Definition.TheVariants as d
 use Rattle.pc_inline_state.specs.declared.definition.DefinitionId.{DefinitionId}
 use Rattle.pc_inline_state.specs.declared.definition.ExportsId.{ExportsId}
 use Rattle.pc_inline_state.specs.declared.definition.Options.{Options}
+use Rattle.pc_inline_state.specs.declared.state.Member.{Member}
+use Rattle.pc_inline_paths.specs.declared.path_id.PathId.{PathId}
 use Rattle.pc_inline_state.specs.Fits.{Fits}
 use Rattle.pc_inline_state.specs.Tables.{IsItem, Tables}
 use Rattle.pc_inline_state.specs.Holds.{Numbered, number_of, whole_of}
@@ -77,10 +87,28 @@ module _ (ms : List ModuleRecord) (b : Tables) where
         → OptionsStand o (value.options o.instance.0 o.string_encoding o.async_ (of_signature signature) callback
         post_return where_values_lie)
 
-  -- the function type has this tree, however resource numbers are read that fits the graph
+  -- the type has this tree, however resource numbers are read that fits the graph
+  abbrev pub IsType : TypeDef → TypeTree → Type 0
+  IsType d tree = (who : ResourceIndex → Identity) → Fits b.graph who → HasTree b.types who d tree
+
+  -- the same of a function type
   abbrev pub IsFunc : TypeFuncIndex → TypeTree → Type 0
-  IsFunc ty tree =
-      (who : ResourceIndex → Identity) → Fits b.graph who → HasTree b.types who (type.ComponentFunc ty) tree
+  IsFunc ty tree = IsType (type.ComponentFunc ty) tree
+
+  -- what the host gives at a path has this tree: the type of its import has it along the names
+  pub record IsHostType (path : Path) (tree : TypeTree) : Type 0 where
+    pub import : List ℕ × ComponentExtern
+    pub there : slice_get b.graph.import_types path.import ≡ Some import
+    pub whole : TypeTree
+    pub typed : IsType import.1.ty whole
+    pub along : tree_along path.names whole ≡ Some tree
+
+  -- an entry of the type table that passes a test has this tree, under resources that were known somewhere
+  pub record IsTableTree (test : DeclType → Bool) (n : ℕ) (tree : TypeTree) : Type 0 where
+    pub there : has_entry b.table test n ≡ true
+    pub known : List (ℕ × Identity)
+    pub component_instance : ℕ
+    pub is : tree_of known component_instance b.table n ≡ Some tree
 
   mutual
     -- a definition, by number
@@ -90,23 +118,34 @@ module _ (ms : List ModuleRecord) (b : Tables) where
 
     -- an entry of the table of definitions
     pub data DefinitionStands : Definition → Value → Type 0 where
-      stands_host : {i : ImportIndex} → i.0 < length b.graph.import_types
-          → DefinitionStands (definition.HostFunc i)
-          (func_value (host_function (record { import = i.0; names = [] })))
+      stands_host : {p : PathId} {ty : TypeFuncIndex} {path : Path} {tree : TypeTree}
+          → slice_get b.paths p.0 ≡ Some path → IsHostType path tree → IsFunc ty tree
+          → DefinitionStands (definition.HostFunc p ty) (func_value (host_function path))
       stands_lifted : {ty : TypeFuncIndex} {func : CoreId} {o : Options} {tree : TypeTree} {v : CoreValue Mark}
           {os : value.Options Mark} → IsFunc ty tree → ItemStands core.Func func v → OptionsStand o os
           → DefinitionStands (definition.LiftedFunc ty func o) (func_value (lifted_function tree v os))
-      stands_static : {m : StaticModuleIndex} {ty : ℕ} {tree : TypeTree}
+      stands_static : {m : StaticModuleIndex} {ty : ℕ} {tree : TypeTree} → m.0 < length ms
+          → IsTableTree is_module ty tree → (i : TypeModuleIndex) → IsType (type.Module i) tree
           → DefinitionStands (definition.StaticModule m ty) (module_value (static_module m.0 tree))
+      stands_host_module : {p : PathId} {ty : TypeModuleIndex} {entry : ℕ} {path : Path} {tree : TypeTree}
+          → slice_get b.paths p.0 ≡ Some path → IsTableTree is_module entry tree → IsType (type.Module ty) tree
+          → DefinitionStands (definition.HostModule p ty entry) (module_value (host_module path tree))
       stands_component : {s : StaticComponentIndex} {k : ClosureId} {tr : Translation} {inner : Names} {body : Items}
           {closure : Closure} {chain : Chain} → slice_get b.bodies s.0 ≡ Some tr → BodyStands b.bodies inner tr body
           → OnlyLeaving inner body → slice_get b.closures k.0 ≡ Some closure
           → Captured a_module closure.modules inner.modules chain
           → Captured a_component closure.components inner.components chain
           → DefinitionStands (definition.Component s k) (component_value (closed body chain))
-      stands_instance : {n : ExportsId} {es : List (List ℕ × DefinitionId)} {vs : NamedValues} {tree : TypeTree}
-          → slice_get b.instances n.0 ≡ Some es → MembersStand [] es vs
-          → DefinitionStands (definition.Instance n) (instance_value (made_instance vs tree))
+      stands_host_instance : {p : PathId} {ty : TypeComponentInstanceIndex} {entry : ℕ} {path : Path}
+          {tree : TypeTree} → slice_get b.paths p.0 ≡ Some path → IsHostType path tree → IsTableTree is_instance entry tree
+          → IsType (type.ComponentInstance ty) tree
+          → DefinitionStands (definition.HostInstance p ty entry) (instance_value (host_instance path tree))
+      stands_instance : {n : ExportsId} {ty : TypeComponentInstanceIndex} {es : List (List ℕ × Member)}
+          {vs : NamedValues} {tree : TypeTree} → slice_get b.instances n.0 ≡ Some es → MembersStand es vs
+          → IsType (type.ComponentInstance ty) tree
+          → DefinitionStands (definition.Instance n ty) (instance_value (made_instance vs tree))
+      stands_type : {d : TypeDef} {tree : TypeTree} → IsType d tree
+          → DefinitionStands (definition.Type_ d) (type_value tree)
 
     -- captured variables, by the counts and indices that name them in a chain
     pub data Captured : Lent → List DefinitionId → List (ℕ × ℕ) → Chain → Type 0 where
@@ -115,13 +154,9 @@ module _ (ms : List ModuleRecord) (b : Tables) where
           {chain : Chain} {v : Value} → lent_in chain k c n ≡ Some v → Stands id v → Captured k ids names chain
           → Captured k (id ∷ ids) ((c, n) ∷ names) chain
 
-    -- what an instance exports, where these names stood before: of a name that stands twice the first counts
-    pub data MembersStand : (seen : List (List ℕ)) → List (List ℕ × DefinitionId) → NamedValues → Type 0 where
-      no_members : {seen : List (List ℕ)} → MembersStand seen [] no_values
-      new_member : {seen : List (List ℕ)} {name : ExternName} {id : DefinitionId} {v : Value}
-          {es : List (List ℕ × DefinitionId)} {vs : NamedValues} → has_name seen name.name ≡ false → Stands id v
-          → MembersStand (name.name ∷ seen) es vs
-          → MembersStand seen ((name.name, id) ∷ es) (and_value name v vs)
-      old_member : {seen : List (List ℕ)} {name : ExternName} {v : Value} {es : List (List ℕ × DefinitionId)}
-          {vs : NamedValues} → has_name seen name.name ≡ true → MembersStand seen es vs
-          → MembersStand seen es (and_value name v vs)
+    -- what an instance exports, in order, each with what its name says of it
+    pub data MembersStand : List (List ℕ × Member) → NamedValues → Type 0 where
+      no_members : MembersStand [] no_values
+      and_member : {name : ExternName} {m : Member} {v : Value} {es : List (List ℕ × Member)} {vs : NamedValues}
+          → m.data_ ≡ extern_data name → Stands m.item v → MembersStand es vs
+          → MembersStand ((name.name, m) ∷ es) (and_value name v vs)

@@ -6,9 +6,12 @@ use Rattle.pc_types_lists.specs.Types.{Types}
 use Rattle.pc_types_lists.specs.Types as builder
 use Rattle.pc_numbers.specs.declared.component_entity.StaticModuleIndex.{StaticModuleIndex}
 use Rattle.pc_numbers.specs.declared.entity_index.EntityIndex.{EntityIndex}
+use Rattle.pc_numbers.specs.declared.runtime.RuntimeImportIndex.{RuntimeImportIndex}
 use Rattle.pc_numbers.specs.declared.runtime.TrampolineIndex.{TrampolineIndex}
 use Rattle.pc_types.specs.declared.module_record.ModuleRecord.{ModuleRecord}
 use Rattle.pc_types.specs.declared.parsed.CoreKind.{CoreKind}
+use Rattle.pc_types.specs.declared.parsed.TypeTable.{TypeTable}
+use Rattle.pc_types.specs.TypeTree.{Path}
 use Rattle.pc_types.specs.declared.parsed.CoreKind.TheVariants as core
 use Rattle.pc_types.specs.Record.{has_entity, index_kind}
 use Rattle.pc_info.specs.declared.core_def.ExportItem.TheVariants as item
@@ -20,20 +23,22 @@ use Rattle.pc_dfg.specs.Grows as graph
 use Rattle.pc_local.specs.declared.item.Translation.{Translation}
 use Rattle.pc_inline_state.specs.declared.closure.Closure.{Closure}
 use Rattle.pc_inline_state.specs.declared.definition.Definition.{Definition}
-use Rattle.pc_inline_state.specs.declared.definition.DefinitionId.{DefinitionId}
+use Rattle.pc_inline_state.specs.declared.state.Member.{Member}
 use Rattle.pc_inline_state.specs.declared.state.State.{State}
 use Rattle.pc_inline_state.specs.Fits.{FitsBefore}
 
 -- the types builder, the graph so far, and the tables: core items, definitions, what components captured, what
--- instances export, and the bodies of the program
+-- instances export, the paths to host items, the bodies of the program, and its type table
 pub record Tables : Type 0 where
   pub types : Types
   pub graph : ComponentDfg
   pub cores : List CoreDef
   pub definitions : List Definition
   pub closures : List Closure
-  pub instances : List (List (List ℕ × DefinitionId))
+  pub instances : List (List (List ℕ × Member))
+  pub paths : List Path
   pub bodies : List Translation
+  pub table : TypeTable
 
 -- those of a state
 abbrev pub tables_of : State → Tables
@@ -44,7 +49,9 @@ tables_of st = record {
   definitions = st.definitions;
   closures = st.closures;
   instances = st.instances;
+  paths = st.paths;
   bodies = st.bodies.now;
+  table = st.table.now;
 }
 
 -- each number still names what it named, and resource numbers that fit now fitted
@@ -56,7 +63,15 @@ pub record Keeps (old new : Tables) : Type 0 where
   pub definitions : Kept old.definitions new.definitions
   pub closures : Kept old.closures new.closures
   pub instances : Kept old.instances new.instances
+  pub paths : Kept old.paths new.paths
   pub bodies : new.bodies ≡ old.bodies
+  pub table : new.table ≡ old.table
+
+-- the core instance is made of a module of the host
+pub record IsHostInstance (g : ComponentDfg) (i : InstanceId) : Type 0 where
+  pub import : RuntimeImportIndex
+  pub arguments : List (List ℕ × List (List ℕ × CoreDef))
+  pub made : slice_get g.instances i.0 ≡ Some (source.Import import arguments)
 
 -- Where the core modules that were handed in have these records.
 module _ (ms : List ModuleRecord) where
@@ -73,4 +88,6 @@ module _ (ms : List ModuleRecord) where
   pub data IsItem (g : ComponentDfg) : CoreKind → CoreDef → Type 0 where
     is_entity : {k : CoreKind} {i : InstanceId} {e : EntityIndex} → index_kind e ≡ k → HasEntity g i e
         → IsItem g k (def.Export (record { instance = i; item = item.Index e }))
+    is_named : {k : CoreKind} {i : InstanceId} {name : List ℕ} → IsHostInstance g i
+        → IsItem g k (def.Export (record { instance = i; item = item.Name name }))
     is_trampoline : {t : TrampolineIndex} → t.0 < length g.trampolines → IsItem g core.Func (def.Trampoline t)

@@ -1,38 +1,48 @@
 -- What all component instances share, against the world of the reading.
-use Rattle.std.specs.Prelude.{◌≡◌, ◌<◌, ◌≤◌, ℕ, false, count_by, [], length, List, Option, None}
+use Rattle.std.specs.Prelude.{◌≡◌, ◌<◌, ◌≤◌, ℕ, true, false, count_by, [], length, List, Option, None}
 use Rattle.std.specs.Prelude.{Some, map, slice_get, replicate, All, Contains}
 use Rattle.std.specs.List.{AllZip, list_any}
 use Rattle.pc_entity.specs.declared.packed_option.PackedOption.TheVariants as packed
+use Rattle.pc_entity.specs.Lists.{AreDistinct}
+use Rattle.pc_types_lists.specs.Trees.{HasTree}
 use Rattle.pc_types_lists.specs.Types.{Types}
 use Rattle.pc_dfg.specs.declared.ids.OptionsId.{OptionsId}
 use Rattle.pc_numbers.specs.declared.component_entity.StaticModuleIndex.{StaticModuleIndex}
+use Rattle.pc_numbers.specs.declared.runtime.ImportIndex.{ImportIndex}
+use Rattle.pc_numbers.specs.declared.runtime.ResourceIndex.{ResourceIndex}
 use Rattle.pc_numbers.specs.declared.runtime.RuntimeImportIndex.{RuntimeImportIndex}
 use Rattle.pc_numbers.specs.declared.runtime.TrampolineIndex.{TrampolineIndex}
 use Rattle.pc_types.specs.declared.module_record.ModuleRecord.{ModuleRecord}
 use Rattle.pc_types.specs.declared.parsed.CoreFuncSig.{CoreFuncSig}
 use Rattle.pc_types.specs.declared.parsed.CoreKind.{CoreKind}
 use Rattle.pc_types.specs.declared.parsed.CoreKind.TheVariants as core
+use Rattle.pc_types.specs.declared.parsed.TypeTable.{TypeTable}
 use Rattle.pc_types.specs.declared.type_index.TypeFuncIndex.{TypeFuncIndex}
+use Rattle.pc_types.specs.declared.type_index.TypeModuleIndex.{TypeModuleIndex}
 use Rattle.pc_types.specs.declared.types.ComponentExtern.{ComponentExtern}
+use Rattle.pc_types.specs.declared.types.TypeDef.TheVariants as type
+use Rattle.pc_types.specs.Table.{is_module}
+use Rattle.pc_types.specs.TypeTree.{Identity, Path, TypeTree, tree_of}
 use Rattle.pc_spec_plan.specs.CoreValue.{CoreValue}
 use Rattle.pc_spec_plan.specs.Log.{Entry, declared, instances_of, map_entry, trace}
 use Rattle.pc_spec_plan.specs.PlanView as plan
 use Rattle.pc_trampoline.specs.declared.part.Mark.TheVariants as mark
 use Rattle.pc_parsed.specs.Mark.{Mark, of_type}
-use Rattle.pc_spec_reading.specs.Asked.{import_path, is_declared, paths_needed, signature_of}
+use Rattle.pc_spec_reading.specs.Asked.{is_declared, paths_needed, signature_of}
 use Rattle.pc_spec_reading.specs.Nodes.{extern_data}
 use Rattle.pc_spec_reading.specs.SameTypes.{same_path}
-use Rattle.pc_spec_reading.specs.World.{HostImport, World}
+use Rattle.pc_spec_reading.specs.Types.{has_entry}
+use Rattle.pc_spec_reading.specs.World.{HostImport, World, resources_declared}
 use Rattle.pc_dfg.specs.declared.core_def.CoreDef.{CoreDef}
 use Rattle.pc_dfg.specs.declared.core_def.CoreDef.TheVariants as def
 use Rattle.pc_dfg.specs.declared.dfg.ComponentDfg.{ComponentDfg}
-use Rattle.pc_dfg.specs.declared.export.Export.{Export}
 use Rattle.pc_dfg.specs.declared.export.Export.TheVariants as export
-use Rattle.pc_dfg.specs.declared.instance.Instance.{Instance}
+use Rattle.pc_dfg.specs.declared.instance.Resource.{Resource}
 use Rattle.pc_dfg.specs.declared.options.CanonicalOptions.{CanonicalOptions}
 use Rattle.pc_dfg.specs.declared.instance.Instance.TheVariants as source
 use Rattle.pc_dfg.specs.declared.instance.SideEffect.{SideEffect}
-use Rattle.pc_dfg.specs.Effects.{MeansEffect}
+use Rattle.pc_dfg.specs.Effects.{Argument, MeansEffect, host_arguments}
+use Rattle.pc_dfg.specs.Means.{HasPath}
 use Rattle.pc_dfg.specs.Numbers.{SignedTrampoline, slots_of}
 pub use Rattle.pc_inline_state.specs.Fits.{path_of}
 use Rattle.pc_inline_state.specs.Fits.{Fits}
@@ -62,49 +72,60 @@ pub record HasItems (ms : List ModuleRecord) (g : ComponentDfg) : Type 0 where
       × All (λ d. (k : CoreKind) × IsItem ms g k d) args
   pub slots : (k : plan.SlotKind) (n : ℕ) (d : CoreDef) → slice_get (slots_of g k) n ≡ Some d
       → IsItem ms g (slot_kind k) d
+  -- and so is a module of the host
+  pub hosts : (i : ℕ) (r : RuntimeImportIndex) (args : List (List ℕ × List (List ℕ × CoreDef)))
+      → slice_get g.instances i ≡ Some (source.Import r args)
+      → All (λ (a : Argument). (k : CoreKind) × IsItem ms g k a.1.1) (host_arguments args)
+  pub destructors : (n : ℕ) (x : Resource) (d : CoreDef) → slice_get g.resources n ≡ Some x → x.dtor ≡ Some d
+      → IsItem ms g core.Func d
   pub exports : (n : ℕ) (ty : TypeFuncIndex) (o : OptionsId) (d : CoreDef)
       → slice_get g.export_items n ≡ Some (export.LiftedFunction ty d o) → IsItem ms g core.Func d
+  -- a module that is exported was handed in
+  pub statics : (n ty : ℕ) (m : StaticModuleIndex) → slice_get g.export_items n ≡ Some (export.ModuleStatic ty m)
+      → m.0 < length ms
 
--- an instance of a module that was handed in
-abbrev pub IsStatic : Instance → Type 0
-IsStatic (source.Static m args) = Unit {0}
-IsStatic _ = ⊥
-
--- the export of a function that was lifted
-abbrev pub IsLifted : Export → Type 0
-IsLifted (export.LiftedFunction ty f o) = Unit {0}
-IsLifted _ = ⊥
-
--- a graph with instances of handed-in modules and exports of functions alone, and without what isn't built
+-- a graph without what isn't built: adapters and unsafe intrinsics
 pub record IsPlain (g : ComponentDfg) : Type 0 where
   pub adapters : g.adapters ≡ []
   pub adapter_modules : g.adapter_modules ≡ []
   pub adapter_partitionings : g.adapter_partitionings ≡ []
-  pub resources : g.resources ≡ []
-  pub imported_resources : g.imported_resources ≡ []
   pub unsafe_intrinsics : g.unsafe_intrinsics ≡ replicate 21 packed.None
-  pub instances : (i : ℕ) (x : Instance) → slice_get g.instances i ≡ Some x → IsStatic x
-  pub export_items : (n : ℕ) (x : Export) → slice_get g.export_items n ≡ Some x → IsLifted x
 
--- the builder holds the types and signatures that a graph names
-pub record HoldsTypes (types : Types) (g : ComponentDfg) : Type 0 where
+-- a module type of the table is held under a number
+pub record HoldsModule (types : Types) (t : TypeTable) (g : ComponentDfg) (ty : ℕ) : Type 0 where
+  pub there : has_entry t is_module ty ≡ true
+  pub known : List (ℕ × Identity)
+  pub component_instance : ℕ
+  pub tree : TypeTree
+  pub is : tree_of known component_instance t ty ≡ Some tree
+  pub number : TypeModuleIndex
+  pub holds : (who : ResourceIndex → Identity) → Fits g who → HasTree types who (type.Module number) tree
+
+-- the builder holds the signatures that the options of a graph name
+pub record HoldsTypes (types : Types) (t : TypeTable) (g : ComponentDfg) : Type 0 where
   pub options : (k : ℕ) (x : CanonicalOptions) → slice_get g.options k ≡ Some x
       → x.core_type.0 < length types.signatures
-  pub functions : (n : ℕ) (ty : TypeFuncIndex) (f : CoreDef) (o : OptionsId)
-      → slice_get g.export_items n ≡ Some (export.LiftedFunction ty f o) → ty.0 < length types.funcs
+  -- and the type of each handed-in module that is exported, which is a module type of the table
+  pub modules : (n ty : ℕ) (m : StaticModuleIndex) → slice_get g.export_items n ≡ Some (export.ModuleStatic ty m)
+      → HoldsModule types t g ty
 
 -- a graph that exports nothing yet
 pub record HasNoExports (g : ComponentDfg) : Type 0 where
   pub exports : g.exports ≡ []
   pub items : g.export_items ≡ []
 
--- the numbers of the imports that are used are those that they have in the graph
-pub record AreUsed (g : ComponentDfg) (used : List (Option RuntimeImportIndex)) : Type 0 where
-  pub room : length used ≡ length g.import_types
-  pub numbers : (i : ℕ) (r : RuntimeImportIndex) → slice_get used i ≡ Some (Some r)
-      → slice_get g.imports r.0 ≡ Some (record { 0 = i }, [])
-  pub others : (i : ℕ) → slice_get used i ≡ Some None
-      → list_any (same_path (import_path i)) (map path_of g.imports) ≡ false
+-- no path stands twice, and each begins at an import; the numbers of those that are used are those that they have in
+-- the graph
+pub record AreUsed (g : ComponentDfg) (paths : List Path) (used : List (Option RuntimeImportIndex)) : Type 0 where
+  pub room : length used ≡ length paths
+  pub distinct : AreDistinct paths
+  pub imports : (p : ℕ) (path : Path) → slice_get paths p ≡ Some path → path.import < length g.import_types
+  pub numbers : (p : ℕ) (path : Path) (r : RuntimeImportIndex) → slice_get paths p ≡ Some path
+      → slice_get used p ≡ Some (Some r) → HasPath g r.0 path
+  pub others : (p : ℕ) (path : Path) → slice_get paths p ≡ Some path → slice_get used p ≡ Some None
+      → list_any (same_path path) (map path_of g.imports) ≡ false
+  -- the path of each host item that is used is among these
+  pub known : (r : ℕ) (i : ImportIndex × List (List ℕ)) → slice_get g.imports r ≡ Some i → Contains paths (path_of i)
 
 module _ (types : Types) (g : ComponentDfg) where
   -- a side effect does what an entry says
@@ -140,7 +161,8 @@ module _ (types : Types) (g : ComponentDfg) where
     pub few_trampolines : length g.trampolines ≤ count_by is_declared w.log
     pub import_types : AllZip ImportStands g.import_types w.imports
     pub imports : map path_of g.imports ≡ paths_needed w.log
-    pub imported_resources : w.imported_resources ≡ []
+    pub imported_resources : AllZip (λ (r : RuntimeImportIndex). HasPath g r.0) g.imported_resources w.imported_resources
+    pub resources : length g.resources ≡ resources_declared w
     pub intrinsics : w.intrinsics ≡ []
     pub no_adapters : list_any is_made w.log ≡ false
     pub begun : w.begun ≡ g.num_runtime_component_instances

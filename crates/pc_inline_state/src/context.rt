@@ -1,15 +1,18 @@
 //! What an instantiation reads and doesn't change.
 
 use crate::core_modules::CoreModules;
-use crate::kinds::TableKinds;
 use pc_types::TypeTable;
+use pc_types_walk::{Leads, TableNames};
 use std::alloc::Global;
 
-/// The type table, with what is built with it, and the core modules that were handed in.
+/// The type table, with what was found out of it once, and the core modules that were handed in.
 pub struct Context<'a> {
     pub alloc: Global,
     pub table: &'a TypeTable,
-    pub kinds: TableKinds,
+    /// Through which exports each instance type leads to its resources.
+    pub leads: Leads,
+    /// Where each name stands among the exports of a type.
+    pub names: TableNames,
     pub modules: CoreModules<'a>,
 }
 
@@ -19,11 +22,15 @@ impl<'a> Drop for Context<'a> {
         let Context {
             alloc: _,
             table: _,
-            kinds: _,
+            leads,
+            names,
             modules,
         } = self;
         drop_modules(modules);
+        drop_table(leads, names);
     }
 }
 
 fn drop_modules(_modules: CoreModules<'_>) {}
+
+fn drop_table(_leads: Leads, _names: TableNames) {}

@@ -1,15 +1,18 @@
 //! What a core instance has under a name.
 
-ghost use Rattle.std.specs.Prelude.{◌≡◌, IfErr, IfOk};
+ghost use Rattle.std.specs.Prelude.{◌≡◌, ℕ, List, Some, IfErr, IfOk};
+ghost use Rattle.std.specs.Option.{option_copied};
+ghost use Rattle.pc_types.specs.declared.parsed.CoreEntity.{CoreEntity};
 ghost use Rattle.pc_types.specs.declared.parsed.CoreKind.{CoreKind};
 ghost use Rattle.pc_spec_plan.specs.CoreValue.{CoreValue};
 ghost use Rattle.pc_parsed.specs.Mark.{Mark};
 ghost use Rattle.pc_dfg.specs.declared.core_def.CoreDef.TheVariants as def;
 ghost use Rattle.pc_info.specs.declared.core_def.ExportItem.TheVariants as item;
 ghost use Rattle.pc_inline_state.specs.AddsEach.{AddsEach, nowhere};
-ghost use Rattle.pc_inline_state.specs.Bags.{bag_item, export_item};
+ghost use Rattle.pc_inline_state.specs.Bags.{bag_item, export_item, module_export};
 ghost use Rattle.pc_inline_state.specs.Found.{ArgumentStands, FoundThere, ItemFound};
 ghost use Rattle.pc_inline_state.specs.Prepares.{Prepares};
+ghost use Rattle.pc_inline_state.specs.Ready.{IsReady};
 ghost use Rattle.pc_inline_state.specs.Refused.{LacksRoom};
 ghost use Rattle.pc_inline_state.specs.Stands.{ItemStands};
 ghost use Rattle.pc_inline_state.specs.Tables.{tables_of};
@@ -20,13 +23,20 @@ use crate::error::ItemError;
 use crate::frame::CoreInstance;
 use crate::state::State;
 use pc_dfg::{CoreDef, CoreExport, ExportItem, InstanceId};
-use pc_entity::{EntityIndex, NoMemory, TextMap, TryClone};
-use pc_types::CoreKind;
+use pc_entity::{EntityIndex, NoMemory, Text, TextMap, TryClone};
+use pc_types::{CoreEntity, CoreKind, DeclType, TypeTable};
+use std::alloc::Global;
 
-/// An entity of a core instance that was made, or a core item of the table.
+/// An entity of a core instance that was made, what an instance of a host module exports at a place of its type, or a
+/// core item of the table.
 #[derive(Clone, Copy)]
 pub enum CoreItem {
     Entity(InstanceId, EntityIndex),
+    Named {
+        instance: InstanceId,
+        entry: u32,
+        place: usize,
+    },
     Known(CoreId),
 }
 
@@ -38,6 +48,37 @@ fn entity_def(instance: InstanceId, entity: EntityIndex) -> CoreDef
         instance,
         item: ExportItem::Index(entity),
     })
+}
+
+/// An item of a core instance by its name as a definition.
+fn named_def(
+    alloc: Global,
+    table: &TypeTable,
+    instance: InstanceId,
+    entry: u32,
+    place: usize,
+) -> Result<CoreDef, NoMemory>
+    requires there { (e : List ℕ × CoreEntity) × (module_export table.now entry place ≡ Some e) }
+    ensures { IfOk result (λ d. (e : List ℕ × CoreEntity) → module_export table.now entry place ≡ Some e
+        → d ≡ def.Export (record { instance = instance; item = item.Name e.0 })) }
+{
+    match module_export(table, entry, place) {
+        Some(export) => Ok(CoreDef::Export(CoreExport {
+            instance,
+            item: ExportItem::Name(export.0.try_clone(alloc)?),
+        })),
+        None => unreachable!(),
+    }
+}
+
+/// An export of an entry that is a module type, by its place.
+fn module_export(table: &TypeTable, entry: u32, place: usize) -> Option<&(Text, CoreEntity)>
+    ensures { option_copied result ≡ module_export table.now entry place }
+{
+    match table.entry(entry) {
+        Some(DeclType::Module { exports, .. }) => exports.as_slice().get(place),
+        _ => None,
+    }
 }
 
 /// What a bag has under a name, if it is of a kind.
@@ -55,7 +96,8 @@ fn bag_item(items: &TextMap<(CoreKind, CoreId)>, kind: CoreKind, name: &str) -> 
 impl<'a> Context<'a> {
     /// What a core instance has under a name, if it is of a kind.
     pub fn export(&self, instance: &CoreInstance, kind: CoreKind, name: &str) -> Option<CoreItem>
-        ensures { result ≡ export_item self.now.modules kind name.now instance.now }
+        requires ready { IsReady self.now }
+        ensures { result ≡ export_item self.now.table.now self.now.modules kind name.now instance.now }
     {
         match instance {
             CoreInstance::Made {
@@ -69,12 +111,26 @@ impl<'a> Context<'a> {
                     None
                 }
             }
+            CoreInstance::Host { instance, entry } => {
+                let place = self.names.place(*entry, name)?;
+                let export = module_export(self.table, *entry, place)?;
+                if kind.is(export.1.kind()) {
+                    Some(CoreItem::Named {
+                        instance: *instance,
+                        entry: *entry,
+                        place,
+                    })
+                } else {
+                    None
+                }
+            }
             CoreInstance::Bag(items) => bag_item(items, kind, name),
         }
     }
 
     /// The definition of what was found.
     pub fn found_def(&self, state: &State<'_>, item: CoreItem) -> Result<CoreDef, NoMemory>
+        requires table { state.now.table.now ≡ self.now.table.now }
         requires there { FoundThere self.now.modules (tables_of state.now) item }
         ensures { IfOk result (λ d. (k : CoreKind) (v : CoreValue Mark)
             → ItemFound self.now.modules (tables_of state.now) k item v
@@ -82,12 +138,19 @@ impl<'a> Context<'a> {
     {
         match item {
             CoreItem::Entity(instance, entity) => Ok(entity_def(instance, entity)),
+            CoreItem::Named {
+                instance,
+                entry,
+                place,
+            } => named_def(self.alloc, self.table, instance, entry, place),
             CoreItem::Known(id) => state.cores[id].try_clone(self.alloc),
         }
     }
 
     /// The number of what was found in the table of core items.
     pub fn found_id(&self, state: &mut State<'_>, item: CoreItem) -> Result<CoreId, ItemError>
+        requires table { state.old.table.now ≡ self.now.table.now }
+        requires there { FoundThere self.now.modules (tables_of state.old) item }
         ensures prepares { Prepares self.now.table.now self.now.modules state.old state.new }
         ensures adds { AddsEach nowhere 1 0 (tables_of state.old) (tables_of state.new) }
         ensures id { IfOk result (λ id. (k : CoreKind) (v : CoreValue Mark)
@@ -97,6 +160,14 @@ impl<'a> Context<'a> {
     {
         match item {
             CoreItem::Entity(instance, entity) => state.push_core(entity_def(instance, entity)),
+            CoreItem::Named {
+                instance,
+                entry,
+                place,
+            } => {
+                let def = named_def(self.alloc, self.table, instance, entry, place)?;
+                state.push_core(def)
+            }
             CoreItem::Known(id) => Ok(id),
         }
     }

@@ -5,11 +5,14 @@ ghost use Rattle.std.proofs.Common.{refl, rules};
 ghost use Rattle.pc_inline_state.specs.Definitions.{is_of_kind};
 
 use pc_entity::{
-    EntityRef, ImportIndex, ModuleInternedTypeIndex, RuntimeComponentInstanceIndex,
-    StaticComponentIndex, StaticModuleIndex,
+    EntityRef, ModuleInternedTypeIndex, RuntimeComponentInstanceIndex, StaticComponentIndex,
+    StaticModuleIndex,
 };
+use pc_inline_paths::PathId;
 use pc_parsed::ItemKind;
-use pc_types::{StringEncoding, TypeFuncIndex};
+use pc_types::{
+    StringEncoding, TypeComponentInstanceIndex, TypeDef, TypeFuncIndex, TypeModuleIndex,
+};
 
 /// The number of a core item in the table of core items.
 #[derive(Clone, Copy, PartialEq, Eq, PartialOrd, Ord, Hash)]
@@ -107,11 +110,15 @@ impl EntityRef for ExportsId {
     }
 }
 
-/// An item of a component that isn't a core item.
+/// An item of a component that isn't a core item. What the host gives is known by its path, and has its type twice: as a
+/// number of the types builder, and as the table entry that has the names and kinds of what it exports.
 #[derive(Clone, Copy)]
 pub enum Definition {
-    /// A function of the host, by its import.
-    HostFunc(ImportIndex),
+    /// A function of the host.
+    HostFunc {
+        path: PathId,
+        ty: TypeFuncIndex,
+    },
     /// A core function, lifted.
     LiftedFunc {
         ty: TypeFuncIndex,
@@ -123,13 +130,30 @@ pub enum Definition {
         index: StaticModuleIndex,
         ty: u32,
     },
+    /// A core module of the host.
+    HostModule {
+        path: PathId,
+        ty: TypeModuleIndex,
+        entry: u32,
+    },
     /// A nested component, with what it captured where it was defined.
     Component {
         index: StaticComponentIndex,
         closure: ClosureId,
     },
+    /// A component instance of the host.
+    HostInstance {
+        path: PathId,
+        ty: TypeComponentInstanceIndex,
+        entry: u32,
+    },
     /// A component instance, by what it exports.
-    Instance(ExportsId),
+    Instance {
+        exports: ExportsId,
+        ty: TypeComponentInstanceIndex,
+    },
+    /// A type.
+    Type_(TypeDef),
 }
 
 impl Definition {
@@ -141,13 +165,24 @@ impl Definition {
             ItemKind::Func => {
                 matches!(
                     self,
-                    Definition::HostFunc(_) | Definition::LiftedFunc { .. }
+                    Definition::HostFunc { .. } | Definition::LiftedFunc { .. }
                 )
             }
-            ItemKind::Module => matches!(self, Definition::StaticModule { .. }),
-            ItemKind::Instance => matches!(self, Definition::Instance(_)),
+            ItemKind::Module => {
+                matches!(
+                    self,
+                    Definition::StaticModule { .. } | Definition::HostModule { .. }
+                )
+            }
+            ItemKind::Instance => {
+                matches!(
+                    self,
+                    Definition::HostInstance { .. } | Definition::Instance { .. }
+                )
+            }
             ItemKind::Component => matches!(self, Definition::Component { .. }),
-            ItemKind::Type_ | ItemKind::Value => false,
+            ItemKind::Type_ => matches!(self, Definition::Type_(_)),
+            ItemKind::Value => false,
         }
     }
 }

@@ -7,7 +7,9 @@ ghost use Rattle.pc_inline_state.specs.Lists.{core_ids, item_ids, with_core_id, 
 use crate::definition::{CoreId, DefinitionId};
 use crate::lookup::at;
 use pc_dfg::InstanceId;
-use pc_entity::{NoMemory, RuntimeComponentInstanceIndex, Seq, StaticModuleIndex, TextMap};
+use pc_entity::{
+    NoMemory, ResourceIndex, RuntimeComponentInstanceIndex, Seq, StaticModuleIndex, TextMap,
+};
 use pc_parsed::ItemKind;
 use pc_types::{CoreKind, Place};
 use pc_types_builder::Converted;
@@ -21,12 +23,24 @@ pub enum CoreInstance {
         instance: InstanceId,
         core_module: StaticModuleIndex,
     },
+    /// An instance of a core module of the host, whose exports the table entry of its type names.
+    Host {
+        instance: InstanceId,
+        entry: u32,
+    },
     /// Core items under names.
     Bag(TextMap<(CoreKind, CoreId)>),
 }
 
-/// A component instance while its items are read: what its indices count into, its arguments by name, and the types
-/// that were converted for it.
+/// What a table number of a resource stood for before it was made to stand for another.
+#[derive(Clone, Copy)]
+pub struct Change {
+    pub number: u32,
+    pub was: Option<ResourceIndex>,
+}
+
+/// A component instance while its items are read: what its indices count into, its arguments by name, the types that
+/// were converted for it, and what the resource numbers that it changed stood for before, the oldest change first.
 pub struct Frame {
     pub core_funcs: Seq<CoreId>,
     pub memories: Seq<CoreId>,
@@ -41,6 +55,7 @@ pub struct Frame {
     pub arguments: TextMap<DefinitionId>,
     pub component_instance: RuntimeComponentInstanceIndex,
     pub converted: Converted,
+    pub changes: Seq<Change>,
 }
 
 impl Frame {
@@ -65,6 +80,7 @@ impl Frame {
           arguments = arguments;
           component_instance = component_instance;
           converted = converted;
+          changes = [];
         } }
     {
         Frame {
@@ -81,6 +97,7 @@ impl Frame {
             arguments,
             component_instance,
             converted,
+            changes: Seq::new(alloc),
         }
     }
 
@@ -166,11 +183,12 @@ impl Drop for Frame {
             arguments,
             component_instance: _,
             converted,
+            changes,
         } = self;
         drop_core_items(core_funcs, memories, tables, globals, tags);
         drop_items(modules, funcs, components, instances);
         drop_named(core_instances, arguments);
-        drop_converted(converted);
+        drop_converted(converted, changes);
     }
 }
 
@@ -191,4 +209,4 @@ fn drop_items(
 
 fn drop_named(_core_instances: Seq<CoreInstance>, _arguments: TextMap<DefinitionId>) {}
 
-fn drop_converted(_converted: Converted) {}
+fn drop_converted(_converted: Converted, _changes: Seq<Change>) {}

@@ -1,14 +1,17 @@
 //! What all component instances share while they are read: the graph so far, and the tables of what their items are.
 
-ghost use Rattle.std.specs.Prelude.{◌≡◌, ◌++◌, ◌∷◌, [], length, None, Some, slice_get, option_and_then, IfOk, IfErr};
+ghost use Rattle.std.specs.Prelude.{◌≡◌, ◌<◌, ◌++◌, ◌∷◌, [], length, None, Some, slice_get, option_and_then};
+ghost use Rattle.std.specs.Prelude.{option_map, IfOk, IfErr};
 ghost use Rattle.std.specs.Prelude.{OnOk, OnErr};
 ghost use Rattle.pc_entity.specs.Lists.{value_of};
-ghost use Rattle.pc_types.specs.declared.parsed.TypeTable.{TypeTable};
+ghost use Rattle.pc_types.specs.TypeTree.{Path};
+ghost use Rattle.pc_inline_paths.specs.Paths.{at_import, further};
 ghost use Rattle.pc_types.specs.Table.{is_some_and};
 ghost use Rattle.pc_inline_state.specs.AddsEach.{AddsEach, nowhere};
 ghost use Rattle.pc_inline_state.specs.Fresh.{IsFresh, counted_tables};
-ghost use Rattle.pc_inline_state.specs.Definitions.{exports_of, host_import, is_of_kind, module_index};
-ghost use Rattle.pc_inline_state.specs.declared.definition.ExportsId.{ExportsId};
+ghost use Rattle.pc_inline_state.specs.Definitions.{host_func, is_of_kind};
+ghost use Rattle.pc_inline_state.specs.Members.{item_of};
+ghost use Rattle.pc_inline_state.specs.TakesPath.{NotesPath, SoundWithPaths, TakesPath};
 ghost use Rattle.pc_inline_state.specs.Refused.{LacksEntry, LacksRoom};
 ghost use Rattle.pc_inline_state.specs.Tables.{Keeps, tables_of};
 ghost use Rattle.pc_inline_state.specs.Typed.{AreNumbers, no_resources};
@@ -19,12 +22,13 @@ use crate::error::ItemError;
 use crate::numbers::Numbers;
 use pc_dfg::{ComponentDfg, CoreDef};
 use pc_entity::{
-    EntityRef, ImportIndex, NoMemory, PrimaryMap, RuntimeImportIndex, StaticComponentIndex,
-    StaticModuleIndex, TextMap,
+    EntityRef, ImportIndex, NoMemory, PrimaryMap, RuntimeImportIndex, StaticComponentIndex, Text,
+    TextMap,
 };
+use pc_inline_paths::{PathId, Paths};
 use pc_local::Translation;
 use pc_parsed::ItemKind;
-use pc_types::TypeKind;
+use pc_types::{ComponentExternData, TypeKind, TypeTable};
 use pc_types_builder::ComponentTypesBuilder;
 use std::alloc::Global;
 use std::mem;
@@ -45,20 +49,30 @@ fn append<K: EntityRef, V: Drop>(table: &mut PrimaryMap<K, V>, entry: V) -> Resu
     Ok(table.push(entry)?)
 }
 
+/// What a component instance exports under a name, with what the name says of itself.
+#[derive(Drop)]
+pub struct Member {
+    pub item: DefinitionId,
+    pub data_: ComponentExternData,
+}
+
 /// The types builder, the graph so far, the tables of what items are, what was asked for once already, and the bodies
-/// of the program.
+/// of the program with its type table.
 pub struct State<'a> {
     pub types: ComponentTypesBuilder,
     pub graph: ComponentDfg,
     pub cores: PrimaryMap<CoreId, CoreDef>,
     pub definitions: PrimaryMap<DefinitionId, Definition>,
     pub closures: PrimaryMap<ClosureId, Closure>,
-    /// What the instances export. Of a name that stands twice the first counts.
-    pub instances: PrimaryMap<ExportsId, TextMap<DefinitionId>>,
-    /// The number of each import of the root among the host items that are used, once it is.
+    /// What the instances export.
+    pub instances: PrimaryMap<ExportsId, TextMap<Member>>,
+    /// The paths to the host items that something names.
+    pub paths: Paths,
+    /// The number of each of them among the host items that are used, once it is.
     pub used: Vec<Option<RuntimeImportIndex>>,
     pub numbers: Numbers,
     pub bodies: &'a PrimaryMap<StaticComponentIndex, Translation>,
+    pub table: &'a TypeTable,
 }
 
 impl<'a> State<'a> {
@@ -68,11 +82,12 @@ impl<'a> State<'a> {
         types: ComponentTypesBuilder,
         numbers: Numbers,
         bodies: &'a PrimaryMap<StaticComponentIndex, Translation>,
+        table: &'a TypeTable,
     ) -> State<'a>
         ensures types { result.types ≡ types }
         ensures bodies { result.bodies.now ≡ bodies.now }
-        ensures fresh { (t : TypeTable) → types.resources ≡ no_resources → AreNumbers types t numbers
-            → IsFresh t result }
+        ensures fresh { types.resources ≡ no_resources → AreNumbers types table.now numbers
+            → IsFresh table.now result }
     {
         State {
             types,
@@ -81,9 +96,11 @@ impl<'a> State<'a> {
             definitions: PrimaryMap::new(alloc),
             closures: PrimaryMap::new(alloc),
             instances: PrimaryMap::new(alloc),
+            paths: Paths::new(alloc),
             used: Vec::new(alloc),
             numbers,
             bodies,
+            table,
         }
     }
 
@@ -125,7 +142,7 @@ impl<'a> State<'a> {
     }
 
     /// Adds what an instance exports, and answers its number.
-    pub fn push_instance(&mut self, exports: TextMap<DefinitionId>) -> Result<ExportsId, ItemError>
+    pub fn push_instance(&mut self, exports: TextMap<Member>) -> Result<ExportsId, ItemError>
         ensures key { IfOk result (λ id. id.0 ≡ length self.old.instances) }
         ensures ok { OnOk result (self.new ≡ record self.old { instances = self.old.instances ++ exports ∷ [] }) }
         ensures keeps { Keeps (tables_of self.old) (tables_of self.new) }
@@ -136,22 +153,60 @@ impl<'a> State<'a> {
         append(&mut self.instances, exports)
     }
 
-    /// One import more, which isn't used yet.
-    pub fn push_unused(&mut self) -> Result<(), NoMemory>
-        ensures ok { OnOk result (self.new.used.items ≡ self.old.used.items ++ None ∷ []) }
-        ensures rest { self.new ≡ record self.old { used = self.new.used } }
-        ensures err { OnErr result (self.new.used.items ≡ self.old.used.items) }
+    /// The path to an import of the root itself. A path that is new isn't used yet.
+    ///
+    /// There is no want of paths but that of memory: 4294967295 of them don't fit in one.
+    pub fn path_to_import(&mut self, import: ImportIndex) -> Result<PathId, NoMemory>
+        requires there { import.0 < length self.old.graph.import_types }
+        ensures takes { IfOk result (λ id. TakesPath (at_import import) self.old self.new id) }
+        ensures sound { OnOk result (SoundWithPaths self.old self.new) }
+        ensures keeps { Keeps (tables_of self.old) (tables_of self.new) }
+        ensures adds { AddsEach nowhere 0 0 (tables_of self.old) (tables_of self.new) }
+        ensures rest { self.new ≡ record self.old { paths = self.new.paths; used = self.new.used } }
     {
-        self.used.push(None)?;
+        let path = match self.paths.import(import) {
+            Ok(path) => path,
+            Err(_) => return Err(NoMemory),
+        };
+        self.note_path()?;
+        Ok(path)
+    }
+
+    /// The path that goes one name further than `parent`. A path that is new isn't used yet.
+    pub fn path_to_member(&mut self, parent: PathId, name: Text) -> Result<PathId, NoMemory>
+        requires held { parent.0 < length self.old.paths }
+        ensures takes { (p : Path) → slice_get self.old.paths parent.0 ≡ Some p
+            → IfOk result (λ id. TakesPath (further p name) self.old self.new id) }
+        ensures sound { OnOk result (SoundWithPaths self.old self.new) }
+        ensures keeps { Keeps (tables_of self.old) (tables_of self.new) }
+        ensures adds { AddsEach nowhere 0 0 (tables_of self.old) (tables_of self.new) }
+        ensures rest { self.new ≡ record self.old { paths = self.new.paths; used = self.new.used } }
+    {
+        let path = match self.paths.member(parent, name) {
+            Ok(path) => path,
+            Err(_) => return Err(NoMemory),
+        };
+        self.note_path()?;
+        Ok(path)
+    }
+
+    /// A path that is new isn't used yet.
+    fn note_path(&mut self) -> Result<(), NoMemory>
+        ensures ok { OnOk result (NotesPath self.old.paths self.old.used.items self.new.used.items) }
+        ensures rest { self.new ≡ record self.old { used = self.new.used } }
+    {
+        if self.used.len() < self.paths.len() {
+            self.used.push(None)?;
+        }
         Ok(())
     }
 
-    /// The import that a function of the host is, or nothing where a function was lifted.
-    pub fn host_func(&self, func: DefinitionId) -> Option<ImportIndex>
-        ensures { result ≡ option_and_then host_import (slice_get self.now.definitions func.0) }
+    /// The path of a function of the host, or nothing where a function was lifted.
+    pub fn host_func(&self, func: DefinitionId) -> Option<PathId>
+        ensures { result ≡ option_and_then host_func (slice_get self.now.definitions func.0) }
     {
         match self.definitions.get(func) {
-            Some(Definition::HostFunc(import)) => Some(*import),
+            Some(Definition::HostFunc { path, .. }) => Some(*path),
             _ => None,
         }
     }
@@ -166,27 +221,17 @@ impl<'a> State<'a> {
         }
     }
 
-    /// The definition that a component instance exports under a name.
-    pub fn member(&self, id: DefinitionId, name: &str) -> Option<DefinitionId>
-        ensures { result ≡ option_and_then (value_of name.now) (option_and_then (λ (n : ExportsId).
-            slice_get self.now.instances n.0) (option_and_then exports_of (slice_get self.now.definitions id.0))) }
+    /// The definition that a component instance from items, or of a component, exports under a name.
+    pub fn member(&self, exports: ExportsId, name: &str) -> Option<DefinitionId>
+        ensures { result ≡ option_map item_of
+            (option_and_then (value_of name.now) (slice_get self.now.instances exports.0)) }
     {
-        match self.definitions.get(id) {
-            Some(Definition::Instance(exports)) => match self.instances.get(*exports) {
-                Some(members) => members.get(name).copied(),
+        match self.instances.get(exports) {
+            Some(members) => match members.get(name) {
+                Some(member) => Some(member.item),
                 None => None,
             },
-            _ => None,
-        }
-    }
-
-    /// The core module that a definition is.
-    pub fn core_module(&self, id: DefinitionId) -> Option<StaticModuleIndex>
-        ensures { result ≡ option_and_then module_index (slice_get self.now.definitions id.0) }
-    {
-        match self.definitions.get(id) {
-            Some(Definition::StaticModule { index, .. }) => Some(*index),
-            _ => None,
+            None => None,
         }
     }
 
@@ -212,14 +257,16 @@ impl<'a> Drop for State<'a> {
             definitions,
             closures,
             instances,
+            paths,
             used,
             numbers,
             bodies: _,
+            table: _,
         } = self;
         drop_graph(types, graph);
         drop_tables(cores, definitions);
         drop_named(closures, instances);
-        drop_numbers(used, numbers);
+        drop_numbers(paths, used, numbers);
     }
 }
 
@@ -232,7 +279,7 @@ fn drop_tables(
 
 fn drop_named(
     _closures: PrimaryMap<ClosureId, Closure>,
-    _instances: PrimaryMap<ExportsId, TextMap<DefinitionId>>,
+    _instances: PrimaryMap<ExportsId, TextMap<Member>>,
 ) {}
 
-fn drop_numbers(_used: Vec<Option<RuntimeImportIndex>>, _numbers: Numbers) {}
+fn drop_numbers(_paths: Paths, _used: Vec<Option<RuntimeImportIndex>>, _numbers: Numbers) {}

@@ -6,7 +6,7 @@ ghost use Rattle.std.specs.Prelude.{IfErr, IfOk};
 ghost use Rattle.pc_types.specs.declared.types.TypeDef.{TypeDef};
 ghost use Rattle.pc_types.specs.declared.types.TypeDef.TheVariants as def;
 ghost use Rattle.pc_types.specs.Record.{has_signature};
-ghost use Rattle.pc_types.specs.Table.{is_func, table_fault};
+ghost use Rattle.pc_types.specs.Table.{is_func, is_instance, is_module, table_fault};
 ghost use Rattle.pc_types_lists.specs.Types as builder;
 ghost use Rattle.pc_types_lists.specs.Adds.{most_types};
 ghost use Rattle.pc_types_builder.specs.Converted.{AreConverted};
@@ -14,7 +14,7 @@ ghost use Rattle.pc_types_builder.specs.Trees.{IsEntry};
 ghost use Rattle.pc_spec_reading.specs.Types.{has_entry};
 ghost use Rattle.pc_inline_state.specs.Adds.{Adds};
 ghost use Rattle.pc_inline_state.specs.Prepares.{Converts};
-ghost use Rattle.pc_inline_state.specs.Refused.{LacksRoomOr};
+ghost use Rattle.pc_inline_state.specs.Refused.{LacksRoom, LacksRoomOr};
 ghost use Rattle.pc_inline_state.specs.Tables.{tables_of};
 ghost use Rattle.pc_inline_state.specs.Typed.{AreNumbers, AreOfFunction, AreSignatures, HasNoFunction, IsSignature};
 ghost use Rattle.pc_inline_state.specs.declared.error.ItemFault.TheVariants as item_fault;
@@ -23,7 +23,9 @@ use crate::context::Context;
 use crate::error::{ItemError, ItemFault};
 use crate::state::State;
 use pc_entity::ModuleInternedTypeIndex;
-use pc_types::{TypeError, TypeFuncIndex, TypeTable};
+use pc_types::{
+    TypeComponentInstanceIndex, TypeDef, TypeError, TypeFuncIndex, TypeModuleIndex, TypeTable,
+};
 use pc_types_builder::{ComponentTypesBuilder, Converted};
 
 /// Whether a number is of a function type.
@@ -32,6 +34,26 @@ pub fn is_func_type(table: &TypeTable, ty: u32) -> bool
 {
     match table.entry(ty) {
         Some(entry) => entry.is_func(),
+        None => false,
+    }
+}
+
+/// Whether a number is of an instance type.
+pub fn is_instance_type(table: &TypeTable, ty: u32) -> bool
+    ensures { result ≡ has_entry table.now is_instance ty }
+{
+    match table.entry(ty) {
+        Some(entry) => entry.is_instance(),
+        None => false,
+    }
+}
+
+/// Whether a number is of a module type.
+pub fn is_module_type(table: &TypeTable, ty: u32) -> bool
+    ensures { result ≡ has_entry table.now is_module ty }
+{
+    match table.entry(ty) {
+        Some(entry) => entry.is_module(),
         None => false,
     }
 }
@@ -86,6 +108,72 @@ impl<'a> Context<'a> {
             return Err(ItemError::Fault(ItemFault::BadType));
         }
         Ok(state.types.convert_func_with(self.table, ty, converted)?)
+    }
+
+    /// The builder's type for a table number, for a component instance that has begun and has converted these.
+    pub fn entry_type(
+        &self,
+        state: &mut State<'_>,
+        converted: &mut Converted,
+        n: u32,
+    ) -> Result<TypeDef, ItemError>
+        requires sound { table_fault self.now.table.now ≡ None }
+        requires converted { AreConverted state.old.types self.now.table.now converted.old }
+        requires begun { state.old.types.resources.current.0 < state.old.graph.num_runtime_component_instances }
+        ensures converts { Converts self.now.table.now state.old converted.old state.new converted.new }
+        ensures adds { Adds self.now.table.now (most_types self.now.table.now)
+            (tables_of state.old) (tables_of state.new) }
+        ensures is { IfOk result (λ d. IsEntry state.new.types self.now.table.now n d) }
+        ensures err { IfErr result
+            (LacksRoomOr item_fault.BadType (slice_get self.now.table.now.types n ≡ None) state.new) }
+    {
+        Ok(state.types.convert_type_with(self.table, n, converted)?)
+    }
+
+    /// The builder's number of an instance type, by its table number.
+    pub fn instance_type(
+        &self,
+        state: &mut State<'_>,
+        converted: &mut Converted,
+        ty: u32,
+    ) -> Result<TypeComponentInstanceIndex, ItemError>
+        requires sound { table_fault self.now.table.now ≡ None }
+        requires converted { AreConverted state.old.types self.now.table.now converted.old }
+        requires begun { state.old.types.resources.current.0 < state.old.graph.num_runtime_component_instances }
+        requires there { has_entry self.now.table.now is_instance ty ≡ true }
+        ensures converts { Converts self.now.table.now state.old converted.old state.new converted.new }
+        ensures adds { Adds self.now.table.now (most_types self.now.table.now)
+            (tables_of state.old) (tables_of state.new) }
+        ensures is { IfOk result (λ i. IsEntry state.new.types self.now.table.now ty (def.ComponentInstance i)) }
+        ensures err { IfErr result (LacksRoom state.new) }
+    {
+        match self.entry_type(state, converted, ty)? {
+            TypeDef::ComponentInstance(i) => Ok(i),
+            _ => unreachable!(),
+        }
+    }
+
+    /// The builder's number of a module type, by its table number.
+    pub fn module_type(
+        &self,
+        state: &mut State<'_>,
+        converted: &mut Converted,
+        ty: u32,
+    ) -> Result<TypeModuleIndex, ItemError>
+        requires sound { table_fault self.now.table.now ≡ None }
+        requires converted { AreConverted state.old.types self.now.table.now converted.old }
+        requires begun { state.old.types.resources.current.0 < state.old.graph.num_runtime_component_instances }
+        requires there { has_entry self.now.table.now is_module ty ≡ true }
+        ensures converts { Converts self.now.table.now state.old converted.old state.new converted.new }
+        ensures adds { Adds self.now.table.now (most_types self.now.table.now)
+            (tables_of state.old) (tables_of state.new) }
+        ensures is { IfOk result (λ i. IsEntry state.new.types self.now.table.now ty (def.Module i)) }
+        ensures err { IfErr result (LacksRoom state.new) }
+    {
+        match self.entry_type(state, converted, ty)? {
+            TypeDef::Module(i) => Ok(i),
+            _ => unreachable!(),
+        }
     }
 
     /// The builder's number of a core signature, by its table number.
