@@ -1,27 +1,30 @@
 -- What a step keeps and adds after a function's types were converted.
-use Rattle.std.proofs.Common.{◌≡◌, ◌+◌, List, [], Option, arith, ◌∙◌}
+use Rattle.std.proofs.Common.{◌≡◌, List, [], Option, arith, refl, ◌∙◌}
 use Rattle.pc_types.specs.declared.parsed.TypeTable.{TypeTable}
 use Rattle.pc_types.specs.declared.types.TypeDef.{TypeDef}
 use Rattle.pc_types_lists.specs.Adds.{most_types}
+use Rattle.pc_inline_state.specs.declared.frame.Change.{Change}
 use Rattle.pc_inline_state.specs.declared.state.State.{State}
-use Rattle.pc_inline_state.specs.Adds.{Adds}
+use Rattle.pc_inline_state.specs.Adds.{Adds, most_converted}
 use Rattle.pc_inline_state.specs.AddsEach.{AddsEach, nowhere}
 use Rattle.pc_inline_state.specs.Prepares.{Converts}
 use Rattle.pc_inline_state.specs.Tables.{Keeps, Tables, tables_of}
-use Rattle.pc_inline_state.proofs.AddsLemmas.{adds_then, adds_weaken, definition_few}
+use Rattle.pc_inline_state.specs.Trails.{Trails}
+use Rattle.pc_inline_state.proofs.AddsLemmas.{adds_both, adds_weaken, definition_few}
 use Rattle.pc_inline_state.proofs.StateLemmas.{converts_prepares, keeps_trans}
+use Rattle.pc_inline_state.proofs.TrailLemmas.{trails_same}
 
 module _ (t : TypeTable) (a b : Tables) where
   -- the types alone were added
-  pub types_few : Adds t (most_types t) a b → Adds t (4 + most_types t) a b
-  types_few h = adds_weaken t (most_types t) (4 + most_types t) a b (omega arith) h
+  pub types_few : Adds t (most_types t) a b → Adds t (most_converted t 1) a b
+  types_few h = adds_weaken t (most_types t) (most_converted t 1) a b (omega arith) h
 
   -- and then what a host function adds that is lowered
-  pub lower_adds : (x : Tables) → Adds t (most_types t) a b → Adds t 4 b x → Adds t (4 + most_types t) a x
-  lower_adds x h k = adds_then t 4 a b x (omega arith) h k
+  pub lower_adds : (x : Tables) → Adds t (most_types t) a b → Adds t 4 b x → Adds t (most_converted t 1) a x
+  lower_adds x h k = adds_both t (most_types t) 4 (most_converted t 1) a b x (omega arith) h k
 
   -- or the definition of a lifted function
-  pub lift_adds : (x : Tables) → Adds t (most_types t) a b → AddsEach nowhere 0 1 b x → Adds t (4 + most_types t) a x
+  pub lift_adds : (x : Tables) → Adds t (most_types t) a b → AddsEach nowhere 0 1 b x → Adds t (most_converted t 1) a x
   lift_adds x h k = lower_adds x h (definition_few t b x k)
 
 -- what is kept after that is kept from the start
@@ -30,8 +33,9 @@ pub lower_keeps : (t : TypeTable) (st mid : State) (before after : List (Option 
 lower_keeps t st mid before after x converts kept =
     keeps_trans (tables_of st) (tables_of mid) x (converts_prepares t [] st before mid after converts).keeps kept
 
--- and so are the resources
-pub lower_resources : (t : TypeTable) (st mid new : State) (before after : List (Option TypeDef))
+-- and nothing that is known changed
+pub lower_trail : (t : TypeTable) (st mid new : State) (before after : List (Option TypeDef)) (cs : List Change)
     → Converts t st before mid after → new.types.resources ≡ mid.types.resources
-    → new.types.resources ≡ st.types.resources
-lower_resources t st mid new before after converts same = same ∙ converts.grows.resources
+    → Trails cs st.types.resources cs new.types.resources
+lower_trail t st mid new before after cs converts same =
+    trails_same cs st.types.resources cs new.types.resources refl (same ∙ converts.grows.resources)

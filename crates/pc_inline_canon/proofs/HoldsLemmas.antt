@@ -1,9 +1,8 @@
 -- A types builder that holds what a graph names.
-use Rattle.std.proofs.Common.{◌≡◌, inl, inr, ◌<◌, ℕ, List, [], ◌∷◌, ◌++◌, length, Some, true≢false, refl, sym, ap}
+use Rattle.std.proofs.Common.{◌≡◌, inl, inr, ◌<◌, ℕ, List, length, Some, true≢false, refl, sym, ap}
 use Rattle.std.proofs.Common.{subst, ◌∙◌}
 use Rattle.std.specs.Prelude.{slice_get}
 use Rattle.std.proofs.lemmas.Option.{slice_get_within}
-use Rattle.pc_dfg.specs.declared.ids.OptionsId.{OptionsId}
 use Rattle.pc_numbers.specs.declared.runtime.ResourceIndex.{ResourceIndex}
 use Rattle.pc_types.specs.declared.type_index.TypeFuncIndex.{TypeFuncIndex}
 use Rattle.pc_types.specs.declared.types.TypeDef.{TypeDef}
@@ -13,12 +12,8 @@ use Rattle.pc_types.specs.TypeTree.{Identity, TypeTree}
 use Rattle.pc_types_lists.specs.Trees.{HasTree}
 use Rattle.pc_types_lists.specs.Types.{Types}
 use Rattle.pc_types_lists.proofs.HeldLemmas.{func_number, is_a_func}
-use Rattle.pc_dfg.specs.declared.core_def.CoreDef.{CoreDef}
-use Rattle.pc_dfg.specs.declared.export.Export.{Export}
-use Rattle.pc_dfg.specs.declared.export.Export.TheVariants as export
 use Rattle.pc_dfg.specs.declared.options.CanonicalOptions.{CanonicalOptions}
 use Rattle.pc_dfg.specs.Pushed.{IsPut}
-use Rattle.pc_inline_state.specs.Worlds.{IsLifted}
 use Rattle.pc_inline_canon.proofs.CoreInstanceLemmas.{found_in_push}
 
 func_below_as : (b : Types) (who : ResourceIndex → Identity) (d : TypeDef) (i : TypeFuncIndex) (t : TypeTree)
@@ -52,30 +47,3 @@ options_put types old new x put below held k y at = elim put.0 as (λ _. y.core_
         | inr last ↦ subst (λ (z : CanonicalOptions). z.core_type.0 < length types.signatures) last below
       ]
 ]
-
--- a lifted function that was added has a type that is held
-pub functions_push : (types : Types) (items : List Export) (t : TypeFuncIndex) (d : CoreDef) (p : OptionsId)
-    → t.0 < length types.funcs
-    → ((n : ℕ) (ty : TypeFuncIndex) (f : CoreDef) (o : OptionsId)
-    → slice_get items n ≡ Some (export.LiftedFunction ty f o) → ty.0 < length types.funcs)
-    → (n : ℕ) (ty : TypeFuncIndex) (f : CoreDef) (o : OptionsId)
-    → slice_get (items ++ export.LiftedFunction t d p ∷ []) n ≡ Some (export.LiftedFunction ty f o)
-    → ty.0 < length types.funcs
-functions_push types items t d p below held n ty f o at =
-    elim (found_in_push items (export.LiftedFunction t d p) n (export.LiftedFunction ty f o) at)
-    as (λ _. ty.0 < length types.funcs) [
-      | inl before ↦ held n ty f o before
-      | inr last ↦
-          let same : t ≡ ty = cc in
-          subst (λ (i : TypeFuncIndex). i.0 < length types.funcs) same below
-    ]
-
--- all exports are of lifted functions where one of these was added
-pub lifted_push : (items : List Export) (t : TypeFuncIndex) (d : CoreDef) (p : OptionsId)
-    → ((n : ℕ) (x : Export) → slice_get items n ≡ Some x → IsLifted x) → (n : ℕ) (x : Export)
-    → slice_get (items ++ export.LiftedFunction t d p ∷ []) n ≡ Some x → IsLifted x
-lifted_push items t d p all n x at =
-    elim (found_in_push items (export.LiftedFunction t d p) n x at) as (λ _. IsLifted x) [
-      | inl before ↦ all n x before
-      | inr last ↦ subst IsLifted last tt
-    ]

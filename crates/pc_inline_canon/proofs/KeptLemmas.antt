@@ -1,11 +1,16 @@
 -- What numbers stand for they stand for when the tables have grown.
-use Rattle.std.proofs.Common.{◌≡◌, ℕ, List, [], ◌∷◌, Option, Some, sym, subst, ◌∙◌, arith}
+use Rattle.std.proofs.Common.{◌≡◌, ℕ, Bool, true, List, Option, Some, sym, subst, ◌∙◌, arith}
 use Rattle.std.specs.Prelude.{slice_get}
 use Rattle.pc_entity.specs.Lists.{value_of}
 use Rattle.pc_types.specs.declared.module_record.ModuleRecord.{ModuleRecord}
 use Rattle.pc_types.specs.declared.parsed.CoreKind.{CoreKind}
 use Rattle.pc_types.specs.declared.parsed.CoreKind.TheVariants as core
+use Rattle.pc_types.specs.declared.parsed.DeclType.{DeclType}
+use Rattle.pc_types.specs.declared.parsed.TypeTable.{TypeTable as Table}
+use Rattle.pc_types.specs.declared.types.TypeDef.{TypeDef}
 use Rattle.pc_types.specs.declared.types.TypeDef.TheVariants as type
+use Rattle.pc_types.specs.Table.{is_instance, is_module}
+use Rattle.pc_types.specs.TypeTree.{Path, TypeTree, tree_of}
 use Rattle.pc_types_lists.specs.Types.{Types}
 use Rattle.pc_types_lists.specs.Types as builder
 use Rattle.pc_types_builder.proofs.TreeLemmas.{tree_keeps}
@@ -17,6 +22,7 @@ use Rattle.pc_parsed.specs.Mark.{Mark}
 use Rattle.pc_spec_reading.specs.Item.{Lent, a_component, a_module}
 use Rattle.pc_spec_reading.specs.Scope as reading
 use Rattle.pc_spec_reading.specs.Scope.{CoreItem, Scope}
+use Rattle.pc_spec_reading.specs.Types.{has_entry}
 use Rattle.pc_spec_reading.specs.Value.{Chain, NamedValues, Value, component_value, func_value, instance_value, module_value}
 use Rattle.pc_local.specs.Standing.{BodyStands}
 use Rattle.pc_dfg.specs.declared.core_def.CoreDef.{CoreDef}
@@ -37,13 +43,16 @@ use Rattle.pc_inline_state.specs.declared.definition.Options.{Options}
 use Rattle.pc_inline_state.specs.declared.frame.CoreInstance.{CoreInstance}
 use Rattle.pc_inline_state.specs.declared.frame.Frame.{Frame}
 use Rattle.pc_inline_state.specs.Frames.{BagItemStands, ComponentStands, CoreInstanceStands, FrameStands, FuncStands}
-use Rattle.pc_inline_state.specs.Frames.{InstanceStands, ModuleStands, bag_stands, made_stands}
-use Rattle.pc_inline_state.specs.Stands.{Captured, CoreStands, DefinitionStands, ItemStands, MaybeStands, MembersStand}
-use Rattle.pc_inline_state.specs.Stands.{ModelStands, OptionsStand, Stands, captures_more, captures_none, gc_stands}
-use Rattle.pc_inline_state.specs.Stands.{linear_stands, new_member, no_members, none_stands, old_member, options_stand}
-use Rattle.pc_inline_state.specs.Stands.{some_stands, stands, stands_component, stands_host, stands_instance, stands_lifted}
-use Rattle.pc_inline_state.specs.Stands.{stands_static}
-use Rattle.pc_inline_state.specs.Tables.{HasEntity, IsItem, Keeps, Tables, is_entity, is_trampoline}
+use Rattle.pc_inline_state.specs.declared.state.Member.{Member}
+use Rattle.pc_inline_state.specs.Frames.{InstanceStands, ModuleStands, bag_stands, host_stands, made_stands}
+use Rattle.pc_inline_state.specs.Stands.{Captured, CoreStands, DefinitionStands, IsHostType, IsTableTree, IsType}
+use Rattle.pc_inline_state.specs.Stands.{ItemStands, MaybeStands, MembersStand, ModelStands, OptionsStand, Stands}
+use Rattle.pc_inline_state.specs.Stands.{and_member, captures_more, captures_none, gc_stands, linear_stands, no_members}
+use Rattle.pc_inline_state.specs.Stands.{none_stands, options_stand, some_stands, stands, stands_component, stands_host}
+use Rattle.pc_inline_state.specs.Stands.{stands_host_instance, stands_host_module, stands_instance, stands_lifted}
+use Rattle.pc_inline_state.specs.Stands.{stands_static, stands_type}
+use Rattle.pc_inline_state.specs.Tables.{HasEntity, IsHostInstance, IsItem, Keeps, Tables, is_entity, is_named}
+use Rattle.pc_inline_state.specs.Tables.{is_trampoline}
 use Rattle.pc_inline_state.specs.Fits.{Fits, FitsBefore}
 use Rattle.pc_inline_state.specs.Holds.{Numbered, number_of, whole_of}
 use Rattle.pc_inline_state.specs.Slots.{EntryStands}
@@ -78,6 +87,14 @@ entry_kept b c keeps n v s =
 pub begun_kept : (g h : ComponentDfg) → graph.Grows g h → (c : ℕ) → HasBegun g c → HasBegun h c
 begun_kept g h grows c begun = omega (arith, begun, grows.component_instances)
 
+-- a core instance of a module of the host is one
+pub host_made_kept : (g h : ComponentDfg) → graph.Grows g h → (i : InstanceId) → IsHostInstance g i → IsHostInstance h i
+host_made_kept g h grows i x = record {
+  import = x.import;
+  arguments = x.arguments;
+  made = kept g h grows list.instances i.0 (source.Import x.import x.arguments) x.made;
+}
+
 module _ (ms : List ModuleRecord) (g h : ComponentDfg) (grows : graph.Grows g h) where
   -- an entity of a core instance is one
   entity_kept : (i : InstanceId) (e : EntityIndex) → HasEntity ms g i e → HasEntity ms h i e
@@ -93,6 +110,7 @@ module _ (ms : List ModuleRecord) (g h : ComponentDfg) (grows : graph.Grows g h)
   -- a core item of a kind is one
   pub is_item_kept : (k : CoreKind) (d : CoreDef) → IsItem ms g k d → IsItem ms h k d
   is_item_kept k d (is_entity {i = i} {e = e} kind x) = is_entity kind (entity_kept i e x)
+  is_item_kept k d (is_named {i = i} {name = name} x) = is_named (host_made_kept g h grows i x)
   is_item_kept k d (is_trampoline {t = t} below) = is_trampoline (within g h grows list.trampolines t.0 below)
 
 module _ (ms : List ModuleRecord) (b c : Tables) (keeps : Keeps b c) where
@@ -125,26 +143,60 @@ module _ (ms : List ModuleRecord) (b c : Tables) (keeps : Keeps b c) where
       (maybe_kept core.Func o.callback x callback) (maybe_kept core.Func o.post_return y post_return)
       (model_kept o.data_model m model)
 
+  -- a type
+  pub type_kept : (d : TypeDef) (tree : TypeTree) → IsType ms b d tree → IsType ms c d tree
+  type_kept d tree is who fits = tree_keeps b.types c.types keeps.types who d tree (is who (keeps.fits who fits))
+
+  -- the type of what the host gives at a path
+  pub host_type_kept : (path : Path) (tree : TypeTree) → IsHostType ms b path tree → IsHostType ms c path tree
+  host_type_kept path tree x = record {
+    import = x.import;
+    there = kept b.graph c.graph keeps.graph list.import_types path.import x.import x.there;
+    whole = x.whole;
+    typed = type_kept x.import.1.ty x.whole x.typed;
+    along = x.along;
+  }
+
+  -- the tree of an entry of the type table
+  pub table_tree_kept : (test : DeclType → Bool) (n : ℕ) (tree : TypeTree) → IsTableTree ms b test n tree
+      → IsTableTree ms c test n tree
+  table_tree_kept test n tree x = record {
+    there = subst (λ (t : Table). has_entry t test n ≡ true) (sym keeps.table) x.there;
+    known = x.known;
+    component_instance = x.component_instance;
+    is = subst (λ (t : Table). tree_of x.known x.component_instance t n ≡ Some tree) (sym keeps.table) x.is;
+  }
+
   mutual
     -- an entry of the table of definitions
-    definition_kept : (d : Definition) (v : Value) → DefinitionStands ms b d v → DefinitionStands ms c d v
-    definition_kept d v (stands_host {i = i} below) =
-        stands_host (within b.graph c.graph keeps.graph list.import_types i.0 below)
+    pub definition_kept : (d : Definition) (v : Value) → DefinitionStands ms b d v → DefinitionStands ms c d v
+    definition_kept d v (stands_host {p = p} {ty = ty} {path = path} {tree = tree} held given is_func) =
+        stands_host (keeps.paths p.0 path held) (host_type_kept path tree given)
+        (type_kept (type.ComponentFunc ty) tree is_func)
     definition_kept d v (stands_lifted {ty = ty} {func = f} {o = o} {tree = tree} {v = w} {os = os} is_func func
         options) =
-        stands_lifted
-        (λ who fits. tree_keeps b.types c.types keeps.types who (type.ComponentFunc ty) tree
-        (is_func who (keeps.fits who fits)))
-        (item_kept core.Func f w func) (options_kept o os options)
-    definition_kept d v stands_static = stands_static
+        stands_lifted (type_kept (type.ComponentFunc ty) tree is_func) (item_kept core.Func f w func)
+        (options_kept o os options)
+    definition_kept d v (stands_static {ty = ty} {tree = tree} handed_in tabled i typed) =
+        stands_static handed_in (table_tree_kept is_module ty tree tabled) i (type_kept (type.Module i) tree typed)
+    definition_kept d v (stands_host_module {p = p} {ty = ty} {entry = entry} {path = path} {tree = tree} held tabled
+        typed) =
+        stands_host_module (keeps.paths p.0 path held) (table_tree_kept is_module entry tree tabled)
+        (type_kept (type.Module ty) tree typed)
     definition_kept d v (stands_component {s = s} {k = k} {tr = tr} {inner = inner} {body = body} {closure = closure}
         {chain = chain} there body_stands leaving held modules components) =
         stands_component (subst (λ bs. slice_get bs s.0 ≡ Some tr) (sym keeps.bodies) there)
         (subst (λ bs. BodyStands bs inner tr body) (sym keeps.bodies) body_stands) leaving
         (keeps.closures k.0 closure held) (captured_kept a_module closure.modules inner.modules chain modules)
         (captured_kept a_component closure.components inner.components chain components)
-    definition_kept d v (stands_instance {n = n} {es = es} {vs = vs} held members) =
-        stands_instance (keeps.instances n.0 es held) (members_kept [] es vs members)
+    definition_kept d v (stands_host_instance {p = p} {ty = ty} {entry = entry} {path = path} {tree = tree} held given
+        tabled typed) =
+        stands_host_instance (keeps.paths p.0 path held) (host_type_kept path tree given)
+        (table_tree_kept is_instance entry tree tabled) (type_kept (type.ComponentInstance ty) tree typed)
+    definition_kept d v (stands_instance {n = n} {ty = ty} {es = es} {vs = vs} {tree = tree} held members typed) =
+        stands_instance (keeps.instances n.0 es held) (members_kept es vs members)
+        (type_kept (type.ComponentInstance ty) tree typed)
+    definition_kept d v (stands_type {d = e} {tree = tree} typed) = stands_type (type_kept e tree typed)
 
     -- a definition by number
     pub stands_kept : (n : DefinitionId) (v : Value) → Stands ms b n v → Stands ms c n v
@@ -158,12 +210,11 @@ module _ (ms : List ModuleRecord) (b c : Tables) (keeps : Keeps b c) where
         captures_more lent (stands_kept id v x) (captured_kept k rest others chain more)
 
     -- what an instance exports
-    pub members_kept : (seen : List (List ℕ)) (es : List (List ℕ × DefinitionId)) (vs : NamedValues)
-        → MembersStand ms b seen es vs → MembersStand ms c seen es vs
-    members_kept seen es vs no_members = no_members
-    members_kept seen es vs (new_member {name = name} {id = id} {v = v} {es = rest} {vs = others} new x more) =
-        new_member new (stands_kept id v x) (members_kept (name.name ∷ seen) rest others more)
-    members_kept seen es vs (old_member {vs = others} old more) = old_member old (members_kept seen es others more)
+    pub members_kept : (es : List (List ℕ × Member)) (vs : NamedValues) → MembersStand ms b es vs
+        → MembersStand ms c es vs
+    members_kept es vs no_members = no_members
+    members_kept es vs (and_member {name = name} {m = m} {v = v} {es = rest} {vs = others} says x more) =
+        and_member says (stands_kept m.item v x) (members_kept rest others more)
 
   bag_kept : (x : CoreKind × CoreId) (i : CoreItem) → BagItemStands ms b x i → BagItemStands ms c x i
   bag_kept x i h = record { kind = h.kind; item = item_kept x.0 x.1 i.value h.item }
@@ -172,6 +223,8 @@ module _ (ms : List ModuleRecord) (b c : Tables) (keeps : Keeps b c) where
       → CoreInstanceStands ms c x i
   instance_kept x i (made_stands {i = n} {m = m} {args = args} made) =
       made_stands (kept b.graph c.graph keeps.graph list.instances n.0 (source.Static m args) made)
+  instance_kept x i (host_stands {i = n} {entry = entry} {tree = tree} host tabled) =
+      host_stands (host_made_kept b.graph c.graph keeps.graph n host) (table_tree_kept is_module entry tree tabled)
   instance_kept x i (bag_stands {xs = xs} {items = items} same) =
       bag_stands (λ name. both_more (BagItemStands ms b) (BagItemStands ms c) bag_kept (value_of name xs)
       (value_of name items) (same name))

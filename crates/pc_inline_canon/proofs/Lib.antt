@@ -13,15 +13,17 @@ pub mod DefinitionLemmas
 mod LiftLemmas
 mod LowerLemmas
 pub mod TreeLemmas
-mod LogLemmas
-mod SlotLemmas
+pub mod LogLemmas
+pub mod SlotLemmas
 mod MemoryLemmas
 mod OptionsEntryLemmas
 mod EntryLemmas
-mod UsedLemmas
-mod UsesLemmas
+pub mod UsedLemmas
+pub mod UsesLemmas
 mod LoweredLemmas
 mod LowerHostLemmas
+pub mod ItemLemmas
+pub mod ResourceLemmas
 pub mod CoreInstanceLemmas
 pub mod HoldsLemmas
 pub mod ThereLemmas

@@ -47,6 +47,7 @@ use Rattle.pc_inline_canon.proofs.FrameLemmas.{converted_point, framed_point, fu
 use Rattle.pc_inline_canon.proofs.KeptLemmas.{item_kept, options_kept}
 use Rattle.pc_inline_canon.proofs.OptionLemmas.{options_in_stand}
 use Rattle.pc_inline_canon.proofs.PassedLemmas.{steps_lacking, steps_passed}
+use Rattle.pc_inline_state.proofs.MembersLemmas.{no_instance}
 use Rattle.pc_inline_state.proofs.StateLemmas.{definition_prepares}
 use Rattle.pc_inline_canon.proofs.StepLemmas.{row_goes, row_stuck, steps_on, steps_stuck}
 use Rattle.pc_inline_canon.proofs.TypeLemmas.{FunctionThere, function_there, no_function}
@@ -146,7 +147,7 @@ module _ (t : TypeTable) (ms : List ModuleRecord) (func ty core : ℕ) (opts : L
             (options_of now.scope there.signature opts) o options_stand sound in
             let d = definition.LiftedFunc n id o in
             let end = record st' { definitions = st'.definitions ++ d ∷ [] } in
-            let prepares = definition_prepares t ms st' d in
+            let prepares = definition_prepares t ms st' d (no_instance (length st'.instances) d refl) in
             let at_end = point_kept t ms st' end prepares g now still in
             let x = lifted_function there.tree function.0 os.0 in
             let next = add_value now (func_value x) in

@@ -11,7 +11,7 @@ use Rattle.pc_spec_plan.specs.CoreValue.{CoreValue}
 use Rattle.pc_spec_plan.specs.Log.{Entry, declared, instances_of, is_effect, trace}
 use Rattle.pc_parsed.specs.Mark.{Mark}
 use Rattle.pc_spec_reading.specs.Asked.{is_declared, needed_path, paths_needed, with_path}
-use Rattle.pc_spec_reading.specs.World.{World, logging}
+use Rattle.pc_spec_reading.specs.World.{World, is_declaration, logging, resources_declared}
 use Rattle.pc_dfg.specs.declared.dfg.ComponentDfg.{ComponentDfg}
 use Rattle.pc_dfg.specs.Grows as graph
 use Rattle.pc_dfg.specs.Numbers.{SignedTrampoline}
@@ -20,7 +20,7 @@ use Rattle.pc_inline_state.specs.Today.{is_made}
 use Rattle.pc_inline_state.specs.Worlds.{EffectStands, HasTrampoline, ImportStands, IsDeclared, WorldStands}
 use Rattle.pc_inline_state.specs.Worlds.{path_of}
 use Rattle.pc_inline_state.proofs.StateLemmas.{types_refl}
-use Rattle.pc_inline_canon.proofs.WorldLemmas.{declared_still, import_still, trampoline_still}
+use Rattle.pc_inline_canon.proofs.WorldLemmas.{declared_still, import_still, imported_same, trampoline_still}
 use Rattle.pc_inline_state.proofs.ZipLemmas.{zip_more}
 
 -- the effects of a log with one entry more: those of the log, and that of the entry
@@ -47,6 +47,19 @@ few-push log e before after few more =
     let both : count_by is_declared (log ++ e ∷ []) ≡ count_by is_declared log + count_by is_declared (e ∷ []) =
     sum_by-append _ log (e ∷ []) in
     omega (arith, few, more, both)
+
+-- as many resources as a world declares, with one entry more
+resources-push : (w : World) (e : Entry Mark) (before after : ℕ) → before ≡ resources_declared w
+    → after ≡ before + count_by is_declaration (e ∷ []) → after ≡ resources_declared (logging w e)
+resources-push w e before after many more =
+    let both : count_by is_declaration (w.log ++ e ∷ []) ≡ count_by is_declaration w.log
+    + count_by is_declaration (e ∷ []) =
+    sum_by-append _ w.log (e ∷ []) in
+    more ∙ ap (λ n. n + count_by is_declaration (e ∷ [])) many ∙ sym both
+
+-- no more is no more
+pub none_more : {n m : ℕ} → n ≡ m → n ≡ m + 0
+none_more is = omega (arith, is)
 
 module _ (types : Types) (g h : ComponentDfg) (grows : graph.Grows g h) (fits : FitsBefore g h) (w : World)
     (e : Entry Mark) (stands : WorldStands types g w) where
@@ -77,10 +90,11 @@ module _ (types : Types) (g h : ComponentDfg) (grows : graph.Grows g h) (fits : 
       → ((k : ℕ) (x : SignedTrampoline) → slice_get h.trampolines k ≡ Some x → IsDeclared types h (w.log ++ e ∷ []) k x)
       → ((v : CoreValue Mark) → e ≡ declared v → HasTrampoline types h v)
       → length h.trampolines ≤ length g.trampolines + count_by is_declared (e ∷ [])
-      → map path_of h.imports ≡ paths_needed (w.log ++ e ∷ []) → h.import_types ≡ g.import_types
+      → map path_of h.imports ≡ paths_needed (w.log ++ e ∷ []) → h.imported_resources ≡ g.imported_resources
+      → length h.resources ≡ length g.resources + count_by is_declaration (e ∷ []) → h.import_types ≡ g.import_types
       → h.num_runtime_component_instances ≡ g.num_runtime_component_instances → is_made e ≡ false
       → WorldStands types h (logging w e)
-  world_on effects order declared_so has few imports types_same begun made = record {
+  world_on effects order declared_so has few imports imported resources types_same begun made = record {
     effects = effects;
     order = order;
     are_declared = declared_so;
@@ -91,7 +105,8 @@ module _ (types : Types) (g h : ComponentDfg) (grows : graph.Grows g h) (fits : 
         (import_still types types g h (types_refl types) grows fits)
         g.import_types w.imports stands.import_types);
     imports = imports;
-    imported_resources = stands.imported_resources;
+    imported_resources = imported_same g h grows imported w.imported_resources stands.imported_resources;
+    resources = resources-push w e (length g.resources) (length h.resources) stands.resources resources;
     intrinsics = stands.intrinsics;
     no_adapters = no_adapters-push w.log e stands.no_adapters made;
     begun = stands.begun ∙ sym begun;

@@ -5,9 +5,9 @@ use Rattle.std.specs.Prelude.{⊤, slice_get, option_and_then}
 use Rattle.std.specs.List.{list_any}
 use Rattle.std.specs.Result.{IsErrAnd}
 use Rattle.std.proofs.lemmas.List.Folds.{list_any-append}
-use Rattle.std.proofs.lemmas.Option.{none-some, same_Some}
+use Rattle.std.proofs.lemmas.Option.{none-some, same_Some, slice_get_within}
 use Rattle.pc_numbers.specs.declared.module_entity.ModuleInternedTypeIndex.{ModuleInternedTypeIndex}
-use Rattle.pc_numbers.specs.declared.runtime.ImportIndex.{ImportIndex}
+use Rattle.pc_inline_paths.specs.declared.path_id.PathId.{PathId}
 use Rattle.pc_types.specs.declared.error.Unsupported.TheVariants.{NotBuilt}
 use Rattle.pc_types.specs.declared.module_record.ModuleRecord.{ModuleRecord}
 use Rattle.pc_types.specs.declared.parsed.CoreFuncSig.{CoreFuncSig}
@@ -16,14 +16,13 @@ use Rattle.pc_types.specs.declared.parsed.TypeTable.{TypeTable}
 use Rattle.pc_types.specs.declared.type_index.TypeFuncIndex.{TypeFuncIndex}
 use Rattle.pc_types.specs.declared.types.TypeDef.{TypeDef}
 use Rattle.pc_types.specs.Table.{is_func}
-use Rattle.pc_types.specs.TypeTree.{TypeTree}
+use Rattle.pc_types.specs.TypeTree.{Path, TypeTree}
 use Rattle.pc_spec_plan.specs.CoreValue as value
 use Rattle.pc_spec_plan.specs.CoreValue.{CoreValue, adapter, lowered}
 use Rattle.pc_spec_plan.specs.Log as log
 use Rattle.pc_spec_plan.specs.Log.{Entry, made}
 use Rattle.pc_parsed.specs.declared.canon.CanonOption.{CanonOption}
 use Rattle.pc_parsed.specs.Mark.{Mark, of_type}
-use Rattle.pc_spec_reading.specs.Asked.{import_path}
 use Rattle.pc_spec_reading.specs.Functions.{lower_to, making, read_lower}
 use Rattle.pc_spec_reading.specs.Item.{Item, lower_item}
 use Rattle.pc_spec_reading.specs.Options.{options_of}
@@ -46,12 +45,13 @@ use Rattle.pc_inline_state.specs.Frames.{Both, FuncStands}
 use Rattle.pc_inline_state.specs.Points.{Goes, IsSoundState, PointStands, StepsItem}
 use Rattle.pc_inline_state.specs.Prepares.{Converts}
 use Rattle.pc_inline_state.specs.Refused.{LacksRoomOr}
-use Rattle.pc_inline_state.specs.Definitions.{host_import}
+use Rattle.pc_inline_state.specs.Definitions.{host_func}
 use Rattle.pc_inline_canon.specs.Hosts.{Lowers}
 use Rattle.pc_inline_state.specs.Lists.{with_core_id}
 use Rattle.pc_inline_state.specs.Slots.{OptionsThere}
 use Rattle.pc_inline_state.specs.Stands.{DefinitionStands, OptionsStand, Stands, stands, stands_component, stands_host}
-use Rattle.pc_inline_state.specs.Stands.{stands_instance, stands_lifted, stands_static}
+use Rattle.pc_inline_state.specs.Stands.{stands_host_instance, stands_host_module, stands_instance, stands_lifted}
+use Rattle.pc_inline_state.specs.Stands.{stands_static, stands_type}
 use Rattle.pc_inline_state.specs.Tables.{Tables, tables_of}
 use Rattle.pc_inline_state.specs.Today.{built_row, is_built, is_made, today}
 use Rattle.pc_inline_state.specs.Typed.{AreOfFunction, HasNoFunction}
@@ -66,7 +66,7 @@ use Rattle.pc_inline_state.proofs.ZipLemmas.{both_missing, both_there, zip_at}
 use Rattle.pc_spec_reading.specs.Reading.{row}
 
 -- a lower that makes an adapter isn't built
-row_adapts : (t : TypeTable) (ms : List ModuleRecord) (now next : Moment) (i : Item) → is_built t i ≡ true
+row_adapts : (t : TypeTable) (ms : List ModuleRecord) (now next : Moment) (i : Item) → is_built i ≡ true
     → read_row t ms now i ≡ Ok next → list_any is_made next.world.log ≡ true
     → built_row t ms now i ≡ Err (unsupported NotBuilt)
 unfolding row today
@@ -107,45 +107,56 @@ making_some now v none = by (list_any (makes v) now.world.log) refl
     by false is = list_any-append is_made now.world.log (made v ∷ []) ∙ rw none refl
 
 module _ (ms : List ModuleRecord) (b : Tables) where
+  -- a function is that of the host at a path
+  record IsHosted (id : PathId) (x : Function) : Type 0 where
+    pub path : Path
+    pub held : slice_get b.paths id.0 ≡ Some path
+    pub is : x ≡ host_function path
+
   -- a function is one of the host, or was lifted
   host_entry : (d : Definition) (v : Value) (x : Function) → DefinitionStands ms b d v → v ≡ func_value x
-      → (i : ImportIndex) → host_import d ≡ Some i
-      → (x ≡ host_function (import_path i.0)) × (i.0 < length b.graph.import_types)
-  host_entry d v x (stands_host {i = j} below) is i host =
+      → (i : PathId) → host_func d ≡ Some i → IsHosted i x
+  host_entry d v x (stands_host {p = j} {path = path} held given typed) is i host =
       let same : j ≡ i = same_Some j i host in
-      let value : host_function (import_path j.0) ≡ x = cc in (
-        sym value ∙ ap (λ k. host_function (import_path k.0)) same,
-        subst (λ k. k.0 < length b.graph.import_types) same
-            below,
-      )
+      let value : host_function path ≡ x = cc in
+      record {
+        path = path;
+        held = subst (λ (k : PathId). slice_get b.paths k.0 ≡ Some path) same held;
+        is = sym value;
+      }
   host_entry d v x (stands_lifted ty func options) is i host = absurd (none-some i host)
-  host_entry d v x stands_static is i host = absurd (none-some i host)
+  host_entry d v x (stands_static handed_in tabled j typed) is i host = absurd (none-some i host)
+  host_entry d v x (stands_host_module held tabled typed) is i host = absurd (none-some i host)
   host_entry d v x (stands_component tr body leaving closure modules components) is i host =
       absurd (none-some i host)
-  host_entry d v x (stands_instance held _) is i host = absurd (none-some i host)
+  host_entry d v x (stands_host_instance held given tabled typed) is i host = absurd (none-some i host)
+  host_entry d v x (stands_instance held among typed) is i host = absurd (none-some i host)
+  host_entry d v x (stands_type typed) is i host = absurd (none-some i host)
 
-  host_is : (n : DefinitionId) (x : Function) → Stands ms b n (func_value x) → (i : ImportIndex)
-      → option_and_then host_import (slice_get b.definitions n.0) ≡ Some i
-      → (x ≡ host_function (import_path i.0)) × (i.0 < length b.graph.import_types)
+  host_is : (n : DefinitionId) (x : Function) → Stands ms b n (func_value x) → (i : PathId)
+      → option_and_then host_func (slice_get b.definitions n.0) ≡ Some i → IsHosted i x
   host_is n x (stands {d = d} held entry) i host =
-      host_entry d (func_value x) x entry refl i (sym (ap (option_and_then host_import) held) ∙ host)
+      host_entry d (func_value x) x entry refl i (sym (ap (option_and_then host_func) held) ∙ host)
 
   -- one that is none of the host was lifted
   lifted_entry : (d : Definition) (v : Value) (x : Function) → DefinitionStands ms b d v → v ≡ func_value x
-      → host_import d ≡ None
+      → host_func d ≡ None
       → (tree : TypeTree) × (callee : CoreValue Mark) × (o : value.Options Mark) × (x ≡ lifted_function tree callee o)
-  lifted_entry d v x (stands_host below) is none = absurd (none-some _ (sym none))
+  lifted_entry d v x (stands_host held given typed) is none = absurd (none-some _ (sym none))
   lifted_entry d v x (stands_lifted {tree = tree} {v = w} {os = os} ty func options) is none = (tree, w, os, cc)
-  lifted_entry d v x stands_static is none = absurd (let k : ⊥ = cc in k)
+  lifted_entry d v x (stands_static handed_in tabled j typed) is none = absurd (let k : ⊥ = cc in k)
+  lifted_entry d v x (stands_host_module held tabled typed) is none = absurd (let k : ⊥ = cc in k)
   lifted_entry d v x (stands_component tr body leaving closure modules components) is none =
       absurd (let k : ⊥ = cc in k)
-  lifted_entry d v x (stands_instance held _) is none = absurd (let k : ⊥ = cc in k)
+  lifted_entry d v x (stands_host_instance held given tabled typed) is none = absurd (let k : ⊥ = cc in k)
+  lifted_entry d v x (stands_instance held among typed) is none = absurd (let k : ⊥ = cc in k)
+  lifted_entry d v x (stands_type typed) is none = absurd (let k : ⊥ = cc in k)
 
   lifted_is : (n : DefinitionId) (x : Function) → Stands ms b n (func_value x)
-      → option_and_then host_import (slice_get b.definitions n.0) ≡ None
+      → option_and_then host_func (slice_get b.definitions n.0) ≡ None
       → (tree : TypeTree) × (callee : CoreValue Mark) × (o : value.Options Mark) × (x ≡ lifted_function tree callee o)
   lifted_is n x (stands {d = d} held entry) none =
-      lifted_entry d (func_value x) x entry refl (sym (ap (option_and_then host_import) held) ∙ none)
+      lifted_entry d (func_value x) x entry refl (sym (ap (option_and_then host_func) held) ∙ none)
 
 module _ (t : TypeTable) (ms : List ModuleRecord) (func ty core : ℕ) (opts : List CanonOption) where
   abbrev lower : Item
@@ -232,7 +243,7 @@ module _ (t : TypeTable) (ms : List ModuleRecord) (func ty core : ℕ) (opts : L
               (options_of now.scope there.signature opts) o options_stand sound
 
           -- what is lowered was lifted, which isn't built
-          lower_unbuilt : option_and_then host_import (slice_get st'.definitions id.0) ≡ None
+          lower_unbuilt : option_and_then host_func (slice_get st'.definitions id.0) ≡ None
               → reads now ≡ Err (unsupported NotBuilt)
           unfolding lower_to
           lower_unbuilt none =
@@ -245,15 +256,16 @@ module _ (t : TypeTable) (ms : List ModuleRecord) (func ty core : ℕ) (opts : L
               (making_some now a at.world.no_adapters)
 
           -- a host function was lowered
-          lower_goes : (j : ImportIndex) → option_and_then host_import (slice_get st'.definitions id.0) ≡ Some j
-              → (end : State) (key : CoreId) → Lowers t ms st' end j n o key
+          lower_goes : (j : PathId) → option_and_then host_func (slice_get st'.definitions id.0) ≡ Some j
+              → (end : State) (key : CoreId)
+              → ((p : Path) → slice_get st'.paths j.0 ≡ Some p → Lowers t ms st' end p n o key)
               → Goes t ms end (with_core_id g kind.Func key) (reads now)
           unfolding lower_to Lowers
           lower_goes j host end key lowers =
               let x = host_is ms (tables_of st') id function.0 function.2 j host in
-              let v = lowered (import_path j.0) (of_type there.tree) options.0 in
-              let went = lowers g now there.tree options.0 still there.has options.2 in
-              let next = lower_to now (host_function (import_path j.0)) there.tree there.signature options.0 in
+              let v = lowered x.path (of_type there.tree) options.0 in
+              let went = lowers x.path x.held g now there.tree options.0 still there.has options.2 in
+              let next = lower_to now (host_function x.path) there.tree there.signature options.0 in
               record {
                 now = next;
                 stands = framed_point t ms end g (with_core_id g kind.Func key) _ (with_core now.scope kind.Func v)
@@ -261,24 +273,24 @@ module _ (t : TypeTable) (ms : List ModuleRecord) (func ty core : ℕ) (opts : L
                     refl refl refl (core_framed ms (tables_of end) g now.scope went.0.frame kind.Func key v went.1);
                 done = row_goes t ms now next lower refl
                     (lower_read now there.tree there.signature function.0 options.0 there.is_tree there.is_signature
-                    function.1 options.1 ∙ ap (λ y. Ok (lower_to now y there.tree there.signature options.0)) x.0)
+                    function.1 options.1 ∙ ap (λ y. Ok (lower_to now y there.tree there.signature options.0)) x.is)
                     went.0.world.no_adapters;
               }
 
     -- what the call that lowers asks for
     pub lower_ready : ((now : Moment) × PointStands t ms st f now) → (id : DefinitionId)
-        → slice_get f.funcs func ≡ Some id → (o : Options) → options_in g i opts ≡ Some o → (j : ImportIndex)
-        → option_and_then host_import (slice_get st'.definitions id.0) ≡ Some j
-        → IsSoundState t ms st' × (j.0 < length st'.graph.import_types) × OptionsThere ms (tables_of st') o
+        → slice_get f.funcs func ≡ Some id → (o : Options) → options_in g i opts ≡ Some o → (j : PathId)
+        → option_and_then host_func (slice_get st'.definitions id.0) ≡ Some j
+        → IsSoundState t ms st' × (j.0 < length st'.paths) × OptionsThere ms (tables_of st') o
     lower_ready point id found_it o sound j host =
         let now = point.0 in
         let at = point.1 in
         let x = function now at id found_it in
+        let host_at = host_is ms (tables_of st') id x.0 x.2 j host in
         let os = options now at id found_it o sound in (
           (still now at).sound,
-          (host_is ms (tables_of st') id x.0 x.2 j host).1,
-          options_there ms (tables_of st') o
-              os.0 os.2,
+          slice_get_within st'.paths j.0 host_at.path host_at.held,
+          options_there ms (tables_of st') o os.0 os.2,
         )
 
     -- the steps of these
@@ -293,14 +305,15 @@ module _ (t : TypeTable) (ms : List ModuleRecord) (func ty core : ℕ) (opts : L
           steps_stuck t ms reads st f st' g item_fault.Invalid (λ now at. lower_unsound now at id found_it none)
 
       module _ (o : Options) (sound : options_in g i opts ≡ Some o) where
-        pub lower_adapts : option_and_then host_import (slice_get st'.definitions id.0) ≡ None
+        pub lower_adapts : option_and_then host_func (slice_get st'.definitions id.0) ≡ None
             → StepsItem t ms lower st f st' g (Err (item_error.Fault (item_fault.Unsupported NotBuilt)))
         lower_adapts none =
             steps_stuck t ms reads st f st' g (item_fault.Unsupported NotBuilt)
             (λ now at. lower_unbuilt now at id found_it o sound none)
 
-        pub lower_steps : (j : ImportIndex) → option_and_then host_import (slice_get st'.definitions id.0) ≡ Some j
-            → (end : State) (key : CoreId) → Lowers t ms st' end j n o key → (f' : Frame)
+        pub lower_steps : (j : PathId) → option_and_then host_func (slice_get st'.definitions id.0) ≡ Some j
+            → (end : State) (key : CoreId)
+            → ((p : Path) → slice_get st'.paths j.0 ≡ Some p → Lowers t ms st' end p n o key) → (f' : Frame)
             → f' ≡ with_core_id g kind.Func key → (r : ⊤) → StepsItem t ms lower st f end f' (Ok r)
         lower_steps j host end key lowers f' is r =
             subst (λ x. StepsItem t ms lower st f end x (Ok r)) (sym is)

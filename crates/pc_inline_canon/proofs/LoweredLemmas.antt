@@ -13,12 +13,10 @@ use Rattle.pc_types_builder.proofs.TreeLemmas.{tree_keeps}
 use Rattle.pc_types_lists.specs.Trees.{HasTree}
 use Rattle.pc_dfg.specs.declared.ids.OptionsId.{OptionsId}
 use Rattle.pc_numbers.specs.declared.module_entity.ModuleInternedTypeIndex.{ModuleInternedTypeIndex}
-use Rattle.pc_numbers.specs.declared.runtime.ImportIndex.{ImportIndex}
 use Rattle.pc_numbers.specs.declared.runtime.ResourceIndex.{ResourceIndex}
 use Rattle.pc_numbers.specs.declared.runtime.RuntimeImportIndex.{RuntimeImportIndex}
 use Rattle.pc_numbers.specs.declared.runtime.TrampolineIndex.{TrampolineIndex}
 use Rattle.pc_types.specs.declared.module_record.ModuleRecord.{ModuleRecord}
-use Rattle.pc_types.specs.declared.parsed.CoreKind.{CoreKind}
 use Rattle.pc_types.specs.declared.parsed.CoreKind.TheVariants as core
 use Rattle.pc_types.specs.declared.parsed.TypeTable.{TypeTable}
 use Rattle.pc_types.specs.declared.type_index.TypeFuncIndex.{TypeFuncIndex}
@@ -32,7 +30,6 @@ use Rattle.pc_trampoline.specs.declared.part.Mark.TheVariants as mark
 use Rattle.pc_trampoline.specs.declared.trampoline.Trampoline.TheVariants as trampoline
 use Rattle.pc_trampoline.specs.Parts.{parts_of}
 use Rattle.pc_parsed.specs.Mark.{Mark, of_type}
-use Rattle.pc_spec_reading.specs.Asked.{import_path}
 use Rattle.pc_spec_reading.specs.Scope.{Moment, add_entry}
 use Rattle.pc_spec_reading.specs.World.{World, logging}
 use Rattle.pc_dfg.specs.declared.core_def.CoreDef.TheVariants as def
@@ -44,7 +41,6 @@ use Rattle.pc_dfg.specs.Means.{HasPath, means_lowered, means_trampoline}
 use Rattle.pc_dfg.specs.Numbers.{SignedTrampoline, slots_of, trampoline_entry}
 use Rattle.pc_dfg.specs.Ordered.{IsOrdered}
 use Rattle.pc_dfg.specs.Pushed.{IsPut}
-use Rattle.pc_dfg.proofs.AllLemmas.{all_more}
 use Rattle.pc_dfg.proofs.GrowLemmas.{kept}
 use Rattle.pc_inline_state.specs.declared.definition.CoreId.{CoreId}
 use Rattle.pc_inline_state.specs.declared.definition.DataModel.{DataModel}
@@ -58,18 +54,18 @@ use Rattle.pc_inline_state.specs.Points.{PointStands}
 use Rattle.pc_inline_state.specs.Prepares.{Prepares}
 use Rattle.pc_inline_state.specs.Slots.{EntryStands, ModelThere, OptionsThere}
 use Rattle.pc_inline_state.specs.Stands.{CoreStands, IsFunc, ItemStands, OptionsStand, options_stand}
-use Rattle.pc_inline_state.specs.Tables.{IsItem, Keeps, Tables, is_trampoline, tables_of}
+use Rattle.pc_inline_state.specs.Tables.{Keeps, Tables, is_trampoline, tables_of}
 use Rattle.pc_inline_state.specs.Fits.{Fits, FitsBefore}
 use Rattle.pc_inline_state.specs.Holds.{Holds, Numbered}
 use Rattle.pc_inline_state.specs.Worlds.{EffectStands, HasTrampoline, IsDeclared, IsSigned, WorldStands}
-use Rattle.pc_inline_state.specs.Worlds.{slot_kind}
 use Rattle.pc_inline_state.proofs.AddsPushLemmas.{changes_few}
 use Rattle.pc_inline_state.proofs.FitsLemmas.{fits_grown}
 use Rattle.pc_inline_state.proofs.GrowthLemmas.{graph_grown}
 use Rattle.pc_inline_state.proofs.KnowsLemmas.{knows_grown}
-use Rattle.pc_inline_canon.proofs.KeptLemmas.{begun_kept, entry_kept, frame_kept, is_item_kept}
+use Rattle.pc_inline_canon.proofs.ItemLemmas.{items_same, types_held, used_kept}
+use Rattle.pc_inline_canon.proofs.KeptLemmas.{begun_kept, entry_kept, frame_kept}
 use Rattle.pc_inline_canon.proofs.KeptLemmas.{options_kept as options_still}
-use Rattle.pc_inline_canon.proofs.LogLemmas.{declared_on, paths-push, trace-push, world_on}
+use Rattle.pc_inline_canon.proofs.LogLemmas.{declared_on, none_more, paths-push, trace-push, world_on}
 use Rattle.pc_inline_canon.proofs.OptionsEntryLemmas.{there_kept}
 use Rattle.pc_inline_canon.proofs.SlotLemmas.{found_in_put}
 use Rattle.pc_inline_state.proofs.StateLemmas.{core_prepares, keeps_trans, types_refl}
@@ -203,7 +199,7 @@ module _ (t : TypeTable) (ms : List ModuleRecord) (st : State) (ts : List Signed
         (λ w' is. subst (λ x. HasTrampoline st.types lowered_in x) (same v w' is)
         (record { trampoline = n; stands = lowered_stands n.0 at }))
         (changes_few st.graph.trampolines ts lowering_of put.0)
-        (stands.imports ∙ sym (paths-push w.log e)) refl refl refl
+        (stands.imports ∙ sym (paths-push w.log e)) refl (none_more refl) refl refl refl
       where
         same : (a b : CoreValue Mark) → declared a ≡ declared b → a ≡ b
         same a b is = cc
@@ -217,38 +213,19 @@ module _ (t : TypeTable) (ms : List ModuleRecord) (st : State) (ts : List Signed
     lowered_point ordered signed put n at f now point = record {
       sound = record {
         ordered = ordered point.sound.ordered;
-        items = record {
-          modules = λ i m args found. let old = point.sound.items.modules i m args found in (
-            old.0,
-            old.1,
-            old.2,
-            all_more (λ d. (k : CoreKind) × IsItem ms st.graph k d)
-                (λ d. (k : CoreKind) × IsItem ms lowered_in k d)
-                (λ d x. (x.0, is_item_kept ms st.graph lowered_in grows x.0 d x.1)) args old.3,
-          );
-          slots = λ k i d found. is_item_kept ms st.graph lowered_in grows (slot_kind k) d
-              (point.sound.items.slots k i d (subst (λ xs. slice_get xs i ≡ Some d) (lowered_slots st.graph ts k)
-              found));
-          exports = λ i x y d found. is_item_kept ms st.graph lowered_in grows _ d
-              (point.sound.items.exports i x y d found);
-        };
+        items = items_same ms st.graph lowered_in grows refl (lowered_slots st.graph ts) refl refl point.sound.items;
         plain = record {
           adapters = point.sound.plain.adapters;
           adapter_modules = point.sound.plain.adapter_modules;
           adapter_partitionings = point.sound.plain.adapter_partitionings;
-          resources = point.sound.plain.resources;
-          imported_resources = point.sound.plain.imported_resources;
           unsafe_intrinsics = point.sound.plain.unsafe_intrinsics;
-          instances = point.sound.plain.instances;
-          export_items = point.sound.plain.export_items;
         };
-        used = record {
-          room = point.sound.used.room;
-          numbers = point.sound.used.numbers;
-          others = point.sound.used.others;
-        };
+        used = used_kept st.graph lowered_in grows refl st.paths st.used.items point.sound.used;
         numbers = point.sound.numbers;
-        held = record { options = point.sound.held.options; functions = point.sound.held.functions };
+        held = types_held st.types t st.graph lowered_in fits refl refl point.sound.held;
+        table = point.sound.table;
+        bodies = point.sound.bodies;
+        members = point.sound.members;
       };
       here = knows_grown st.graph st.types.resources now.scope point.here lowered_in fits;
       converted = point.converted;
@@ -285,15 +262,15 @@ module _ (t : TypeTable) (ms : List ModuleRecord) (st : State) (ts : List Signed
       item = lowered_item n at id number;
     }
 
--- What the calls before the trampoline leave: the import is used, and the options are an entry.
-module _ (t : TypeTable) (ms : List ModuleRecord) (a b c : State) (i : ImportIndex) (r : RuntimeImportIndex)
-    (keeps : Keeps (tables_of a) (tables_of b)) (uses : Uses t ms a b i r) (prepares : Prepares t ms b c) where
+-- What the calls before the trampoline leave: the host item is used, and the options are an entry.
+module _ (t : TypeTable) (ms : List ModuleRecord) (a b c : State) (p : Path) (r : RuntimeImportIndex)
+    (keeps : Keeps (tables_of a) (tables_of b)) (uses : Uses t ms a b p r) (prepares : Prepares t ms b c) where
   used_point : (f : Frame) (now : Moment) → PointStands t ms a f now
-      → PointStands t ms c f (add_entry now (needed (import_path i.0)))
+      → PointStands t ms c f (add_entry now (needed p))
   used_point f now point =
-      point_kept t ms b c prepares f (add_entry now (needed (import_path i.0))) (uses.stands f now point)
+      point_kept t ms b c prepares f (add_entry now (needed p)) (uses.stands f now point)
 
-  used_path : HasPath c.graph r.0 (import_path i.0)
+  used_path : HasPath c.graph r.0 p
   used_path = kept b.graph c.graph prepares.keeps.graph list.imports _ _ uses.path
 
   used_tree : (ty : TypeFuncIndex) (tree : TypeTree) → IsFunc ms (tables_of a) ty tree
@@ -307,17 +284,17 @@ module _ (t : TypeTable) (ms : List ModuleRecord) (a b c : State) (i : ImportInd
   used_options options os opts = options_still ms (tables_of a) (tables_of b) keeps options os opts
 
   used_signed : (options : OptionsOf) (os : Options Mark) → OptionsStand ms (tables_of a) options os → (ty : Mark)
-      → (x : SignedTrampoline) → x.0 ≡ options.core_type → IsSigned c.types x (value.lowered (import_path i.0) ty os)
+      → (x : SignedTrampoline) → x.0 ≡ options.core_type → IsSigned c.types x (value.lowered p ty os)
   used_signed options os opts ty x same =
-      lowering_signed ms (tables_of c) options (import_path i.0) ty os x same
+      lowering_signed ms (tables_of c) options p ty os x same
       (options_still ms (tables_of b) (tables_of c) prepares.keeps options os (used_options options os opts))
 
 -- The whole lowering: then the trampoline has a number, and it is a core item.
-module _ (t : TypeTable) (ms : List ModuleRecord) (a b c : State) (h : ComponentDfg) (i : ImportIndex)
-    (r : RuntimeImportIndex) (ty : TypeFuncIndex) (options : OptionsOf) (o : OptionsId) (n : TrampolineIndex) where
+module _ (t : TypeTable) (ms : List ModuleRecord) (a b c : State) (h : ComponentDfg) (r : RuntimeImportIndex)
+    (ty : TypeFuncIndex) (options : OptionsOf) (o : OptionsId) (n : TrampolineIndex) where
   -- the graph that the trampoline leaves is the one with its trampolines
-  lowers_one : (s : ModuleInternedTypeIndex) → s ≡ options.core_type → (d : State) (id : CoreId)
-      → Keeps (tables_of a) (tables_of b) → Uses t ms a b i r → Prepares t ms b c
+  lowers_one : (p : Path) (s : ModuleInternedTypeIndex) → s ≡ options.core_type → (d : State) (id : CoreId)
+      → Keeps (tables_of a) (tables_of b) → Uses t ms a b p r → Prepares t ms b c
       → ((v : Options Mark) → OptionsStand ms (tables_of b) options v → EntryStands (tables_of c) o.0 v)
       → o.0 < length c.graph.options → graph.Grows c.graph h → h ≡ record c.graph { trampolines = h.trampolines }
       → (HeldTrampoline c.graph (trampoline_entry (s, trampoline.LowerImport r ty o)) → IsOrdered c.graph → IsOrdered h)
@@ -326,27 +303,27 @@ module _ (t : TypeTable) (ms : List ModuleRecord) (a b c : State) (h : Component
       → d ≡ record c { graph = h; cores = c.cores ++ def.Trampoline n ∷ [] } → (f : Frame) (now : Moment)
       (tree : TypeTree) (os : Options Mark) → PointStands t ms a f now → IsFunc ms (tables_of a) ty tree
       → OptionsStand ms (tables_of a) options os
-      → IsLowered t ms d id (value.lowered (import_path i.0) (of_type tree) os) f
-      (add_entry now (needed (import_path i.0)))
-  lowers_one s of_options d id keeps uses prepares entry held grows rest ordered put at number is f now tree os point
+      → IsLowered t ms d id (value.lowered p (of_type tree) os) f
+      (add_entry now (needed p))
+  lowers_one p s of_options d id keeps uses prepares entry held grows rest ordered put at number is f now tree os point
       func opts =
-      let path = used_path t ms a b c i r keeps uses prepares in
-      subst (λ x. IsLowered t ms x id (value.lowered (import_path i.0) (of_type tree) os) f
-      (add_entry now (needed (import_path i.0))))
+      let path = used_path t ms a b c p r keeps uses prepares in
+      subst (λ x. IsLowered t ms x id (value.lowered p (of_type tree) os) f
+      (add_entry now (needed p)))
       (sym (is ∙ (λ j. record c { graph = rest j; cores = c.cores ++ def.Trampoline n ∷ [] })))
-      (lowered_both t ms c h.trampolines s r ty o (subst (graph.Grows c.graph) rest grows) (import_path i.0) tree os
-      path (used_tree t ms a b c i r keeps uses prepares ty tree func)
-      (entry os (used_options t ms a b c i r keeps uses prepares options os opts))
+      (lowered_both t ms c h.trampolines s r ty o (subst (graph.Grows c.graph) rest grows) p tree os
+      path (used_tree t ms a b c p r keeps uses prepares ty tree func)
+      (entry os (used_options t ms a b c p r keeps uses prepares options os opts))
       (λ x. subst IsOrdered rest
-      (ordered (lowering_held t ms c h.trampolines s r ty o (import_path i.0) path held) x))
-      (used_signed t ms a b c i r keeps uses prepares options os opts (of_type tree) (s, trampoline.LowerImport r ty o)
-      of_options) put n at id number f (add_entry now (needed (import_path i.0)))
-      (used_point t ms a b c i r keeps uses prepares f now point))
+      (ordered (lowering_held t ms c h.trampolines s r ty o p path held) x))
+      (used_signed t ms a b c p r keeps uses prepares options os opts (of_type tree) (s, trampoline.LowerImport r ty o)
+      of_options) put n at id number f (add_entry now (needed p))
+      (used_point t ms a b c p r keeps uses prepares f now point))
 
   -- the answer is a core function that the host function is lowered to
   pub lowers_all : (s : ModuleInternedTypeIndex) → s ≡ options.core_type → (d : State)
-      → (result : Result CoreId ItemError)
-      → Keeps (tables_of a) (tables_of b) → Uses t ms a b i r → Prepares t ms b c
+      → (result : Result CoreId ItemError) → Keeps (tables_of a) (tables_of b) → (at : ℕ)
+      → ((p : Path) → slice_get a.paths at ≡ Some p → Uses t ms a b p r) → Prepares t ms b c
       → ((v : Options Mark) → OptionsStand ms (tables_of b) options v → EntryStands (tables_of c) o.0 v)
       → o.0 < length c.graph.options → graph.Grows c.graph h → h ≡ record c.graph { trampolines = h.trampolines }
       → (HeldTrampoline c.graph (trampoline_entry (s, trampoline.LowerImport r ty o)) → IsOrdered c.graph → IsOrdered h)
@@ -354,10 +331,10 @@ module _ (t : TypeTable) (ms : List ModuleRecord) (a b c : State) (h : Component
       → slice_get h.trampolines n.0 ≡ Some (s, trampoline.LowerImport r ty o)
       → IfOk result (λ id. id.0 ≡ length c.cores)
       → OnOk result (d ≡ record c { graph = h; cores = c.cores ++ def.Trampoline n ∷ [] })
-      → IfOk result (Lowers t ms a d i ty options)
+      → IfOk result (λ id. (p : Path) → slice_get a.paths at ≡ Some p → Lowers t ms a d p ty options id)
   unfolding Lowers
-  lowers_all s of_options d (Err e) keeps uses prepares entry held grows rest ordered put at number is = tt
-  lowers_all s of_options d (Ok id) keeps uses prepares entry held grows rest ordered put at number is =
-      λ f now tree os point func opts.
-      let l = lowers_one s of_options d id keeps uses prepares entry held grows rest ordered put at number is f now tree
-      os point func opts in (l.point, l.item)
+  lowers_all s of_options d (Err e) keeps at uses prepares entry held grows rest ordered put there number is = tt
+  lowers_all s of_options d (Ok id) keeps at uses prepares entry held grows rest ordered put there number is =
+      λ p path f now tree os point func opts.
+      let l = lowers_one p s of_options d id keeps (uses p path) prepares entry held grows rest ordered put there number
+      is f now tree os point func opts in (l.point, l.item)

@@ -1,13 +1,17 @@
 -- Memories in slots of the graph.
 use Rattle.std.proofs.Common.{◌≡◌, ◌⊎◌, inl, inr, ◌≤◌, ℕ, zero, suc, List, [], ◌∷◌, length, map, Some, refl, sym, ap}
-use Rattle.std.proofs.Common.{Option, subst, ◌∙◌}
+use Rattle.std.proofs.Common.{Option, subst, true, ◌∙◌}
 use Rattle.std.specs.Prelude.{slice_get}
 use Rattle.std.proofs.lemmas.List.{length-map}
 use Rattle.std.proofs.lemmas.Option.{none-some, same_Some}
+use Rattle.pc_info.specs.declared.core_def.ExportItem.TheVariants as item
+use Rattle.pc_numbers.specs.declared.entity_index.EntityIndex.{EntityIndex}
+use Rattle.pc_numbers.specs.declared.entity_index.EntityIndex.TheVariants as entity
 use Rattle.pc_numbers.specs.declared.module_entity.MemoryIndex.{MemoryIndex}
 use Rattle.pc_types.specs.declared.module_record.ModuleRecord.{ModuleRecord}
 use Rattle.pc_types.specs.declared.parsed.CoreKind.TheVariants as core
 use Rattle.pc_types.specs.declared.parsed.TypeTable.{TypeTable}
+use Rattle.pc_types.specs.Record.{index_kind}
 use Rattle.pc_spec_plan.specs.CoreValue.{MaybeValue}
 use Rattle.pc_spec_plan.specs.PlanView as plan
 use Rattle.pc_parsed.specs.Mark.{Mark}
@@ -25,9 +29,9 @@ use Rattle.pc_inline_state.specs.declared.definition.CoreId.{CoreId}
 use Rattle.pc_inline_state.specs.declared.state.State.{State}
 use Rattle.pc_inline_state.specs.Points.{IsFullSomewhere}
 use Rattle.pc_inline_state.specs.Prepares.{Prepares}
-use Rattle.pc_inline_state.specs.Slots.{SlotStands}
+use Rattle.pc_inline_state.specs.Slots.{SlotStands, is_memory, is_memory_item}
 use Rattle.pc_inline_state.specs.Stands.{MaybeStands}
-use Rattle.pc_inline_state.specs.Tables.{IsItem, Tables, tables_of}
+use Rattle.pc_inline_state.specs.Tables.{IsItem, Tables, is_entity, is_named, tables_of}
 use Rattle.pc_inline_state.specs.Worlds.{slot_kind}
 use Rattle.pc_inline_canon.proofs.CoreInstanceLemmas.{item_held}
 use Rattle.pc_inline_state.proofs.GrowthLemmas.{graph_crowded}
@@ -100,3 +104,16 @@ pub memory_held : (g : ComponentDfg) (n : ℕ) (x : CoreExport MemoryIndex) → 
     → HeldSlot g plan.memory (Some n)
 unfolding slots_of
 memory_held g n x at = slot_held g plan.memory n (memory_def x) (map_at memory_def g.memories n x at)
+
+-- a memory may be one
+pub memory_fits : (ms : List ModuleRecord) (g : ComponentDfg) (d : CoreDef) → IsItem ms g core.Memory d
+    → is_memory d ≡ true
+memory_fits ms g d (is_entity {e = e} kind x) = by e kind
+  where
+    by : (e : EntityIndex) → index_kind e ≡ core.Memory → is_memory_item (item.Index e) ≡ true
+    by (entity.Memory m) is = refl
+    by (entity.Function n) is = absurd (let k : ⊥ = cc in k)
+    by (entity.Table n) is = absurd (let k : ⊥ = cc in k)
+    by (entity.Global n) is = absurd (let k : ⊥ = cc in k)
+    by (entity.Tag n) is = absurd (let k : ⊥ = cc in k)
+memory_fits ms g d (is_named host) = refl

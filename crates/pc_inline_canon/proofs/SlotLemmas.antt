@@ -23,7 +23,6 @@ use Rattle.pc_dfg.specs.Means.{means_no_slot, means_slot}
 use Rattle.pc_dfg.specs.Numbers.{slots_of}
 use Rattle.pc_dfg.specs.Ordered.{IsOrdered}
 use Rattle.pc_dfg.specs.Pushed.{IsPut}
-use Rattle.pc_dfg.proofs.AllLemmas.{all_more}
 use Rattle.pc_inline_state.specs.declared.definition.CoreId.{CoreId}
 use Rattle.pc_inline_state.specs.declared.state.State.{State}
 use Rattle.pc_inline_state.specs.Points.{IsFullSomewhere}
@@ -36,7 +35,8 @@ use Rattle.pc_inline_canon.proofs.CoreInstanceLemmas.{found_in_push, item_held}
 use Rattle.pc_inline_state.specs.Fits.{FitsBefore}
 use Rattle.pc_inline_state.proofs.FitsLemmas.{fits_grown}
 use Rattle.pc_inline_state.proofs.GrowthLemmas.{graph_crowded, graph_grown}
-use Rattle.pc_inline_canon.proofs.KeptLemmas.{core_kept, is_item_kept}
+use Rattle.pc_inline_canon.proofs.ItemLemmas.{items_kept, modules_held, used_kept}
+use Rattle.pc_inline_canon.proofs.KeptLemmas.{core_kept}
 use Rattle.pc_inline_state.proofs.StateLemmas.{types_refl}
 
 -- what is found in a list into which an entry was put was there, or is the entry
@@ -94,7 +94,7 @@ module _ (t : TypeTable) (ms : List ModuleRecord) (st : State) (memories : List 
   }
 
   -- a graph in which slots and options alone are more does what it did
-  pub slots_prepare : (HoldsTypes st.types st.graph → (k : ℕ) (x : CanonicalOptions) → slice_get options k ≡ Some x
+  pub slots_prepare : (HoldsTypes st.types t st.graph → (k : ℕ) (x : CanonicalOptions) → slice_get options k ≡ Some x
       → x.core_type.0 < length st.types.signatures)
       → graph.Grows st.graph slotted → (IsOrdered st.graph → IsOrdered slotted)
       → ((k : plan.SlotKind) (n : ℕ) (d : CoreDef) → slice_get (slots_of slotted k) n ≡ Some d
@@ -104,46 +104,35 @@ module _ (t : TypeTable) (ms : List ModuleRecord) (st : State) (memories : List 
     keeps = graph_grown (tables_of st) slotted grows (fits_grown st.graph slotted grows refl refl);
     sound = λ s. record {
       ordered = ordered s.ordered;
-      items = record {
-        modules = λ i m args at. let old = s.items.modules i m args at in (
-          old.0,
-          old.1,
-          old.2,
-          all_more (λ d. (k : CoreKind) × IsItem ms st.graph k d)
-              (λ d. (k : CoreKind) × IsItem ms slotted k d)
-              (λ d x. (x.0, is_item_kept ms st.graph slotted grows x.0 d x.1))
-              args old.3,
-        );
-        slots = λ k n d at. is_item_kept ms st.graph slotted grows (slot_kind k) d
-            (elim (slots k n d at) as (λ _. IsItem ms st.graph (slot_kind k) d) [
-              | inl before ↦ s.items.slots k n d before
-              | inr item ↦ item
-            ]);
-        exports = λ n ty o d at. is_item_kept ms st.graph slotted grows _ d (s.items.exports n ty o d at);
-      };
+      items = items_kept ms st.graph slotted grows refl slots refl refl s.items;
       plain = record {
         adapters = s.plain.adapters;
         adapter_modules = s.plain.adapter_modules;
         adapter_partitionings = s.plain.adapter_partitionings;
-        resources = s.plain.resources;
-        imported_resources = s.plain.imported_resources;
         unsafe_intrinsics = s.plain.unsafe_intrinsics;
-        instances = s.plain.instances;
-        export_items = s.plain.export_items;
       };
-      used = record { room = s.used.room; numbers = s.used.numbers; others = s.used.others };
+      used = used_kept st.graph slotted grows refl st.paths st.used.items s.used;
       numbers = s.numbers;
-      held = record { options = held s.held; functions = s.held.functions };
+      held = record {
+        options = held s.held;
+        modules = modules_held st.types t st.graph slotted (fits_grown st.graph slotted grows refl refl) refl s.held;
+      };
+      table = s.table;
+      bodies = s.bodies;
+      members = s.members;
     };
     resources = refl;
     side_effects = refl;
     instances = refl;
     trampolines = refl;
     imports = refl;
+    imported_resources = refl;
+    declared_resources = refl;
     import_types = refl;
     begun = refl;
     exports = refl;
     export_items = refl;
+    paths = refl;
     used = refl;
   }
 

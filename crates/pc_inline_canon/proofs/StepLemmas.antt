@@ -26,13 +26,13 @@ use Rattle.pc_spec_reading.specs.Reading.{row}
 
 module _ (t : TypeTable) (ms : List ModuleRecord) where
   -- a row that is stuck
-  pub row_stuck : (now : Moment) (i : Item) (k : Fault) → is_built t i ≡ true → read_row t ms now i ≡ Err k
+  pub row_stuck : (now : Moment) (i : Item) (k : Fault) → is_built i ≡ true → read_row t ms now i ≡ Err k
       → built_row t ms now i ≡ Err k
   unfolding row today
   row_stuck now i k built stuck = rw (built, stuck) refl
 
   -- a row that goes on to a moment in which no adapter was made
-  pub row_goes : (now next : Moment) (i : Item) → is_built t i ≡ true → read_row t ms now i ≡ Ok next
+  pub row_goes : (now next : Moment) (i : Item) → is_built i ≡ true → read_row t ms now i ≡ Ok next
       → list_any is_made next.world.log ≡ false → built_row t ms now i ≡ Ok next
   unfolding row today
   row_goes now next i built goes none = rw (built, goes, none) refl

@@ -1,31 +1,33 @@
--- The use of an import of the host, and what it leaves of the state.
+-- The use of a host item, and what it leaves of the state.
 use Rattle.std.proofs.Common.{◌≡◌, ◌<◌, ℕ, List, [], ◌∷◌, ◌++◌, length, Option, Some, None, Vec, Global, refl, sym, ap}
 use Rattle.std.proofs.Common.{subst, ◌∙◌}
 use Rattle.std.specs.Prelude.{slice_get, slice_set}
+use Rattle.std.proofs.lemmas.Option.{same_Some}
 use Rattle.pc_entity.proofs.Growing.{slice_get-append_seam}
 use Rattle.pc_numbers.specs.declared.runtime.ImportIndex.{ImportIndex}
 use Rattle.pc_numbers.specs.declared.runtime.RuntimeImportIndex.{RuntimeImportIndex}
 use Rattle.pc_types.specs.declared.module_record.ModuleRecord.{ModuleRecord}
-use Rattle.pc_types.specs.declared.parsed.CoreKind.{CoreKind}
 use Rattle.pc_types.specs.declared.parsed.TypeTable.{TypeTable}
+use Rattle.pc_types.specs.TypeTree.{Path}
+use Rattle.pc_spec_plan.specs.Log.{needed}
 use Rattle.pc_spec_plan.specs.PlanView as plan
+use Rattle.pc_spec_reading.specs.World.{World, logging}
 use Rattle.pc_dfg.specs.declared.dfg.ComponentDfg.{ComponentDfg}
 use Rattle.pc_dfg.specs.Grows as graph
 use Rattle.pc_dfg.specs.Numbers.{slots_of}
 use Rattle.pc_dfg.specs.Ordered.{IsOrdered}
-use Rattle.pc_dfg.proofs.AllLemmas.{all_more}
 use Rattle.pc_dfg.proofs.GrowLemmas.{grows_refl}
 use Rattle.pc_inline_state.specs.declared.state.State.{State}
 use Rattle.pc_inline_canon.specs.Hosts.{Uses}
 use Rattle.pc_inline_state.specs.Points.{IsSoundState}
-use Rattle.pc_inline_state.specs.Tables.{IsItem, tables_of}
-use Rattle.pc_inline_state.specs.Worlds.{HasItems, slot_kind}
-use Rattle.pc_spec_reading.specs.Asked.{import_path}
-use Rattle.pc_inline_state.specs.Fits.{FitsBefore}
+use Rattle.pc_inline_state.specs.Tables.{tables_of}
+use Rattle.pc_inline_state.specs.Fits.{FitsBefore, path_of}
+use Rattle.pc_inline_state.specs.Worlds.{WorldStands}
 use Rattle.pc_inline_state.proofs.FitsLemmas.{fits_grown, fits_refl}
 use Rattle.pc_inline_state.proofs.GrowthLemmas.{graph_grown}
 use Rattle.pc_inline_state.proofs.KnowsLemmas.{knows_grown}
-use Rattle.pc_inline_canon.proofs.KeptLemmas.{frame_kept, is_item_kept}
+use Rattle.pc_inline_canon.proofs.ItemLemmas.{items_same, types_held}
+use Rattle.pc_inline_canon.proofs.KeptLemmas.{frame_kept}
 use Rattle.pc_inline_canon.proofs.UsedLemmas.{needed_world, path_known, path_new, used_more}
 
 -- the slots of a graph with other host items
@@ -38,29 +40,34 @@ imported_slots g is plan.realloc = refl
 imported_slots g is plan.callback = refl
 imported_slots g is plan.post_return = refl
 
-module _ (t : TypeTable) (ms : List ModuleRecord) (st : State) (i : ImportIndex) (r : RuntimeImportIndex) where
-  -- an import that was used before
-  pub used_again : IsSoundState t ms st → slice_get st.used.items i.0 ≡ Some (Some r) → Uses t ms st st i r
-  used_again sound at =
-      let there = sound.used.numbers i.0 r at in
+module _ (t : TypeTable) (ms : List ModuleRecord) (st : State) (n : ℕ) (r : RuntimeImportIndex) where
+  -- a host item that was used before
+  pub used_again : IsSoundState t ms st → slice_get st.used.items n ≡ Some (Some r) → (p : Path)
+      → slice_get st.paths n ≡ Some p → Uses t ms st st p r
+  used_again sound at p held =
+      let there = sound.used.numbers n p r held at in
+      let world : (w : World) → WorldStands st.types st.graph w → WorldStands st.types st.graph (logging w (needed p)) =
+      needed_world st.types st.graph st.graph (grows_refl st.graph) (fits_refl st.graph) p refl refl refl refl refl refl
+      refl (path_known st.graph.imports r.0 p there) in
       record {
         path = there;
-        stands = λ f now p. record {
-          sound = p.sound;
-          here = p.here;
-          converted = p.converted;
-          frame = p.frame;
-          world = needed_world st.types st.graph st.graph (grows_refl st.graph) (fits_refl st.graph)
-              (import_path i.0) refl refl refl refl refl
-              (path_known st.graph.imports r.0 i.0 there) now.world p.world;
-          unexported = p.unexported;
+        paths = path_known st.graph.imports r.0 p there;
+        sound = λ s. s;
+        world = world;
+        stands = λ f now point. record {
+          sound = point.sound;
+          here = point.here;
+          converted = point.converted;
+          frame = point.frame;
+          world = world now.world point.world;
+          unexported = point.unexported;
         };
       }
 
-  module _ (u : Vec (Option RuntimeImportIndex) Global) where
-    -- the graph with the import among its host items
+  module _ (i : ImportIndex × List (List ℕ)) (u : Vec (Option RuntimeImportIndex) Global) where
+    -- the graph with the host item
     abbrev imported : ComponentDfg
-    imported = record st.graph { imports = st.graph.imports ++ (i, []) ∷ [] }
+    imported = record st.graph { imports = st.graph.imports ++ i ∷ [] }
 
     -- the state with that graph
     abbrev using_it : State
@@ -71,68 +78,66 @@ module _ (t : TypeTable) (ms : List ModuleRecord) (st : State) (i : ImportIndex)
       fits : FitsBefore st.graph imported
       fits = fits_grown st.graph imported grows refl refl
 
-      imported_items : HasItems ms st.graph → HasItems ms imported
-      imported_items items = record {
-        modules = λ n m args at. let old = items.modules n m args at in (
-          old.0,
-          old.1,
-          old.2,
-          all_more (λ d. (k : CoreKind) × IsItem ms st.graph k d)
-              (λ d. (k : CoreKind) × IsItem ms imported k d)
-              (λ d x. (x.0, is_item_kept ms st.graph imported grows x.0 d x.1)) args old.3,
-        );
-        slots = λ k n d at. is_item_kept ms st.graph imported grows (slot_kind k) d
-            (items.slots k n d (subst (λ xs. slice_get xs n ≡ Some d)
-            (imported_slots st.graph (st.graph.imports ++ (i, []) ∷ []) k) at));
-        exports = λ n ty o d at. is_item_kept ms st.graph imported grows _ d (items.exports n ty o d at);
-      }
-
-      -- an import that is used for the first time
+      -- a host item that is used for the first time
       used_first : (IsOrdered st.graph → IsOrdered imported) → r.0 ≡ length st.graph.imports
-          → u.items ≡ slice_set st.used.items i.0 (Some r) → length u.items ≡ length st.used.items
-          → slice_get st.used.items i.0 ≡ Some None → i.0 < length st.used.items → Uses t ms st using_it i r
-      used_first ordered number set same unused below = record {
-        path = ap (slice_get imported.imports) number ∙ slice_get-append_seam st.graph.imports (i, []) [];
-        stands = λ f now p. record {
-          sound = record {
-            ordered = ordered p.sound.ordered;
-            items = imported_items p.sound.items;
+          → u.items ≡ slice_set st.used.items n (Some r) → length u.items ≡ length st.used.items
+          → IsSoundState t ms st → slice_get st.paths n ≡ Some (path_of i)
+          → slice_get st.used.items n ≡ Some None → n < length st.used.items
+          → Uses t ms st using_it (path_of i) r
+      used_first ordered number set same sound held unused below =
+          let world : (w : World) → WorldStands st.types st.graph w
+          → WorldStands st.types imported (logging w (needed (path_of i))) =
+          needed_world st.types st.graph imported grows fits (path_of i) refl refl refl refl refl refl refl
+          (path_new st.graph.imports i (sound.used.others n (path_of i) held unused)) in
+          let sound_then : IsSoundState t ms st → IsSoundState t ms using_it = λ s. record {
+            ordered = ordered s.ordered;
+            items = items_same ms st.graph imported grows refl (imported_slots st.graph imported.imports) refl refl
+                s.items;
             plain = record {
-              adapters = p.sound.plain.adapters;
-              adapter_modules = p.sound.plain.adapter_modules;
-              adapter_partitionings = p.sound.plain.adapter_partitionings;
-              resources = p.sound.plain.resources;
-              imported_resources = p.sound.plain.imported_resources;
-              unsafe_intrinsics = p.sound.plain.unsafe_intrinsics;
-              instances = p.sound.plain.instances;
-              export_items = p.sound.plain.export_items;
+              adapters = s.plain.adapters;
+              adapter_modules = s.plain.adapter_modules;
+              adapter_partitionings = s.plain.adapter_partitionings;
+              unsafe_intrinsics = s.plain.unsafe_intrinsics;
             };
-            used = used_more st.graph imported st.used.items u.items i r refl refl set same number below p.sound.used;
-            numbers = p.sound.numbers;
-            held = record { options = p.sound.held.options; functions = p.sound.held.functions };
-          };
-          here = knows_grown st.graph st.types.resources now.scope p.here imported fits;
-          converted = p.converted;
-          frame = frame_kept ms (tables_of st) (tables_of using_it) (graph_grown (tables_of st) imported grows fits) f
-              now.scope
-              p.frame;
-          world = needed_world st.types st.graph imported grows fits (import_path i.0) refl refl refl refl refl
-              (path_new st.graph.imports i (p.sound.used.others i.0 unused)) now.world p.world;
-          unexported = record { exports = p.unexported.exports; items = p.unexported.items };
-        };
-      }
+            used = used_more st.graph imported st.paths st.used.items u.items n i r held refl refl set same number below
+                s.used;
+            numbers = s.numbers;
+            held = types_held st.types t st.graph imported fits refl refl s.held;
+            table = s.table;
+            bodies = s.bodies;
+            members = s.members;
+          } in
+          record {
+            path = ap (slice_get imported.imports) number ∙ slice_get-append_seam st.graph.imports i [];
+            paths = path_new st.graph.imports i (sound.used.others n (path_of i) held unused);
+            sound = sound_then;
+            world = world;
+            stands = λ f now p. record {
+              sound = sound_then p.sound;
+              here = knows_grown st.graph st.types.resources now.scope p.here imported fits;
+              converted = p.converted;
+              frame = frame_kept ms (tables_of st) (tables_of using_it)
+                  (graph_grown (tables_of st) imported grows fits) f now.scope p.frame;
+              world = world now.world p.world;
+              unexported = record { exports = p.unexported.exports; items = p.unexported.items };
+            };
+          }
 
   -- the same of a graph that was made by a call
-  pub used_new : (u : Vec (Option RuntimeImportIndex) Global) (h : ComponentDfg) → graph.Grows st.graph h
-      → h ≡ record st.graph { imports = h.imports } → (names : List (List ℕ)) → names ≡ []
+  pub used_new : (i : ImportIndex) (names : List (List ℕ)) (u : Vec (Option RuntimeImportIndex) Global)
+      (h : ComponentDfg) → graph.Grows st.graph h → h ≡ record st.graph { imports = h.imports }
       → h.imports ≡ st.graph.imports ++ (i, names) ∷ []
-      → (i.0 < length st.graph.import_types → IsOrdered st.graph → IsOrdered h) → i.0 < length st.graph.import_types
-      → r.0 ≡ length st.graph.imports → u.items ≡ slice_set st.used.items i.0 (Some r)
-      → length u.items ≡ length st.used.items → slice_get st.used.items i.0 ≡ Some None → i.0 < length st.used.items
-      → Uses t ms st (record st { graph = h; used = u }) i r
-  used_new u h grows rest names none more ordered typed number set same unused below =
-      let unnamed = more ∙ ap (λ ns. st.graph.imports ++ (i, ns) ∷ []) none in
-      let made : h ≡ imported u = rest ∙ (λ j. record st.graph { imports = unnamed j }) in
-      subst (λ (g : ComponentDfg). Uses t ms st (record st { graph = g; used = u }) i r) (sym made)
-      (used_first u (subst (graph.Grows st.graph) made grows) (λ o. subst IsOrdered made (ordered typed o)) number set
-      same unused below)
+      → (i.0 < length st.graph.import_types → IsOrdered st.graph → IsOrdered h)
+      → r.0 ≡ length st.graph.imports → u.items ≡ slice_set st.used.items n (Some r)
+      → length u.items ≡ length st.used.items → IsSoundState t ms st
+      → slice_get st.paths n ≡ Some (record { import = i.0; names = names })
+      → slice_get st.used.items n ≡ Some None → n < length st.used.items → (p : Path) → slice_get st.paths n ≡ Some p
+      → Uses t ms st (record st { graph = h; used = u }) p r
+  used_new i names u h grows rest more ordered number set same sound held unused below p there =
+      let made : h ≡ imported (i, names) u = rest ∙ (λ j. record st.graph { imports = more j }) in
+      let typed : i.0 < length st.graph.import_types = sound.used.imports n (path_of (i, names)) held in
+      subst (λ (q : Path). Uses t ms st (record st { graph = h; used = u }) q r)
+      (same_Some (path_of (i, names)) p (sym held ∙ there))
+      (subst (λ (g : ComponentDfg). Uses t ms st (record st { graph = g; used = u }) (path_of (i, names)) r) (sym made)
+      (used_first (i, names) u (subst (graph.Grows st.graph) made grows) (λ o. subst IsOrdered made (ordered typed o))
+      number set same sound held unused below))

@@ -2,9 +2,11 @@
 use Rattle.std.proofs.Common.{◌≡◌, ℕ, List, map, length, Some, sym, ap, subst, ◌∙◌}
 use Rattle.std.specs.Prelude.{◌≤◌, count_by, slice_get}
 use Rattle.std.specs.List.{AllZip}
+use Rattle.pc_numbers.specs.declared.runtime.RuntimeImportIndex.{RuntimeImportIndex}
 use Rattle.pc_types.specs.declared.module_record.ModuleRecord.{ModuleRecord}
 use Rattle.pc_types.specs.declared.parsed.TypeTable.{TypeTable}
 use Rattle.pc_types.specs.declared.types.ComponentExtern.{ComponentExtern}
+use Rattle.pc_types.specs.TypeTree.{Path}
 use Rattle.pc_types_lists.specs.Types.{Resources, Types}
 use Rattle.pc_types_lists.specs.Types as builder
 use Rattle.pc_spec_plan.specs.CoreValue.{CoreValue}
@@ -19,7 +21,10 @@ use Rattle.pc_dfg.specs.declared.dfg.ComponentDfg.{ComponentDfg}
 use Rattle.pc_dfg.specs.declared.instance.SideEffect.{SideEffect}
 use Rattle.pc_dfg.specs.Effects.{MeansEffect}
 use Rattle.pc_dfg.specs.Grows as graph
+use Rattle.pc_dfg.specs.Lists as list
+use Rattle.pc_dfg.specs.Means.{HasPath}
 use Rattle.pc_dfg.specs.Numbers.{SignedTrampoline}
+use Rattle.pc_dfg.proofs.GrowLemmas.{kept}
 use Rattle.pc_dfg.proofs.TraceLemmas.{effect_kept}
 use Rattle.pc_inline_state.specs.declared.frame.Frame.{Frame}
 use Rattle.pc_inline_state.specs.declared.state.State.{State}
@@ -35,6 +40,22 @@ use Rattle.pc_inline_canon.proofs.KeptLemmas.{core_kept, frame_kept}
 use Rattle.pc_inline_canon.proofs.MarkLemmas.{entry_twice, holds_still, still}
 use Rattle.pc_inline_state.proofs.KnowsLemmas.{converted_kept, knows_grown}
 use Rattle.pc_inline_state.proofs.ZipLemmas.{zip_more}
+
+-- the resources that came with imports have the paths that they had, in a graph that has grown
+pub imported_still : (g h : ComponentDfg) → graph.Grows g h → (rs : List RuntimeImportIndex) (ps : List Path)
+    → AllZip (λ (r : RuntimeImportIndex). HasPath g r.0) rs ps
+    → AllZip (λ (r : RuntimeImportIndex). HasPath h r.0) rs ps
+imported_still g h grows rs ps zip =
+    zip_more (λ (r : RuntimeImportIndex). HasPath g r.0) (λ (r : RuntimeImportIndex). HasPath h r.0)
+    (λ r p at. kept g h grows list.imports r.0 (record { 0 = p.import }, p.names) at) rs ps zip
+
+-- and so they have in one that has no more of them
+pub imported_same : (g h : ComponentDfg) → graph.Grows g h → h.imported_resources ≡ g.imported_resources
+    → (ps : List Path) → AllZip (λ (r : RuntimeImportIndex). HasPath g r.0) g.imported_resources ps
+    → AllZip (λ (r : RuntimeImportIndex). HasPath h r.0) h.imported_resources ps
+imported_same g h grows same ps zip =
+    subst (λ rs. AllZip (λ (r : RuntimeImportIndex). HasPath h r.0) rs ps) (sym same)
+    (imported_still g h grows g.imported_resources ps zip)
 
 module _ (old new : Types) (g h : ComponentDfg) (types : builder.KeepsTypes old new) (grows : graph.Grows g h)
     (fits : FitsBefore g h) where
@@ -78,10 +99,10 @@ module _ (old new : Types) (g h : ComponentDfg) (types : builder.KeepsTypes old 
 
   -- a graph that does no more than before
   pub world_still : h.side_effects ≡ g.side_effects → h.instances ≡ g.instances → h.trampolines ≡ g.trampolines
-      → h.imports ≡ g.imports → h.import_types ≡ g.import_types
-      → h.num_runtime_component_instances ≡ g.num_runtime_component_instances
+      → h.imports ≡ g.imports → h.imported_resources ≡ g.imported_resources → h.resources ≡ g.resources
+      → h.import_types ≡ g.import_types → h.num_runtime_component_instances ≡ g.num_runtime_component_instances
       → (w : World) → WorldStands old g w → WorldStands new h w
-  world_still effects instances trampolines imports import_types begun w s = record {
+  world_still effects instances trampolines imports imported resources import_types begun w s = record {
     effects = subst (λ es. AllZip (EffectStands new h) es (trace w.log)) (sym effects)
         (zip_more (EffectStands old g) (EffectStands new h) effect_still g.side_effects (trace w.log) s.effects);
     order = s.order ∙ ap length (sym instances);
@@ -92,7 +113,8 @@ module _ (old new : Types) (g h : ComponentDfg) (types : builder.KeepsTypes old 
     import_types = subst (λ is. AllZip (ImportStands new h) is w.imports) (sym import_types)
         (zip_more (ImportStands old g) (ImportStands new h) import_still g.import_types w.imports s.import_types);
     imports = ap (map path_of) imports ∙ s.imports;
-    imported_resources = s.imported_resources;
+    imported_resources = imported_same g h grows imported w.imported_resources s.imported_resources;
+    resources = ap length resources ∙ s.resources;
     intrinsics = s.intrinsics;
     no_adapters = s.no_adapters;
     begun = s.begun ∙ sym begun;
@@ -108,7 +130,8 @@ point_kept t ms old new p f now at = record {
   converted = converted_kept old.types new.types p.keeps.types p.resources t f.converted at.converted;
   frame = frame_kept ms (tables_of old) (tables_of new) p.keeps f now.scope at.frame;
   world = world_still old.types new.types old.graph new.graph p.keeps.types p.keeps.graph p.keeps.fits p.side_effects
-      p.instances p.trampolines p.imports p.import_types p.begun now.world at.world;
+      p.instances p.trampolines p.imports p.imported_resources p.declared_resources p.import_types p.begun now.world
+      at.world;
   unexported = record {
     exports = p.exports ∙ at.unexported.exports;
     items = p.export_items ∙ at.unexported.items;

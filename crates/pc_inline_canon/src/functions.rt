@@ -1,11 +1,11 @@
 //! Functions: lift and lower.
 
-ghost use Rattle.std.specs.Prelude.{◌≡◌, ◌+◌};
-ghost use Rattle.pc_types_lists.specs.Adds.{most_types};
+ghost use Rattle.std.specs.Prelude.{◌≡◌};
 ghost use Rattle.pc_spec_reading.specs.Item.{lift_item, lower_item};
-ghost use Rattle.pc_inline_state.specs.Adds.{Adds};
+ghost use Rattle.pc_inline_state.specs.Adds.{Adds, most_converted};
 ghost use Rattle.pc_inline_state.specs.Points.{IsInput, IsPoint, StepsItem};
 ghost use Rattle.pc_inline_state.specs.Tables.{Keeps, tables_of};
+ghost use Rattle.pc_inline_state.specs.Trails.{Trails};
 
 use crate::lower::lower_host;
 use crate::options::options_in;
@@ -27,9 +27,9 @@ pub fn step_lift(
     requires input { IsInput context.now.table.now context.now.modules }
     requires here { IsPoint context.now.table.now context.now.modules state.old frame.old }
     ensures keeps { Keeps (tables_of state.old) (tables_of state.new) }
-    ensures adds { Adds context.now.table.now (4 + most_types context.now.table.now)
+    ensures adds { Adds context.now.table.now (most_converted context.now.table.now 1)
         (tables_of state.old) (tables_of state.new) }
-    ensures resources { state.new.types.resources ≡ state.old.types.resources }
+    ensures trail { Trails frame.old.changes state.old.types.resources frame.new.changes state.new.types.resources }
     ensures same { frame.new.component_instance ≡ frame.old.component_instance }
     ensures steps { StepsItem context.now.table.now context.now.modules (lift_item func ty core opts.now)
         state.old frame.old state.new frame.new result }
@@ -60,9 +60,9 @@ pub fn step_lower(
     requires input { IsInput context.now.table.now context.now.modules }
     requires here { IsPoint context.now.table.now context.now.modules state.old frame.old }
     ensures keeps { Keeps (tables_of state.old) (tables_of state.new) }
-    ensures adds { Adds context.now.table.now (4 + most_types context.now.table.now)
+    ensures adds { Adds context.now.table.now (most_converted context.now.table.now 1)
         (tables_of state.old) (tables_of state.new) }
-    ensures resources { state.new.types.resources ≡ state.old.types.resources }
+    ensures trail { Trails frame.old.changes state.old.types.resources frame.new.changes state.new.types.resources }
     ensures same { frame.new.component_instance ≡ frame.old.component_instance }
     ensures steps { StepsItem context.now.table.now context.now.modules (lower_item func ty core opts.now)
         state.old frame.old state.new frame.new result }
@@ -74,10 +74,10 @@ pub fn step_lower(
     let Some(options) = options_in(frame, core_type, opts) else {
         return Err(ItemError::Fault(ItemFault::Invalid));
     };
-    let Some(import) = state.host_func(func) else {
+    let Some(path) = state.host_func(func) else {
         return Err(ItemError::Fault(ItemFault::Unsupported(Unsupported::NotBuilt)));
     };
-    let id = lower_host(context, state, import, ty, options)?;
+    let id = lower_host(context, state, path, ty, options)?;
     frame.core_funcs.push(id)?;
     Ok(())
 }

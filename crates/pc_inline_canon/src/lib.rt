@@ -10,4 +10,5 @@ mod options;
 mod slots;
 
 pub use functions::{step_lift, step_lower};
+pub use lower::use_host;
 pub use slots::options_entry;

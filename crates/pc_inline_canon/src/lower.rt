@@ -1,6 +1,7 @@
-//! Host functions, lowered.
+//! Host items that are used, and host functions, lowered.
 
-ghost use Rattle.std.specs.Prelude.{◌≡◌, ◌<◌, length, IfErr, IfOk};
+ghost use Rattle.std.specs.Prelude.{◌≡◌, ◌<◌, Some, length, slice_get, IfErr, IfOk};
+ghost use Rattle.pc_types.specs.TypeTree.{Path};
 ghost use Rattle.pc_inline_state.specs.Adds.{Adds};
 ghost use Rattle.pc_inline_state.specs.AddsEach.{AddsEach, in_imports};
 ghost use Rattle.pc_inline_canon.specs.Hosts.{Lowers, Uses};
@@ -11,28 +12,35 @@ ghost use Rattle.pc_inline_state.specs.Tables.{Keeps, tables_of};
 
 use crate::slots::options_entry;
 use pc_dfg::{CoreDef, Trampoline};
-use pc_entity::{ImportIndex, RuntimeImportIndex, Seq};
+use pc_entity::RuntimeImportIndex;
+use pc_inline_paths::PathId;
 use pc_inline_state::{Context, CoreId, ItemError, Options, State};
 use pc_types::TypeFuncIndex;
 
-/// The number of an import among the host items that are used. It gets one the first time.
-pub(crate) fn use_import(
+/// The number of a host item among those that are used. It gets one the first time, with the names of its path.
+pub fn use_host(
     context: &Context<'_>,
     state: &mut State<'_>,
-    import: ImportIndex,
+    path: PathId,
 ) -> Result<RuntimeImportIndex, ItemError>
     requires sound { IsSoundState context.now.table.now context.now.modules state.old }
-    requires there { import.0 < length state.old.graph.import_types }
+    requires there { path.0 < length state.old.paths }
     ensures keeps { Keeps (tables_of state.old) (tables_of state.new) }
     ensures adds { AddsEach in_imports 0 0 (tables_of state.old) (tables_of state.new) }
-    ensures uses { IfOk result (Uses context.now.table.now context.now.modules state.old state.new import) }
+    ensures uses { IfOk result (λ r. (p : Path) → slice_get state.old.paths path.0 ≡ Some p
+        → Uses context.now.table.now context.now.modules state.old state.new p r) }
+    ensures rest { state.new ≡ record state.old {
+      graph = record state.old.graph { imports = state.new.graph.imports };
+      used = state.new.used;
+    } }
     ensures err { IfErr result (LacksRoom state.new) }
 {
-    if let Some(number) = state.used[import.0 as usize] {
+    if let Some(number) = state.used[path.0 as usize] {
         return Ok(number);
     }
-    let number = state.graph.push_import(import, Seq::new(context.alloc))?;
-    state.used[import.0 as usize] = Some(number);
+    let (import, names) = state.paths.names(context.alloc, path)?;
+    let number = state.graph.push_import(import, names)?;
+    state.used[path.0 as usize] = Some(number);
     Ok(number)
 }
 
@@ -40,21 +48,21 @@ pub(crate) fn use_import(
 pub(crate) fn lower_host(
     context: &Context<'_>,
     state: &mut State<'_>,
-    import: ImportIndex,
+    path: PathId,
     ty: TypeFuncIndex,
     options: Options,
 ) -> Result<CoreId, ItemError>
     requires sound { IsSoundState context.now.table.now context.now.modules state.old }
-    requires there { import.0 < length state.old.graph.import_types }
+    requires there { path.0 < length state.old.paths }
     requires options { OptionsThere context.now.modules (tables_of state.old) options }
     ensures keeps { Keeps (tables_of state.old) (tables_of state.new) }
     ensures adds { Adds context.now.table.now 4 (tables_of state.old) (tables_of state.new) }
     ensures resources { state.new.types.resources ≡ state.old.types.resources }
-    ensures lowers { IfOk result
-        (Lowers context.now.table.now context.now.modules state.old state.new import ty options) }
+    ensures lowers { IfOk result (λ id. (p : Path) → slice_get state.old.paths path.0 ≡ Some p
+        → Lowers context.now.table.now context.now.modules state.old state.new p ty options id) }
     ensures err { IfErr result (LacksRoom state.new) }
 {
-    let index = use_import(context, state, import)?;
+    let index = use_host(context, state, path)?;
     let entry = options_entry(context, state, options)?;
     let lowering = Trampoline::LowerImport {
         index,

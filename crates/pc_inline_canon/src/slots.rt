@@ -26,16 +26,20 @@ use pc_inline_state::{Context, CoreId, DataModel, ItemError, Options, State};
 use std::alloc::Global;
 
 /// A definition of a memory, as a memory.
-fn memory_of(def: &CoreDef) -> CoreExport<MemoryIndex>
+fn memory_of(alloc: Global, def: &CoreDef) -> Result<CoreExport<MemoryIndex>, NoMemory>
     requires memory { is_memory def.now ≡ true }
-    ensures { memory_def result ≡ def.now }
+    ensures { IfOk result (λ memory. memory_def memory ≡ def.now) }
 {
     match def {
-        CoreDef::Export(export) => match export.item {
-            ExportItem::Index(EntityIndex::Memory(memory)) => CoreExport {
+        CoreDef::Export(export) => match &export.item {
+            ExportItem::Index(EntityIndex::Memory(memory)) => Ok(CoreExport {
                 instance: export.instance,
-                item: ExportItem::Index(memory),
-            },
+                item: ExportItem::Index(*memory),
+            }),
+            ExportItem::Name(name) => Ok(CoreExport {
+                instance: export.instance,
+                item: ExportItem::Name(name.try_clone(alloc)?),
+            }),
             _ => unreachable!(),
         },
         _ => unreachable!(),
@@ -67,7 +71,7 @@ fn memory_slot(
 {
     match memory {
         Some(id) => {
-            let memory = memory_of(&state.cores[id]);
+            let memory = memory_of(context.alloc, &state.cores[id])?;
             Ok(Some(state.graph.push_memory(memory)?))
         }
         None => Ok(None),

@@ -1,5 +1,5 @@
 use Rattle.std.proofs.Common.{sym, ◌∙◌}
-use Rattle.pc_inline_canon.proofs.ConvertedLemmas.{lower_adds, lower_keeps}
+use Rattle.pc_inline_canon.proofs.ConvertedLemmas.{lower_adds, lower_keeps, lower_trail}
 use Rattle.pc_inline_canon.proofs.GotLemmas.{got_by}
 use Rattle.pc_inline_canon.proofs.LowerLemmas.{lower_adapts, lower_lacks, lower_misses, lower_misses_option}
 use Rattle.pc_inline_canon.proofs.LowerLemmas.{lower_ready, lower_steps}
@@ -33,7 +33,7 @@ lower_host-requires c =
     let ready = lower_ready _ _ c.args.func c.args.ty c.args.core c.args.opts.now _ c.args.frame.now _ _
     c.in_ok-ty.ensures.converts _ _ c.in_ok-ty.ensures.are c.requires.here c.in-Some.func
     (got_by _ _ _ c.as_slice.ensures _ _ c.at.ensures c.in-Some.is) c.in-Some-options_in.options
-    (sym c.options_in.ensures ∙ c.in-Some-options_in.is) c.in-Some-host_func.import
+    (sym c.options_in.ensures ∙ c.in-Some-options_in.is) c.in-Some-host_func.path
     (sym c.host_func.ensures ∙ c.in-Some-host_func.is) in
     record { sound = ready.0; there = ready.1; options = ready.2 }
 
@@ -48,7 +48,7 @@ pub returns-clause-steps : goal.returns-clause-steps
 returns-clause-steps c =
     lower_steps _ _ _ _ _ _ _ _ _ _ c.in_ok-ty.ensures.converts _ _ c.in_ok-ty.ensures.are _
     (got_by _ _ _ c.as_slice.ensures _ _ c.at.ensures c.in-Some.is) _
-    (sym c.options_in.ensures ∙ c.in-Some-options_in.is) c.in-Some-host_func.import
+    (sym c.options_in.ensures ∙ c.in-Some-options_in.is) c.in-Some-host_func.path
     (sym c.host_func.ensures ∙ c.in-Some-host_func.is) c.lower_host.new.state c.in_ok-id.id c.in_ok-id.ensures.lowers _
     (λ i. record c.args.frame.now {
       core_funcs = c.in_ok-push.ensures.ok i;
@@ -73,6 +73,18 @@ returns-in_err-push-clause-adds c = lower_adds _ _ _ _ c.function_types.ensures.
 
 pub returns-clause-adds : goal.returns-clause-adds
 returns-clause-adds c = lower_adds _ _ _ _ c.function_types.ensures.adds c.lower_host.ensures.adds
+
+pub returns-in_err-id-clause-trail : goal.returns-in_err-id-clause-trail
+returns-in_err-id-clause-trail c =
+    lower_trail _ c.args.state.now c.function_types.new.state c.lower_host.new.state _ _ _ c.in_ok-ty.ensures.converts c.lower_host.ensures.resources
+
+pub returns-in_err-push-clause-trail : goal.returns-in_err-push-clause-trail
+returns-in_err-push-clause-trail c =
+    lower_trail _ c.args.state.now c.function_types.new.state c.lower_host.new.state _ _ _ c.in_ok-ty.ensures.converts c.lower_host.ensures.resources
+
+pub returns-clause-trail : goal.returns-clause-trail
+returns-clause-trail c =
+    lower_trail _ c.args.state.now c.function_types.new.state c.lower_host.new.state _ _ _ c.in_ok-ty.ensures.converts c.lower_host.ensures.resources
 
 -- what a step asks for is there at a point
 pub function_types-requires : goal.function_types-requires
