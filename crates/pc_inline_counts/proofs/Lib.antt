@@ -1,0 +1,5 @@
+-- What the functions of this crate rest on, and what the counts say: the public ones are for the crates above.
+mod FoldLemmas
+mod TakesLemmas
+mod HostLemmas
+pub mod CountLemmas
