@@ -1,0 +1,31 @@
+use Rattle.std.proofs.Common.{Some, ap, ◌∙◌}
+use Rattle.pc_types_lists.specs.Known.{resource_of}
+use Rattle.pc_types_lists.specs.Types.{Resources}
+use Rattle.pc_inline_state.proofs.RefusedLemmas.{memory_lacks}
+use Rattle.pc_inline_resources.proofs.KnownLemmas.{noted_trail, put_trail}
+use Rattle.pc_inline_resources.proofs.known.make_known.Goals as goal
+
+pub returns-in_err-push-clause-err : goal.returns-in_err-push-clause-err
+returns-in_err-push-clause-err c = memory_lacks _ _ c.from_residual.ensures.1
+
+pub returns-in_err-register_resource-clause-trail : goal.returns-in_err-register_resource-clause-trail
+returns-in_err-register_resource-clause-trail c =
+    noted_trail _ _ _ c.args.n c.lookup-was.result
+    (c.lookup-was.ensures ∙ ap (λ (k : Resources). resource_of k.known c.args.n) c.resources.ensures)
+    (c.in_err-register_resource.ensures.err ∙ c.resources_mut.ensures.value) _ c.in_ok-push.ensures.ok
+
+pub returns-in_err-register_resource-clause-converted : goal.returns-in_err-register_resource-clause-converted
+returns-in_err-register_resource-clause-converted c = c.new.ensures.converted _
+
+pub returns-in_err-register_resource-clause-err : goal.returns-in_err-register_resource-clause-err
+returns-in_err-register_resource-clause-err c = memory_lacks _ _ c.from_residual-in_err-register_resource.ensures.1
+
+pub returns-clause-trail : goal.returns-clause-trail
+returns-clause-trail c =
+    put_trail _ _ _ c.args.n (Some c.args.r) _ c.resources_mut.ensures.value c.in_ok-register_resource.ensures.ok
+    c.register_resource.ensures.current c.lookup-was.result
+    (c.lookup-was.ensures ∙ ap (λ (k : Resources). resource_of k.known c.args.n) c.resources.ensures) _
+    c.in_ok-push.ensures.ok
+
+pub returns-clause-converted : goal.returns-clause-converted
+returns-clause-converted c = c.new.ensures.converted _
