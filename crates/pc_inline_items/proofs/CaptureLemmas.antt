@@ -33,7 +33,7 @@ use Rattle.pc_inline_items.specs.Captures.{captured_id, captured_ids}
 use Rattle.pc_inline_state.specs.Frames.{Both}
 use Rattle.pc_inline_state.specs.Stands.{Captured, Stands, captures_more, captures_none}
 use Rattle.pc_inline_state.specs.Tables.{Tables}
-use Rattle.pc_inline_items.proofs.BagLemmas.{map_all_missing}
+use Rattle.pc_inline_modules.proofs.BagLemmas.{map_all_missing}
 use Rattle.pc_inline_state.proofs.ZipLemmas.{both_missing, both_there}
 
 -- an outer alias or a nested body: what hangs on the scopes around

@@ -45,6 +45,7 @@ use Rattle.pc_inline_items.proofs.CaptureLemmas.{none_definable, one_missing, va
 use Rattle.pc_inline_canon.proofs.DefinitionLemmas.{definition_added}
 use Rattle.pc_inline_canon.proofs.FrameLemmas.{component_framed, framed_point}
 use Rattle.pc_inline_canon.proofs.KeptLemmas.{captured_kept}
+use Rattle.pc_inline_state.proofs.MembersLemmas.{no_instance}
 use Rattle.pc_inline_state.proofs.StateLemmas.{closure_prepares, definition_prepares, prepares_trans}
 use Rattle.pc_inline_canon.proofs.StepLemmas.{row_goes, row_stuck}
 use Rattle.pc_inline_canon.proofs.WorldLemmas.{point_kept}
@@ -272,7 +273,8 @@ module _ (t : TypeTable) (ms : List ModuleRecord) (k : Option ClosureId) (s : St
         let inner = nested.0 in
         let given = nested.4 in
         let prepares = prepares_trans t ms st mid end (closure_prepares t ms st closure)
-        (definition_prepares t ms mid (definition.Component s captured)) in
+        (definition_prepares t ms mid (definition.Component s captured)
+        (no_instance (length mid.instances) (definition.Component s captured) refl)) in
         let ms_there = modules_captured ms old f now.scope at.frame names k enclosed vars.modules inner.modules modules
         given.modules modules_there in
         let cs_there = components_captured ms old f now.scope at.frame names k enclosed vars.components

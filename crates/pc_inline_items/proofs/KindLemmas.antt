@@ -1,5 +1,5 @@
 -- The step of a local item from that of its kind.
-use Rattle.std.proofs.Common.{◌≡◌, ℕ, List, Option, Result, map, refl, ap, sym, subst}
+use Rattle.std.proofs.Common.{◌≡◌, ◌+◌, ◌<◌, true, ℕ, List, Option, Result, map, refl, ap, sym, subst}
 use Rattle.std.specs.Prelude.{⊤}
 use Rattle.pc_numbers.specs.declared.component_entity.StaticModuleIndex.{StaticModuleIndex}
 use Rattle.pc_numbers.specs.declared.entity_index.EntityIndex.{EntityIndex}
@@ -8,46 +8,97 @@ use Rattle.pc_types.specs.declared.module_record.ModuleRecord.{ModuleRecord}
 use Rattle.pc_types.specs.declared.parsed.CoreKind.{CoreKind}
 use Rattle.pc_types.specs.declared.parsed.Entity.{Entity}
 use Rattle.pc_types.specs.declared.parsed.TypeTable.{TypeTable}
+use Rattle.pc_types.specs.declared.parsed.WasmValType.{WasmValType}
+use Rattle.pc_types.specs.Names.{distinct_names}
 use Rattle.pc_parsed.specs.declared.canon.CanonOption.{CanonOption}
 use Rattle.pc_parsed.specs.declared.payload.ExternName.{ExternName}
 use Rattle.pc_parsed.specs.declared.payload.ItemKind.{ItemKind}
-use Rattle.pc_spec_reading.specs.Item.{alias_item, component_exports_item, core_alias_item, core_exports_item, export_item}
+use Rattle.pc_spec_reading.specs.Item.{alias_item, component_exports_item, core_alias_item, core_exports_item}
+use Rattle.pc_spec_reading.specs.Item.{export_item}
 use Rattle.pc_spec_reading.specs.Item.{import_item, instantiate_module_item, lift_item, lower_item, module_item}
+use Rattle.pc_spec_reading.specs.Item.{resource_item}
 use Rattle.pc_spec_reading.specs.Section.{named_item}
 use Rattle.pc_local.specs.declared.item.LocalInitializer.{LocalInitializer}
 use Rattle.pc_local.specs.declared.item.LocalInitializer.TheVariants as local
 use Rattle.pc_local.specs.Plain.{plain_item}
+use Rattle.pc_local.specs.Sound.{IsSoundItem, export_name}
 use Rattle.pc_inline_state.specs.declared.definition.ClosureId.{ClosureId}
 use Rattle.pc_inline_state.specs.declared.error.ItemError.{ItemError}
+use Rattle.pc_inline_state.specs.declared.frame.Change.{Change}
 use Rattle.pc_inline_state.specs.declared.frame.Frame.{Frame}
 use Rattle.pc_inline_state.specs.declared.state.State.{State}
-use Rattle.pc_inline_state.specs.Adds.{Adds, most_added}
+use Rattle.pc_inline_state.specs.Adds.{Adds, most_added, most_converted, types_among}
 use Rattle.pc_inline_state.specs.Points.{StepsItem}
 use Rattle.pc_inline_items.specs.StepsLocal.{StepsLocal}
 use Rattle.pc_inline_state.specs.Tables.{Keeps, Tables}
+use Rattle.pc_inline_state.specs.Trails.{Trails}
 use Rattle.pc_inline_state.proofs.AddsLemmas.{adds_refl}
 use Rattle.pc_inline_state.proofs.StateLemmas.{keeps_refl}
+use Rattle.pc_inline_state.proofs.TrailLemmas.{trails_same}
 use Rattle.pc_inline_items.proofs.LocalLemmas.{local_plain}
 
-module _ {t : TypeTable} {a : Tables} {x y : RuntimeComponentInstanceIndex} {S T : Type 0} where
-  -- what the step of a local item promises, from that of its kind, which changes no table
-  pub still : {w : ℕ} → record { same : x ≡ y; steps : S } → (S → T)
+-- a module of a sound item was handed in
+pub module_sound : (n : ℕ) (l : LocalInitializer) {index : StaticModuleIndex} {ty : ℕ} → l ≡ local.ModuleStatic index ty
+    → IsSoundItem n l → index.0 < n
+unfolding IsSoundItem
+module_sound n l is sound = subst (IsSoundItem n) is sound
+
+-- no name stands twice among what one exports
+pub exports_sound : (n : ℕ) (l : LocalInitializer) {es xs : List (ExternName × ItemKind × ℕ)} {ty : ℕ}
+    → l ≡ local.ComponentSynthetic es ty → xs ≡ es → IsSoundItem n l → distinct_names (map export_name xs) ≡ true
+unfolding IsSoundItem
+exports_sound n l is same sound =
+    subst (λ ys. distinct_names (map export_name ys) ≡ true) (sym same) (subst (IsSoundItem n) is sound)
+
+module _ {t : TypeTable} {a : Tables} {cs ds : List Change} {x y : RuntimeComponentInstanceIndex} {S : Type 0} where
+  -- what the step of an instance from items promises, of exports that are these
+  pub exported : {b : Tables} {es xs : List (ExternName × ItemKind × ℕ)} → xs ≡ es
+      → record {
+        keeps : Keeps a b;
+        adds : Adds t (most_converted t (1 + types_among xs)) a b;
+        trail : Trails cs a.types.resources ds b.types.resources;
+        same : x ≡ y;
+        steps : S;
+      }
+      → record {
+        keeps : Keeps a b;
+        adds : Adds t (most_converted t (1 + types_among es)) a b;
+        trail : Trails cs a.types.resources ds b.types.resources;
+        same : x ≡ y;
+        steps : S;
+      }
+  exported {b = b} same h = record {
+    keeps = h.keeps;
+    adds = subst (λ ys. Adds t (most_converted t (1 + types_among ys)) a b) same h.adds;
+    trail = h.trail;
+    same = h.same;
+    steps = h.steps;
+  }
+
+module _ {t : TypeTable} {a : Tables} {cs ds : List Change} {x y : RuntimeComponentInstanceIndex} {S T : Type 0} where
+  -- what the step of a local item promises, from that of its kind, which changes no table and no resource
+  pub still : {w : ℕ} → record { changes : ds ≡ cs; same : x ≡ y; steps : S } → (S → T)
       → record {
         keeps : Keeps a a;
         adds : Adds t w a a;
-        resources : a.types.resources ≡ a.types.resources;
+        trail : Trails cs a.types.resources ds a.types.resources;
         same : x ≡ y;
         steps : T;
       }
-  still {w = w} h steps =
-      record { keeps = keeps_refl a; adds = adds_refl t w a; resources = refl; same = h.same; steps = steps h.steps }
+  still {w = w} h steps = record {
+    keeps = keeps_refl a;
+    adds = adds_refl t w a;
+    trail = trails_same cs a.types.resources ds a.types.resources h.changes refl;
+    same = h.same;
+    steps = steps h.steps;
+  }
 
   -- from one that may
   pub moved : {b : Tables} {l m : LocalInitializer} → l ≡ m
       → record {
         keeps : Keeps a b;
         adds : Adds t (most_added t m) a b;
-        resources : b.types.resources ≡ a.types.resources;
+        trail : Trails cs a.types.resources ds b.types.resources;
         same : x ≡ y;
         steps : S;
       }
@@ -55,14 +106,14 @@ module _ {t : TypeTable} {a : Tables} {x y : RuntimeComponentInstanceIndex} {S T
       → record {
         keeps : Keeps a b;
         adds : Adds t (most_added t l) a b;
-        resources : b.types.resources ≡ a.types.resources;
+        trail : Trails cs a.types.resources ds b.types.resources;
         same : x ≡ y;
         steps : T;
       }
   moved {b = b} is h steps = record {
     keeps = h.keeps;
     adds = subst (λ i. Adds t (most_added t i) a b) (sym is) h.adds;
-    resources = h.resources;
+    trail = h.trail;
     same = h.same;
     steps = steps h.steps;
   }
@@ -81,6 +132,14 @@ module _ (t : TypeTable) (ms : List ModuleRecord) (c : Option ClosureId) (st : S
   unfolding plain_item
   import_local {name = name} {ty = ty} is =
       local_plain t ms c st f st' f' r l (import_item name ty) (ap plain_item is)
+
+  -- resource
+  pub resource_local : {id : ℕ} {representation : WasmValType} {destructor : Option ℕ}
+      → l ≡ local.Resource id representation destructor
+      → StepsItem t ms (resource_item id representation destructor) st f st' f' r → StepsLocal t ms c l st f st' f' r
+  unfolding plain_item
+  resource_local {id = id} {representation = representation} {destructor = destructor} is =
+      local_plain t ms c st f st' f' r l (resource_item id representation destructor) (ap plain_item is)
 
   -- lift
   pub lift_local : {func ty core : ℕ} {opts xs : List CanonOption} → l ≡ local.Lift func ty core opts → xs ≡ opts

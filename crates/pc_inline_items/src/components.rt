@@ -14,6 +14,7 @@ ghost use Rattle.pc_inline_state.specs.Points.{IsInput, IsPoint};
 ghost use Rattle.pc_inline_state.specs.declared.state.State.{State};
 ghost use Rattle.pc_inline_items.specs.StepsLocal.{StepsLocal};
 ghost use Rattle.pc_inline_state.specs.Tables.{Keeps, tables_of};
+ghost use Rattle.pc_inline_state.specs.Trails.{Trails};
 
 use pc_entity::{NoMemory, PrimaryMap, Seq, StaticComponentIndex};
 use pc_inline_state::{
@@ -128,6 +129,7 @@ pub(crate) fn step_alias_module(
     closure: Option<ClosureId>,
     variable: ClosedOverModule,
 ) -> Result<(), ItemError>
+    ensures changes { frame.new.changes ≡ frame.old.changes }
     ensures same { frame.new.component_instance ≡ frame.old.component_instance }
     ensures steps { (t : TypeTable) (ms : List ModuleRecord) (st : State) → st.closures ≡ closures.now
         → StepsLocal t ms closure (local.AliasModule variable) st frame.old st frame.new result }
@@ -146,6 +148,7 @@ pub(crate) fn step_alias_component(
     closure: Option<ClosureId>,
     variable: ClosedOverComponent,
 ) -> Result<(), ItemError>
+    ensures changes { frame.new.changes ≡ frame.old.changes }
     ensures same { frame.new.component_instance ≡ frame.old.component_instance }
     ensures steps { (t : TypeTable) (ms : List ModuleRecord) (st : State) → st.closures ≡ closures.now
         → StepsLocal t ms closure (local.AliasComponent variable) st frame.old st frame.new result }
@@ -170,7 +173,7 @@ pub(crate) fn step_component(
     requires here { IsPoint context.now.table.now context.now.modules state.old frame.old }
     ensures keeps { Keeps (tables_of state.old) (tables_of state.new) }
     ensures adds { Adds context.now.table.now 4 (tables_of state.old) (tables_of state.new) }
-    ensures resources { state.new.types.resources ≡ state.old.types.resources }
+    ensures trail { Trails frame.old.changes state.old.types.resources frame.new.changes state.new.types.resources }
     ensures same { frame.new.component_instance ≡ frame.old.component_instance }
     ensures steps { StepsLocal context.now.table.now context.now.modules closure (local.ComponentStatic index vars.now)
         state.old frame.old state.new frame.new result }

@@ -2,26 +2,32 @@
 
 ghost use Rattle.std.specs.Prelude.{◌≡◌};
 ghost use Rattle.pc_spec_reading.specs.Item.{import_item};
-ghost use Rattle.pc_spec_reading.specs.Types.{names_entry};
-ghost use Rattle.pc_inline_state.specs.Kinds.{import_kind, kinds_of};
+ghost use Rattle.pc_spec_reading.specs.Types.{is_plain_type, names_entry};
+ghost use Rattle.pc_inline_state.specs.Adds.{Adds};
 ghost use Rattle.pc_inline_state.specs.Points.{IsInput, IsPoint, StepsItem};
+ghost use Rattle.pc_inline_state.specs.Ready.{IsReady};
+ghost use Rattle.pc_inline_state.specs.Tables.{Keeps, tables_of};
+ghost use Rattle.pc_inline_state.specs.Trails.{Trails};
+ghost use Rattle.pc_inline_items.specs.Kinds.{kind_of};
 
-use crate::instances::is_instance_type;
-use crate::modules::is_module_type;
-use pc_inline_state::{Context, Frame, ItemError, ItemFault, State, TableKinds, is_func_type};
+use pc_inline_resources::take_resources;
+use pc_inline_state::{
+    Context, Frame, ItemError, ItemFault, State, is_func_type, is_instance_type, is_module_type,
+};
 use pc_parsed::{ExternName, ItemKind};
-use pc_types::{Entity, TypeTable, Unsupported};
+use pc_types::{Entity, TypeTable};
 
-/// The kind of item that an import takes, if that is built.
-pub fn import_kind(kinds: TableKinds, entity: Entity) -> Option<ItemKind>
-    ensures { result ≡ import_kind kinds entity }
+/// The kind of item that an import takes.
+fn kind_of(entity: Entity) -> ItemKind
+    ensures { result ≡ kind_of entity }
 {
     match entity {
-        Entity::Func(_) => Some(ItemKind::Func),
-        Entity::Module(_) => Some(ItemKind::Module),
-        Entity::Component(_) => Some(ItemKind::Component),
-        Entity::Instance(_) if kinds.has_no_resource => Some(ItemKind::Instance),
-        _ => None,
+        Entity::Func(_) => ItemKind::Func,
+        Entity::Instance(_) => ItemKind::Instance,
+        Entity::Component(_) => ItemKind::Component,
+        Entity::Module(_) => ItemKind::Module,
+        Entity::Type_(_) => ItemKind::Type_,
+        Entity::Value => ItemKind::Value,
     }
 }
 
@@ -39,29 +45,48 @@ fn names_entry(table: &TypeTable, entity: Entity) -> bool
     }
 }
 
-/// An import takes its argument.
+/// Whether an entity is a type that is no resource, for which nothing need be given.
+fn is_plain_type(table: &TypeTable, entity: Entity) -> bool
+    ensures { result ≡ is_plain_type table.now entity }
+{
+    match entity {
+        Entity::Type_(ty) => !table.entry(ty).is_some_and(|entry| entry.is_resource()),
+        _ => false,
+    }
+}
+
+/// An import takes its argument, whose resources become known. One of a plain type takes none.
 pub(crate) fn step_import(
     context: &Context<'_>,
-    state: &State<'_>,
+    state: &mut State<'_>,
     frame: &mut Frame,
     name: &ExternName,
     entity: Entity,
 ) -> Result<(), ItemError>
     requires input { IsInput context.now.table.now context.now.modules }
-    requires here { IsPoint context.now.table.now context.now.modules state.now frame.old }
-    requires kinds { context.now.kinds ≡ kinds_of context.now.table.now }
+    requires ready { IsReady context.now }
+    requires here { IsPoint context.now.table.now context.now.modules state.old frame.old }
+    ensures keeps { Keeps (tables_of state.old) (tables_of state.new) }
+    ensures adds { Adds context.now.table.now 4 (tables_of state.old) (tables_of state.new) }
+    ensures trail { Trails frame.old.changes state.old.types.resources frame.new.changes state.new.types.resources }
     ensures same { frame.new.component_instance ≡ frame.old.component_instance }
     ensures steps { StepsItem context.now.table.now context.now.modules (import_item name.now entity)
-        state.now frame.old state.now frame.new result }
+        state.old frame.old state.new frame.new result }
 {
-    let Some(kind) = import_kind(context.kinds, entity) else {
-        return Err(ItemError::Fault(ItemFault::Unsupported(Unsupported::NotBuilt)));
-    };
     if !names_entry(context.table, entity) {
         return Err(ItemError::Fault(ItemFault::BadType));
     }
-    match frame.arguments.get(name.name.as_str()).copied() {
-        Some(id) if state.is_of_kind(id, kind) => Ok(frame.push_item(kind, id)?),
-        _ => Err(ItemError::Fault(ItemFault::Invalid)),
+    let Some(id) = frame.arguments.get(name.name.as_str()).copied() else {
+        if is_plain_type(context.table, entity) {
+            return Ok(());
+        }
+        return Err(ItemError::Fault(ItemFault::Invalid));
+    };
+    let kind = kind_of(entity);
+    if !state.is_of_kind(id, kind) {
+        return Err(ItemError::Fault(ItemFault::Invalid));
     }
+    take_resources(context, state, frame, entity, id)?;
+    frame.push_item(kind, id)?;
+    Ok(())
 }

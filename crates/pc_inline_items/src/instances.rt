@@ -1,103 +1,108 @@
-//! Component instances: from items, what they export, and exports.
+//! What component instances export, and exports.
 
-ghost use Rattle.std.specs.Prelude.{◌≡◌, List, map};
+ghost use Rattle.std.specs.Prelude.{◌≡◌, ℕ, None, List, Some, slice_get};
 ghost use Rattle.pc_types.specs.declared.module_record.ModuleRecord.{ModuleRecord};
 ghost use Rattle.pc_types.specs.declared.parsed.TypeTable.{TypeTable};
-ghost use Rattle.pc_types.specs.Table.{is_instance};
+ghost use Rattle.pc_types.specs.Table.{table_fault};
+ghost use Rattle.pc_types.specs.TypeTree.{TypeTree};
 ghost use Rattle.pc_parsed.specs.declared.payload.ExternName.{ExternName};
-ghost use Rattle.pc_spec_reading.specs.Item.{alias_item, component_exports_item, export_item};
-ghost use Rattle.pc_spec_reading.specs.Section.{named_item};
-ghost use Rattle.pc_spec_reading.specs.Types.{has_entry};
+ghost use Rattle.pc_spec_reading.specs.Instances.{alias_in};
+ghost use Rattle.pc_spec_reading.specs.Item.{alias_item, export_item};
+ghost use Rattle.pc_spec_reading.specs.Scope.{Moment};
+ghost use Rattle.pc_spec_reading.specs.Value.{NamedValues, made_instance};
 ghost use Rattle.pc_inline_state.specs.Adds.{Adds};
-ghost use Rattle.pc_inline_state.specs.Points.{IsInput, IsPoint, StepsItem};
+ghost use Rattle.pc_inline_state.specs.Points.{Follows, IsInput, IsPoint, PointStands, StepsItem};
+ghost use Rattle.pc_inline_state.specs.Ready.{IsReady};
+ghost use Rattle.pc_inline_state.specs.Stands.{MembersStand};
 ghost use Rattle.pc_inline_state.specs.Tables.{Keeps, tables_of};
+ghost use Rattle.pc_inline_state.specs.Trails.{Trails};
+ghost use Rattle.pc_inline_state.specs.declared.state.Member.{Member};
 ghost use Rattle.pc_inline_state.specs.declared.state.State.{State};
 
-use crate::members::{are_built, are_there, members_of};
+use crate::hosts::alias_host;
+use crate::members::is_typed;
+use crate::source::{InstanceSource, source_of};
 use pc_entity::Text;
-use pc_inline_state::{Context, Definition, Frame, ItemError, ItemFault, State, is_built_kind};
-use pc_parsed::{ExternName, ItemKind};
-use pc_types::{TypeTable, Unsupported};
+use pc_inline_state::{Context, ExportsId, Frame, ItemError, ItemFault, State};
+use pc_parsed::ItemKind;
+use pc_types::TypeTable;
 
-/// Whether a number is of an instance type.
-pub fn is_instance_type(table: &TypeTable, ty: u32) -> bool
-    ensures { result ≡ has_entry table.now is_instance ty }
-{
-    match table.entry(ty) {
-        Some(entry) => entry.is_instance(),
-        None => false,
-    }
-}
-
-/// An item of the component instance is exported, which puts it at the end of its list once more.
-pub(crate) fn step_export(frame: &mut Frame, kind: ItemKind, index: u32) -> Result<(), ItemError>
+/// An item of the component instance is exported, which puts it at the end of its list once more. A type stands in no
+/// list.
+pub(crate) fn step_export(
+    table: &TypeTable,
+    frame: &mut Frame,
+    kind: ItemKind,
+    index: u32,
+) -> Result<(), ItemError>
+    requires sound { table_fault table.now ≡ None }
+    ensures changes { frame.new.changes ≡ frame.old.changes }
     ensures same { frame.new.component_instance ≡ frame.old.component_instance }
-    ensures steps { (t : TypeTable) (ms : List ModuleRecord) (st : State) (name : ExternName)
-        → StepsItem t ms (export_item (record { name = name; kind = kind; index = index }))
+    ensures steps { (ms : List ModuleRecord) (st : State) (name : ExternName)
+        → StepsItem table.now ms (export_item (record { name = name; kind = kind; index = index }))
         st frame.old st frame.new result }
 {
-    if !is_built_kind(kind) {
-        return Err(ItemError::Fault(ItemFault::Unsupported(Unsupported::NotBuilt)));
+    if !is_typed(table, kind, index) {
+        return Err(ItemError::Fault(ItemFault::BadType));
     }
-    match frame.item(kind, index) {
-        Some(id) => Ok(frame.push_item(kind, id)?),
-        None => Err(ItemError::Fault(ItemFault::Invalid)),
+    match kind {
+        ItemKind::Type_ => Ok(()),
+        _ => match frame.item(kind, index) {
+            Some(id) => Ok(frame.push_item(kind, id)?),
+            None => Err(ItemError::Fault(ItemFault::Invalid)),
+        },
     }
 }
 
-/// An item that a component instance exports.
-pub(crate) fn step_alias(
+/// An item that a component instance from items, or of a component, exports.
+fn alias_made(
     state: &State<'_>,
     frame: &mut Frame,
     kind: ItemKind,
-    instance: u32,
+    exports: ExportsId,
     name: &Text,
 ) -> Result<(), ItemError>
+    ensures changes { frame.new.changes ≡ frame.old.changes }
     ensures same { frame.new.component_instance ≡ frame.old.component_instance }
-    ensures steps { (t : TypeTable) (ms : List ModuleRecord)
-        → StepsItem t ms (alias_item kind instance name.now) state.now frame.old state.now frame.new result }
+    ensures follows { (t : TypeTable) (ms : List ModuleRecord) (now : Moment) (es : List (List ℕ × Member))
+        (vs : NamedValues) (tree : TypeTree) → PointStands t ms state.now frame.old now
+        → slice_get state.now.instances exports.0 ≡ Some es → MembersStand ms (tables_of state.now) es vs
+        → Follows t ms state.now frame.new (alias_in now kind name.now (made_instance vs tree)) result }
 {
-    if !is_built_kind(kind) {
-        return Err(ItemError::Fault(ItemFault::Unsupported(Unsupported::NotBuilt)));
-    }
-    let Some(instance) = frame.item(ItemKind::Instance, instance) else {
-        return Err(ItemError::Fault(ItemFault::Invalid));
-    };
-    match state.member(instance, name.as_str()) {
+    match state.member(exports, name.as_str()) {
         Some(id) if state.is_of_kind(id, kind) => Ok(frame.push_item(kind, id)?),
         _ => Err(ItemError::Fault(ItemFault::Invalid)),
     }
 }
 
-/// A component instance from items of the component instance.
-pub(crate) fn step_component_exports(
+/// An item that a component instance exports.
+pub(crate) fn step_alias(
     context: &Context<'_>,
     state: &mut State<'_>,
     frame: &mut Frame,
-    exports: &[(ExternName, ItemKind, u32)],
-    ty: u32,
+    kind: ItemKind,
+    instance: u32,
+    name: &Text,
 ) -> Result<(), ItemError>
     requires input { IsInput context.now.table.now context.now.modules }
+    requires ready { IsReady context.now }
     requires here { IsPoint context.now.table.now context.now.modules state.old frame.old }
     ensures keeps { Keeps (tables_of state.old) (tables_of state.new) }
     ensures adds { Adds context.now.table.now 4 (tables_of state.old) (tables_of state.new) }
-    ensures resources { state.new.types.resources ≡ state.old.types.resources }
+    ensures trail { Trails frame.old.changes state.old.types.resources frame.new.changes state.new.types.resources }
     ensures same { frame.new.component_instance ≡ frame.old.component_instance }
-    ensures steps { StepsItem context.now.table.now context.now.modules
-        (component_exports_item (map named_item exports.now) ty) state.old frame.old state.new frame.new result }
+    ensures steps { StepsItem context.now.table.now context.now.modules (alias_item kind instance name.now)
+        state.old frame.old state.new frame.new result }
 {
-    if !are_built(exports) {
-        return Err(ItemError::Fault(ItemFault::Unsupported(Unsupported::NotBuilt)));
-    }
-    if !is_instance_type(context.table, ty) {
-        return Err(ItemError::Fault(ItemFault::BadType));
-    }
-    if !are_there(frame, exports) {
+    let Some(id) = frame.item(ItemKind::Instance, instance) else {
         return Err(ItemError::Fault(ItemFault::Invalid));
+    };
+    match source_of(state, id) {
+        Some(InstanceSource::Made(exports)) => alias_made(state, frame, kind, exports, name),
+        Some(InstanceSource::Host { path, ty, entry }) => {
+            alias_host(context, state, frame, kind, path, ty, entry, name)
+        }
+        // Never: what stands among the instances of a frame is an instance, which the contract knows.
+        None => Err(ItemError::Fault(ItemFault::Invalid)),
     }
-    let members = members_of(context.alloc, frame, exports)?;
-    let number = state.push_instance(members)?;
-    let id = state.push_definition(Definition::Instance(number))?;
-    frame.instances.push(id)?;
-    Ok(())
 }

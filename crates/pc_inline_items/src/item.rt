@@ -1,17 +1,21 @@
 //! One item, by its kind.
 
-ghost use Rattle.std.specs.Prelude.{◌≡◌};
+ghost use Rattle.std.specs.Prelude.{◌≡◌, length};
 ghost use Rattle.pc_inline_state.specs.Adds.{Adds, most_added};
-ghost use Rattle.pc_inline_state.specs.Kinds.{kinds_of};
+ghost use Rattle.pc_inline_state.specs.Named.{IsSoundItem};
 ghost use Rattle.pc_inline_state.specs.Points.{IsInput, IsPoint};
 ghost use Rattle.pc_inline_items.specs.StepsLocal.{StepsLocal};
+ghost use Rattle.pc_inline_state.specs.Ready.{IsReady};
 ghost use Rattle.pc_inline_state.specs.Tables.{Keeps, tables_of};
+ghost use Rattle.pc_inline_state.specs.Trails.{Trails};
 
 use crate::components::{step_alias_component, step_alias_module, step_component};
 use crate::imports::step_import;
-use crate::instances::{step_alias, step_component_exports, step_export};
-use crate::modules::{step_core_alias, step_core_exports, step_core_instance, step_module};
+use crate::instances::{step_alias, step_export};
+use crate::made::step_component_exports;
 use pc_inline_canon::{step_lift, step_lower};
+use pc_inline_modules::{step_core_alias, step_core_exports, step_core_instance, step_module};
+use pc_inline_resources::step_resource;
 use pc_inline_state::{ClosureId, Context, Frame, ItemError, ItemFault, State};
 use pc_local::LocalInitializer;
 use pc_types::Unsupported;
@@ -26,17 +30,21 @@ pub fn step(
 ) -> Result<(), ItemError>
     requires input { IsInput context.now.table.now context.now.modules }
     requires here { IsPoint context.now.table.now context.now.modules state.old frame.old }
-    requires kinds { context.now.kinds ≡ kinds_of context.now.table.now }
+    requires ready { IsReady context.now }
+    requires sound { IsSoundItem (length context.now.modules) item.now }
     ensures keeps { Keeps (tables_of state.old) (tables_of state.new) }
     ensures adds { Adds context.now.table.now (most_added context.now.table.now item.now)
         (tables_of state.old) (tables_of state.new) }
-    ensures resources { state.new.types.resources ≡ state.old.types.resources }
+    ensures trail { Trails frame.old.changes state.old.types.resources frame.new.changes state.new.types.resources }
     ensures same { frame.new.component_instance ≡ frame.old.component_instance }
     ensures steps { StepsLocal context.now.table.now context.now.modules closure item.now
         state.old frame.old state.new frame.new result }
 {
     match item {
         LocalInitializer::Import { name, ty } => step_import(context, state, frame, name, *ty),
+        LocalInitializer::Resource { id, rep, dtor } => {
+            step_resource(context, state, frame, *id, *rep, *dtor)
+        }
         LocalInitializer::Lift {
             func,
             ty,
@@ -66,6 +74,10 @@ pub fn step(
             instance,
             name,
         } => step_core_alias(context, state, frame, *kind, *instance, name),
+        // Never: the driver goes into it.
+        LocalInitializer::ComponentInstantiate { .. } => {
+            Err(ItemError::Fault(ItemFault::Invalid))
+        }
         LocalInitializer::ComponentSynthetic { exports, ty } => {
             step_component_exports(context, state, frame, exports.as_slice(), *ty)
         }
@@ -73,14 +85,16 @@ pub fn step(
             kind,
             instance,
             name,
-        } => step_alias(state, frame, *kind, *instance, name),
+        } => step_alias(context, state, frame, *kind, *instance, name),
         LocalInitializer::AliasModule(variable) => {
             step_alias_module(&state.closures, frame, closure, *variable)
         }
         LocalInitializer::AliasComponent(variable) => {
             step_alias_component(&state.closures, frame, closure, *variable)
         }
-        LocalInitializer::Export { kind, index, .. } => step_export(frame, *kind, *index),
+        LocalInitializer::Export { kind, index, .. } => {
+            step_export(context.table, frame, *kind, *index)
+        }
         _ => Err(ItemError::Fault(ItemFault::Unsupported(Unsupported::NotBuilt))),
     }
 }

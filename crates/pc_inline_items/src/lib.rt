@@ -4,13 +4,14 @@
 #![tactic(auto)]
 
 mod components;
+mod hosts;
 mod imports;
 mod instances;
 mod item;
+mod made;
 mod members;
-mod modules;
+mod source;
 
-pub use imports::import_kind;
-pub use instances::is_instance_type;
 pub use item::step;
-pub use members::{Named, are_built, are_there, members_of};
+pub use made::add_instance;
+pub use members::{are_there, are_typed, argument_values, export_members};

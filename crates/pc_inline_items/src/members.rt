@@ -1,68 +1,223 @@
-//! Items of a component instance under names: what it exports, and what a child is given.
+//! Items of a component instance under names: what it exports, and what a child is given. A type among them is
+//! converted, and becomes a definition.
 
-ghost use Rattle.std.specs.Prelude.{◌≡◌, ℕ, List, IfOk};
-ghost use Rattle.pc_inline_items.specs.Members.{are_built, are_there, members_of};
+ghost use Rattle.std.specs.Prelude.{◌≡◌, true, map, IfErr, IfOk, OnOk};
+ghost use Rattle.std.specs.List.{filter_map};
+ghost use Rattle.pc_types.specs.Names.{distinct_names};
+ghost use Rattle.pc_parsed.specs.declared.payload.ItemKind.TheVariants as kind;
+ghost use Rattle.pc_spec_reading.specs.Items.{argument_value, exports_at, value_at};
+ghost use Rattle.pc_spec_reading.specs.Nodes.{extern_data};
+ghost use Rattle.pc_spec_reading.specs.Scope.{Moment};
+ghost use Rattle.pc_spec_reading.specs.Section.{argument_of, named_item};
+ghost use Rattle.pc_spec_reading.specs.Value.{pack_values};
+ghost use Rattle.pc_inline_state.specs.Adds.{types_among};
+ghost use Rattle.pc_inline_state.specs.Frames.{Both, SameNames};
+ghost use Rattle.pc_inline_state.specs.Named.{export_name};
+ghost use Rattle.pc_inline_state.specs.Points.{IsInput, IsPoint, PointStands};
+ghost use Rattle.pc_inline_state.specs.Refused.{LacksRoom};
+ghost use Rattle.pc_inline_state.specs.Stands.{MembersStand, Stands};
+ghost use Rattle.pc_inline_state.specs.Tables.{tables_of};
+ghost use Rattle.pc_inline_items.specs.Members.{AddsItem, TakesTypes, are_there, are_typed, if_type, is_held, is_there};
+ghost use Rattle.pc_inline_items.specs.Members.{is_typed, member_of};
 
-use pc_entity::{NoMemory, Text, TextMap};
-use pc_inline_state::{DefinitionId, Frame, is_built_kind};
+use pc_entity::{NoMemory, Text, TextMap, TryClone};
+use pc_inline_state::{Context, Definition, DefinitionId, Frame, ItemError, Member, State};
 use pc_parsed::{ExternName, ItemKind};
+use pc_types::{ComponentExternData, TypeTable};
 use std::alloc::Global;
 
-/// What an item is named by.
-pub trait Named {
-    // The text of the name.
-    ghost text_of: { Self → List ℕ };
-
-    /// The text of the name.
-    fn text(&self) -> &Text
-        ensures { result.now ≡ text_of self.now };
-}
-
-impl Named for Text {
-    ghost text_of = { λ name. name };
-
-    fn text(&self) -> &Text {
-        self
-    }
-}
-
-impl Named for ExternName {
-    ghost text_of = { λ name. name.name };
-
-    fn text(&self) -> &Text {
-        &self.name
-    }
-}
-
-/// Whether items of the kinds of all of these are built.
-pub fn are_built<N>(items: &[(N, ItemKind, u32)]) -> bool
-    ensures { result ≡ are_built items.now }
+/// Whether a number is one of the type table.
+pub(crate) fn is_held(table: &TypeTable, n: u32) -> bool
+    ensures { result ≡ is_held table.now n }
 {
-    items.iter().all(|item| is_built_kind(item.1))
+    table.entry(n).is_some()
 }
 
-/// Whether a component instance has all of these items.
+/// Whether an item is no type, or one whose number the table holds.
+pub(crate) fn is_typed(table: &TypeTable, kind: ItemKind, index: u32) -> bool
+    ensures { result ≡ is_typed table.now kind index }
+{
+    match kind {
+        ItemKind::Type_ => is_held(table, index),
+        _ => true,
+    }
+}
+
+/// Whether a component instance has an item; a type isn't looked for.
+fn is_there(frame: &Frame, kind: ItemKind, index: u32) -> bool
+    ensures { result ≡ is_there frame.now kind index }
+{
+    match kind {
+        ItemKind::Type_ => true,
+        _ => frame.item(kind, index).is_some(),
+    }
+}
+
+/// Whether the table holds the numbers of all types among these.
+pub fn are_typed<N>(table: &TypeTable, items: &[(N, ItemKind, u32)]) -> bool
+    ensures { result ≡ are_typed table.now items.now }
+{
+    items.iter().all(|item| is_typed(table, item.1, item.2))
+}
+
+/// Whether a component instance has all of these items that are no types.
 pub fn are_there<N>(frame: &Frame, items: &[(N, ItemKind, u32)]) -> bool
     ensures { result ≡ are_there frame.now items.now }
 {
-    items
-        .iter()
-        .all(|item| frame.item(item.1, item.2).is_some())
+    items.iter().all(|item| is_there(frame, item.1, item.2))
 }
 
-/// The items of a component instance that are there, under their names. Of a name that stands twice the first counts.
-pub fn members_of<N: Named>(
-    alloc: Global,
-    frame: &Frame,
-    items: &[(N, ItemKind, u32)],
-) -> Result<TextMap<DefinitionId>, NoMemory>
-    ensures { IfOk result (λ members. members ≡ members_of N.text_of frame.now items.now) }
+/// What a name says of itself.
+fn extern_data(alloc: Global, name: &ExternName) -> Result<ComponentExternData, NoMemory>
+    ensures { IfOk result (λ said. said ≡ extern_data name.now) }
 {
-    let mut members = TextMap::new(alloc);
-    for item in items {
-        if let Some(id) = frame.item(item.1, item.2) {
-            members.insert_first(alloc, item.0.text(), id)?;
-        }
+    Ok(ComponentExternData {
+        implements: name.implements.try_clone(alloc)?,
+        external_id: name.external_id.try_clone(alloc)?,
+    })
+}
+
+/// A type as a definition, if its number is held.
+fn type_id(
+    context: &Context<'_>,
+    state: &mut State<'_>,
+    frame: &mut Frame,
+    n: u32,
+) -> Result<Option<DefinitionId>, ItemError>
+    requires input { IsInput context.now.table.now context.now.modules }
+    requires here { IsPoint context.now.table.now context.now.modules state.old frame.old }
+    ensures takes { TakesTypes context.now.table.now context.now.modules 1 state.old frame.old state.new frame.new }
+    ensures lacks { IfErr result (LacksRoom state.new) }
+    ensures value { (now : Moment)
+        → PointStands context.now.table.now context.now.modules state.old frame.old now
+        → IfOk result (λ id. Both (Stands context.now.modules (tables_of state.new)) id
+        (value_at context.now.table.now now.scope kind.Type_ n)) }
+{
+    if !is_held(context.table, n) {
+        return Ok(None);
+    }
+    let ty = context.entry_type(state, &mut frame.converted, n)?;
+    let id = state.push_definition(Definition::Type_(ty))?;
+    Ok(Some(id))
+}
+
+/// The definition of an item, if it is there.
+fn value_id(
+    context: &Context<'_>,
+    state: &mut State<'_>,
+    frame: &mut Frame,
+    kind: ItemKind,
+    index: u32,
+) -> Result<Option<DefinitionId>, ItemError>
+    requires input { IsInput context.now.table.now context.now.modules }
+    requires here { IsPoint context.now.table.now context.now.modules state.old frame.old }
+    ensures takes { TakesTypes context.now.table.now context.now.modules (if_type kind)
+        state.old frame.old state.new frame.new }
+    ensures lacks { IfErr result (LacksRoom state.new) }
+    ensures value { (now : Moment)
+        → PointStands context.now.table.now context.now.modules state.old frame.old now
+        → IfOk result (λ id. Both (Stands context.now.modules (tables_of state.new)) id
+        (value_at context.now.table.now now.scope kind index)) }
+{
+    match kind {
+        ItemKind::Type_ => type_id(context, state, frame, index),
+        _ => Ok(frame.item(kind, index)),
+    }
+}
+
+/// An export is a member, if it is there.
+fn add_export(
+    context: &Context<'_>,
+    state: &mut State<'_>,
+    frame: &mut Frame,
+    members: &mut TextMap<Member>,
+    export: &(ExternName, ItemKind, u32),
+) -> Result<(), ItemError>
+    requires input { IsInput context.now.table.now context.now.modules }
+    requires here { IsPoint context.now.table.now context.now.modules state.old frame.old }
+    ensures takes { TakesTypes context.now.table.now context.now.modules (if_type export.now.1)
+        state.old frame.old state.new frame.new }
+    ensures lacks { IfErr result (LacksRoom state.new) }
+    ensures adds { OnOk result (AddsItem context.now.table.now context.now.modules (member_of export.now.0)
+        export.now.0.name export.now.1 export.now.2 state.old frame.old state.new members.old members.new) }
+{
+    let found = value_id(context, state, frame, export.1, export.2)?;
+    if let Some(item) = found {
+        let data_ = extern_data(context.alloc, &export.0)?;
+        members.insert_first(context.alloc, &export.0.name, Member { item, data_ })?;
+    }
+    Ok(())
+}
+
+/// What a component instance exports: the items that are there, under their names. What isn't there is passed over.
+pub fn export_members(
+    context: &Context<'_>,
+    state: &mut State<'_>,
+    frame: &mut Frame,
+    exports: &[(ExternName, ItemKind, u32)],
+) -> Result<TextMap<Member>, ItemError>
+    requires input { IsInput context.now.table.now context.now.modules }
+    requires here { IsPoint context.now.table.now context.now.modules state.old frame.old }
+    requires named { distinct_names (map export_name exports.now) ≡ true }
+    ensures takes { TakesTypes context.now.table.now context.now.modules (types_among exports.now)
+        state.old frame.old state.new frame.new }
+    ensures lacks { IfErr result (LacksRoom state.new) }
+    ensures members { (now : Moment)
+        → PointStands context.now.table.now context.now.modules state.old frame.old now
+        → IfOk result (λ members. MembersStand context.now.modules (tables_of state.new) members
+        (pack_values (exports_at context.now.table.now now.scope (map named_item exports.now)))) }
+{
+    let mut members = TextMap::new(context.alloc);
+    for export in exports {
+        add_export(context, state, frame, &mut members, export)?;
     }
     Ok(members)
+}
+
+/// An argument is a value under its name, if it is there and the name is new.
+fn add_argument(
+    context: &Context<'_>,
+    state: &mut State<'_>,
+    frame: &mut Frame,
+    values: &mut TextMap<DefinitionId>,
+    arg: &(Text, ItemKind, u32),
+) -> Result<(), ItemError>
+    requires input { IsInput context.now.table.now context.now.modules }
+    requires here { IsPoint context.now.table.now context.now.modules state.old frame.old }
+    ensures takes { TakesTypes context.now.table.now context.now.modules (if_type arg.now.1)
+        state.old frame.old state.new frame.new }
+    ensures lacks { IfErr result (LacksRoom state.new) }
+    ensures adds { OnOk result (AddsItem context.now.table.now context.now.modules (λ id. id)
+        arg.now.0 arg.now.1 arg.now.2 state.old frame.old state.new values.old values.new) }
+{
+    let found = value_id(context, state, frame, arg.1, arg.2)?;
+    if let Some(item) = found {
+        values.insert_first(context.alloc, &arg.0, item)?;
+    }
+    Ok(())
+}
+
+/// What a child is given: the items that are there, under the names that they are given for. What isn't there is passed
+/// over, and of a name that stands twice the first counts.
+pub fn argument_values(
+    context: &Context<'_>,
+    state: &mut State<'_>,
+    frame: &mut Frame,
+    args: &[(Text, ItemKind, u32)],
+) -> Result<TextMap<DefinitionId>, ItemError>
+    requires input { IsInput context.now.table.now context.now.modules }
+    requires here { IsPoint context.now.table.now context.now.modules state.old frame.old }
+    ensures takes { TakesTypes context.now.table.now context.now.modules (types_among args.now)
+        state.old frame.old state.new frame.new }
+    ensures lacks { IfErr result (LacksRoom state.new) }
+    ensures values { (now : Moment)
+        → PointStands context.now.table.now context.now.modules state.old frame.old now
+        → IfOk result (λ values. SameNames (Stands context.now.modules (tables_of state.new)) values
+        (filter_map (argument_value context.now.table.now now.scope) (map argument_of args.now))) }
+{
+    let mut values = TextMap::new(context.alloc);
+    for arg in args {
+        add_argument(context, state, frame, &mut values, arg)?;
+    }
+    Ok(values)
 }

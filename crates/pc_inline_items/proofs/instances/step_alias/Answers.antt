@@ -1,44 +1,36 @@
-use Rattle.std.proofs.Common.{ap, sym, ◌∙◌}
-use Rattle.pc_inline_items.specs.Members.{member_at}
-use Rattle.pc_inline_state.specs.Tables.{tables_of}
-use Rattle.pc_inline_items.proofs.AliasLemmas.{alias_other, alias_steps, alias_unbuilt, instance_misses, name_misses}
-use Rattle.pc_inline_canon.proofs.PassedLemmas.{passed_unfed}
+use Rattle.std.proofs.Common.{Some, ap, sym, ◌∙◌}
+use Rattle.pc_inline_items.proofs.AliasLemmas.{alias_of_host, alias_of_made, alias_of_none, host_stands}
+use Rattle.pc_inline_items.proofs.AliasLemmas.{instance_misses}
 use Rattle.pc_inline_items.proofs.instances.step_alias.Goals as goal
 
-pub returns-then-not-is_built_kind-clause-steps : goal.returns-then-not-is_built_kind-clause-steps
-returns-then-not-is_built_kind-clause-steps c t ms =
-    alias_unbuilt t ms c.args.state.now c.args.frame.now c.args.kind c.args.instance c.args.name.now c.args.frame.now
-    (sym c.is_built_kind.ensures ∙ c.if-not-is_built_kind.true)
-
 pub returns-in_default-clause-steps : goal.returns-in_default-clause-steps
-returns-in_default-clause-steps c t ms =
-    instance_misses t ms c.args.state.now c.args.frame.now c.args.kind c.args.instance c.args.name.now
-    (sym c.is_built_kind.ensures ∙ c.if-not-is_built_kind.false) c.args.frame.now (sym c.item.ensures ∙ c.in_default.is)
+returns-in_default-clause-steps c =
+    instance_misses c.args.context.now.table.now c.args.context.now.modules c.args.state.now c.args.frame.now
+    c.args.kind c.args.instance c.args.name.now c.args.state.now c.args.frame.now (sym c.item.ensures ∙ c.in_default.is)
 
-pub returns-in_err-push_item-in-Some-member-clause-steps : goal.returns-in_err-push_item-in-Some-member-clause-steps
-returns-in_err-push_item-in-Some-member-clause-steps c t ms = passed_unfed _ _ _ _ _ _ _ _ c.from_residual.ensures.1
+pub alias_host-requires-clause-stands : goal.alias_host-requires-clause-stands
+alias_host-requires-clause-stands c =
+    host_stands c.args.context.now.table.now c.args.context.now.modules c.args.state.now c.args.frame.now
+    c.args.kind c.args.instance c.args.name.now c.in-Some.id (sym c.item.ensures ∙ c.in-Some.is)
+    c.in-Some-Host.path c.in-Some-Host.ty c.in-Some-Host.entry
+    (sym c.source_of.ensures ∙ c.in-Some-Host.is
+    ∙ ap Some c.in-Some-Host.field-0-is) c.requires.here.0 c.requires.here.1
 
-pub returns-in_ok-push_item-in-Some-member-clause-steps : goal.returns-in_ok-push_item-in-Some-member-clause-steps
-returns-in_ok-push_item-in-Some-member-clause-steps c t ms =
-    alias_steps t ms c.args.state.now c.args.frame.now c.args.kind c.args.instance c.args.name.now
-    (sym c.is_built_kind.ensures ∙ c.if-not-is_built_kind.false) c.in-Some.instance (sym c.item.ensures ∙ c.in-Some.is)
-    c.in-Some-member.id
-    (ap (member_at (tables_of c.args.state.now) c.in-Some.instance) (sym c.as_str.ensures) ∙ sym c.member.ensures
-    ∙ c.in-Some-member.is) _ tt (sym c.is_of_kind.ensures ∙ c.if-is_of_kind.true)
-    c.in_ok-push_item-in-Some-member.ensures.ok
+pub returns-in-Some-Made-clause-steps : goal.returns-in-Some-Made-clause-steps
+returns-in-Some-Made-clause-steps c =
+    alias_of_made c.args.context.now.table.now c.args.context.now.modules c.args.state.now c.args.frame.now
+    c.args.kind c.args.instance c.args.name.now c.in-Some.id (sym c.item.ensures ∙ c.in-Some.is) c.in-Some-Made.exports
+    (sym c.source_of.ensures ∙ c.in-Some-Made.is ∙ ap Some c.in-Some-Made.field-0-is) _ _ _
+    (c.alias_made.ensures.follows c.args.context.now.table.now c.args.context.now.modules)
 
-pub returns-in_default-member-clause-steps : goal.returns-in_default-member-clause-steps
-returns-in_default-member-clause-steps c t ms =
-    alias_other t ms c.args.state.now c.args.frame.now c.args.kind c.args.instance c.args.name.now
-    (sym c.is_built_kind.ensures ∙ c.if-not-is_built_kind.false) c.in-Some.instance (sym c.item.ensures ∙ c.in-Some.is)
-    c.in-Some-member.id
-    (ap (member_at (tables_of c.args.state.now) c.in-Some.instance) (sym c.as_str.ensures) ∙ sym c.member.ensures
-    ∙ c.in-Some-member.is) c.args.frame.now (sym c.is_of_kind.ensures ∙ c.if-is_of_kind.false)
+pub returns-in-Some-Host-clause-steps : goal.returns-in-Some-Host-clause-steps
+returns-in-Some-Host-clause-steps c =
+    alias_of_host c.args.context.now.table.now c.args.context.now.modules c.args.state.now c.args.frame.now
+    c.args.kind c.args.instance c.args.name.now c.in-Some.id (sym c.item.ensures ∙ c.in-Some.is) _ _ _
+    (sym c.source_of.ensures ∙ c.in-Some-Host.is ∙ ap Some c.in-Some-Host.field-0-is) _ _ _ c.alias_host.ensures.follows
 
-pub returns-in_default-member-2-clause-steps : goal.returns-in_default-member-2-clause-steps
-returns-in_default-member-2-clause-steps c t ms =
-    name_misses t ms c.args.state.now c.args.frame.now c.args.kind c.args.instance c.args.name.now
-    (sym c.is_built_kind.ensures ∙ c.if-not-is_built_kind.false) c.in-Some.instance (sym c.item.ensures ∙ c.in-Some.is)
-    c.args.frame.now
-    (ap (member_at (tables_of c.args.state.now) c.in-Some.instance) (sym c.as_str.ensures) ∙ sym c.member.ensures
-    ∙ c.in_default-member.is)
+pub returns-in-None-clause-steps : goal.returns-in-None-clause-steps
+returns-in-None-clause-steps c =
+    alias_of_none c.args.context.now.table.now c.args.context.now.modules c.args.state.now c.args.frame.now
+    c.args.kind c.args.instance c.args.name.now c.in-Some.id (sym c.item.ensures ∙ c.in-Some.is)
+    (sym c.source_of.ensures ∙ c.in-None.is) _ _ _

@@ -1,0 +1,5 @@
+use Rattle.pc_inline_state.proofs.RefusedLemmas.{memory_lacks}
+use Rattle.pc_inline_items.proofs.members.add_argument.Goals as goal
+
+pub returns-in_err-insert_first-clause-lacks : goal.returns-in_err-insert_first-clause-lacks
+returns-in_err-insert_first-clause-lacks c = memory_lacks _ _ c.from_residual-in_err-insert_first.ensures.1
