@@ -11,6 +11,7 @@ use Rattle.pc_spec_reading.specs.World.{World}
 use Rattle.pc_dfg.specs.declared.core_def.CoreDef.{CoreDef}
 use Rattle.pc_dfg.specs.declared.dfg.ComponentDfg.{ComponentDfg}
 use Rattle.pc_dfg.specs.Grows as graph
+use Rattle.pc_dfg.specs.Effects.{Argument, host_arguments}
 use Rattle.pc_dfg.specs.Lists as list
 use Rattle.pc_dfg.specs.Lists.{ListName, entries_of}
 use Rattle.pc_dfg.specs.Numbers.{slots_of}
@@ -27,8 +28,9 @@ use Rattle.pc_inline_state.proofs.GainedLemmas.{tables_none}
 use Rattle.pc_inline_state.proofs.FitsLemmas.{fits_grown}
 use Rattle.pc_inline_state.proofs.GrowthLemmas.{graph_grown}
 use Rattle.pc_inline_canon.proofs.KeptLemmas.{is_item_kept}
-use Rattle.pc_inline_state.proofs.StateLemmas.{types_refl}
-use Rattle.pc_inline_canon.proofs.WorldLemmas.{declared_still, effect_still, import_still, trampoline_still}
+use Rattle.pc_inline_state.proofs.StateLemmas.{module_grows, types_refl}
+use Rattle.pc_inline_canon.proofs.WorldLemmas.{declared_still, effect_still, import_still, imported_same}
+use Rattle.pc_inline_canon.proofs.WorldLemmas.{trampoline_still}
 use Rattle.pc_inline_state.proofs.ZipLemmas.{zip_more}
 
 -- its graph
@@ -48,7 +50,13 @@ module _ (g : ComponentDfg) (grows : graph.Grows g (begun_graph g)) where
               (λ d x. (x.0, is_item_kept ms g (begun_graph g) grows x.0 d x.1)) args old.3,
         );
     slots = λ k n d at. is_item_kept ms g (begun_graph g) grows _ d (h.slots k n d (same k n d at));
+    hosts = λ i r args at. all_more (λ (a : Argument). (k : CoreKind) × IsItem ms g k a.1.1)
+        (λ (a : Argument). (k : CoreKind) × IsItem ms (begun_graph g) k a.1.1)
+        (λ a x. (x.0, is_item_kept ms g (begun_graph g) grows x.0 a.1.1 x.1)) (host_arguments args)
+        (h.hosts i r args at);
+    destructors = λ n x d at is. is_item_kept ms g (begun_graph g) grows _ d (h.destructors n x d at is);
     exports = λ n ty o d at. is_item_kept ms g (begun_graph g) grows _ d (h.exports n ty o d at);
+    statics = λ n ty m at. h.statics n ty m at;
   }
     where
       same : (k : plan.SlotKind) (n : ℕ) (d : CoreDef) → slice_get (slots_of (begun_graph g) k) n ≡ Some d
@@ -78,7 +86,8 @@ module _ (g : ComponentDfg) (grows : graph.Grows g (begun_graph g)) where
         import_types = zip_more (ImportStands types g) (ImportStands types (begun_graph g))
             (import_still types types g (begun_graph g) still grows fits) g.import_types w.imports s.import_types;
         imports = s.imports;
-        imported_resources = s.imported_resources;
+        imported_resources = imported_same g (begun_graph g) grows refl w.imported_resources s.imported_resources;
+        resources = s.resources;
         intrinsics = s.intrinsics;
         no_adapters = s.no_adapters;
         begun = ap (λ n. n + 1) one;
@@ -98,15 +107,25 @@ begun_sound t ms st grows ordered s = record {
     adapters = s.plain.adapters;
     adapter_modules = s.plain.adapter_modules;
     adapter_partitionings = s.plain.adapter_partitionings;
-    resources = s.plain.resources;
-    imported_resources = s.plain.imported_resources;
     unsafe_intrinsics = s.plain.unsafe_intrinsics;
-    instances = s.plain.instances;
-    export_items = s.plain.export_items;
   };
-  used = record { room = s.used.room; numbers = s.used.numbers; others = s.used.others };
+  used = record {
+    room = s.used.room;
+    distinct = s.used.distinct;
+    imports = s.used.imports;
+    numbers = s.used.numbers;
+    others = s.used.others;
+    known = s.used.known;
+  };
   numbers = s.numbers;
-  held = record { options = s.held.options; functions = s.held.functions };
+  held = record {
+    options = s.held.options;
+    modules = λ n ty m at. module_grows st.types st.types (types_refl st.types) t st.graph (begun_graph st.graph)
+        (fits_grown st.graph (begun_graph st.graph) grows refl refl) ty (s.held.modules n ty m at);
+  };
+  table = s.table;
+  bodies = s.bodies;
+  members = s.members;
 }
 
 -- its tables grew
@@ -140,6 +159,7 @@ begun_adds t st =
         closures = still.entries.closures;
         instances = still.entries.instances;
         begun = omega arith;
+        resources = still.entries.resources;
       };
       grows = still.grows;
       later = omega arith;

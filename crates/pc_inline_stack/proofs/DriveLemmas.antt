@@ -51,6 +51,7 @@ module _ (t : TypeTable) (ms : List ModuleRecord) (limit : ℕ) (root : Translat
         import_types = at.world.import_types;
         imports = at.world.imports;
         imported_resources = at.world.imported_resources;
+        resources = at.world.resources;
         intrinsics = at.world.intrinsics;
         no_adapters = at.world.no_adapters;
         begun = at.world.begun;
@@ -85,7 +86,6 @@ module _ (t : TypeTable) (ms : List ModuleRecord) (limit : ℕ) (root : Translat
         enclosed = root_enclosed ms (tables_of old) first.scope.chain;
         closed = λ k is. let x : ⊥ = cc in absurd x;
         items = stand;
-        kinds = λ built. built;
       });
       same =
           let whole : limit - 0 ≡ limit = omega arith in
@@ -185,7 +185,7 @@ module _ (t : TypeTable) (ms : List ModuleRecord) (limit : ℕ) (root : Translat
             at,
             refl,
           )
-          by ks p ws r (child_stands h exports caller unknown waits all) none same reads at = let y : ⊥ = cc in absurd y
+          by ks p ws r (child_stands h has caller waits all) none same reads at = let y : ⊥ = cc in absurd y
 
       -- the root has ended where the reading has
       driven_runs : Runs t ms limit root.initializers old f st (Ok o.frame)
@@ -216,7 +216,7 @@ module _ (t : TypeTable) (ms : List ModuleRecord) (limit : ℕ) (root : Translat
             adds = driven.adds;
             few = omega (arith, few);
             below = grew.2;
-            ends = (d.0, d.1, ap (λ w. w.total) d.3 ∙ grew.1);
+            ends = (d.0, d.1, ap (λ w. w.total) d.3 ∙ grew.1, d.2);
           }
 
       -- in the total that was counted

@@ -1,5 +1,5 @@
 -- A child begins on a stack of component instances, or the item that begins it is refused.
-use Rattle.std.proofs.Common.{◌≡◌, ◌<◌, ◌≤◌, ◌+◌, ◌⊎◌, ℕ, suc, true, false, Bool, List, [], ◌∷◌, Option, None}
+use Rattle.std.proofs.Common.{◌≡◌, ◌<◌, ◌≤◌, ◌+◌, ◌*◌, ◌⊎◌, ℕ, suc, true, false, Bool, List, [], ◌∷◌, Option, None}
 use Rattle.std.proofs.Common.{Some}
 use Rattle.std.proofs.Common.{Result, Ok, Err, length, map, refl, sym, ap, subst, ◌∙◌, arith, inl, inr}
 use Rattle.std.specs.Prelude.{slice_get, nat_lt, unwrap_or}
@@ -15,9 +15,9 @@ use Rattle.pc_types.specs.declared.module_record.ModuleRecord.{ModuleRecord}
 use Rattle.pc_types.specs.declared.parsed.TypeTable.{TypeTable}
 use Rattle.pc_types.specs.declared.types.TypeDef.{TypeDef}
 use Rattle.pc_types_builder.specs.Converted.{AreConverted}
-use Rattle.pc_types_lists.specs.Types.{Types}
+use Rattle.pc_types_lists.specs.Types.{Resources, Types}
 use Rattle.pc_parsed.specs.declared.payload.ItemKind.{ItemKind}
-use Rattle.pc_spec_reading.specs.Item.{ArgumentOf, Items, and_item, instantiate_component_item}
+use Rattle.pc_spec_reading.specs.Item.{ArgumentOf, Items, and_item, exports_in, instantiate_component_item}
 use Rattle.pc_spec_reading.specs.Outcome.{Fault, Outcome, fault, over, past}
 use Rattle.pc_spec_reading.specs.Scope.{Moment}
 use Rattle.pc_spec_reading.specs.Section.{argument_of, named_item}
@@ -35,14 +35,17 @@ use Rattle.pc_inline_state.specs.declared.error.ItemError.{ItemError}
 use Rattle.pc_inline_state.specs.declared.error.ItemError.TheVariants as item_error
 use Rattle.pc_inline_state.specs.declared.frame.Frame.{Frame}
 use Rattle.pc_inline_state.specs.declared.state.State.{State}
-use Rattle.pc_inline_state.specs.Adds.{most_of_items}
+use Rattle.pc_types_lists.specs.Adds.{most_types}
+use Rattle.pc_inline_state.specs.Adds.{most_of_items, types_among}
 use Rattle.pc_inline_stack.specs.Begins.{Begins, converting_for}
-use Rattle.pc_inline_stack.specs.Calls.{CallFollows, CallReads, Calls}
+use Rattle.pc_inline_stack.specs.Calls.{CallFollows, CallReads, Calls, Stays}
 use Rattle.pc_inline_stack.specs.Driving.{reading_from}
 use Rattle.pc_inline_state.specs.Faults.{error_of, fault_of}
 use Rattle.pc_inline_stack.specs.Reads.{Ends, items_from}
-use Rattle.pc_inline_stack.specs.Stacks.{CallerStands, Fails, Grew, IsPast, OpenStands, Reached}
-use Rattle.pc_inline_stack.specs.Stacks.{Reader, Waiting, Waits, all_most_left, child_stands, items_of, reads_on}
+use Rattle.pc_inline_state.specs.Points.{PointStands}
+use Rattle.pc_inline_stack.specs.Stacks.{AllStand, CallerStands, Fails, Grew, IsPast, OpenStands, Reached, Reader}
+use Rattle.pc_inline_stack.specs.Stacks.{Waiting, Waits, all_most_left, body_at, child_stands, items_of, reads_on}
+use Rattle.pc_inline_stack.specs.Stacks.{types_exported}
 use Rattle.pc_inline_state.specs.Stands.{Stands}
 use Rattle.pc_inline_state.specs.Today.{built_call}
 use Rattle.pc_inline_state.specs.Tables.{Keeps, tables_of}
@@ -51,15 +54,16 @@ use Rattle.pc_inline_stack.proofs.CurrentLemmas.{current_keeps, current_sound, c
 use Rattle.pc_inline_stack.proofs.EnclosedLemmas.{enclosed_kept}
 use Rattle.pc_inline_canon.proofs.KeptLemmas.{stands_kept}
 use Rattle.pc_inline_items.proofs.LocalLemmas.{plain_is}
-use Rattle.pc_inline_stack.proofs.LeftLemmas.{most_child, most_here}
+use Rattle.pc_inline_stack.proofs.LeftLemmas.{call_parts, most_child, most_here}
 use Rattle.pc_inline_stack.proofs.MoveLemmas.{ends_fault, point_of, reached_point, this_item, top_open}
 use Rattle.pc_inline_stack.proofs.ResumeLemmas.{begins, begins_over, begins_past, call_refused, child_begins}
 use Rattle.pc_inline_stack.proofs.ResumeLemmas.{child_of}
 use Rattle.pc_inline_stack.proofs.ResumeLemmas.{waits_at}
-use Rattle.pc_inline_stack.proofs.StackLemmas.{all_kept, as_deep, grew_more}
-use Rattle.pc_inline_stack.proofs.WeightLemmas.{most_of_body}
+use Rattle.pc_inline_stack.proofs.StackLemmas.{all_kept, as_deep, grew_more, top_goes, top_stands}
+use Rattle.pc_inline_stack.proofs.WeightLemmas.{most_of_body, types_named}
 use Rattle.pc_inline_state.proofs.KnowsLemmas.{knows_grown}
 use Rattle.pc_inline_state.proofs.StateLemmas.{keeps_trans}
+use Rattle.pc_inline_state.proofs.TrailLemmas.{trails_same}
 use Rattle.pc_inline_state.proofs.ZipLemmas.{both_more}
 
 -- a child of which nothing was read, with what was converted for it
@@ -79,23 +83,34 @@ child_open call c done = record {
     arguments = call.arguments;
     component_instance = c;
     converted = done;
+    changes = [];
   };
   closure = Some call.closure;
   body = Some call.body;
   next = 0;
 }
 
+-- what the types among arguments add at the most
+abbrev pub for_arguments : TypeTable → List (List ℕ × ItemKind × ℕ) → ℕ
+for_arguments t args = types_among args * (1 + most_types t)
+
 -- the total grows by what a child weighs
-grew_child : (first now : Option ℕ) (weight added left more count : ℕ) → more ≤ weight
-    → has_room (grown now (1 + weight)) ≡ true → Grew first now added left count
-    → Grew first (grown now (1 + weight)) (added + 1) (left + more) count
+grew_child : (first now : Option ℕ) (weight added converted left more next count : ℕ) → more ≤ weight
+    → converted + next ≡ left + more → has_room (grown now (1 + weight)) ≡ true → Grew first now added left count
+    → Grew first (grown now (1 + weight)) (added + (converted + 1)) next count
 unfolding Grew
-grew_child None now weight added left more count heavy room h = ap (λ o. grown o (1 + weight)) h
-grew_child (Some n) now weight added left more count heavy room h =
+grew_child None now weight added converted left more next count heavy same room h = ap (λ o. grown o (1 + weight)) h
+grew_child (Some n) now weight added converted left more next count heavy same room h =
     let few = h.3 in
     let is : grown now (1 + weight) ≡ Some (h.0 + (1 + weight)) = ap (λ o. grown o (1 + weight)) h.1 in
     let below : h.0 + (1 + weight) < full = ltb-true (h.0 + (1 + weight)) full (sym (ap has_room is) ∙ room) in
-    (h.0 + (1 + weight), is, below, omega (arith, few, heavy))
+    (h.0 + (1 + weight), is, below, omega (arith, few, heavy, same))
+
+-- what items and exports add weighs no more where they are these
+heavy : (items types its those one weight : ℕ) → items ≡ its → types ≡ those → its + those * one ≤ weight
+    → items + types * one ≤ weight
+heavy items types its those one weight same given le =
+    subst (λ n. n + types * one ≤ weight) (sym same) (subst (λ n. its + n * one ≤ weight) (sym given) le)
 
 -- where it is too much, it is counted
 grew_past : (first now : Option ℕ) (weight added left count : ℕ) (o : Outcome Moment)
@@ -116,6 +131,9 @@ module _ (t : TypeTable) (ms : List ModuleRecord) (limit : ℕ) (root : Translat
   abbrev the_args : List ArgumentOf
   the_args = map argument_of args
 
+  abbrev converting : ℕ
+  converting = for_arguments t args
+
   -- the item that it reads is the instantiation
   this_call : items_from o.next x.reader.body
       ≡ and_item (instantiate_component_item component the_args ty) (items_from (suc o.next) x.reader.body)
@@ -126,10 +144,10 @@ module _ (t : TypeTable) (ms : List ModuleRecord) (limit : ℕ) (root : Translat
       (sym (plain_is st.bodies.now x.reader.names (local.ComponentInstantiate component args ty)
       (instantiate_component_item component the_args ty) i.0 refl i.1))
 
-  call_follows : (r : Result Call ItemError) → Calls t ms component the_args ty st o.frame r
-      → CallFollows t ms st the_args ty (built_call t x.reader.scope component the_args ty) r
+  pub call_follows : (st' : State) (r : Result Call ItemError) → Calls t ms component the_args ty st o.frame st' r
+      → CallFollows t ms st' ty (built_call t x.reader.scope component the_args ty) r
   unfolding Calls
-  call_follows r calls = calls here (reached_point t ms limit root is first st ks o added x)
+  call_follows st' r calls = calls here (reached_point t ms limit root is first st ks o added x)
 
   refused : (k : Fault) → built_call t x.reader.scope component the_args ty ≡ Err k
       → reading_from t ms limit is first ≡ fault k (place.Reading x.reader.scope.component_instance o.next)
@@ -138,40 +156,84 @@ module _ (t : TypeTable) (ms : List ModuleRecord) (limit : ℕ) (root : Translat
       ∙ call_refused t ms limit x.waiting x.reader o.next x.world component the_args ty this_call k stuck
 
   -- where nothing more is read
-  pub grew_here : (more : ℕ) → more ≤ 4
+  pub grew_here : (more : ℕ) → more ≤ converting + 4
       → Grew first.world.total x.world.total (added + more) 0 (most_of_items t root.initializers)
   grew_here more few =
+      let parts = call_parts t (types_among args) in
       grew_more first.world.total x.world.total x.world.total added (all_most_left t st.bodies.now root ks o) more 0
       (most_of_items t root.initializers) refl
-      (most_here t st.bodies.now root ks o (local.ComponentInstantiate component args ty) at more few) x.grew
+      (most_here t st.bodies.now root ks o (local.ComponentInstantiate component args ty) at more
+      (omega (arith, few, parts))) x.grew
 
-  call_ends : (f : Frame) (e : ItemError)
-      → CallFollows t ms st the_args ty (built_call t x.reader.scope component the_args ty) (Err e)
-      → Ends t ms st f (reading_from t ms limit is first)
+  call_ends : (st' : State) (f : Frame) (e : ItemError)
+      → CallFollows t ms st' ty (built_call t x.reader.scope component the_args ty) (Err e)
+      → Ends t ms st' f (reading_from t ms limit is first)
       (Err (error_of e (place.Reading o.frame.component_instance.0 o.next)))
   unfolding CallFollows Ends
-  call_ends f (item_error.Fault k) follows =
-      ends_fault t ms st f (reading_from t ms limit is first) k (place.Reading o.frame.component_instance.0 o.next)
+  call_ends st' f (item_error.Fault k) follows =
+      ends_fault t ms st' f (reading_from t ms limit is first) k (place.Reading o.frame.component_instance.0 o.next)
       (refused (fault_of k) follows ∙ ap (λ n. fault (fault_of k) (place.Reading n o.next))
       (top_open t ms limit root is first st ks o added x).frame.component_instance)
-  call_ends f item_error.TooMany follows = follows
-  call_ends f item_error.NoMemory follows = tt
+  call_ends st' f item_error.TooMany follows = follows
+  call_ends st' f item_error.NoMemory follows = tt
 
   -- the item is refused
-  pub call_fails : (f : Frame) (e : ItemError) → Calls t ms component the_args ty st o.frame (Err e)
-      → Fails t ms limit root is first st f (added + 0)
+  pub call_fails : (st' : State) (f : Frame) (e : ItemError) → Calls t ms component the_args ty st o.frame st' (Err e)
+      → Fails t ms limit root is first st' f (added + converting)
       (error_of e (place.Reading o.frame.component_instance.0 o.next))
-  call_fails f e calls = record {
-    ends = call_ends f e (call_follows (Err e) calls);
+  call_fails st' f e calls = record {
+    ends = call_ends st' f e (call_follows st' (Err e) calls);
     total = x.world.total;
-    grew = grew_here 0 (omega arith);
+    grew = grew_here converting (omega arith);
   }
 
-  module _ (call : Call) (calls : Calls t ms component the_args ty st o.frame (Ok call)) where
-    reads_call : CallReads t ms (tables_of st) the_args ty (built_call t x.reader.scope component the_args ty) call
-    unfolding CallFollows
-    reads_call = call_follows (Ok call) calls
+  module _ (st' : State) (g : Frame) (keeps : Keeps (tables_of st) (tables_of st'))
+      (frame : g ≡ record o.frame { converted = g.converted }) (known : st'.types.resources ≡ st.types.resources)
+      (stays : Stays t ms st o.frame st' g) where
+    pub stays_here : PointStands t ms st' g here
+    unfolding Stays
+    stays_here = stays here (reached_point t ms limit root is first st ks o added x)
 
+    pub all_here : AllStand t ms st.bodies.now root (tables_of st') st'.types.resources ks (record o { frame = g })
+        x.waiting
+        x.reader
+    all_here =
+        let all = all_kept t ms st.bodies.now root (tables_of st) (tables_of st') keeps st.types.resources ks o
+        x.waiting
+        x.reader x.all in
+        let old = top_stands t ms st.bodies.now root (tables_of st') st.types.resources ks o x.waiting x.reader all in
+        top_goes t ms st.bodies.now root (tables_of st') st.types.resources st'.types.resources ks o x.waiting x.reader
+        g
+        o.next x.reader.scope (trails_same o.frame.changes st.types.resources g.changes st'.types.resources
+        (ap (λ (h : Frame). h.changes) frame) known) all
+        (record {
+          frame = stays_here.frame;
+          here = stays_here.here;
+          converted = stays_here.converted;
+          enclosed = old.enclosed;
+          closed = old.closed;
+          items = old.items;
+        })
+
+    -- the types among the arguments were converted, and nothing was read
+    abbrev pub call_reached : Reached t ms limit root is first st' ks (record o { frame = g }) added
+    call_reached = record {
+      waiting = x.waiting;
+      reader = x.reader;
+      world = x.world;
+      sound = stays_here.sound;
+      world_stands = stays_here.world;
+      unexported = stays_here.unexported;
+      all = subst (λ bs. AllStand t ms bs root (tables_of st') st'.types.resources ks (record o { frame = g }) x.waiting
+          x.reader) (sym keeps.bodies) all_here;
+      same = x.same;
+      grew = subst (λ bs. Grew first.world.total x.world.total added
+          (all_most_left t bs root ks (record o { frame = g })) (most_of_items t root.initializers)) (sym keeps.bodies)
+          x.grew;
+    }
+
+  module _ (call : Call)
+      (reads_call : CallReads t ms (tables_of st) ty (built_call t x.reader.scope component the_args ty) call) where
     abbrev waiting_now : List Waiting
     waiting_now = waits_at x.reader o.next ty ∷ x.waiting
 
@@ -201,20 +263,26 @@ module _ (t : TypeTable) (ms : List ModuleRecord) (limit : ℕ) (root : Translat
       abbrev st_begun : State
       st_begun = record st { graph = begun_graph st.graph }
 
+      abbrev known_now : Resources
+      known_now = (converting_for st.types c).resources
+
       abbrev st_now : State
       st_now = record st { graph = begun_graph st.graph; types = converting_for st.types c }
 
       keeps_now : Keeps (tables_of st) (tables_of st_now)
       keeps_now =
           keeps_trans (tables_of st) (tables_of st_begun) (tables_of st_now) (begun_keeps st grows)
-          (current_keeps (tables_of st_begun) c)
+          (current_keeps (tables_of st_begun) known_now)
 
       abbrev reader_now : Reader
       reader_now = child_of x.reader x.world reads_call.read reads_call.stands.names reads_call.stands.body
           reads_call.stands.chain
 
+      child_translation : body_at st.bodies.now root (child_open call c done).body ≡ reads_call.stands.translation
+      child_translation = ap (λ (y : Option Translation). unwrap_or y root) reads_call.stands.there
+
       child_body : items_of st.bodies.now root (child_open call c done) ≡ reads_call.stands.translation.initializers
-      child_body = ap (λ (y : Option Translation). (unwrap_or y root).initializers) reads_call.stands.there
+      child_body = ap (λ (tr : Translation). tr.initializers) child_translation
 
       child_open_stands : c.0 ≡ st.graph.num_runtime_component_instances
           → OpenStands t ms st.bodies.now root (tables_of st_now) st_now.types.resources (child_open call c done)
@@ -252,22 +320,20 @@ module _ (t : TypeTable) (ms : List ModuleRecord) (limit : ℕ) (root : Translat
                   (same_Some call.closure k same) s.captured,
             );
             items = subst (λ ls. ItemsStand st.bodies.now s.names ls s.body) (sym child_body) s.stands.items;
-            kinds = λ built. built;
           }
 
       caller_stands : CallerStands t ms st.bodies.now root o (waits_at x.reader o.next ty)
       caller_stands = record {
         item = refl;
         is_typed = reads_call.is_typed;
-        local_item = local.ComponentInstantiate component args ty;
-        there = at;
         component = component;
-        arguments = the_args;
+        arguments = args;
+        there = at;
         at = this_call;
       }
 
       -- with the resources of now it goes on
-      caller_waits : Waits st_now.types.resources o.frame st.types.resources
+      caller_waits : Waits st_now.types.resources (child_open call c done).frame o.frame st.types.resources
       caller_waits =
           let top = top_open t ms limit root is first st ks o added x in
           let number : st.types.resources.current.0 ≡ o.frame.component_instance.0 =
@@ -284,7 +350,7 @@ module _ (t : TypeTable) (ms : List ModuleRecord) (limit : ℕ) (root : Translat
       pub child_reached : length ks < limit
           → IsPast first.world.total (reading_from t ms limit is first)
           ⊎ Reached t ms limit root is first (record st { graph = g; types = converting_for st.types c }) (o ∷ ks)
-          (child_open call c done) (added + 1)
+          (child_open call c done) (added + (converting + 1))
       child_reached deep =
           let b = unfold_begins in
           let s = reads_call.stands in
@@ -295,13 +361,13 @@ module _ (t : TypeTable) (ms : List ModuleRecord) (limit : ℕ) (root : Translat
           lt-ltb x.world.begun limit (omega (arith, l, begun)) in
           subst (λ h. IsPast first.world.total (reading_from t ms limit is first)
           ⊎ Reached t ms limit root is first (record st { graph = h; types = converting_for st.types c }) (o ∷ ks)
-          (child_open call c done) (added + 1)) (sym b.2)
+          (child_open call c done) (added + (converting + 1))) (sym b.2)
           (by (has_room (grown x.world.total (1 + weight))) refl below)
         where
           by : (room : Bool) → has_room (grown x.world.total (1 + body_weight t ms reads_call.stands.body)) ≡ room
               → nat_lt x.world.begun limit ≡ true
               → IsPast first.world.total (reading_from t ms limit is first)
-              ⊎ Reached t ms limit root is first st_now (o ∷ ks) (child_open call c done) (added + 1)
+              ⊎ Reached t ms limit root is first st_now (o ∷ ks) (child_open call c done) (added + (converting + 1))
           by false crowded below =
               inl (grew_past first.world.total x.world.total (body_weight t ms reads_call.stands.body) added
               (all_most_left t st.bodies.now root ks o) (most_of_items t root.initializers)
@@ -313,28 +379,42 @@ module _ (t : TypeTable) (ms : List ModuleRecord) (limit : ℕ) (root : Translat
               let s = reads_call.stands in
               let weight = body_weight t ms s.body in
               let total = grown x.world.total (1 + weight) in
-              let left = most_child t st.bodies.now root ks o (child_open call c done) refl in
+              let child = child_open call c done in
+              let left = most_child t st.bodies.now root ks o component args ty at child call.body refl refl in
               let most = most_of_body t ms st.bodies.now s.names s.translation.initializers s.body s.stands.items in
+              let given : types_among (body_at st.bodies.now root child.body).exports ≡ types_exported
+              (exports_in s.body) =
+              ap (λ (tr : Translation). types_among tr.exports) child_translation
+              ∙ types_named s.translation.exports ∙ ap types_exported s.stands.exports in
               let same = ap (most_of_items t) child_body in
               inr record {
                 waiting = waiting_now;
                 reader = reader_now;
                 world = record x.world { begun = x.world.begun + 1; total = total };
-                sound = current_sound t ms st_begun c
+                sound = current_sound t ms st_begun known_now
                     (begun_sound t ms st grows (subst (λ h. IsOrdered st.graph → IsOrdered h) b.2 b.3) x.sound);
-                world_stands = current_world st.types st_begun.graph c _
+                world_stands = current_world st.types st_begun.graph known_now _
                     (begun_stands st.graph grows st.types x.world total x.world_stands);
                 unexported = begun_unexported st.graph grows x.unexported;
                 all = child_stands (child_open_stands b.1)
-                    (ap (λ (y : Option Translation). map named_item (unwrap_or y root).exports) s.there
-                    ∙ s.stands.exports)
-                    caller_stands reads_call.resourceless caller_waits (all_kept t ms st.bodies.now root (tables_of st)
+                    (record {
+                      index = call.body;
+                      is = refl;
+                      exports = ap (λ (tr : Translation). map named_item tr.exports) child_translation
+                          ∙ s.stands.exports;
+                    })
+                    caller_stands caller_waits (all_kept t ms st.bodies.now root (tables_of st)
                     (tables_of st_now) keeps_now st.types.resources ks o x.waiting x.reader x.all);
                 same = sym (begins limit weight x.world (reads_on t ms limit waiting_now reader_now 0) below room)
                     ∙ sym (child_reading deep);
-                grew = subst (λ k. Grew first.world.total total (added + 1) k (most_of_items t root.initializers))
-                    (sym left)
-                    (grew_child first.world.total x.world.total weight added (all_most_left t st.bodies.now root ks o)
-                    (most_of_items t (items_of st.bodies.now root (child_open call c done)))
-                    (most_of_items t root.initializers) (omega (arith, most, same)) room x.grew);
+                grew = grew_child first.world.total x.world.total weight added converting
+                    (all_most_left t st.bodies.now root ks o)
+                    (most_of_items t (items_of st.bodies.now root child)
+                    + types_among (body_at st.bodies.now root child.body).exports * (1 + most_types t))
+                    (all_most_left t st.bodies.now root (o ∷ ks) child) (most_of_items t root.initializers)
+                    (heavy (most_of_items t (items_of st.bodies.now root child))
+                    (types_among (body_at st.bodies.now root child.body).exports)
+                    (most_of_items t s.translation.initializers)
+                    (types_exported (exports_in s.body)) (1 + most_types t) weight same given
+                    (omega (arith, most))) left room x.grew;
               }

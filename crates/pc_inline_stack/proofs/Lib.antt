@@ -22,3 +22,5 @@ mod CallLemmas
 mod MovesLemmas
 mod TurnLemmas
 mod GivesLemmas
+mod SoundLemmas
+mod EndLemmas

@@ -8,9 +8,7 @@ use Rattle.pc_types.specs.declared.error.Place.{Place}
 use Rattle.pc_types.specs.declared.error.Place.TheVariants as place
 use Rattle.pc_types.specs.declared.module_record.ModuleRecord.{ModuleRecord}
 use Rattle.pc_types.specs.declared.parsed.TypeTable.{TypeTable}
-use Rattle.pc_types_lists.specs.Known.{resource_of}
-use Rattle.pc_types_lists.specs.Types.{Resources}
-use Rattle.pc_spec_reading.specs.Item.{Item, Items, and_item, exports_in}
+use Rattle.pc_spec_reading.specs.Item.{Item, Items, and_item}
 use Rattle.pc_spec_reading.specs.Outcome.{Outcome, fault}
 use Rattle.pc_spec_reading.specs.Scope.{Moment}
 use Rattle.pc_local.specs.declared.item.LocalInitializer.{LocalInitializer}
@@ -29,18 +27,20 @@ use Rattle.pc_inline_state.specs.Faults.{error_of, fault_of}
 use Rattle.pc_inline_state.specs.Points.{Follows, Goes, IsPoint, PointStands}
 use Rattle.pc_inline_stack.specs.Reads.{Ends, items_from}
 use Rattle.pc_inline_items.specs.Captures.{IsEnclosed}
-use Rattle.pc_inline_stack.specs.Stacks.{AllStand, AreBuilt, Driven, Failed, Fails, Grew, HasRoom, IsPast, OpenStands}
+use Rattle.pc_inline_stack.specs.Stacks.{AllStand, AreUnderway, Driven, Failed, Fails, Grew, HasRoom, IsPast}
+use Rattle.pc_inline_stack.specs.Stacks.{OpenStands}
 use Rattle.pc_inline_stack.specs.Stacks.{Reached, all_most_left}
 use Rattle.pc_inline_stack.specs.Stacks.{begins_child, items_of}
 use Rattle.pc_inline_items.specs.StepsLocal.{StepsLocal}
 use Rattle.pc_inline_state.specs.Tables.{Keeps, tables_of}
 use Rattle.pc_inline_state.specs.Today.{built_row}
+use Rattle.pc_inline_state.specs.Trails.{Trails}
 use Rattle.pc_inline_state.proofs.AddsLemmas.{adds_trans}
 use Rattle.pc_inline_stack.proofs.BeginsLemmas.{begins_none}
 use Rattle.pc_inline_stack.proofs.ReadLemmas.{item_at}
 use Rattle.pc_inline_stack.proofs.ResumeLemmas.{row_on, row_refused}
-use Rattle.pc_inline_stack.proofs.RowLemmas.{row_built, row_keeps}
-use Rattle.pc_inline_stack.proofs.StackLemmas.{all_kept, built_more, grew_more, top_goes, top_stands}
+use Rattle.pc_inline_stack.proofs.RowLemmas.{row_keeps}
+use Rattle.pc_inline_stack.proofs.StackLemmas.{all_kept, grew_more, top_goes, top_stands}
 use Rattle.pc_inline_state.proofs.StateLemmas.{keeps_trans}
 use Rattle.pc_inline_stack.proofs.LeftLemmas.{most_goes}
 
@@ -84,7 +84,7 @@ module _ (t : TypeTable) (ms : List ModuleRecord) (limit : ℕ) (root : Translat
           item_at st.bodies.now x.reader.names (items_of st.bodies.now root o) x.reader.body o.next l top_open.items at
 
       module _ (plain : begins_child l ≡ false) (st' : State) (g : Frame) (keeps : Keeps (tables_of st) (tables_of st'))
-          (known : st'.types.resources ≡ st.types.resources) where
+          (trail : Trails o.frame.changes st.types.resources g.changes st'.types.resources) where
         row_of : (r : Result ⊤ ItemError) → StepsLocal t ms o.closure l st o.frame st' g r
             → Follows t ms st' g (built_row t ms (point_of is first st ks o added x) this_item.0) r
         unfolding StepsLocal
@@ -116,7 +116,6 @@ module _ (t : TypeTable) (ms : List ModuleRecord) (limit : ℕ) (root : Translat
               all_now in
               let now = point_of is first st ks o added x in
               let kept = row_keeps t ms now next.now this_item.0 next.done in
-              let one : suc o.next ≡ o.next + 1 = omega arith in
               record {
                 frame = next.stands.frame;
                 here = next.stands.here;
@@ -125,10 +124,6 @@ module _ (t : TypeTable) (ms : List ModuleRecord) (limit : ℕ) (root : Translat
                     old.enclosed;
                 closed = old.closed;
                 items = old.items;
-                kinds = λ built. old.kinds (subst (λ js. AreBuilt (exports_in js)) (sym this_item.2)
-                    (built_more t this_item.0 (items_from (suc o.next) x.reader.body)
-                    (row_built t ms now next.now this_item.0 next.done)
-                    (subst (λ k. AreBuilt (exports_in (items_from k x.reader.body))) (sym one) built)));
               }
 
           -- it was read
@@ -137,9 +132,8 @@ module _ (t : TypeTable) (ms : List ModuleRecord) (limit : ℕ) (root : Translat
               let now = point_of is first st ks o added x in
               let kept = row_keeps t ms now next.now this_item.0 next.done in
               let less = most_goes t st.bodies.now root ks o l at g in
-              let all = top_goes t ms st.bodies.now root (tables_of st') st.types.resources st'.types.resources
-              (λ n. ap (λ (k : Resources). resource_of k.known n) known) ks o x.waiting x.reader g (o.next + 1)
-              next.now.scope all_now next_open in
+              let all = top_goes t ms st.bodies.now root (tables_of st') st.types.resources st'.types.resources ks o
+              x.waiting x.reader g (o.next + 1) next.now.scope trail all_now next_open in
               record {
                 waiting = x.waiting;
                 reader = record x.reader { scope = next.now.scope };
@@ -192,7 +186,7 @@ module _ (t : TypeTable) (ms : List ModuleRecord) (limit : ℕ) (root : Translat
   module _ (old : State) (f : Frame) (st : State) (ks : List Open) (o : Open)
       (driven : Driven t ms limit root old f st ks o) where
     -- there is a reading that came so far
-    some_reached : (is : Items) × (first : Moment) × Reached t ms limit root is first st ks o driven.added
+    pub some_reached : (is : Items) × (first : Moment) × Reached t ms limit root is first st ks o driven.added
     unfolding IsPast HasRoom
     some_reached =
         let s = driven.starts in
@@ -207,7 +201,7 @@ module _ (t : TypeTable) (ms : List ModuleRecord) (limit : ℕ) (root : Translat
         )
 
     -- so the innermost is at some moment
-    pub driven_point : IsPoint t ms st o.frame
+    driven_point : IsPoint t ms st o.frame
     driven_point =
         let x = some_reached in
         (point_of x.0 x.1 st ks o driven.added x.2, reached_point x.0 x.1 st ks o driven.added x.2)
@@ -233,14 +227,15 @@ module _ (t : TypeTable) (ms : List ModuleRecord) (limit : ℕ) (root : Translat
     module _ (l : LocalInitializer) (at : slice_get (items_of st.bodies.now root o) o.next ≡ Some l)
         (plain : begins_child l ≡ false) (st' : State) (g : Frame) (keeps : Keeps (tables_of st) (tables_of st'))
         (adds : Adds t (most_added t l) (tables_of st) (tables_of st'))
-        (same : g.component_instance ≡ o.frame.component_instance) (known : st'.types.resources ≡ st.types.resources)
+        (same : g.component_instance ≡ o.frame.component_instance)
+        (trail : Trails o.frame.changes st.types.resources g.changes st'.types.resources)
       where
         -- no component instance has begun
         still_begun : (done : ⊤) → StepsLocal t ms o.closure l st o.frame st' g (Ok done)
             → st'.graph.num_runtime_component_instances ≡ st.graph.num_runtime_component_instances
         still_begun done steps =
             let s = some_reached in
-            let next = goes_on s.0 s.1 st ks o driven.added s.2 l at plain st' g keeps known done steps in
+            let next = goes_on s.0 s.1 st ks o driven.added s.2 l at plain st' g keeps trail done steps in
             let now = point_of s.0 s.1 st ks o driven.added s.2 in
             let i = this_item s.0 s.1 st ks o driven.added s.2 l at in
             sym next.stands.world.begun ∙ (row_keeps t ms now next.now i.0 next.done).begun ∙ s.2.world_stands.begun
@@ -265,8 +260,8 @@ module _ (t : TypeTable) (ms : List ModuleRecord) (limit : ℕ) (root : Translat
                   ⊎ Reached t ms limit root is first st' ks (record o { frame = g; next = o.next + 1 })
                   (driven.added + most_added t l)) [
                     | inl past ↦ inl past
-                    | inr x ↦ inr (row_reached is first st ks o driven.added x l at plain st' g keeps known
-                        (goes_on is first st ks o driven.added x l at plain st' g keeps known done steps))
+                    | inr x ↦ inr (row_reached is first st ks o driven.added x l at plain st' g keeps trail
+                        (goes_on is first st ks o driven.added x l at plain st' g keeps trail done steps))
                   ];
             }
 
@@ -275,4 +270,23 @@ module _ (t : TypeTable) (ms : List ModuleRecord) (limit : ℕ) (root : Translat
             → Failed t ms limit root old f st' (error_of e (place.Reading g.component_instance.0 o.next))
         item_fails e steps =
             failed_after st' (error_of e (place.Reading g.component_instance.0 o.next)) (most_added t l) keeps adds
-            (λ is first x. row_fails is first st ks o driven.added x l at plain st' g keeps known f same e steps)
+            (λ is first x. row_fails is first st ks o driven.added x l at plain st' g keeps trail f same e steps)
+
+  -- the innermost of component instances that stand somewhere in a reading is at some moment
+  pub underway_point : (st : State) (ks : List Open) (o : Open) → AreUnderway t ms limit root st ks o
+      → IsPoint t ms st o.frame
+  unfolding AreUnderway
+  underway_point st ks o x = driven_point x.0 x.1 st ks o x.2
+
+  -- there is a reading that came so far
+  pub underway_reached : (st : State) (ks : List Open) (o : Open) → AreUnderway t ms limit root st ks o
+      → (is : Items) × (first : Moment) × (added : ℕ) × Reached t ms limit root is first st ks o added
+  unfolding AreUnderway
+  underway_reached st ks o x = let r = some_reached x.0 x.1 st ks o x.2 in (r.0, r.1, x.2.added, r.2)
+
+  -- component instances that stand so
+  pub underway : (old : State) (f : Frame) (st : State) (ks : List Open) (o : Open) → Driven t ms limit root old f st
+      ks o
+      → AreUnderway t ms limit root st ks o
+  unfolding AreUnderway
+  underway old f st ks o driven = (old, f, driven)

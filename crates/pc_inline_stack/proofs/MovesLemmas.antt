@@ -1,8 +1,9 @@
 -- The moves of the driver as its functions promise them.
-use Rattle.std.proofs.Common.{◌≡◌, ◌<◌, ◌≤◌, ◌+◌, ℕ, List, [], ◌∷◌, ◌++◌, None, Some, Result, Ok, Err, reverse, length}
+use Rattle.std.proofs.Common.{◌≡◌, ◌<◌, ◌≤◌, ◌+◌, ◌*◌, ℕ, List, [], ◌∷◌, ◌++◌, None, Some, Result, Ok, Err, reverse}
+use Rattle.std.proofs.Common.{length}
 use Rattle.std.proofs.Common.{map, Bool, true, false}
 use Rattle.std.proofs.Common.{refl, sym, ap, subst, ◌∙◌, arith, IsErrAnd}
-use Rattle.std.specs.Prelude.{⊤, IfSome, Option, option_to_list, slice_get}
+use Rattle.std.specs.Prelude.{⊤, IfSome, Option, option_to_list, slice_get, unwrap_or}
 use Rattle.std.proofs.lemmas.List.{append-nil, reverse-append}
 use Rattle.std.proofs.lemmas.List.Elements.{All-nil, All-pop, All-push}
 use Rattle.pc_numbers.specs.declared.runtime.RuntimeComponentInstanceIndex.{RuntimeComponentInstanceIndex}
@@ -13,7 +14,10 @@ use Rattle.pc_types.specs.declared.error.Place.TheVariants as place
 use Rattle.pc_types.specs.declared.module_record.ModuleRecord.{ModuleRecord}
 use Rattle.pc_types.specs.declared.parsed.TypeTable.{TypeTable}
 use Rattle.pc_types.specs.declared.types.TypeDef.{TypeDef}
-use Rattle.pc_types.specs.Table.{table_fault}
+use Rattle.pc_types.specs.Names.{distinct_names}
+use Rattle.pc_types.specs.Table.{is_instance}
+use Rattle.pc_spec_reading.specs.Types.{has_entry}
+use Rattle.pc_local.specs.Sound.{IsSoundBody, export_name}
 use Rattle.pc_types_builder.specs.Converted.{AreConverted}
 use Rattle.pc_types_lists.specs.Types.{Types}
 use Rattle.pc_parsed.specs.declared.payload.ExternName.{ExternName}
@@ -29,18 +33,23 @@ use Rattle.pc_inline_stack.specs.declared.driver.Open.{Open}
 use Rattle.pc_inline_state.specs.declared.error.ItemError.{ItemError}
 use Rattle.pc_inline_state.specs.declared.frame.Frame.{Frame}
 use Rattle.pc_inline_state.specs.declared.state.State.{State}
-use Rattle.pc_inline_state.specs.Adds.{Adds, most_added}
+use Rattle.pc_types_lists.specs.Adds.{most_types}
+use Rattle.pc_inline_state.specs.Adds.{Adds, most_added, most_converted, types_among}
 use Rattle.pc_inline_stack.specs.Begins.{Begins, converting_for}
-use Rattle.pc_inline_stack.specs.Calls.{Calls, GivesBack}
+use Rattle.pc_inline_stack.specs.Calls.{Calls, GivesBack, IsReturn, Stays, TrailsBack}
 use Rattle.pc_inline_state.specs.Faults.{error_of}
 use Rattle.pc_inline_stack.specs.declared.driver.Stack.{Stack}
-use Rattle.pc_inline_stack.specs.Stacks.{AreCounted, Driven, Failed, Falls, GoesOn, Moved, Moves, Turned, begins_child}
-use Rattle.pc_inline_stack.specs.Stacks.{body_at, items_of, work}
+use Rattle.pc_inline_stack.specs.Stacks.{AreCounted, AreUnderway, Driven, Failed, Falls, GoesOn, Moved, Moves}
+use Rattle.pc_inline_stack.specs.Stacks.{Turned, begins_child}
+use Rattle.pc_inline_stack.specs.Stacks.{instance_type_at, items_of, work}
 use Rattle.pc_inline_items.specs.StepsLocal.{StepsLocal}
 use Rattle.pc_inline_state.specs.Tables.{Keeps, tables_of}
+use Rattle.pc_inline_state.specs.Trails.{Trails}
 use Rattle.pc_inline_stack.proofs.ChildLemmas.{call_failed, child_driven, child_unbegun, child_unfed, left_driven}
 use Rattle.pc_inline_stack.proofs.ChildLemmas.{left_failed}
-use Rattle.pc_inline_stack.proofs.EnterLemmas.{child_open}
+use Rattle.pc_inline_stack.proofs.EnterLemmas.{child_open, for_arguments}
+use Rattle.pc_inline_stack.proofs.LeaveLemmas.{for_return, its_exports, underway_return, underway_type}
+use Rattle.pc_inline_stack.proofs.SoundLemmas.{sound_exports}
 use Rattle.pc_inline_stack.proofs.MoveLemmas.{item_fails, item_goes}
 use Rattle.pc_inline_stack.proofs.WorkLemmas.{falls_among, work_enters, work_goes, work_leaves}
 
@@ -110,78 +119,84 @@ module _ (t : TypeTable) (ms : List ModuleRecord) (limit : ℕ) (root : Translat
   where
     module _ (component : ℕ) (args : List (List ℕ × ItemKind × ℕ)) (ty : ℕ)
         (at : slice_get (items_of st.bodies.now root o) o.next ≡ Some
-        (local.ComponentInstantiate component args ty)) where
+        (local.ComponentInstantiate component args ty)) (st' : State) (keeps : Keeps (tables_of st) (tables_of st'))
+        (adds : Adds t (for_arguments t args) (tables_of st) (tables_of st')) (g : Frame)
+        (frame : g ≡ record o.frame { converted = g.converted }) where
       -- an instantiation is refused
-      pub moves_refused : {A : Type 0} (e : ItemError) → Calls t ms component (map argument_of args) ty st o.frame
-          (Err e)
-          → (r : Result A Error) → (p : Place) → p ≡ place.Reading o.frame.component_instance.0 o.next
+      pub moves_refused : {A : Type 0} (e : ItemError) → Calls t ms component (map argument_of args) ty st o.frame st'
+          (Err e) → (r : Result A Error) (p : Place) → p ≡ place.Reading g.component_instance.0 o.next
           → IsErrAnd r (λ x. x ≡ error_of e p) → (ks' : List Open) (o' : Open)
-          → Moves t ms limit root st ks o st ks' o' r
+          → Moves t ms limit root st ks o st' ks' o' r
       moves_refused e calls r p there is ks' o' =
-          move_fails t ms limit root st ks o st ks' o' r (error_of e p) is
-          (λ old f driven. subst (λ q. Failed t ms limit root old f st (error_of e q)) (sym there)
-          (call_failed t ms limit root old f st ks o driven component args ty at e calls))
+          let same : p ≡ place.Reading o.frame.component_instance.0 o.next =
+          there ∙ ap (λ (h : Frame). place.Reading h.component_instance.0 o.next) frame in
+          move_fails t ms limit root st ks o st' ks' o' r (error_of e p) is
+          (λ old f driven. subst (λ q. Failed t ms limit root old f st' (error_of e q)) (sym same)
+          (call_failed t ms limit root old f st ks o driven component args ty at st' keeps adds e calls))
 
-      module _ (call : Call) (calls : Calls t ms component (map argument_of args) ty st o.frame (Ok call)) where
+      module _ (known : st'.types.resources ≡ st.types.resources) (stays : Stays t ms st o.frame st' g) (call : Call)
+          (calls : Calls t ms component (map argument_of args) ty st o.frame st' (Ok call)) where
         -- no child begins
-        pub moves_unbegun : {A : Type 0} (g : ComponentDfg) (e : Error) → Begins limit st.graph g (Err e)
+        pub moves_unbegun : {A : Type 0} (h : ComponentDfg) (e : Error) → Begins limit st'.graph h (Err e)
             → (r : Result A Error) → IsErrAnd r (λ x. x ≡ e) → (ks' : List Open) (o' : Open)
-            → Moves t ms limit root st ks o (record st { graph = g }) ks' o' r
-        moves_unbegun g e begins r is ks' o' =
-            move_fails t ms limit root st ks o (record st { graph = g }) ks' o' r e is
-            (λ old f driven. child_unbegun t ms limit root old f st ks o driven component args ty at call calls g e
-            begins)
+            → Moves t ms limit root st ks o (record st' { graph = h }) ks' o' r
+        moves_unbegun h e begins r is ks' o' =
+            move_fails t ms limit root st ks o (record st' { graph = h }) ks' o' r e is
+            (λ old f driven. child_unbegun t ms limit root old f st ks o driven component args ty at st' keeps adds g
+            frame
+            known stays call calls h e begins)
 
-        module _ (c : RuntimeComponentInstanceIndex) (g : ComponentDfg) (begins : Begins limit st.graph g (Ok c))
-            (grown : graph.Grows st.graph g) where
+        module _ (c : RuntimeComponentInstanceIndex) (h : ComponentDfg) (begins : Begins limit st'.graph h (Ok c))
+            (grown : graph.Grows st'.graph h) where
           -- there was no memory
           pub moves_unfed : {A : Type 0} (r : Result A Error) → IsErrAnd r (λ x. x ≡ error.NoMemory)
-              → (ks' : List Open) (o' : Open) → Moves t ms limit root st ks o (record st { graph = g }) ks' o' r
+              → (ks' : List Open) (o' : Open) → Moves t ms limit root st ks o (record st' { graph = h }) ks' o' r
           moves_unfed r is ks' o' =
-              move_fails t ms limit root st ks o (record st { graph = g }) ks' o' r error.NoMemory is
-              (λ old f driven. child_unfed t ms limit root old f st ks o driven component args ty at call calls c g
-              begins
-              grown)
+              move_fails t ms limit root st ks o (record st' { graph = h }) ks' o' r error.NoMemory is
+              (λ old f driven. child_unfed t ms limit root old f st ks o driven component args ty at st' keeps adds g
+              frame
+              known stays call calls c h begins grown)
 
           -- the child is read, and types are converted for it
-          pub moves_entered : {A : Type 0} (x : A) (ts : Types) → ts ≡ converting_for st.types c
+          pub moves_entered : {A : Type 0} (x : A) (ts : Types) → ts ≡ converting_for st'.types c
               → (done : List (Option TypeDef)) → ((b : Types) → AreConverted b t done) → (ks' : List Open) (o' : Open)
-              → ks' ≡ o ∷ ks → o' ≡ child_open call c done
-              → Moves t ms limit root st ks o (record st { graph = g; types = ts }) ks' o' (Ok x)
+              → ks' ≡ record o { frame = g } ∷ ks → o' ≡ child_open call c done
+              → Moves t ms limit root st ks o (record st' { graph = h; types = ts }) ks' o' (Ok x)
           moves_entered x ts current done none ks' o' wait is =
-              subst (λ k. Moves t ms limit root st ks o (record st { graph = g; types = ts }) ks' k (Ok x)) (sym is)
-              (subst (λ k. Moves t ms limit root st ks o (record st { graph = g; types = ts }) k
+              subst (λ k. Moves t ms limit root st ks o (record st' { graph = h; types = ts }) ks' k (Ok x)) (sym is)
+              (subst (λ k. Moves t ms limit root st ks o (record st' { graph = h; types = ts }) k
               (child_open call c done)
               (Ok x)) (sym wait)
-              (move_goes t ms limit root st ks o (record st { graph = g; types = ts }) (o ∷ ks) (child_open call c done)
-              x
-              (λ old f driven. child_driven t ms limit root old f st ks o driven component args ty at call calls c g
-              begins
-              grown ts current done none)))
+              (move_goes t ms limit root st ks o (record st' { graph = h; types = ts }) (record o { frame = g } ∷ ks)
+              (child_open call c done) x
+              (λ old f driven. child_driven t ms limit root old f st ks o driven component args ty at st' keeps adds g
+              frame known stays call calls c h begins grown ts current done none)))
 
-    -- less is left to do where a child is read
-    pub falls_entered : (call : Call) (c : RuntimeComponentInstanceIndex) (g : ComponentDfg)
-        → Begins limit st.graph g (Ok c) → (ts : Types) (done : List (Option TypeDef)) (ks' : List Open) (o' : Open)
-        → ks' ≡ o ∷ ks → o' ≡ child_open call c done
-        → Falls limit root st ks o (record st { graph = g; types = ts }) ks' o'
-    unfolding Begins
-    falls_entered call c g begins ts done ks' o' wait is =
-        let number : g.num_runtime_component_instances ≡ st.graph.num_runtime_component_instances + 1 =
-        ap (λ (h : ComponentDfg). h.num_runtime_component_instances) begins.2 in
-        subst (λ k. Falls limit root st ks o (record st { graph = g; types = ts }) ks' k) (sym is)
-        (subst (λ k. Falls limit root st ks o (record st { graph = g; types = ts }) k (child_open call c done))
-        (sym wait)
-        (falls_among limit root st (record st { graph = g; types = ts }) ks (o ∷ ks) o (child_open call c done)
-        (st.graph.num_runtime_component_instances + 1) refl (omega (arith, number))
-        (work_enters st.bodies.now root limit st.graph.num_runtime_component_instances ks o (child_open call c done)
-        call.body
-        refl refl begins.0)))
+      -- less is left to do where a child is read
+      pub falls_entered : (call : Call) (c : RuntimeComponentInstanceIndex) (h : ComponentDfg)
+          → Begins limit st'.graph h (Ok c) → (ts : Types) (done : List (Option TypeDef)) (ks' : List Open) (o' : Open)
+          → ks' ≡ record o { frame = g } ∷ ks → o' ≡ child_open call c done
+          → Falls limit root st ks o (record st' { graph = h; types = ts }) ks' o'
+      unfolding Begins work
+      falls_entered call c h begins ts done ks' o' wait is =
+          let more = keeps.graph.component_instances in
+          let below = begins.0 in
+          let number : h.num_runtime_component_instances ≡ st'.graph.num_runtime_component_instances + 1 =
+          ap (λ (h : ComponentDfg). h.num_runtime_component_instances) begins.2 in
+          subst (λ k. Falls limit root st ks o (record st' { graph = h; types = ts }) ks' k) (sym is)
+          (subst (λ k. Falls limit root st ks o (record st' { graph = h; types = ts }) k (child_open call c done))
+          (sym wait)
+          (falls_among limit root st (record st' { graph = h; types = ts }) ks (record o { frame = g } ∷ ks) o
+          (child_open call c done) (st.graph.num_runtime_component_instances + 1) keeps.bodies
+          (omega (arith, number, more))
+          (work_enters st.bodies.now root limit st.graph.num_runtime_component_instances ks (record o { frame = g })
+          (child_open call c done) call.body refl refl (omega (arith, below, more)))))
 
     module _ (l : LocalInitializer) (at : slice_get (items_of st.bodies.now root o) o.next ≡ Some l)
         (plain : begins_child l ≡ false) (st' : State) (g : Frame) (keeps : Keeps (tables_of st) (tables_of st'))
         (adds : Adds t (most_added t l) (tables_of st) (tables_of st'))
         (same : g.component_instance ≡ o.frame.component_instance)
-        (known : st'.types.resources ≡ st.types.resources) where
+        (trail : Trails o.frame.changes st.types.resources g.changes st'.types.resources) where
       -- an item is refused
       pub moves_stuck : {A : Type 0} (e : ItemError) → StepsLocal t ms o.closure l st o.frame st' g (Err e)
           → (r : Result A Error) → (p : Place) → p ≡ place.Reading g.component_instance.0 o.next
@@ -190,14 +205,14 @@ module _ (t : TypeTable) (ms : List ModuleRecord) (limit : ℕ) (root : Translat
       moves_stuck e steps r p there is ks' o' =
           move_fails t ms limit root st ks o st' ks' o' r (error_of e p) is
           (λ old f driven. subst (λ q. Failed t ms limit root old f st' (error_of e q)) (sym there)
-          (item_fails t ms limit root old f st ks o driven l at plain st' g keeps adds same known e steps))
+          (item_fails t ms limit root old f st ks o driven l at plain st' g keeps adds same trail e steps))
 
       -- an item is read
       pub moves_on : {A : Type 0} (x : A) (done : ⊤) → StepsLocal t ms o.closure l st o.frame st' g (Ok done)
           → Moves t ms limit root st ks o st' ks (record o { frame = g; next = o.next + 1 }) (Ok x)
       moves_on x done steps =
           move_goes t ms limit root st ks o st' ks (record o { frame = g; next = o.next + 1 }) x
-          (λ old f driven. item_goes t ms limit root old f st ks o driven l at plain st' g keeps adds same known done
+          (λ old f driven. item_goes t ms limit root old f st ks o driven l at plain st' g keeps adds same trail done
           steps)
 
       -- less is left to do
@@ -208,38 +223,39 @@ module _ (t : TypeTable) (ms : List ModuleRecord) (limit : ℕ) (root : Translat
           st.graph.num_runtime_component_instances keeps.bodies more
           (work_goes st.bodies.now root limit st.graph.num_runtime_component_instances ks o g l at)
 
-    module _ (caller : Open) (st' : State) (keeps : Keeps (tables_of st) (tables_of st'))
-        (adds : Adds t 1 (tables_of st) (tables_of st')) (g : Frame) where
-      -- there was no room for what a child exports
-      pub moves_crowded : {A : Type 0} (es : List (ExternName × ItemKind × ℕ)) (child : Frame) (e : ItemError)
-          → GivesBack t ms es child st caller.frame st' g (Err e) → (p : Place) → (r : Result A Error)
+    module _ (caller : Open) (ty : ℕ)
+        (ty_is : ty ≡ unwrap_or (instance_type_at (items_of st.bodies.now root caller) caller.next) 0)
+        (end : length (items_of st.bodies.now root o) ≤ o.next) (st' : State) (g : Frame)
+        (keeps : Keeps (tables_of st) (tables_of st'))
+        (adds : Adds t (for_return t root st o) (tables_of st) (tables_of st'))
+        (same : g.component_instance ≡ caller.frame.component_instance) where
+      -- what waits for a child that has ended can't go on
+      moves_crowded : {A : Type 0} (e : ItemError)
+          → GivesBack t ms (its_exports root st o) ty st o.frame caller.frame st' g (Err e) → (p : Place)
+          → p ≡ place.Reading g.component_instance.0 caller.next → (r : Result A Error)
           → IsErrAnd r (λ x. x ≡ error_of e p) → (ks' : List Open) (o' : Open)
           → Moves t ms limit root st (caller ∷ ks) o st' ks' o' r
-      moves_crowded es child e gives p r is ks' o' =
+      moves_crowded e gives p there r is ks' o' =
           move_fails t ms limit root st (caller ∷ ks) o st' ks' o' r (error_of e p) is
-          (λ old f driven. left_failed t ms limit root old f st caller ks o driven st' keeps adds child es g e gives p)
+          (λ old f driven. subst (λ q. Failed t ms limit root old f st' (error_of e q)) (sym there)
+          (left_failed t ms limit root old f st caller ks o driven ty ty_is end st' g keeps adds same e gives))
 
-      -- what waits for a child has what it exports, and types are converted for it
-      moves_left : {A : Type 0} (x : A) → table_fault t ≡ None → length (items_of st.bodies.now root o) ≤ o.next
-          → (es : List (ExternName × ItemKind × ℕ)) → es ≡ (body_at st.bodies.now root o.body).exports → (done : ⊤)
-          → GivesBack t ms es o.frame st caller.frame st' g (Ok done) → (ts : Types)
-          → ts ≡ converting_for st'.types g.component_instance
-          → Moves t ms limit root st (caller ∷ ks) o (record st' { types = ts }) ks
-          (record caller { frame = g; next = caller.next + 1 }) (Ok x)
-      moves_left x sound end es are done gives ts current =
-          move_goes t ms limit root st (caller ∷ ks) o (record st' { types = ts }) ks
-          (record caller { frame = g; next = caller.next + 1 }) x
-          (λ old f driven. left_driven t ms limit root old f st caller ks o driven st' keeps adds sound end es are g
+      -- it has what the child exports
+      moves_left : {A : Type 0} (x : A) (done : ⊤)
+          → GivesBack t ms (its_exports root st o) ty st o.frame caller.frame st' g (Ok done)
+          → TrailsBack st o.frame caller.frame st' g
+          → Moves t ms limit root st (caller ∷ ks) o st' ks (record caller { frame = g; next = caller.next + 1 }) (Ok x)
+      moves_left x done gives trails =
+          move_goes t ms limit root st (caller ∷ ks) o st' ks (record caller { frame = g; next = caller.next + 1 }) x
+          (λ old f driven. left_driven t ms limit root old f st caller ks o driven ty ty_is end st' g keeps adds same
           done
-          gives ts current)
+          gives trails)
 
       -- less is left to do
-      falls_left : (ts : Types) → Falls limit root st (caller ∷ ks) o (record st' { types = ts }) ks
-          (record caller { frame = g; next = caller.next + 1 })
-      falls_left ts =
+      falls_left : Falls limit root st (caller ∷ ks) o st' ks (record caller { frame = g; next = caller.next + 1 })
+      falls_left =
           let more = keeps.graph.component_instances in
-          falls_among limit root st (record st' { types = ts }) (caller ∷ ks) ks o
-          (record caller { frame = g; next = caller.next + 1 })
+          falls_among limit root st st' (caller ∷ ks) ks o (record caller { frame = g; next = caller.next + 1 })
           st.graph.num_runtime_component_instances keeps.bodies more
           (work_leaves st.bodies.now root limit st.graph.num_runtime_component_instances ks o caller g)
 
@@ -314,37 +330,90 @@ pub none_wait : (xs : List Open) → length xs ≡ 0 → reverse xs ≡ []
 none_wait [] is = refl
 none_wait (x ∷ xs) is = absurd (omega (arith, is))
 
+-- where the innermost is another name for the child, and the next for the one that waits for it
 module _ (t : TypeTable) (ms : List ModuleRecord) (limit : ℕ) (root : Translation) (st : State) (ks : List Open)
-    (o caller : Open) (st' : State) (keeps : Keeps (tables_of st) (tables_of st'))
-    (adds : Adds t 1 (tables_of st) (tables_of st')) (g : Frame) (next child : Open) (after : next ≡ caller)
-    (was : child ≡ o) (es : List (ExternName × ItemKind × ℕ)) where
-  -- the next of those that wait can't go on
-  pub leaves_crowded : {A : Type 0} (e : ItemError) → GivesBack t ms es child.frame st next.frame st' g (Err e)
-      → (p : Place) → (r : Result A Error) → IsErrAnd r (λ x. x ≡ error_of e p) → (ks' : List Open) (o' : Open)
-      → Moves t ms limit root st (caller ∷ ks) o st' ks' o' r
-  leaves_crowded e gives p r is ks' o' =
-      moves_crowded t ms limit root st ks o caller st' keeps adds g es child.frame e
-      (subst (λ (k : Open). GivesBack t ms es child.frame st k.frame st' g (Err e)) after gives) p r is ks' o'
+    (o caller : Open) (ty : ℕ)
+    (ty_is : ty ≡ unwrap_or (instance_type_at (items_of st.bodies.now root caller) caller.next) 0)
+    (end : length (items_of st.bodies.now root o) ≤ o.next) (st' : State) (g : Frame)
+    (keeps : Keeps (tables_of st) (tables_of st')) (next child : Open) (after : next ≡ caller) (was : child ≡ o)
+    (es : List (ExternName × ItemKind × ℕ)) (are : es ≡ its_exports root st child)
+    (adds : Adds t (types_among es * (1 + most_types t) + most_converted t 1) (tables_of st) (tables_of st'))
+    (same : g.component_instance ≡ next.frame.component_instance) where
+  are_its : es ≡ its_exports root st o
+  are_its = are ∙ ap (its_exports root st) was
 
-  -- it goes on, and types are converted for it
-  pub leaves : {A : Type 0} (x : A) → table_fault t ≡ None → length (items_of st.bodies.now root o) ≤ o.next
-      → es ≡ (body_at st.bodies.now root child.body).exports → (done : ⊤)
-      → GivesBack t ms es child.frame st next.frame st' g (Ok done) → (ts : Types)
-      → ts ≡ converting_for st'.types g.component_instance
-      → Moves t ms limit root st (caller ∷ ks) o (record st' { types = ts }) ks
-      (record next { frame = g; next = next.next + 1 }) (Ok x)
-  leaves x sound end are done gives ts current =
-      subst (λ k. Moves t ms limit root st (caller ∷ ks) o (record st' { types = ts }) ks
-      (record k { frame = g; next = k.next + 1 }) (Ok x))
-      (sym after) (moves_left t ms limit root st ks o caller st' keeps adds g x sound end es
-      (subst (λ (k : Open). es ≡ (body_at st.bodies.now root k.body).exports) was are) done
-      (subst (λ (k : Open). GivesBack t ms es k.frame st caller.frame st' g (Ok done)) was
-      (subst (λ (k : Open). GivesBack t ms es child.frame st k.frame st' g (Ok done)) after gives)) ts current)
+  adds_so : Adds t (for_return t root st o) (tables_of st) (tables_of st')
+  adds_so =
+      subst (λ xs. Adds t (types_among xs * (1 + most_types t) + most_converted t 1) (tables_of st) (tables_of st'))
+      are_its adds
+
+  same_so : g.component_instance ≡ caller.frame.component_instance
+  same_so = same ∙ ap (λ (k : Open). k.frame.component_instance) after
+
+  gives_so : (r : Result ⊤ ItemError) → GivesBack t ms es ty st child.frame next.frame st' g r
+      → GivesBack t ms (its_exports root st o) ty st o.frame caller.frame st' g r
+  gives_so r gives =
+      subst (λ xs. GivesBack t ms xs ty st o.frame caller.frame st' g r) are_its
+      (subst (λ (k : Open). GivesBack t ms es ty st k.frame caller.frame st' g r) was
+      (subst (λ (k : Open). GivesBack t ms es ty st child.frame k.frame st' g r) after gives))
+
+  -- the one that waits can't go on
+  pub leaves_crowded : {A : Type 0} (e : ItemError) → GivesBack t ms es ty st child.frame next.frame st' g (Err e)
+      → (p : Place) → p ≡ place.Reading g.component_instance.0 next.next → (r : Result A Error)
+      → IsErrAnd r (λ x. x ≡ error_of e p) → (ks' : List Open) (o' : Open)
+      → Moves t ms limit root st (caller ∷ ks) o st' ks' o' r
+  leaves_crowded e gives p there r is ks' o' =
+      moves_crowded t ms limit root st ks o caller ty ty_is end st' g keeps adds_so same_so e (gives_so (Err e) gives) p
+      (there ∙ ap (λ (k : Open). place.Reading g.component_instance.0 k.next) after) r is ks' o'
+
+  -- it goes on
+  pub leaves : {A : Type 0} (x : A) (done : ⊤) → GivesBack t ms es ty st child.frame next.frame st' g (Ok done)
+      → TrailsBack st child.frame next.frame st' g
+      → Moves t ms limit root st (caller ∷ ks) o st' ks (record next { frame = g; next = next.next + 1 }) (Ok x)
+  leaves x done gives trails =
+      subst (λ k. Moves t ms limit root st (caller ∷ ks) o st' ks (record k { frame = g; next = k.next + 1 }) (Ok x))
+      (sym after)
+      (moves_left t ms limit root st ks o caller ty ty_is end st' g keeps adds_so same_so x done
+      (gives_so (Ok done) gives)
+      (subst (λ (k : Open). TrailsBack st k.frame caller.frame st' g) was
+      (subst (λ (k : Open). TrailsBack st child.frame k.frame st' g) after trails)))
 
   -- and less is left to do
-  pub falls_leaving : (ts : Types) → Falls limit root st (caller ∷ ks) o (record st' { types = ts }) ks
-      (record next { frame = g; next = next.next + 1 })
-  falls_leaving ts =
-      subst (λ k. Falls limit root st (caller ∷ ks) o (record st' { types = ts }) ks
-      (record k { frame = g; next = k.next + 1 })) (sym after)
-      (falls_left t ms limit root st ks o caller st' keeps adds g ts)
+  pub falls_leaving : Falls limit root st (caller ∷ ks) o st' ks (record next { frame = g; next = next.next + 1 })
+  falls_leaving =
+      subst (λ k. Falls limit root st (caller ∷ ks) o st' ks (record k { frame = g; next = k.next + 1 })) (sym after)
+      (falls_left t ms limit root st ks o caller ty ty_is end st' g keeps adds_so same_so)
+
+-- the type of a child, as the code finds it
+pub leaving_type : (st : State) (root : Translation) (caller : Open) (ty : ℕ) (found : Option ℕ)
+    → found ≡ instance_type_at (items_of st.bodies.now root caller) caller.next → ty ≡ unwrap_or found 0
+    → ty ≡ unwrap_or (instance_type_at (items_of st.bodies.now root caller) caller.next) 0
+leaving_type st root caller ty found there is = is ∙ ap (λ o. unwrap_or o 0) there
+
+-- what is asked where a child ends
+module _ (t : TypeTable) (ms : List ModuleRecord) (limit : ℕ) (root : Translation) where
+  -- it has ended
+  pub leaving_return : (st : State) (caller : Open) (ks : List Open) (o : Open)
+      → AreUnderway t ms limit root st (caller ∷ ks) o → (next child : Open) → next ≡ caller → child ≡ o
+      → IsReturn t ms st child.frame next.frame
+  leaving_return st caller ks o under next child after was =
+      subst (λ (k : Open). IsReturn t ms st k.frame next.frame) (sym was)
+      (subst (λ (k : Open). IsReturn t ms st o.frame k.frame) (sym after)
+      (underway_return t ms limit root st caller ks o under))
+
+  -- its exports have names of their own
+  pub leaving_named : IsSoundBody (length ms) root → (st : State) (caller : Open) (ks : List Open) (o : Open)
+      → AreUnderway t ms limit root st (caller ∷ ks) o → (child : Open) → child ≡ o
+      → (es : List (ExternName × ItemKind × ℕ)) → es ≡ its_exports root st child
+      → distinct_names (map export_name es) ≡ true
+  leaving_named sound st caller ks o under child was es are =
+      ap (λ xs. distinct_names (map export_name xs)) (are ∙ ap (its_exports root st) was)
+      ∙ sound_exports t ms limit root sound st (caller ∷ ks) o under
+
+  -- its type is an instance type
+  pub leaving_typed : (st : State) (caller : Open) (ks : List Open) (o : Open)
+      → AreUnderway t ms limit root st (caller ∷ ks) o → (ty : ℕ)
+      → ty ≡ unwrap_or (instance_type_at (items_of st.bodies.now root caller) caller.next) 0
+      → has_entry t is_instance ty ≡ true
+  leaving_typed st caller ks o under ty is =
+      ap (has_entry t is_instance) is ∙ underway_type t ms limit root st caller ks o under

@@ -7,7 +7,8 @@ use Rattle.pc_types.specs.declared.error.Place.TheVariants as place
 use Rattle.pc_types.specs.declared.module_record.ModuleRecord.{ModuleRecord}
 use Rattle.pc_types.specs.declared.parsed.TypeTable.{TypeTable}
 use Rattle.pc_spec_reading.specs.Components.{Call, read_return}
-use Rattle.pc_spec_reading.specs.Item.{ArgumentOf, Item, Items, and_item, exports_in, instantiate_component_item, no_items}
+use Rattle.pc_spec_reading.specs.Item.{ArgumentOf, Item, Items, and_item, exports_in, instantiate_component_item}
+use Rattle.pc_spec_reading.specs.Item.{no_items}
 use Rattle.pc_spec_reading.specs.Items.{exports_at}
 use Rattle.pc_spec_reading.specs.Outcome.{Fault, Outcome, and_then, at_item, done, fault, over, past}
 use Rattle.pc_spec_reading.specs.Reading.{Enter, Return, beginning, begun_in, returning, read_items, read_body}
@@ -165,14 +166,14 @@ module _ (t : TypeTable) (ms : List ModuleRecord) (limit : ℕ) where
 
       child_reads : (c : Call) (body : Items) (chain : Chain) → c.component ≡ closed body chain → length ws < limit
           → enters c r.scope.known w
-          ≡ read_body (today t) t ms limit (built_enter t ms limit (levels t ms limit (waits_at r n ty ∷ ws))) body
+          ≡ read_body today t ms limit (built_enter t ms limit (levels t ms limit (waits_at r n ty ∷ ws))) body
           chain
           c.arguments r.scope.known w
       unfolding enter_at
       child_reads c body chain is deep =
           let one : limit - length ws ≡ suc (limit - suc (length ws)) = omega (arith, deep) in
           ap (λ l. built_enter t ms limit l c r.scope.known w) one
-          ∙ ap (λ x. read_child (today t) t ms limit (built_enter t ms limit
+          ∙ ap (λ x. read_child today t ms limit (built_enter t ms limit
           (levels t ms limit (waits_at r n ty ∷ ws))) x
           c.arguments r.scope.known w) is
 
@@ -224,3 +225,13 @@ module _ (t : TypeTable) (ms : List ModuleRecord) (limit : ℕ) where
           ap (λ x. resume t ms limit ws w.reader.body (and_then (at_item w.reader.scope.component_instance w.item x)
           (built_items t ms (built_enter t ms limit (levels t ms limit ws)) (w.item + 1)
           (items_from (w.item + 1) w.reader.body)))) read
+
+      -- it hasn't
+      pub return_refused : (k : Fault) → returned ≡ Err k
+          → resume t ms limit ws w.reader.body (going_on t ms limit ws w b)
+          ≡ fault k (place.Reading w.reader.scope.component_instance w.item)
+      return_refused k read =
+          ap (λ x. resume t ms limit ws w.reader.body (and_then (at_item w.reader.scope.component_instance w.item x)
+          (built_items t ms (built_enter t ms limit (levels t ms limit ws)) (w.item + 1)
+          (items_from (w.item + 1) w.reader.body)))) read
+          ∙ resume_fault ws w.reader.body k (place.Reading w.reader.scope.component_instance w.item)

@@ -11,10 +11,11 @@ use Rattle.pc_types.specs.declared.parsed.CoreKind.TheVariants as core
 use Rattle.pc_types.specs.declared.parsed.Entity.{Entity}
 use Rattle.pc_types.specs.declared.parsed.Entity.TheVariants as entity
 use Rattle.pc_types.specs.declared.parsed.TypeTable.{TypeTable}
-use Rattle.pc_types.specs.Table.{is_func, is_instance, is_module}
+use Rattle.pc_types.specs.Table.{is_func, is_instance, is_module, is_resource}
 use Rattle.pc_types.specs.TypeTree.{Identity, TypeTree}
 use Rattle.pc_spec_plan.specs.CoreValue.{CoreValue, Options, adapter}
 use Rattle.pc_spec_plan.specs.Log.{Entry, made}
+use Rattle.pc_spec_plan.specs.Machine.{chosen}
 use Rattle.pc_parsed.specs.declared.payload.ItemKind.{ItemKind}
 use Rattle.pc_parsed.specs.Mark.{Mark, of_type}
 use Rattle.pc_spec_reading.specs.Arguments.{core_export, host_arguments, static_arguments}
@@ -31,15 +32,16 @@ use Rattle.pc_spec_reading.specs.Modules.{read_core_exports, read_core_instance,
 use Rattle.pc_spec_reading.specs.Options.{options_of}
 use Rattle.pc_spec_reading.specs.Outcome.{Fault, after, bad_type, found, held, invalid}
 use Rattle.pc_spec_reading.specs.Resource.{registered, resource_paths}
-use Rattle.pc_spec_reading.specs.Rows.{read_row}
+use Rattle.pc_spec_reading.specs.Rows.{read_resource, read_row}
 use Rattle.pc_spec_reading.specs.SameValues.{was_made}
 use Rattle.pc_spec_reading.specs.Scope.{CoreInstance, Moment, Scope, add_core, add_core_instance, add_entry}
 use Rattle.pc_spec_reading.specs.Scope.{add_intrinsic, add_value, chain_of, with_core}
 use Rattle.pc_spec_reading.specs.Scope.{with_known, with_value}
-use Rattle.pc_spec_reading.specs.Types.{is_plain_type, names_entry, signature_at, tree_if}
+use Rattle.pc_spec_reading.specs.Types.{has_entry, is_plain_type, names_entry, signature_at, tree_if}
 use Rattle.pc_spec_reading.specs.Value.{Function, Module, NamedValue, Value, closed, component_value}
 use Rattle.pc_spec_reading.specs.Value.{func_value, host_function, host_module, instance_value, intrinsic_function}
-use Rattle.pc_spec_reading.specs.Value.{lifted_function, made_instance, module_value, pack_values, static_module, type_value}
+use Rattle.pc_spec_reading.specs.Value.{lifted_function, made_instance, module_value, pack_values, static_module}
+use Rattle.pc_spec_reading.specs.Value.{type_value}
 use Rattle.pc_inline_state.specs.Today.{built_row, is_built, is_made, today}
 use Rattle.pc_spec_reading.specs.Reading.{row}
 use Rattle.pc_spec_reading.specs.Guard.{let_through}
@@ -196,13 +198,16 @@ module _ (t : TypeTable) (ms : List ModuleRecord) (now : Moment) where
       (λ vs. instance_keeps now _ _ (entry_keeps now _ _ (entry_keeps now now _ (same_keeps now))))
 
   -- an item
-  item_keeps : (i : Item.Item) → is_built t i ≡ true → Keeping now (read_row t ms now i)
+  item_keeps : (i : Item.Item) → is_built i ≡ true → Keeping now (read_row t ms now i)
   unfolding read_row read_import read_lift read_lower read_module read_core_instance read_core_exports read_component
-      read_component_exports read_core_alias read_alias read_outer read_export
+      read_component_exports read_core_alias read_alias read_outer read_export read_resource
   item_keeps (Item.import_item name e) is =
       held_keeps now bad_type (names_entry t e) _ (import_keeps e (value_of name.name now.scope.arguments))
   item_keeps Item.intrinsics_import is = cc
-  item_keeps (Item.resource_item a b d) is = cc
+  item_keeps (Item.resource_item id representation destructor) is =
+      held_keeps now bad_type (has_entry t is_resource id) _ (
+      found_keeps now invalid (chosen now.scope.core_funcs destructor) _
+      (λ d. entry_keeps now _ _ (known_keeps now now _ (same_keeps now))))
   item_keeps (Item.lift_item func ty signature opts) is =
       found_keeps now bad_type (tree_if t is_func now.scope ty) _ (λ tree.
       found_keeps now bad_type (signature_at t signature) _ (λ s.
@@ -254,12 +259,12 @@ module _ (t : TypeTable) (ms : List ModuleRecord) (now next : Moment) where
   kept m = let_through (not (list_any is_made m.world.log)) (Ok m)
 
   -- an item that adds something is of a kind that is built
-  pub row_built : (i : Item.Item) → built_row t ms now i ≡ Ok next → is_built t i ≡ true
+  pub row_built : (i : Item.Item) → built_row t ms now i ≡ Ok next → is_built i ≡ true
   unfolding row today
-  row_built i done = by (is_built t i) refl done
+  row_built i done = by (is_built i) refl done
     where
-      by : (b : Bool) → is_built t i ≡ b
-          → let_through b (after (read_row t ms now i) kept) ≡ Ok next → is_built t i ≡ true
+      by : (b : Bool) → is_built i ≡ b
+          → let_through b (after (read_row t ms now i) kept) ≡ Ok next → is_built i ≡ true
       by true is done = is
       by false is done = cc
 
@@ -275,7 +280,7 @@ module _ (t : TypeTable) (ms : List ModuleRecord) (now next : Moment) where
   -- what an item that is built reads
   row_read : (i : Item.Item) → built_row t ms now i ≡ Ok next → read_row t ms now i ≡ Ok next
   unfolding row today
-  row_read i done = by (is_built t i) done
+  row_read i done = by (is_built i) done
     where
       by : (b : Bool) → let_through b (after (read_row t ms now i) kept) ≡ Ok next → read_row t ms now i ≡ Ok next
       by true done = after_kept (read_row t ms now i) done

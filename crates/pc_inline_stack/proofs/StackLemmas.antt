@@ -1,20 +1,18 @@
 -- Component instances on a stack, as the tables grow and the innermost goes on.
-use Rattle.std.proofs.Common.{◌≡◌, ◌≤◌, ◌+◌, ℕ, true, List, Option, None, Some, length}
+use Rattle.std.proofs.Common.{◌≡◌, ◌≤◌, ◌+◌, ℕ, List, Option, None, Some, length}
 use Rattle.std.proofs.Common.{refl, ◌∙◌, arith}
 use Rattle.std.specs.Prelude.{slice_get}
 use Rattle.pc_types.specs.declared.module_record.ModuleRecord.{ModuleRecord}
 use Rattle.pc_types.specs.declared.parsed.TypeTable.{TypeTable}
-use Rattle.pc_spec_reading.specs.Item.{Item, Items, and_item, export_item, exports_in}
 use Rattle.pc_spec_reading.specs.Scope.{Scope}
 use Rattle.pc_local.specs.declared.item.Translation.{Translation}
 use Rattle.pc_inline_state.specs.declared.closure.Closure.{Closure}
 use Rattle.pc_inline_state.specs.declared.definition.ClosureId.{ClosureId}
 use Rattle.pc_inline_stack.specs.declared.driver.Open.{Open}
 use Rattle.pc_inline_state.specs.declared.frame.Frame.{Frame}
-use Rattle.pc_inline_stack.specs.Stacks.{AllStand, AreBuilt, Grew, OpenStands, Reader, Waiting, child_stands}
-use Rattle.pc_inline_stack.specs.Stacks.{root_stands}
+use Rattle.pc_inline_stack.specs.Stacks.{AllStand, Grew, OpenStands, Reader, Waiting, child_stands, root_stands}
 use Rattle.pc_inline_state.specs.Tables.{Keeps, Tables}
-use Rattle.pc_inline_state.specs.Today.{is_built}
+use Rattle.pc_inline_state.specs.Trails.{Trails}
 use Rattle.pc_types_lists.specs.Known.{resource_of}
 use Rattle.pc_types_lists.specs.Types.{Resources}
 use Rattle.pc_inline_stack.proofs.CurrentLemmas.{converted_again, converted_still, waits_again}
@@ -28,35 +26,29 @@ has_closure : (b : Tables) (k : Option ClosureId)
 has_closure b None closed = tt
 has_closure b (Some k) closed = closed k refl
 
--- the exports of a body are of kinds that are built, where an item of it and those of the rest are
-pub built_more : (t : TypeTable) (i : Item) (is : Items) → is_built t i ≡ true → AreBuilt (exports_in is)
-    → AreBuilt (exports_in (and_item i is))
-built_more t (export_item e) is built rest = rw (built) rest
-built_more t i is built rest = rest
-
 module _ (t : TypeTable) (ms : List ModuleRecord) (bodies : List Translation) (root : Translation) where
   module _ (b : Tables) where
     -- the innermost stands for its reader
     pub top_stands : (k : Resources) (ks : List Open) (o : Open) (ws : List Waiting) (r : Reader)
         → AllStand t ms bodies root b k ks o ws r → OpenStands t ms bodies root b k o r
     top_stands k ks o ws r (root_stands h) = h
-    top_stands k ks o ws r (child_stands h exports caller none waits all) = h
+    top_stands k ks o ws r (child_stands h has caller waits all) = h
 
-    -- it has gone on with resources among which the same ones are known
-    pub top_goes : (k l : Resources) → ((n : ℕ) → resource_of l.known n ≡ resource_of k.known n) → (ks : List Open)
-        (o : Open) (ws : List Waiting) (r : Reader) (g : Frame) (n : ℕ) (s : Scope)
-        → AllStand t ms bodies root b k ks o ws r
+    -- it has gone on, and changed what it notes of the resources that are known
+    pub top_goes : (k l : Resources) (ks : List Open) (o : Open) (ws : List Waiting) (r : Reader) (g : Frame) (n : ℕ)
+        (s : Scope) → Trails o.frame.changes k g.changes l → AllStand t ms bodies root b k ks o ws r
         → OpenStands t ms bodies root b l (record o { frame = g; next = n }) (record r { scope = s })
         → AllStand t ms bodies root b l ks (record o { frame = g; next = n }) ws (record r { scope = s })
-    top_goes k l same ks o ws r g n s (root_stands h) x = root_stands x
-    top_goes k l same ks o ws r g n s (child_stands {j = j} {caller = c} h exports caller none waits all) x =
-        child_stands x exports caller none (waits_again k l same c.frame j waits) all
+    top_goes k l ks o ws r g n s trails (root_stands h) x = root_stands x
+    top_goes k l ks o ws r g n s trails (child_stands {j = j} {caller = c} h has caller waits all) x =
+        child_stands x (record { index = has.index; is = has.is; exports = has.exports }) caller
+        (waits_again k o.frame l g trails c.frame j waits) all
 
     -- as many wait as wait in the reading
     pub as_deep : (k : Resources) (ks : List Open) (o : Open) (ws : List Waiting) (r : Reader)
         → AllStand t ms bodies root b k ks o ws r → length ws ≡ length ks
     as_deep k ks o ws r (root_stands h) = refl
-    as_deep k ks o ws r (child_stands {j = j} {os = os} {caller = c} {ws = vs} {w = w} h exports caller none waits
+    as_deep k ks o ws r (child_stands {j = j} {os = os} {caller = c} {ws = vs} {w = w} h has caller waits
         all) =
         let same = as_deep j os c vs w.reader all in omega (arith, same)
 
@@ -72,7 +64,6 @@ module _ (t : TypeTable) (ms : List ModuleRecord) (bodies : List Translation) (r
       enclosed = h.enclosed;
       closed = h.closed;
       items = h.items;
-      kinds = h.kinds;
     }
 
   module _ (b c : Tables) (keeps : Keeps b c) where
@@ -87,16 +78,15 @@ module _ (t : TypeTable) (ms : List ModuleRecord) (bodies : List Translation) (r
           h.enclosed;
       closed = λ k is. let x = h.closed k is in (x.0, keeps.closures k.0 x.0 x.1);
       items = h.items;
-      kinds = h.kinds;
     }
 
     -- so do all
     pub all_kept : (k : Resources) (ks : List Open) (o : Open) (ws : List Waiting) (r : Reader)
         → AllStand t ms bodies root b k ks o ws r → AllStand t ms bodies root c k ks o ws r
     all_kept k ks o ws r (root_stands h) = root_stands (open_kept k o r h)
-    all_kept k ks o ws r (child_stands {j = j} {os = os} {caller = q} {ws = vs} {w = w} h exports caller none waits
+    all_kept k ks o ws r (child_stands {j = j} {os = os} {caller = q} {ws = vs} {w = w} h has caller waits
         all) =
-        child_stands (open_kept k o r h) exports caller none waits (all_kept j os q vs w.reader all)
+        child_stands (open_kept k o r h) has caller waits (all_kept j os q vs w.reader all)
 
 -- more was added, of what was left, and the total is the same
 pub grew_more : (first now next : Option ℕ) (added left more fewer count : ℕ) → next ≡ now → more + fewer ≤ left

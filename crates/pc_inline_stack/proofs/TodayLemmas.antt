@@ -10,14 +10,15 @@ use Rattle.pc_types.specs.declared.parsed.Entity.{Entity}
 use Rattle.pc_types.specs.declared.parsed.TypeTable.{TypeTable}
 use Rattle.pc_types.specs.TypeTree.{Identity}
 use Rattle.pc_parsed.specs.declared.payload.ExternName.{ExternName}
-use Rattle.pc_spec_reading.specs.Answer.{HasTotal, IsPast}
+use Rattle.pc_spec_reading.specs.Answer.{IsPast}
 use Rattle.pc_spec_reading.specs.Components.{Call, read_call}
 use Rattle.pc_spec_reading.specs.Imports.{prepare}
 use Rattle.pc_spec_reading.specs.Item.{ArgumentOf, ExportOf, Item, Items, and_item, no_items, exports_in}
 use Rattle.pc_spec_reading.specs.Items.{exported_value}
 use Rattle.pc_spec_reading.specs.Nodes.{Finish, Reached, at_export, in_front, named_node, passed, reached, refused}
 use Rattle.pc_spec_reading.specs.Nodes.{value_node}
-use Rattle.pc_spec_reading.specs.Outcome.{Fault, Outcome, after, and_then, at_item, done, fault, over, past, unsupported}
+use Rattle.pc_spec_reading.specs.Outcome.{Fault, Outcome, after, and_then, at_item, done, fault, over, past}
+use Rattle.pc_spec_reading.specs.Outcome.{unsupported}
 use Rattle.pc_spec_reading.specs.Reading.{Enter, Reading, beginning, begun_in, enter_at, finishing, instantiate}
 use Rattle.pc_spec_reading.specs.Reading.{read_body, read_child, read_item, read_items, read_root, reading_of}
 use Rattle.pc_spec_reading.specs.Reading.{returning, row, root_exports, called, prepared, prepare_all, exporting}
@@ -79,8 +80,8 @@ at_today c n r other today = elim today as (λ _. IsToday (at_item c n r) (at_it
 
 -- what is let through is as it was
 let_today : {A : Type 0} (b : Bool) (r other : Result A Fault) → IsTodayRow r other → IsTodayRow (let_through b r) other
-let_today true r other today = today
-let_today false r other today = inr refl
+let_today true r other same = same
+let_today false r other same = inr refl
 
 export_today : (n : ℕ) {X : Type 0} (r : Reached X) (f h : X → World → Outcome Finish)
     → ((x : X) (w : World) → IsToday (f x w) (h x w)) → IsToday (at_export n r f) (at_export n r h)
@@ -243,9 +244,9 @@ module _ {A : Type 0} (limit weight : ℕ) (w : World) where
     where
       by : (b c : Bool) (x y : Outcome A) → IsToday x y
           → IsToday (if b then (if c then x else past) else over) (if b then (if c then y else past) else over)
-      by true true x y today = today
-      by true false x y today = inl refl
-      by false c x y today = inl refl
+      by true true x y same = same
+      by true false x y same = inl refl
+      by false c x y same = inl refl
 
   -- going on where a component instance begins
   pub beginning_then : {B : Type 0} (go : World → Outcome A) (f : A → Outcome B)
@@ -308,11 +309,11 @@ module _ (g : Guard) (t : TypeTable) (ms : List ModuleRecord) (limit : ℕ) wher
 module _ (t : TypeTable) (ms : List ModuleRecord) (limit : ℕ) (body : Items) where
   -- what is built is the nested reading, or ends where something isn't built
   pub reading_today : IsToday (built_reading t ms limit body) (reading_of everything t ms limit None body)
-  reading_today = guarded_today (today t) t ms limit None body
+  reading_today = guarded_today today t ms limit None body
 
   read_same : (o : Outcome Moment) → ((p : Place) → o ≡ fault (unsupported NotBuilt) p → ⊥) → (counted : Option ℕ)
       → built_root t ms limit counted body ≡ o → read_root everything t ms limit counted body ≡ o
-  read_same o other counted ends = elim (root_today (today t) t ms limit counted body) as
+  read_same o other counted ends = elim (root_today today t ms limit counted body) as
       (λ _. read_root everything t ms limit counted body ≡ o) [
         | inl same ↦ sym same ∙ ends
         | inr unbuilt ↦ absurd (other unbuilt.0 (sym ends ∙ unbuilt.1))
@@ -324,12 +325,3 @@ module _ (t : TypeTable) (ms : List ModuleRecord) (limit : ℕ) (body : Items) w
   past_read counted is =
       ap (λ o. and_then o (finishing everything t body))
       (read_same past (λ p same. let x : ⊥ = cc in x) (Some counted) is)
-
-  -- and where its items are read, it is the total of the reading
-  pub total_read : (counted : ℕ) (last : Moment) (total : ℕ) → built_root t ms limit (Some counted) body ≡ done last
-      → last.world.total ≡ Some total → HasTotal t ms limit counted body total
-  total_read counted last total is ends = (
-    last,
-    read_same (done last) (λ p same. let x : ⊥ = cc in x) (Some counted) is,
-    ends,
-  )

@@ -33,10 +33,11 @@ module _ (t : TypeTable) (ms : List ModuleRecord) (limit : ℕ) where
       (is : Items) (now : Moment) → ItemsStand old.bodies.now no_names ls is → PointStands t ms old f now
       → now.world.total ≡ None → EndsRun new f (reading_from is now) r
 
-  -- in this total the reading ends, if it is done
-  unfoldable pub EndsIn : (total : ℕ) → Outcome Moment → Result Frame Error → Type 0
-  EndsIn total o (Ok g) = (last : Moment) × (o ≡ done last) × (last.world.total ≡ Some total)
-  EndsIn total o (Err e) = Unit {0}
+  -- in this total the reading ends, if it is done, and the code is there
+  unfoldable pub EndsIn : State → (total : ℕ) → Outcome Moment → Result Frame Error → Type 0
+  EndsIn st total o (Ok g) =
+      (last : Moment) × (o ≡ done last) × (last.world.total ≡ Some total) × PointStands t ms st g last
+  EndsIn st total o (Err e) = Unit {0}
 
   -- from a total on no more was added than these items of the root add at the most, and what the total grew by: the
   -- weights of the component instances that began
@@ -47,7 +48,7 @@ module _ (t : TypeTable) (ms : List ModuleRecord) (limit : ℕ) where
     pub adds : Adds t added (tables_of old) (tables_of new)
     pub few : added + n ≤ most_of_items t ls + total
     pub below : total < full
-    pub ends : EndsIn total o r
+    pub ends : EndsIn new total o r
 
   -- where the total is counted, it is too much, or it bounds what was added
   unfoldable pub Counts : List LocalInitializer → (old : State) → Frame → (new : State) → Result Frame Error → Type 0

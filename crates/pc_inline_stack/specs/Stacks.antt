@@ -1,23 +1,25 @@
 -- Component instances one inside another: those of the code against the readers of the reading.
 use Rattle.std.specs.Prelude.{◌≡◌, ◌<◌, ◌≤◌, ◌+◌, ◌-◌, ◌⊎◌, ℕ, zero, suc, Bool, true, false, List, [], ◌∷◌}
-use Rattle.std.specs.Prelude.{All, drop, length, map, reverse, sum_by}
-use Rattle.std.specs.Prelude.{Option, None, Some, Result, Ok, Err, slice_get, unwrap_or}
+use Rattle.std.specs.Prelude.{◌*◌, All, drop, length, map, reverse, sum_by}
+use Rattle.std.specs.Prelude.{Option, None, Some, Result, Ok, Err, option_and_then, slice_get, unwrap_or}
 use Rattle.std.specs.Result.{IfOk, OnOk}
-use Rattle.std.specs.List.{list_all}
 use Rattle.pc_numbers.specs.declared.component_entity.StaticComponentIndex.{StaticComponentIndex}
 use Rattle.pc_types.specs.declared.error.Error.{Error}
 use Rattle.pc_types.specs.declared.module_record.ModuleRecord.{ModuleRecord}
 use Rattle.pc_types.specs.declared.parsed.TypeTable.{TypeTable}
 use Rattle.pc_types.specs.Table.{is_instance}
+use Rattle.pc_types_lists.specs.Adds.{most_types}
 use Rattle.pc_types_lists.specs.Known.{resource_of}
 use Rattle.pc_types_lists.specs.Types.{Resources}
 use Rattle.pc_types_builder.specs.Converted.{AreConverted}
 use Rattle.pc_spec_reading.specs.Components.{read_return}
-use Rattle.pc_spec_reading.specs.Item.{ArgumentOf, ExportOf, Items, and_item, exports_in, instantiate_component_item}
+use Rattle.pc_parsed.specs.declared.payload.ItemKind.{ItemKind}
+use Rattle.pc_parsed.specs.declared.payload.ItemKind.TheVariants as kind
+use Rattle.pc_spec_reading.specs.Item.{ExportOf, Items, and_item, exports_in, instantiate_component_item}
 use Rattle.pc_spec_reading.specs.Outcome.{Outcome, and_then, at_item, past}
 use Rattle.pc_spec_reading.specs.Reading.{Return, returning}
 use Rattle.pc_spec_reading.specs.Scope.{Moment, Scope}
-use Rattle.pc_spec_reading.specs.Section.{named_item}
+use Rattle.pc_spec_reading.specs.Section.{argument_of, named_item}
 use Rattle.pc_spec_reading.specs.Types.{has_entry}
 use Rattle.pc_spec_reading.specs.World.{World, full}
 use Rattle.pc_local.specs.declared.item.LocalInitializer.{LocalInitializer}
@@ -30,7 +32,7 @@ use Rattle.pc_inline_stack.specs.declared.driver.Open.{Open}
 use Rattle.pc_inline_stack.specs.declared.driver.Stack.{Stack}
 use Rattle.pc_inline_state.specs.declared.frame.Frame.{Frame}
 use Rattle.pc_inline_state.specs.declared.state.State.{State}
-use Rattle.pc_inline_state.specs.Adds.{Adds, most_added, most_of_items}
+use Rattle.pc_inline_state.specs.Adds.{Adds, most_added, most_converted, most_of_items, types_among}
 use Rattle.pc_inline_items.specs.Captures.{IsEnclosed}
 use Rattle.pc_inline_stack.specs.Driving.{reading_from}
 use Rattle.pc_inline_state.specs.Frames.{FrameStands}
@@ -38,7 +40,8 @@ use Rattle.pc_inline_state.specs.KnowsSame.{KnowsSame}
 use Rattle.pc_inline_state.specs.Points.{IsSoundState, PointStands}
 use Rattle.pc_inline_stack.specs.Reads.{Ends, items_from}
 use Rattle.pc_inline_state.specs.Tables.{Keeps, Tables, tables_of}
-use Rattle.pc_inline_state.specs.Today.{built_enter, built_items, has_no_resource, is_built_kind}
+use Rattle.pc_inline_state.specs.Today.{built_enter, built_items}
+use Rattle.pc_inline_state.specs.Trails.{undone}
 use Rattle.pc_inline_state.specs.Worlds.{HasNoExports, WorldStands}
 
 -- the body of this number, that of the root where there is none
@@ -58,13 +61,38 @@ items_left bodies root o = length (items_of bodies root o) - o.next
 abbrev pub all_left : List Translation → (root : Translation) → (callers : List Open) → Open → ℕ
 all_left bodies root ks o = sum_by (items_left bodies root) ks + items_left bodies root o
 
--- how much those of them add at the most that aren't read yet
-abbrev pub most_left : TypeTable → List Translation → (root : Translation) → Open → ℕ
-most_left t bodies root o = sum_by (most_added t) (drop o.next (items_of bodies root o))
+-- whether an item is a type, as a count
+abbrev pub type_count : ItemKind → ℕ
+type_count kind.Type_ = 1
+type_count k = 0
 
--- how much the items of all component instances that are being read
+-- how many exports are types
+abbrev pub types_exported : List ExportOf → ℕ
+types_exported [] = 0
+types_exported (e ∷ es) = type_count e.kind + types_exported es
+
+-- how much the exports of the body of this number add at the most when its component instance ends: each type is
+-- converted. Those of the root are read elsewhere
+abbrev pub most_ended : TypeTable → List Translation → (root : Translation) → Option StaticComponentIndex → ℕ
+most_ended t bodies root None = 0
+most_ended t bodies root (Some s) = types_among (body_at bodies root (Some s)).exports * (1 + most_types t)
+
+-- how much the items of a component instance add at the most from this number on, and its exports when it ends
+abbrev pub most_from : TypeTable → List Translation → (root : Translation) → (n : ℕ) → Open → ℕ
+most_from t bodies root n o =
+    sum_by (most_added t) (drop n (items_of bodies root o)) + most_ended t bodies root o.body
+
+-- the same of the innermost, which reads its next item
+abbrev pub most_left : TypeTable → List Translation → (root : Translation) → Open → ℕ
+most_left t bodies root o = most_from t bodies root o.next o
+
+-- of one that waits for a child: what it adds at the most when the child has ended, and then its items behind
+abbrev pub most_waiting : TypeTable → List Translation → (root : Translation) → Open → ℕ
+most_waiting t bodies root o = most_converted t 1 + most_from t bodies root (suc o.next) o
+
+-- of all component instances that are being read
 abbrev pub all_most_left : TypeTable → List Translation → (root : Translation) → (callers : List Open) → Open → ℕ
-all_most_left t bodies root ks o = sum_by (most_left t bodies root) ks + most_left t bodies root o
+all_most_left t bodies root ks o = sum_by (most_waiting t bodies root) ks + most_left t bodies root o
 
 -- the items of all bodies
 abbrev pub items_in : Translation → ℕ
@@ -84,10 +112,6 @@ work limit bodies root begun ks o =
 -- each that waits stands at an item after whose number there is another one
 abbrev pub AreCounted : List Open → Type 0
 AreCounted ks = All (λ (o : Open). o.next < 18446744073709551615) ks
-
--- whether exports are of kinds that are built
-abbrev pub AreBuilt : List ExportOf → Type 0
-AreBuilt es = list_all (λ (e : ExportOf). is_built_kind e.kind) es ≡ true
 
 -- a component instance of the reading: its scope, the names of what its body captures, and the body
 pub record Reader : Type 0 where
@@ -124,9 +148,10 @@ module _ (t : TypeTable) (ms : List ModuleRecord) (limit : ℕ) where
       resume ws r.body (built_items t ms (built_enter t ms limit (levels ws)) n (items_from n r.body)
       (record { scope = r.scope; world = w }))
 
--- with what a caller goes on when a child ends: what is known then, and types are converted for the caller again
-pub record Waits (k : Resources) (caller : Frame) (j : Resources) : Type 0 where
-  pub known : (n : ℕ) → resource_of j.known n ≡ resource_of k.known n
+-- with what a caller goes on when a child ends: the child's changes are taken back, and types are converted for the
+-- caller again
+pub record Waits (k : Resources) (child caller : Frame) (j : Resources) : Type 0 where
+  pub known : (n : ℕ) → resource_of j.known n ≡ undone child.changes (resource_of k.known) n
   pub current : j.current ≡ caller.component_instance
 
 module _ (t : TypeTable) (ms : List ModuleRecord) (bodies : List Translation) (root : Translation) where
@@ -134,12 +159,18 @@ module _ (t : TypeTable) (ms : List ModuleRecord) (bodies : List Translation) (r
   pub record CallerStands (o : Open) (w : Waiting) : Type 0 where
     pub item : o.next ≡ w.item
     pub is_typed : has_entry t is_instance w.ty ≡ true
-    pub local_item : LocalInitializer
-    pub there : slice_get (items_of bodies root o) o.next ≡ Some local_item
     pub component : ℕ
-    pub arguments : List ArgumentOf
+    pub arguments : List (List ℕ × ItemKind × ℕ)
+    pub there : slice_get (items_of bodies root o) o.next ≡ Some (local.ComponentInstantiate component arguments w.ty)
     pub at : items_from o.next w.reader.body
-        ≡ and_item (instantiate_component_item component arguments w.ty) (items_from (suc o.next) w.reader.body)
+        ≡ and_item (instantiate_component_item component (map argument_of arguments) w.ty)
+        (items_from (suc o.next) w.reader.body)
+
+  -- a child has one of the bodies, and exports what its reader does
+  pub record ChildHas (o : Open) (r : Reader) : Type 0 where
+    pub index : StaticComponentIndex
+    pub is : o.body ≡ Some index
+    pub exports : map named_item (body_at bodies root o.body).exports ≡ exports_in r.body
 
   module _ (b : Tables) where
     -- a component instance stands for a reader, where it goes on with these resources
@@ -150,15 +181,13 @@ module _ (t : TypeTable) (ms : List ModuleRecord) (bodies : List Translation) (r
       pub enclosed : IsEnclosed ms b r.names o.closure r.scope.chain
       pub closed : (k : ClosureId) → o.closure ≡ Some k → (c : Closure) × (slice_get b.closures k.0 ≡ Some c)
       pub items : ItemsStand bodies r.names (items_of bodies root o) r.body
-      pub kinds : AreBuilt (exports_in (items_from o.next r.body)) → AreBuilt (exports_in r.body)
 
     -- the innermost, which goes on with these resources, stands for a reader, and those that wait, from the innermost
     -- out, for those that wait
     pub data AllStand : Resources → List Open → Open → List Waiting → Reader → Type 0 where
       root_stands : {k : Resources} {o : Open} {r : Reader} → OpenStands k o r → AllStand k [] o [] r
       child_stands : {k j : Resources} {os : List Open} {caller o : Open} {ws : List Waiting} {w : Waiting}
-          {r : Reader} → OpenStands k o r → map named_item (body_at bodies root o.body).exports ≡ exports_in r.body
-          → CallerStands caller w → has_no_resource t ≡ true → Waits k caller.frame j
+          {r : Reader} → OpenStands k o r → ChildHas o r → CallerStands caller w → Waits k o.frame caller.frame j
           → AllStand j os caller ws w.reader → AllStand k (caller ∷ os) o (w ∷ ws) r
 
 -- no total is counted, or one that isn't too much
@@ -210,6 +239,10 @@ module _ (t : TypeTable) (ms : List ModuleRecord) (limit : ℕ) (root : Translat
     pub reads : (is : Items) (first : Moment) → ItemsStand old.bodies.now no_names root.initializers is
         → PointStands t ms old f first → HasRoom first.world.total
         → IsPast first.world.total (reading_from t ms limit is first) ⊎ Reached is first st ks o added
+
+  -- component instances stand somewhere in a reading
+  unfoldable pub AreUnderway : State → List Open → Open → Type 0
+  AreUnderway st ks o = (old : State) × (f : Frame) × Driven old f st ks o
 
   -- the reading ends with an error
   pub record Fails (is : Items) (first : Moment) (st : State) (f : Frame) (added : ℕ) (e : Error) : Type 0 where
@@ -268,3 +301,12 @@ pub record Turns (t : TypeTable) (ms : List ModuleRecord) (limit : ℕ) (root : 
 abbrev pub begins_child : LocalInitializer → Bool
 begins_child (local.ComponentInstantiate component args ty) = true
 begins_child l = false
+
+-- the type of the component instance that the item at a place begins
+abbrev pub instance_type : LocalInitializer → Option ℕ
+instance_type (local.ComponentInstantiate component args ty) = Some ty
+instance_type l = None
+
+-- the same by the number of the item
+abbrev pub instance_type_at : List LocalInitializer → (n : ℕ) → Option ℕ
+instance_type_at ls n = option_and_then instance_type (slice_get ls n)

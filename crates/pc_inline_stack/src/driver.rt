@@ -1,33 +1,44 @@
 //! Component instances one inside another, on a stack: an instantiation goes into the items of its component, and the
 //! component instance that it stands in goes on when these have been read.
 
-ghost use Rattle.std.specs.Prelude.{◌≡◌, ◌<◌, ◌≤◌, ◌+◌, ◌++◌, ◌∷◌, ℕ, [], false, length, map, reverse};
+ghost use Rattle.std.specs.Prelude.{◌≡◌, ◌<◌, ◌≤◌, ◌+◌, ◌*◌, ◌++◌, ◌∷◌, ℕ, List, [], false, true, length, map, reverse};
 ghost use Rattle.std.specs.Prelude.{Some, slice_get, option_and_then, OnOk};
-ghost use Rattle.pc_inline_state.specs.Definitions.{component_parts};
-ghost use Rattle.pc_local.specs.declared.item.LocalInitializer.TheVariants as local;
+ghost use Rattle.pc_types.specs.Names.{distinct_names};
+ghost use Rattle.pc_types.specs.Table.{is_instance};
+ghost use Rattle.pc_types_lists.specs.Adds.{most_types};
+ghost use Rattle.pc_types_lists.specs.Known.{resource_of};
 ghost use Rattle.pc_spec_reading.specs.Section.{argument_of};
-ghost use Rattle.pc_inline_state.specs.Adds.{Adds};
-ghost use Rattle.pc_inline_stack.specs.Begins.{converting_for};
-ghost use Rattle.pc_inline_stack.specs.Calls.{Calls, GivesBack};
-ghost use Rattle.pc_inline_stack.specs.Driving.{Counts, Runs};
-ghost use Rattle.pc_inline_state.specs.Kinds.{kinds_of};
+ghost use Rattle.pc_spec_reading.specs.Types.{has_entry};
+ghost use Rattle.pc_spec_reading.specs.Value.{NamedValue, pack_values};
+ghost use Rattle.pc_local.specs.Sound.{IsSoundBody, export_name};
+ghost use Rattle.pc_local.specs.declared.item.LocalInitializer.TheVariants as local;
+ghost use Rattle.pc_inline_state.specs.Adds.{Adds, most_converted, types_among};
+ghost use Rattle.pc_inline_state.specs.Definitions.{component_parts};
 ghost use Rattle.pc_inline_state.specs.Points.{IsInput, IsPoint};
-ghost use Rattle.pc_inline_stack.specs.Reads.{AreItems};
-ghost use Rattle.pc_inline_stack.specs.Stacks.{AreCounted, Moved, Turns, begins_child, body_at, items_of};
+ghost use Rattle.pc_inline_state.specs.Ready.{IsReady};
+ghost use Rattle.pc_inline_state.specs.Stands.{MembersStand};
 ghost use Rattle.pc_inline_state.specs.Tables.{Keeps, tables_of};
-ghost use Rattle.pc_inline_state.specs.Today.{is_built_call};
+ghost use Rattle.pc_inline_state.specs.Trails.{Trails, undone};
+ghost use Rattle.pc_inline_stack.specs.Begins.{converting_for};
+ghost use Rattle.pc_inline_stack.specs.Calls.{AddsChild, Calls, GivesBack, IsReturn, Stays, TrailsBack};
+ghost use Rattle.pc_inline_stack.specs.Driving.{Counts, Runs};
+ghost use Rattle.pc_inline_stack.specs.Reads.{AreItems};
+ghost use Rattle.pc_inline_stack.specs.Stacks.{AreCounted, AreUnderway, Moved, Turns, begins_child, body_at};
+ghost use Rattle.pc_inline_stack.specs.Stacks.{instance_type_at, items_of};
 
 use crate::begin::begin_instance;
 use pc_entity::{
     NoMemory, PrimaryMap, RuntimeComponentInstanceIndex, StaticComponentIndex, Text, TextMap,
 };
-use pc_inline_items::{are_built, are_there, is_instance_type, members_of, step};
+use pc_inline_items::{add_instance, are_there, are_typed, argument_values, export_members, step};
+use pc_inline_resources::return_resources;
 use pc_inline_state::{
-    ClosureId, Context, Definition, DefinitionId, Frame, ItemError, ItemFault, State, error_at,
+    Change, ClosureId, Context, Definition, DefinitionId, Frame, ItemError, ItemFault, Member,
+    State, error_at, is_instance_type,
 };
 use pc_local::{LocalInitializer, Translation};
 use pc_parsed::{ExternName, ItemKind};
-use pc_types::{Error, Unsupported};
+use pc_types::Error;
 use pc_types_builder::{ComponentTypesBuilder, Converted};
 use std::mem;
 
@@ -90,29 +101,29 @@ fn body_of(state: &State<'_>, id: DefinitionId) -> Option<(StaticComponentIndex,
     }
 }
 
-/// Whether a component can be instantiated with these arguments, as far as that is built.
-fn is_built_call(context: &Context<'_>, args: &[(Text, ItemKind, u32)]) -> bool
-    requires kinds { context.now.kinds ≡ kinds_of context.now.table.now }
-    ensures { result ≡ is_built_call context.now.table.now (map argument_of args.now) }
-{
-    context.kinds.has_no_resource && are_built(args)
-}
-
-/// What a child begins with.
+/// What a child begins with. The types among its arguments are converted when nothing else can stop it.
 fn call_of(
     context: &Context<'_>,
-    state: &State<'_>,
-    frame: &Frame,
+    state: &mut State<'_>,
+    frame: &mut Frame,
     component: u32,
     args: &[(Text, ItemKind, u32)],
     ty: u32,
 ) -> Result<Call, ItemError>
-    requires kinds { context.now.kinds ≡ kinds_of context.now.table.now }
-    ensures { Calls context.now.table.now context.now.modules component (map argument_of args.now) ty
-        state.now frame.now result }
+    requires input { IsInput context.now.table.now context.now.modules }
+    requires here { IsPoint context.now.table.now context.now.modules state.old frame.old }
+    ensures keeps { Keeps (tables_of state.old) (tables_of state.new) }
+    ensures adds { Adds context.now.table.now (types_among args.now * (1 + most_types context.now.table.now))
+        (tables_of state.old) (tables_of state.new) }
+    ensures resources { state.new.types.resources ≡ state.old.types.resources }
+    ensures same { frame.new ≡ record frame.old { converted = frame.new.converted } }
+    ensures stays { OnOk result
+        (Stays context.now.table.now context.now.modules state.old frame.old state.new frame.new) }
+    ensures calls { Calls context.now.table.now context.now.modules component (map argument_of args.now) ty
+        state.old frame.old state.new result }
 {
-    if !is_built_call(context, args) {
-        return Err(ItemError::Fault(ItemFault::Unsupported(Unsupported::NotBuilt)));
+    if !are_typed(context.table, args) {
+        return Err(ItemError::Fault(ItemFault::BadType));
     }
     if !is_instance_type(context.table, ty) {
         return Err(ItemError::Fault(ItemFault::BadType));
@@ -123,16 +134,16 @@ fn call_of(
     if !are_there(frame, args) {
         return Err(ItemError::Fault(ItemFault::Invalid));
     }
-    let arguments = members_of(context.alloc, frame, args)?;
-    match body_of(state, component) {
-        Some((body, closure)) => Ok(Call {
-            body,
-            closure,
-            arguments,
-        }),
-        // Never: what stands among the components of a frame is a component, which the contract knows.
-        None => Err(ItemError::Fault(ItemFault::Invalid)),
-    }
+    // Never nothing: what stands among the components of a frame is a component, which the contract knows.
+    let Some((body, closure)) = body_of(state, component) else {
+        return Err(ItemError::Fault(ItemFault::Invalid));
+    };
+    let arguments = argument_values(context, state, frame, args)?;
+    Ok(Call {
+        body,
+        closure,
+        arguments,
+    })
 }
 
 /// Types are converted for this component instance from now on.
@@ -153,14 +164,16 @@ fn enter(
     ty: u32,
     limit: u32,
 ) -> Result<(), Error>
-    requires kinds { context.now.kinds ≡ kinds_of context.now.table.now }
+    requires input { IsInput context.now.table.now context.now.modules }
+    requires here { AreUnderway context.now.table.now context.now.modules limit root.now
+        state.old (reverse stack.old.callers.items) stack.old.top }
     requires item { slice_get (items_of state.old.bodies.now root.now stack.old.top) stack.old.top.next
         ≡ Some (local.ComponentInstantiate component args.now ty) }
     requires next { stack.old.top.next < 18446744073709551615 }
     ensures { Moved context.now.table.now context.now.modules limit root.now
         state.old (reverse stack.old.callers.items) stack.old state.new stack.new result }
 {
-    let called = call_of(context, state, &stack.top.frame, component, args, ty);
+    let called = call_of(context, state, &mut stack.top.frame, component, args, ty);
     let call = match called {
         Ok(call) => call,
         Err(error) => return Err(error_at(error, stack.top.frame.place_of(stack.top.next))),
@@ -189,8 +202,10 @@ fn advance(
     limit: u32,
 ) -> Result<(), Error>
     requires input { IsInput context.now.table.now context.now.modules }
-    requires kinds { context.now.kinds ≡ kinds_of context.now.table.now }
-    requires here { IsPoint context.now.table.now context.now.modules state.old stack.old.top.frame }
+    requires ready { IsReady context.now }
+    requires sound { IsSoundBody (length context.now.modules) root.now }
+    requires here { AreUnderway context.now.table.now context.now.modules limit root.now
+        state.old (reverse stack.old.callers.items) stack.old.top }
     requires item { slice_get (items_of state.old.bodies.now root.now stack.old.top) stack.old.top.next
         ≡ Some item.now }
     requires plain { begins_child item.now ≡ false }
@@ -212,24 +227,95 @@ fn advance(
     Ok(())
 }
 
-/// A component instance has an instance more, of what a child exports.
+/// What these numbers stood for before they were changed is known again. The oldest change stands first.
+fn undo(types: &mut ComponentTypesBuilder, changes: &[Change]) -> Result<(), NoMemory>
+    ensures known { OnOk result ((q : ℕ) → resource_of types.new.resources.known q
+        ≡ undone changes.now (resource_of types.old.resources.known) q) }
+    ensures rest { types.new ≡ record types.old {
+      resources = record types.old.resources { known = types.new.resources.known };
+    } }
+{
+    let mut left = changes.len();
+    'back: while left > 0 {
+        left -= 1;
+        let change = changes[left];
+        types.resources_mut().restore(change.number, change.was)?;
+    }
+    Ok(())
+}
+
+/// A component instance has an instance more, of what a child exports. First the resources of its type become known, by
+/// their paths in that.
 fn add_child(
     context: &Context<'_>,
     state: &mut State<'_>,
     frame: &mut Frame,
-    child: &Frame,
-    exports: &[(ExternName, ItemKind, u32)],
+    members: TextMap<Member>,
+    ty: u32,
 ) -> Result<(), ItemError>
-    ensures adds { Adds context.now.table.now 1 (tables_of state.old) (tables_of state.new) }
+    requires input { IsInput context.now.table.now context.now.modules }
+    requires ready { IsReady context.now }
+    requires here { IsPoint context.now.table.now context.now.modules state.old frame.old }
+    requires members { (exports : List NamedValue)
+        × MembersStand context.now.modules (tables_of state.old) members (pack_values exports) }
+    requires typed { has_entry context.now.table.now is_instance ty ≡ true }
     ensures keeps { Keeps (tables_of state.old) (tables_of state.new) }
-    ensures gives { GivesBack context.now.table.now context.now.modules exports.now child.now
+    ensures adds { Adds context.now.table.now (most_converted context.now.table.now 1)
+        (tables_of state.old) (tables_of state.new) }
+    ensures trail { Trails frame.old.changes state.old.types.resources frame.new.changes state.new.types.resources }
+    ensures same { frame.new.component_instance ≡ frame.old.component_instance }
+    ensures adds_child { AddsChild context.now.table.now context.now.modules members ty
         state.old frame.old state.new frame.new result }
 {
-    let members = members_of(context.alloc, child, exports)?;
-    let members = state.push_instance(members)?;
-    let id = state.push_definition(Definition::Instance(members))?;
-    frame.instances.push(id)?;
-    Ok(())
+    return_resources(context, state, frame, &members, ty)?;
+    add_instance(context, state, frame, members, ty)
+}
+
+/// A child has ended: what it changed is taken back, and its caller has an instance of what it exports.
+fn end_child(
+    context: &Context<'_>,
+    state: &mut State<'_>,
+    frame: &mut Frame,
+    child: &mut Frame,
+    exports: &[(ExternName, ItemKind, u32)],
+    ty: u32,
+) -> Result<(), ItemError>
+    requires input { IsInput context.now.table.now context.now.modules }
+    requires ready { IsReady context.now }
+    requires returns { IsReturn context.now.table.now context.now.modules state.old child.old frame.old }
+    requires named { distinct_names (map export_name exports.now) ≡ true }
+    requires typed { has_entry context.now.table.now is_instance ty ≡ true }
+    ensures keeps { Keeps (tables_of state.old) (tables_of state.new) }
+    ensures adds { Adds context.now.table.now
+        (types_among exports.now * (1 + most_types context.now.table.now) + most_converted context.now.table.now 1)
+        (tables_of state.old) (tables_of state.new) }
+    ensures trail { OnOk result (TrailsBack state.old child.old frame.old state.new frame.new) }
+    ensures same { frame.new.component_instance ≡ frame.old.component_instance }
+    ensures gives { GivesBack context.now.table.now context.now.modules exports.now ty
+        state.old child.old frame.old state.new frame.new result }
+{
+    let members = export_members(context, state, child, exports)?;
+    undo(&mut state.types, child.changes.as_slice())?;
+    convert_for(&mut state.types, frame.component_instance);
+    add_child(context, state, frame, members, ty)
+}
+
+/// The type of the child for which a component instance waits.
+fn type_at(
+    bodies: &PrimaryMap<StaticComponentIndex, Translation>,
+    root: &Translation,
+    caller: &Open,
+) -> Option<u32>
+    ensures { result ≡ instance_type_at (items_of bodies.now root.now caller.now) caller.now.next }
+{
+    match body_at(bodies, root, caller.body)
+        .initializers
+        .as_slice()
+        .get(caller.next)
+    {
+        Some(LocalInitializer::ComponentInstantiate { ty, .. }) => Some(*ty),
+        _ => None,
+    }
 }
 
 /// The items of a child have been read: the component instance that waits for it goes on.
@@ -242,17 +328,30 @@ fn leave(
     limit: u32,
 ) -> Result<(), Error>
     requires input { IsInput context.now.table.now context.now.modules }
+    requires ready { IsReady context.now }
+    requires sound { IsSoundBody (length context.now.modules) root.now }
+    requires here { AreUnderway context.now.table.now context.now.modules limit root.now
+        state.old (caller ∷ reverse stack.old.callers.items) stack.old.top }
     requires next { caller.next < 18446744073709551615 }
     requires ended { length (items_of state.old.bodies.now root.now stack.old.top) ≤ stack.old.top.next }
     ensures { Moved context.now.table.now context.now.modules limit root.now
         state.old (caller ∷ reverse stack.old.callers.items) stack.old state.new stack.new result }
 {
-    let child = mem::replace(&mut stack.top, caller);
+    // Never nothing: what waits for a child is at the item that began it.
+    let ty = type_at(state.bodies, root, &caller).unwrap_or(0);
+    let mut child = mem::replace(&mut stack.top, caller);
     let exports = body_at(state.bodies, root, child.body).exports.as_slice();
-    if let Err(error) = add_child(context, state, &mut stack.top.frame, &child.frame, exports) {
+    let ended = end_child(
+        context,
+        state,
+        &mut stack.top.frame,
+        &mut child.frame,
+        exports,
+        ty,
+    );
+    if let Err(error) = ended {
         return Err(error_at(error, stack.top.frame.place_of(stack.top.next)));
     }
-    convert_for(&mut state.types, stack.top.frame.component_instance);
     stack.top.next += 1;
     Ok(())
 }
@@ -267,8 +366,10 @@ fn read_item(
     limit: u32,
 ) -> Result<(), Error>
     requires input { IsInput context.now.table.now context.now.modules }
-    requires kinds { context.now.kinds ≡ kinds_of context.now.table.now }
-    requires here { IsPoint context.now.table.now context.now.modules state.old stack.old.top.frame }
+    requires ready { IsReady context.now }
+    requires sound { IsSoundBody (length context.now.modules) root.now }
+    requires here { AreUnderway context.now.table.now context.now.modules limit root.now
+        state.old (reverse stack.old.callers.items) stack.old.top }
     requires item { slice_get (items_of state.old.bodies.now root.now stack.old.top) stack.old.top.next
         ≡ Some item.now }
     requires next { stack.old.top.next < 18446744073709551615 }
@@ -303,8 +404,10 @@ fn turn(
     limit: u32,
 ) -> Result<bool, Error>
     requires input { IsInput context.now.table.now context.now.modules }
-    requires kinds { context.now.kinds ≡ kinds_of context.now.table.now }
-    requires here { IsPoint context.now.table.now context.now.modules state.old stack.old.top.frame }
+    requires ready { IsReady context.now }
+    requires sound { IsSoundBody (length context.now.modules) root.now }
+    requires here { AreUnderway context.now.table.now context.now.modules limit root.now
+        state.old (reverse stack.old.callers.items) stack.old.top }
     requires waits { AreCounted stack.old.callers.items }
     ensures { Turns context.now.table.now context.now.modules limit root.now
         state.old stack.old state.new stack.new result }
@@ -335,7 +438,8 @@ pub fn run(
     limit: u32,
 ) -> Result<Frame, Error>
     requires input { IsInput context.now.table.now context.now.modules }
-    requires kinds { context.now.kinds ≡ kinds_of context.now.table.now }
+    requires ready { IsReady context.now }
+    requires sound { IsSoundBody (length context.now.modules) root.now }
     requires here { IsPoint context.now.table.now context.now.modules state.old frame }
     requires items { AreItems state.old.bodies.now root.now.initializers }
     requires begun { 0 < state.old.graph.num_runtime_component_instances }

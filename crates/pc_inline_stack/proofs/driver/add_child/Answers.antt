@@ -1,22 +1,34 @@
-use Rattle.pc_inline_stack.proofs.GivesLemmas.{gives_crowded, gives_done, gives_unfed}
+use Rattle.std.proofs.Common.{arith}
+use Rattle.pc_inline_state.proofs.AddsLemmas.{adds_both, adds_weaken}
+use Rattle.pc_inline_state.proofs.StateLemmas.{keeps_trans}
+use Rattle.pc_inline_state.proofs.TrailLemmas.{trails_same, trails_trans}
+use Rattle.pc_inline_stack.proofs.GivesLemmas.{child_added, child_unknown, known_point}
 use Rattle.pc_inline_stack.proofs.driver.add_child.Goals as goal
 
-pub returns-in_err-members-clause-gives : goal.returns-in_err-members-clause-gives
-returns-in_err-members-clause-gives c = gives_unfed _ _ _ _ _ _ _ _ _ c.from_residual.ensures.1
+pub returns-in_err-return_resources-clause-adds : goal.returns-in_err-return_resources-clause-adds
+returns-in_err-return_resources-clause-adds c = adds_weaken _ _ _ _ _ (omega arith) c.return_resources.ensures.adds
 
-pub returns-in_err-members-2-clause-gives : goal.returns-in_err-members-2-clause-gives
-returns-in_err-members-2-clause-gives c =
-    gives_crowded _ _ _ _ _ _ _ _ _ _ c.from_residual-in_err-members-2.ensures.1 c.in_err-members-2.ensures.lacks
+pub returns-in_err-return_resources-clause-adds_child : goal.returns-in_err-return_resources-clause-adds_child
+returns-in_err-return_resources-clause-adds_child c =
+    child_unknown _ _ _ _ _ _ _ _ _ _ c.from_residual.ensures.1 c.in_err-return_resources.ensures.steps
 
-pub returns-in_err-id-clause-gives : goal.returns-in_err-id-clause-gives
-returns-in_err-id-clause-gives c =
-    gives_crowded _ _ _ _ _ _ _ _ _ _ c.from_residual-in_err-id.ensures.1 c.in_err-id.ensures.lacks
+pub add_instance-requires-clause-here : goal.add_instance-requires-clause-here
+add_instance-requires-clause-here c =
+    known_point _ _ _ _ _ _ _ _ _ c.in_ok-return_resources.ensures.steps c.requires.here c.requires.members
 
-pub returns-in_err-push-clause-gives : goal.returns-in_err-push-clause-gives
-returns-in_err-push-clause-gives c = gives_unfed _ _ _ _ _ _ _ _ _ c.from_residual-in_err-push.ensures.1
+pub returns-clause-keeps : goal.returns-clause-keeps
+returns-clause-keeps c = keeps_trans _ _ _ c.return_resources.ensures.keeps c.add_instance.ensures.keeps
 
-pub returns-clause-gives : goal.returns-clause-gives
-returns-clause-gives c =
-    gives_done _ _ _ _ c.args.state.now c.args.frame.now _ c.in_ok-members.ensures c.push_instance.new.self
-    c.in_ok-members-2.ensures.ok c.in_ok-members-2.members c.in_ok-members-2.ensures.key c.push_definition.new.self
-    c.in_ok-id.ensures.ok c.in_ok-id.id c.in_ok-id.ensures.key _ c.in_ok-push.ensures.ok _
+pub returns-clause-adds : goal.returns-clause-adds
+returns-clause-adds c =
+    adds_both _ _ _ _ _ _ _ (omega arith) c.return_resources.ensures.adds c.add_instance.ensures.adds
+
+pub returns-clause-trail : goal.returns-clause-trail
+returns-clause-trail c =
+    trails_trans _ _ _ _ _ _ c.return_resources.ensures.trail
+    (trails_same _ _ _ _ c.add_instance.ensures.changes c.add_instance.ensures.resources)
+
+pub returns-clause-adds_child : goal.returns-clause-adds_child
+returns-clause-adds_child c =
+    child_added _ _ _ _ c.args.state.now c.args.frame.now c.return_resources.new.state c.return_resources.new.frame _
+    c.in_ok-return_resources.ensures.steps c.return_resources.ensures.keeps _ _ _ c.add_instance.ensures.steps

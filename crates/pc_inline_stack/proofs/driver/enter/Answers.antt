@@ -1,13 +1,17 @@
 use Rattle.std.proofs.Common.{◌∙◌}
+use Rattle.pc_inline_stack.proofs.MoveLemmas.{underway_point}
 use Rattle.pc_inline_stack.proofs.MovesLemmas.{child_is, error_moved, falls_entered, moves_entered, moves_refused}
 use Rattle.pc_inline_stack.proofs.MovesLemmas.{moves_unbegun, moves_unfed, one_counted, one_waits}
 use Rattle.pc_inline_stack.proofs.driver.enter.Goals as goal
 
+pub call_of-called-requires-clause-here : goal.call_of-called-requires-clause-here
+call_of-called-requires-clause-here c = underway_point _ _ _ _ _ _ _ c.requires.here
+
 pub returns-in-Err : goal.returns-in-Err
 returns-in-Err c = record {
   moves = moves_refused _ _ _ c.args.root.now c.args.state.now _ c.args.stack.now.top _ _ _ c.requires.item
-      c.in-Err.error
-      c.in-Err.ensures _ _ c.place_of.ensures c.error_at.ensures _ _;
+      c.call_of-called.new.state c.in-Err.ensures.keeps c.in-Err.ensures.adds c.call_of-called.new.frame
+      c.in-Err.ensures.same c.in-Err.error c.in-Err.ensures.calls _ _ c.place_of.ensures c.error_at.ensures _ _;
   falls = tt;
   waits = tt;
 }
@@ -15,16 +19,22 @@ returns-in-Err c = record {
 pub returns-in_err-instance : goal.returns-in_err-instance
 returns-in_err-instance c =
     error_moved _ _ _ c.args.root.now c.args.state.now _ c.args.stack.now _ _ _ _ c.from_residual.ensures.1
-    (moves_unbegun _ _ _ c.args.root.now c.args.state.now _ c.args.stack.now.top _ _ _ c.requires.item c.in-Ok.call
-    c.in-Ok.ensures c.begin_instance.new.graph _ c.in_err-instance.ensures.begins _ c.from_residual.ensures.1 _ _)
+    (moves_unbegun _ _ _ c.args.root.now c.args.state.now _ c.args.stack.now.top _ _ _ c.requires.item
+    c.call_of-called.new.state c.in-Ok.ensures.keeps c.in-Ok.ensures.adds c.call_of-called.new.frame
+    c.in-Ok.ensures.same
+    c.in-Ok.ensures.resources c.in-Ok.ensures.stays c.in-Ok.call c.in-Ok.ensures.calls c.begin_instance.new.graph _
+    c.in_err-instance.ensures.begins _ c.from_residual.ensures.1 _ _)
 
 pub returns-in_err-push_caller : goal.returns-in_err-push_caller
 returns-in_err-push_caller c =
     error_moved _ _ _ c.args.root.now c.args.state.now _ c.args.stack.now _ _ _ _
     c.from_residual-in_err-push_caller.ensures.1
-    (moves_unfed _ _ _ c.args.root.now c.args.state.now _ c.args.stack.now.top _ _ _ c.requires.item c.in-Ok.call
-    c.in-Ok.ensures c.in_ok-instance.instance c.begin_instance.new.graph c.in_ok-instance.ensures.begins
-    c.begin_instance.ensures.grows _ c.from_residual-in_err-push_caller.ensures.1 _ _)
+    (moves_unfed _ _ _ c.args.root.now c.args.state.now _ c.args.stack.now.top _ _ _ c.requires.item
+    c.call_of-called.new.state c.in-Ok.ensures.keeps c.in-Ok.ensures.adds c.call_of-called.new.frame
+    c.in-Ok.ensures.same
+    c.in-Ok.ensures.resources c.in-Ok.ensures.stays c.in-Ok.call c.in-Ok.ensures.calls c.in_ok-instance.instance
+    c.begin_instance.new.graph c.in_ok-instance.ensures.begins c.begin_instance.ensures.grows _
+    c.from_residual-in_err-push_caller.ensures.1 _ _)
 
 pub returns : goal.returns
 returns c =
@@ -33,11 +43,14 @@ returns c =
     let child = c.replace-caller.ensures.after ∙ child_is c.in-Ok.call _ _ done c.new.ensures in
     record {
       moves = moves_entered _ _ _ c.args.root.now c.args.state.now _ c.args.stack.now.top _ _ _ c.requires.item
-          c.in-Ok.call c.in-Ok.ensures c.in_ok-instance.instance c.begin_instance.new.graph
-          c.in_ok-instance.ensures.begins c.begin_instance.ensures.grows _ _ c.convert_for.ensures done
-          c.new-converted.ensures.converted _ _ waits child;
+          c.call_of-called.new.state c.in-Ok.ensures.keeps c.in-Ok.ensures.adds c.call_of-called.new.frame
+          c.in-Ok.ensures.same c.in-Ok.ensures.resources c.in-Ok.ensures.stays c.in-Ok.call c.in-Ok.ensures.calls
+          c.in_ok-instance.instance c.begin_instance.new.graph c.in_ok-instance.ensures.begins
+          c.begin_instance.ensures.grows _ _ c.convert_for.ensures done c.new-converted.ensures.converted _ _ waits
+          child;
       falls = falls_entered c.args.context.now.table.now c.args.context.now.modules _ c.args.root.now c.args.state.now
-          _ c.args.stack.now.top c.in-Ok.call c.in_ok-instance.instance c.begin_instance.new.graph
-          c.in_ok-instance.ensures.begins _ done _ _ waits child;
+          _ c.args.stack.now.top _ _ _ c.requires.item c.call_of-called.new.state c.in-Ok.ensures.keeps
+          c.in-Ok.ensures.adds c.call_of-called.new.frame c.in-Ok.ensures.same c.in-Ok.call c.in_ok-instance.instance
+          c.begin_instance.new.graph c.in_ok-instance.ensures.begins _ done _ _ waits child;
       waits = one_counted _ _ _ _ c.in_ok-push_caller.ensures c.replace-caller.ensures.value c.requires.next;
     }

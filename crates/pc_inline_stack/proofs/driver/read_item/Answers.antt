@@ -4,7 +4,8 @@ use Rattle.pc_inline_stack.proofs.driver.read_item.Goals as goal
 pub advance-requires : goal.advance-requires
 advance-requires c = record {
   input = c.requires.input;
-  kinds = c.requires.kinds;
+  ready = c.requires.ready;
+  sound = c.requires.sound;
   here = c.requires.here;
   item = c.requires.item;
   plain = plain_other _ c.in_default.not-ComponentInstantiate;

@@ -1,6 +1,7 @@
 use Rattle.std.proofs.Common.{refl}
-use Rattle.pc_inline_stack.proofs.DriveLemmas.{driven_first, run_adds, run_counts, run_ends, run_fails, run_fails_counts}
-use Rattle.pc_inline_stack.proofs.MoveLemmas.{driven_point}
+use Rattle.pc_inline_stack.proofs.DriveLemmas.{driven_first, run_adds, run_counts, run_ends, run_fails}
+use Rattle.pc_inline_stack.proofs.DriveLemmas.{run_fails_counts}
+use Rattle.pc_inline_stack.proofs.MoveLemmas.{underway}
 use Rattle.pc_inline_stack.proofs.MovesLemmas.{moved, none_counted, turn_ends, turn_falls, unmoved}
 use Rattle.pc_inline_stack.proofs.driver.run.Goals as goal
 
@@ -15,7 +16,7 @@ pub turn-requires-clause-waits : goal.turn-requires-clause-waits
 turn-requires-clause-waits c = c.moves.invariant.1
 
 pub turn-requires-clause-here : goal.turn-requires-clause-here
-turn-requires-clause-here c = driven_point _ _ _ _ _ _ _ _ _ c.moves.invariant.0
+turn-requires-clause-here c = underway _ _ _ _ _ _ _ _ _ c.moves.invariant.0
 
 pub returns-in_err-turn : goal.returns-in_err-turn
 returns-in_err-turn c =
