@@ -1,0 +1,10 @@
+-- What the functions of this crate rest on.
+mod ArgumentLemmas
+mod FewLemmas
+mod EntityLemmas
+mod LearnLemmas
+mod BringLemmas
+mod GiveLemmas
+mod ImportedLemmas
+mod MomentLemmas
+mod TrimLemmas
