@@ -1,0 +1,94 @@
+-- The parts of an instance have names of their own.
+use Rattle.std.proofs.Common.{◌≡◌, ◌∙◌, ℕ, List, [], ◌∷◌, map, take, Option, None, Some, refl, sym, ap, subst}
+use Rattle.std.specs.Prelude.{slice_get}
+use Rattle.std.specs.List.{list_all}
+use Rattle.pc_entity.proofs.Elements.{and_true}
+use Rattle.std.proofs.lemmas.Option.{none-some, same_Some}
+use Rattle.pc_entity.specs.Lists.{AreDistinct, names_of}
+use Rattle.pc_types.specs.declared.module_record.ModuleRecord.{ModuleRecord}
+use Rattle.pc_types.specs.declared.parsed.Entity.{Entity}
+use Rattle.pc_types.specs.declared.parsed.DeclType.TheVariants as entry
+use Rattle.pc_types.specs.declared.parsed.TypeTable.{TypeTable}
+use Rattle.pc_types.specs.declared.type_index.TypeComponentInstanceIndex.{TypeComponentInstanceIndex}
+use Rattle.pc_types.specs.Names.{distinct_names}
+use Rattle.pc_types.specs.Table.{is_sound_entity, table_fault}
+use Rattle.pc_types.specs.TypeTree.{Path, TypeTree}
+use Rattle.pc_types_convert.proofs.SoundLemmas.{sound_at}
+use Rattle.pc_spec_reading.specs.Types.{instance_fields}
+use Rattle.pc_spec_reading.specs.Value.{NamedValues}
+use Rattle.pc_inline_state.specs.declared.definition.Definition.{Definition}
+use Rattle.pc_inline_state.specs.declared.definition.Definition.TheVariants as definition
+use Rattle.pc_inline_state.specs.declared.definition.ExportsId.{ExportsId}
+use Rattle.pc_inline_state.specs.declared.state.Member.{Member}
+use Rattle.pc_inline_state.specs.declared.state.State.{State}
+use Rattle.pc_inline_state.specs.Stands.{MembersStand, and_member, no_members}
+use Rattle.pc_inline_state.specs.Tables.{tables_of}
+use Rattle.pc_inline_hosts.specs.HostStands.{IsInstanceType, fields_list}
+use Rattle.pc_inline_hosts.proofs.FieldLemmas.{fields_declared, names_declared}
+use Rattle.pc_inline_exports.specs.Building.{IsApart, part_name}
+use Rattle.pc_inline_exports.specs.Reaching.{host_has, made_has}
+use Rattle.pc_inline_exports.specs.Subjects.{host_parts, value_parts}
+use Rattle.pc_inline_exports.proofs.NamesLemmas.{tested_apart}
+
+-- what the host has is named as its type names it
+host_names : (path : Path) (fs : List (List ℕ × TypeTree)) → map part_name (host_parts path fs) ≡ names_of fs
+host_names path [] = refl
+host_names path (f ∷ fs) = ap (λ l. f.0 ∷ l) (host_names path fs)
+
+module _ (t : TypeTable) (ms : List ModuleRecord) (st : State) where
+  member_names : (es : List (List ℕ × Member)) (vs : NamedValues) → MembersStand ms (tables_of st) es vs
+      → map part_name (value_parts vs) ≡ names_of es
+  member_names es vs no_members = refl
+  member_names es vs (and_member {name = name} {es = rest} {vs = others} says x more) =
+      ap (λ l. name.name ∷ l) (member_names rest others more)
+
+  -- the exports of an instance type
+  fields_apart : table_fault st.table.now ≡ None → (ty : TypeComponentInstanceIndex) (n : ℕ) (tree : TypeTree)
+      → IsInstanceType ms (tables_of st) ty n tree → AreDistinct (names_of (fields_list (instance_fields tree)))
+  fields_apart sound ty n tree is =
+      let d = is.declared in
+      let f = fields_declared d.known d.component_instance st.table.now n tree d.there d.is in
+      let entry_sound = (sound_at st.table.now n (entry.Instance f.0) sound f.2).0 in
+      let apart = and_true
+      (list_all (λ (e : List ℕ × Entity). is_sound_entity (take n st.table.now.types) e.1) f.0)
+      (distinct_names (names_of f.0)) entry_sound in
+      subst (λ y. AreDistinct (names_of (fields_list (instance_fields y)))) f.3
+      (subst AreDistinct (names_declared d.known d.component_instance st.table.now f.0 (fields_list f.1) f.4) (tested_apart (names_of f.0) apart.1))
+
+  -- of an instance that was made this is known, and of one of the host its type says it
+  pub parts_apart : table_fault st.table.now ≡ None → (d : Definition)
+      → ((n : ExportsId) (ty : TypeComponentInstanceIndex) (es : List (List ℕ × Member)) → d ≡ definition.Instance n ty
+      → slice_get st.instances n.0 ≡ Some es → AreDistinct (names_of es)) → IsApart t ms st d
+  parts_apart sound d made parts tree (made_has {n = n} {ty = ty} {es = es} {vs = vs} held members typed) =
+      subst AreDistinct (sym (member_names es vs members)) (made n ty es refl held)
+  parts_apart sound d made parts tree (host_has {ty = ty} {entry = n} {path = path} held is) =
+      subst AreDistinct (sym (host_names path (fields_list (instance_fields tree))))
+      (fields_apart sound ty n tree is)
+
+  module _ (table : st.table.now ≡ t) (sound : table_fault t ≡ None) (d : Definition) where
+    still_sound : table_fault st.table.now ≡ None
+    still_sound = subst (λ y. table_fault y ≡ None) (sym table) sound
+
+    -- an instance that was made
+    pub apart_made : (n : ExportsId) (ty : TypeComponentInstanceIndex) → d ≡ definition.Instance n ty
+        → (o : Option (List (List ℕ × Member))) → o ≡ slice_get st.instances n.0 → (es : List (List ℕ × Member))
+        → o ≡ Some es → AreDistinct (names_of es) → IsApart t ms st d
+    apart_made n ty is o got es some apart =
+        parts_apart still_sound d (λ m u fs same held.
+        let one : n ≡ m = (let both = sym is ∙ same in cc) in
+        subst (λ l. AreDistinct (names_of l))
+        (same_Some es fs (sym some ∙ got ∙ ap (λ (k : ExportsId). slice_get st.instances k.0) one ∙ held)) apart)
+
+    -- one that isn't there
+    pub apart_missing : (n : ExportsId) (ty : TypeComponentInstanceIndex) → d ≡ definition.Instance n ty
+        → (o : Option (List (List ℕ × Member))) → o ≡ slice_get st.instances n.0 → o ≡ None → IsApart t ms st d
+    apart_missing n ty is o got none =
+        parts_apart still_sound d (λ m u fs same held.
+        let one : n ≡ m = (let both = sym is ∙ same in cc) in
+        absurd (none-some fs
+        (sym none ∙ got ∙ ap (λ (k : ExportsId). slice_get st.instances k.0) one ∙ held)))
+
+    -- one of the host
+    pub apart_other : ((n : ExportsId) (ty : TypeComponentInstanceIndex) → d ≡ definition.Instance n ty → ⊥)
+        → IsApart t ms st d
+    apart_other other = parts_apart still_sound d (λ m u fs same held. absurd (other m u same))
