@@ -1,5 +1,5 @@
 -- What the loop over the imports of the root takes from a call.
-use Rattle.std.proofs.Common.{◌≡◌, ◌≤◌, ◌+◌, ℕ, List, length, Some, Result, Ok, Err, ap, sym, subst, ◌∙◌}
+use Rattle.std.proofs.Common.{◌≡◌, ◌≤◌, ◌+◌, ℕ, List, [], length, Some, Result, Ok, Err, ap, sym, subst, ◌∙◌}
 use Rattle.std.specs.Prelude.{⊤, slice_get}
 use Rattle.pc_types.specs.declared.error.Error.{Error}
 use Rattle.pc_types.specs.declared.error.Place.{Place}
@@ -59,10 +59,11 @@ module _ (t : TypeTable) (ms : List ModuleRecord) where
     abbrev pub PreparedSoFar : Type 0
     PreparedSoFar = SoFar t ms (built_prepare_all t) ls n old f st g
 
-    -- and the types and entries that these may need were added
+    -- and the types and entries that these may need were added, and no resource was declared
     pub record ItemsPrepared : Type 0 where
       pub prepared : PreparedSoFar
       pub adds : AddedSoFar t (most_prepared t) ls n (tables_of old) (tables_of st)
+      pub undeclared : st.graph.resources ≡ []
 
     module _ (are : AreItems old.bodies.now ls) (l : LocalInitializer) (at : slice_get ls n ≡ Some l) (st' : State)
         (g' : Frame)
@@ -95,8 +96,9 @@ module _ (t : TypeTable) (ms : List ModuleRecord) where
 
   -- nothing was prepared yet
   pub none_prepared : (ls : List LocalInitializer) (st : State) (f : Frame) → IsPoint t ms st f
-      → ItemsPrepared ls st f st f 0
-  none_prepared ls st f here = record {
+      → st.graph.resources ≡ [] → ItemsPrepared ls st f st f 0
+  none_prepared ls st f here none = record {
     prepared = read_none t ms (built_prepare_all t) ls st f here;
     adds = adds_refl t 0 (tables_of st);
+    undeclared = none;
   }

@@ -1,21 +1,21 @@
 -- From the end of what is built to the end of the nested reading.
-use Rattle.std.proofs.Common.{◌≡◌, ◌<◌, ℕ, List, None, sym, ◌∙◌, inl, inr}
+use Rattle.std.proofs.Common.{◌≡◌, ℕ, List, None, Some, sym, ◌∙◌, inl, inr}
 use Rattle.pc_types.specs.declared.error.Error.{Error}
 use Rattle.pc_types.specs.declared.error.Error.TheVariants as error
 use Rattle.pc_types.specs.declared.error.Place.{Place}
 use Rattle.pc_types.specs.declared.error.Unsupported.TheVariants as unsupported_
 use Rattle.pc_types.specs.declared.module_record.ModuleRecord.{ModuleRecord}
 use Rattle.pc_types.specs.declared.parsed.TypeTable.{TypeTable}
+use Rattle.pc_spec_reading.specs.Answer.{IsPast}
 use Rattle.pc_spec_reading.specs.Item.{Items}
-use Rattle.pc_spec_reading.specs.Outcome.{Outcome, bad_type, done, fault, invalid, over, unsupported}
+use Rattle.pc_spec_reading.specs.Outcome.{Outcome, bad_type, done, fault, invalid, over, past, unsupported}
 use Rattle.pc_spec_reading.specs.Reading.{Reading, reading_of}
 use Rattle.pc_inline_state.specs.declared.state.State.{State}
-use Rattle.pc_inline.specs.Roots.{IsBuiltEnd}
+use Rattle.pc_inline.specs.Roots.{EndsWith, IsBuiltEnd, IsCrowded, IsLong}
 use Rattle.pc_inline.specs.Inlines.{EndsAs, HasNoRoom, IsFault}
-use Rattle.pc_inline_state.specs.Points.{IsFullSomewhere}
-use Rattle.pc_inline_state.specs.Tables.{tables_of}
-use Rattle.pc_inline_state.specs.Today.{built_reading}
-use Rattle.pc_inline_stack.proofs.TodayLemmas.{reading_today}
+use Rattle.pc_inline_state.specs.Today.{built_reading, today}
+use Rattle.pc_inline_stack.specs.Totals.{HasTotal}
+use Rattle.pc_inline_stack.proofs.TodayLemmas.{guarded_today, reading_today}
 use Rattle.pc_spec_reading.specs.Guard.{everything}
 
 -- the fault of an outcome that isn't what isn't built
@@ -40,9 +40,26 @@ module _ (t : TypeTable) (ms : List ModuleRecord) (limit : ℕ) (body : Items) w
       → reading_of everything t ms limit None body ≡ done r
   done_today r is = same_end (done r) (λ q is. let x : ⊥ = cc in x) is
 
+  same_counted : (n : ℕ) (o : Outcome Reading) → not_unbuilt o → reading_of today t ms limit (Some n) body ≡ o
+      → reading_of everything t ms limit (Some n) body ≡ o
+  same_counted n o other is = elim (guarded_today today t ms limit (Some n) body)
+      as (λ _. reading_of everything t ms limit (Some n) body ≡ o) [
+        | inl same ↦ sym same ∙ is
+        | inr ends ↦ absurd (other ends.0 (sym is ∙ ends.1))
+      ]
+
+  -- where the total is too much as far as it is built, it is
+  pub long_past : (n : ℕ) → IsLong t ms limit body n → IsPast t ms limit n body
+  long_past n is = same_counted n past (λ q same. let x : ⊥ = cc in x) is
+
+  -- and where it is done, it is that of the reading
+  pub total_is : (n total : ℕ) → EndsWith t ms limit body n total → HasTotal t ms limit n body total
+  total_is n total ends =
+      (ends.0, same_counted n (done ends.0) (λ q same. let x : ⊥ = cc in x) ends.1, ends.2)
+
   -- the error that is answered is the reading's
   pub end_today : (st : State) (n : ℕ)
-      → (IsFullSomewhere (tables_of st) × (0 < limit) → HasNoRoom t ms limit body n) → (e : Error)
+      → (IsCrowded t ms limit body st → HasNoRoom t ms limit body n) → (e : Error)
       → IsBuiltEnd t ms limit body st e → IsFault t ms limit body n e
   end_today st n room (error.Invalid p) h = both_end (fault invalid p) (λ q is. let x : ⊥ = cc in x) h
   end_today st n room (error.BadType p) h = both_end (fault bad_type p) (λ q is. let x : ⊥ = cc in x) h

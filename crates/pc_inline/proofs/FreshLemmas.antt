@@ -1,5 +1,5 @@
 -- Where nothing was read yet but that the root has begun.
-use Rattle.std.proofs.Common.{◌≡◌, ◌<◌, ℕ, List, [], Option, Some, refl, sym, ap, subst, arith}
+use Rattle.std.proofs.Common.{◌≡◌, ◌<◌, ℕ, List, [], Option, Some, length, refl, sym, ap, subst, arith}
 use Rattle.std.specs.Prelude.{slice_get}
 use Rattle.std.proofs.lemmas.Option.{none-some}
 use Rattle.pc_types_lists.specs.Types.{Resources, Types}
@@ -16,14 +16,18 @@ use Rattle.pc_dfg.specs.Held.{HasBegun}
 use Rattle.pc_dfg.specs.Numbers.{slots_of}
 use Rattle.pc_dfg.specs.Ordered.{IsOrdered}
 use Rattle.pc_dfg.specs.Pushed.{with_component_instance}
+use Rattle.pc_local.specs.Sound.{AreSoundBodies}
 use Rattle.pc_inline_state.specs.declared.frame.Frame.{Frame}
 use Rattle.pc_inline_state.specs.declared.state.State.{State}
 use Rattle.pc_inline_state.specs.Frames.{neither}
+use Rattle.pc_inline_state.specs.Fresh.{IsFresh}
 use Rattle.pc_inline_state.specs.KnowsSame.{KnowsSame}
-use Rattle.pc_inline_state.specs.Points.{PointStands}
-use Rattle.pc_inline_state.specs.Typed.{AreNumbers, no_resources}
+use Rattle.pc_inline_state.specs.Members.{AreEarlier}
+use Rattle.pc_inline_state.specs.Points.{IsSoundState, PointStands}
+use Rattle.pc_inline_state.specs.Typed.{no_resources}
 use Rattle.pc_inline_state.specs.Worlds.{AreUsed, HasItems, HoldsTypes, IsPlain, WorldStands}
 use Rattle.pc_spec_reading.specs.Asked.{paths_needed}
+use Rattle.pc_inline_state.proofs.MembersLemmas.{none_earlier}
 use Rattle.pc_inline.proofs.RootLemmas.{first_moment, first_world}
 
 -- the graph of a root that has begun
@@ -42,32 +46,30 @@ first_items : (ms : List ModuleRecord) → HasItems ms first_graph
 first_items ms = record {
   modules = λ i m args at. absurd (none-some _ at);
   slots = λ k n d at. absurd (no_slot k n d at);
+  hosts = λ i r args at. absurd (none-some _ at);
+  destructors = λ n x d at has. absurd (none-some x at);
   exports = λ n ty o d at. absurd (none-some _ at);
+  statics = λ n ty m at. absurd (none-some _ at);
 }
 
 first_plain : IsPlain first_graph
-first_plain = record {
-  adapters = refl;
-  adapter_modules = refl;
-  adapter_partitionings = refl;
-  resources = refl;
-  imported_resources = refl;
-  unsafe_intrinsics = refl;
-  instances = λ i x at. absurd (none-some x at);
-  export_items = λ n x at. absurd (none-some x at);
-}
+first_plain =
+    record { adapters = refl; adapter_modules = refl; adapter_partitionings = refl; unsafe_intrinsics = refl }
 
-first_holds : (types : Types) → HoldsTypes types first_graph
-first_holds types = record {
+first_holds : (types : Types) (t : TypeTable) → HoldsTypes types t first_graph
+first_holds types t = record {
   options = λ k x at. absurd (none-some x at);
-  functions = λ n ty f o at. absurd (none-some _ at);
+  modules = λ n ty m at. absurd (none-some _ at);
 }
 
-first_used : AreUsed first_graph []
+first_used : AreUsed first_graph [] []
 first_used = record {
   room = refl;
-  numbers = λ i r at. absurd (none-some _ at);
-  others = λ i at. absurd (none-some _ at);
+  distinct = λ i j x at also. absurd (none-some x at);
+  imports = λ p path at. absurd (none-some path at);
+  numbers = λ p path r at set. absurd (none-some path at);
+  others = λ p path at free. absurd (none-some path at);
+  known = λ r i at. absurd (none-some i at);
 }
 
 first_done : (types : Types) → WorldStands types first_graph first_world
@@ -80,7 +82,8 @@ first_done types = record {
   few_trampolines = omega arith;
   import_types = tt;
   imports = refl;
-  imported_resources = refl;
+  imported_resources = tt;
+  resources = refl;
   intrinsics = refl;
   no_adapters = refl;
   begun = refl;
@@ -102,6 +105,7 @@ first_frame c done = record {
   arguments = [];
   component_instance = c;
   converted = done;
+  changes = [];
 }
 
 -- no resource is known at first
@@ -111,21 +115,32 @@ first_knows g k none = subst (λ j. KnowsSame g j first_moment.scope) (sym none)
   current = refl;
 })
 
--- a state in which the root has begun is where the reading begins
-pub first_point : (t : TypeTable) (ms : List ModuleRecord) (st : State) (c : RuntimeComponentInstanceIndex)
-    → st.graph ≡ first_graph → IsOrdered st.graph → st.used.items ≡ [] → c.0 ≡ 0
-    → st.types.resources ≡ no_resources → AreNumbers st.types t st.numbers → (done : List (Option TypeDef))
-    → AreConverted st.types t done → PointStands t ms st (first_frame c done) first_moment
-first_point t ms st c graph ordered used zero resources numbers done none = record {
-  sound = record {
-    ordered = ordered;
-    items = subst (HasItems ms) (sym graph) (first_items ms);
-    plain = subst IsPlain (sym graph) first_plain;
-    used = subst (λ us. AreUsed st.graph us) (sym used) (subst (λ g. AreUsed g []) (sym graph) first_used);
-    numbers = numbers;
-    held = subst (HoldsTypes st.types) (sym graph) (first_holds st.types);
-  };
-  here = first_knows st.graph st.types.resources resources;
+-- a state in which the root has begun and nothing was read is sound
+first_sound : (t : TypeTable) (ms : List ModuleRecord) (old : State) → IsFresh t old
+    → AreSoundBodies (length ms) old.bodies.now → (g : ComponentDfg) → g ≡ first_graph → IsOrdered g
+    → IsSoundState t ms (record old { graph = g })
+first_sound t ms old fresh bodies g graph ordered = record {
+  ordered = ordered;
+  items = subst (HasItems ms) (sym graph) (first_items ms);
+  plain = subst IsPlain (sym graph) first_plain;
+  used = subst (λ us. AreUsed g old.paths us) (sym fresh.used)
+      (subst (λ ps. AreUsed g ps []) (sym fresh.paths) (subst (λ h. AreUsed h [] []) (sym graph) first_used));
+  numbers = fresh.numbers;
+  held = subst (HoldsTypes old.types t) (sym graph) (first_holds old.types t);
+  table = fresh.table;
+  bodies = bodies;
+  members = subst (λ ds. AreEarlier ds old.instances) (sym fresh.definitions)
+      (subst (AreEarlier []) (sym fresh.instances) none_earlier);
+}
+
+-- and is where the reading begins
+pub first_point : (t : TypeTable) (ms : List ModuleRecord) (old : State) → IsFresh t old
+    → AreSoundBodies (length ms) old.bodies.now → (g : ComponentDfg) → g ≡ first_graph → IsOrdered g
+    → (c : RuntimeComponentInstanceIndex) → c.0 ≡ 0 → (done : List (Option TypeDef)) → AreConverted old.types t done
+    → PointStands t ms (record old { graph = g }) (first_frame c done) first_moment
+first_point t ms old fresh bodies g graph ordered c zero done none = record {
+  sound = first_sound t ms old fresh bodies g graph ordered;
+  here = first_knows g old.types.resources fresh.resources;
   converted = none;
   frame = record {
     core_funcs = tt;
@@ -140,11 +155,11 @@ first_point t ms st c graph ordered used zero resources numbers done none = reco
     components = tt;
     arguments = λ name. neither;
     component_instance = sym zero;
-    begun = subst (λ g. HasBegun g c.0) (sym graph) (omega (arith, zero));
+    begun = subst (λ h. HasBegun h c.0) (sym graph) (omega (arith, zero));
   };
-  world = subst (λ g. WorldStands st.types g first_world) (sym graph) (first_done st.types);
+  world = subst (λ h. WorldStands old.types h first_world) (sym graph) (first_done old.types);
   unexported = record {
-    exports = ap (λ g. g.exports) graph;
-    items = ap (λ g. g.export_items) graph;
+    exports = ap (λ h. h.exports) graph;
+    items = ap (λ h. h.export_items) graph;
   };
 }

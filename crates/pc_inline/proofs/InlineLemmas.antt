@@ -1,7 +1,8 @@
 -- The root, from its beginning to the end of its exports.
-use Rattle.std.proofs.Common.{◌≡◌, ◌<◌, ◌≤◌, ◌⊎◌, ℕ, List, [], map, Option, None, Some, Result, Ok, Err, inl, inr, sym}
+use Rattle.std.proofs.Common.{◌≡◌, ◌<◌, ◌≤◌, ◌*◌, ◌⊎◌, ℕ, List, [], length, map, Option, None, Some, Result, Ok, Err}
+use Rattle.std.proofs.Common.{inl, inr, sym}
 use Rattle.std.proofs.Common.{ap, subst, ◌∙◌, arith}
-use Rattle.std.specs.Prelude.{⊤, OnOk}
+use Rattle.std.specs.Prelude.{⊤}
 use Rattle.std.proofs.lemmas.Option.{none-some}
 use Rattle.std.specs.Result.{IsErrAnd}
 use Rattle.pc_numbers.specs.declared.runtime.RuntimeComponentInstanceIndex.{RuntimeComponentInstanceIndex}
@@ -15,12 +16,14 @@ use Rattle.pc_types_builder.specs.Converted.{AreConverted}
 use Rattle.pc_parsed.specs.declared.payload.ExternName.{ExternName}
 use Rattle.pc_parsed.specs.declared.payload.ItemKind.{ItemKind}
 use Rattle.pc_spec_reading.specs.Item.{Items, exports_in}
-use Rattle.pc_spec_reading.specs.Outcome.{and_then, done}
+use Rattle.pc_spec_reading.specs.Nodes.{Finish}
+use Rattle.pc_spec_reading.specs.Outcome.{Outcome, and_then, done}
 use Rattle.pc_spec_reading.specs.Scope.{Moment, Scope}
 use Rattle.pc_spec_reading.specs.Section.{named_item}
-use Rattle.pc_spec_reading.specs.World.{World, full}
+use Rattle.pc_spec_reading.specs.World.{World, full, grown, has_room}
 use Rattle.pc_local.specs.declared.item.LocalInitializer.{LocalInitializer}
 use Rattle.pc_local.specs.declared.item.Translation.{Translation}
+use Rattle.pc_local.specs.Sound.{AreSoundBodies}
 use Rattle.pc_local.specs.Standing.{BodyStands, ItemsStand, no_names}
 use Rattle.pc_dfg.specs.declared.dfg.ComponentDfg.{ComponentDfg}
 use Rattle.pc_dfg.specs.Empty.{empty_graph}
@@ -37,17 +40,17 @@ use Rattle.pc_inline.specs.Roots.{IsLong, RootBegun, RootStarts, first_total}
 use Rattle.pc_inline_state.specs.Fits.{Fits, FitsBefore}
 use Rattle.pc_inline_state.specs.Fresh.{IsFresh}
 use Rattle.pc_inline_stack.specs.Driving.{EndsRun, Runs, reading_from}
-use Rattle.pc_inline.specs.Exporting.{Exports, ExportsEnd, RootStands}
-use Rattle.pc_inline.specs.Exports.{NumbersExports}
+use Rattle.pc_inline_exports.specs.Exporting.{ExportsEnd, MakesExports, RootStands, if_room}
 use Rattle.pc_inline_state.specs.Points.{IsPoint, PointStands}
 use Rattle.pc_inline_stack.specs.Reads.{AreItems, Ends, Passes, Prepared}
 use Rattle.pc_inline_state.specs.Tables.{Keeps, tables_of}
-use Rattle.pc_inline_state.specs.Today.{built_enter, built_exports, built_prepare_all, built_root}
+use Rattle.pc_inline_state.specs.Today.{built_enter, built_exports, built_prepare_all, built_reading, built_root}
 use Rattle.pc_inline_state.specs.Worlds.{HasNoExports}
 use Rattle.pc_inline_state.proofs.GrowthLemmas.{graph_grown}
 use Rattle.pc_inline.proofs.FreshLemmas.{first_frame, first_point}
-use Rattle.pc_inline.proofs.RootLemmas.{counted_begins, ends_then, exports_fail, first_moment, from_start, moment_with}
-use Rattle.pc_inline.proofs.RootLemmas.{point_counted, reading_is, reading_over, root_begins, root_fails, root_read}
+use Rattle.pc_inline.proofs.RootLemmas.{counted_begins, ends_then, exports_fail, finish, first_moment, from_start}
+use Rattle.pc_inline.proofs.RootLemmas.{moment_with, point_counted, reading_ends, reading_over, root_begins, root_fails}
+use Rattle.pc_inline.proofs.RootLemmas.{root_read}
 use Rattle.pc_inline.proofs.RootLemmas.{root_stands}
 use Rattle.pc_inline.proofs.TotalLemmas.{HasGrown, child_grows, items_grow, prepared_counts}
 
@@ -59,18 +62,25 @@ module _ (t : TypeTable) (ms : List ModuleRecord) (limit : ℕ) where
     begun_below c begins = subst (λ (x : ComponentDfg). x.num_runtime_component_instances < limit) fresh.graph begins.0
 
     -- and nothing was read
-    pub begun_point : (c : RuntimeComponentInstanceIndex) → Begins limit old.graph g (Ok c) → (f : Frame)
-        → (args : List (List ℕ × DefinitionId)) → args ≡ [] → (converted : List (Option TypeDef))
-        → ((b : Types) → AreConverted b t converted) → f ≡ record (first_frame c converted) { arguments = args }
+    pub begun_point : AreSoundBodies (length ms) old.bodies.now → (c : RuntimeComponentInstanceIndex)
+        → Begins limit old.graph g (Ok c) → (f : Frame) → (args : List (List ℕ × DefinitionId)) → args ≡ []
+        → (converted : List (Option TypeDef)) → ((b : Types) → AreConverted b t converted)
+        → f ≡ record (first_frame c converted) { arguments = args }
         → PointStands t ms (record old { graph = g }) f first_moment
     unfolding Begins
-    begun_point c begins f args none converted unconverted is =
+    begun_point bodies c begins f args none converted unconverted is =
         subst (λ x. PointStands t ms (record old { graph = g }) x first_moment)
         (sym (is ∙ ap (λ xs. record (first_frame c converted) { arguments = xs }) none))
-        (first_point t ms (record old { graph = g }) c (begins.2 ∙ ap with_component_instance fresh.graph)
-        (begins.3 (subst IsOrdered (sym fresh.graph) empty_ordered)) fresh.used
-        (begins.1 ∙ ap (λ (x : ComponentDfg). x.num_runtime_component_instances) fresh.graph) fresh.resources
-        fresh.numbers converted (unconverted old.types))
+        (first_point t ms old fresh bodies g (begins.2 ∙ ap with_component_instance fresh.graph)
+        (begins.3 (subst IsOrdered (sym fresh.graph) empty_ordered)) c
+        (begins.1 ∙ ap (λ (x : ComponentDfg). x.num_runtime_component_instances) fresh.graph) converted
+        (unconverted old.types))
+
+    -- and no resource was declared
+    pub begun_undeclared : (c : RuntimeComponentInstanceIndex) → Begins limit old.graph g (Ok c) → g.resources ≡ []
+    unfolding Begins
+    begun_undeclared c begins =
+        ap (λ (x : ComponentDfg). x.resources) (begins.2 ∙ ap with_component_instance fresh.graph)
 
     -- no root begins
     pub unbegun : (body : Items) (e : Error) → Begins limit old.graph g (Err e)
@@ -219,30 +229,39 @@ module _ (t : TypeTable) (ms : List ModuleRecord) (limit : ℕ) (bodies : List T
         → ((s : Scope) × (w : World) × RootStands t ms old f s w []) × HasNoExports old.graph
     export_point stands =
         let here = is_read stands.0 stands.1 in
-        ((here.0.scope, here.0.world, root_stands t ms old f here.0 here.1 here.2), here.1.unexported)
+        ((here.0.scope, here.0.world, root_stands t ms old f here.0 here.1), here.1.unexported)
 
-    module _ (st : State) where
-      ends_root : (body : Items) (now : Moment) → 0 < limit → built_root t ms limit None body ≡ done now
-          → (r : Result ⊤ Error) → OnOk r (NumbersExports st.graph)
-          → ExportsEnd t ms st f now.scope now.world [] (built_exports t now.scope (exports_in body) 0 now.world) r
-          → InlinesBody t ms limit body st r
+    module _ (st : State) (g : Frame) where
+      ends_root : (body : Items) (now : Moment) (nodes : ℕ) (o : Outcome Finish)
+          → built_reading t ms limit body ≡ and_then o (finish t ms limit body) → 0 < limit
+          → (4294967295 ≤ 8 * nodes → (n : ℕ) → IsLong t ms limit body n) → (r : Result ⊤ Error)
+          → ExportsEnd t ms st g now.scope now.world nodes o r → InlinesBody t ms limit body st r
       unfolding InlinesBody
-      ends_root body now below is (Ok end) numbers ends =
-          root_read t ms limit body st f now (reading_is t ms limit body (done now) is) numbers ends
-      ends_root body now below is (Err e) numbers ends =
-          exports_fail t ms limit body below st f now e (reading_is t ms limit body (done now) is) ends
+      ends_root body now nodes o is below many (Ok end) ends =
+          root_read t ms limit body st g now.scope now.world nodes o is ends
+      ends_root body now nodes o is below many (Err e) ends =
+          exports_fail t ms limit body st g now.scope now.world nodes o is below many e ends
 
-      -- the root exports, and is instantiated
+      -- the root exports, and is instantiated; so many nodes are too much from every total on
       pub root_exports : (es : List (ExternName × ItemKind × ℕ)) → es ≡ root.exports → (r : Result ⊤ Error)
-          → OnOk r (NumbersExports st.graph) → Exports t ms es old st f r → InlinesRoot t ms limit bodies root st r
-      unfolding Exports
-      root_exports es are r numbers exports body stands =
+          → (made : MakesExports t ms es old f st g r)
+          → Each root (λ body. 4294967295 ≤ 8 * made.nodes → (n : ℕ) → IsLong t ms limit body n)
+          → InlinesRoot t ms limit bodies root st r
+      root_exports es are r made many body stands =
           let here = is_read body stands in
           let now = here.0 in
-          ends_root body now here.4 here.3 r numbers
-          (subst (λ xs. ExportsEnd t ms st f now.scope now.world [] (built_exports t now.scope xs 0 now.world) r)
-          (ap (map named_item) are ∙ stands.exports)
-          (exports now.scope now.world (root_stands t ms old f now here.1 here.2)))
+          let total = here.2 in
+          let ends = made.exports now.scope now.world (ap has_room total)
+          (root_stands t ms old f now here.1) in
+          let named = ap (map named_item) are ∙ stands.exports in
+          let is : built_exports t now.scope (exports_in body) 0 now.world
+          ≡ if_room (grown now.world.total (8 * made.nodes)) ends.0 =
+          subst (λ xs. built_exports t now.scope xs 0 now.world
+          ≡ if_room (grown now.world.total (8 * made.nodes)) ends.0) named ends.1 in
+          let whole : built_exports t now.scope (exports_in body) 0 now.world ≡ ends.0 =
+          is ∙ ap (λ total. if_room (grown total (8 * made.nodes)) ends.0) total in
+          ends_root body now made.nodes ends.0 (reading_ends t ms limit body None now here.3 ends.0 whole) here.4
+          (many body stands) r ends.2
 
   -- an error is that of each body
   pub each_ends : (root : Translation) (st : State) (r : Result ⊤ Error) (e : Error) → IsErrAnd r (λ x. x ≡ e)

@@ -1,5 +1,5 @@
 -- What a root gives, from what its steps give.
-use Rattle.std.proofs.Common.{◌≡◌, ◌<◌, ◌≤◌, ℕ, List, [], map, true, Option, Result, Ok, Err, refl, sym}
+use Rattle.std.proofs.Common.{◌≡◌, ◌<◌, ◌≤◌, ℕ, List, [], length, map, true, Option, Result, Ok, Err, refl, sym}
 use Rattle.std.proofs.Common.{subst}
 use Rattle.std.specs.Prelude.{⊤}
 use Rattle.std.specs.Result.{IsErrAnd}
@@ -18,6 +18,7 @@ use Rattle.pc_spec_reading.specs.Scope.{Scope}
 use Rattle.pc_spec_reading.specs.World.{World}
 use Rattle.pc_local.specs.declared.item.LocalInitializer.{LocalInitializer}
 use Rattle.pc_local.specs.declared.item.Translation.{Translation}
+use Rattle.pc_local.specs.Sound.{AreSoundBodies, IsSoundBody, export_name}
 use Rattle.pc_local.specs.Standing.{BodyStands, no_names}
 use Rattle.pc_dfg.specs.declared.dfg.ComponentDfg.{ComponentDfg}
 use Rattle.pc_dfg.specs.Grows as graph
@@ -29,8 +30,7 @@ use Rattle.pc_inline_stack.specs.Begins.{Begins}
 use Rattle.pc_inline.specs.Roots.{BeginsBody, BeginsRoot, EndsRoot, RootBegun}
 use Rattle.pc_inline_state.specs.Fresh.{IsFresh}
 use Rattle.pc_inline_stack.specs.Driving.{Counts, Runs}
-use Rattle.pc_inline.specs.Exporting.{MakesExports, RootStands}
-use Rattle.pc_inline.specs.Inlines.{export_name}
+use Rattle.pc_inline_exports.specs.Exporting.{MakesExports, RootStands}
 use Rattle.pc_inline_state.specs.Points.{IsPoint, PointStands}
 use Rattle.pc_inline_stack.specs.Reads.{AreItems, Prepared}
 use Rattle.pc_inline_state.specs.Tables.{Keeps, tables_of}
@@ -40,14 +40,15 @@ use Rattle.pc_inline.proofs.InlineLemmas.{Each, IsRead, begins_end, begins_fail,
 use Rattle.pc_inline.proofs.InlineLemmas.{export_point, graph_keeps, has_begun, root_begun, root_exports, root_is_read}
 use Rattle.pc_inline.proofs.InlineLemmas.{root_items, root_unprepared, root_unread, run_point, unbegun}
 use Rattle.pc_inline.proofs.RootFewLemmas.{begun_graph, begun_none, begun_prepared, few_begun, few_exported, few_failed}
-use Rattle.pc_inline.proofs.RootFewLemmas.{few_unbegun, few_unread, most_more}
+use Rattle.pc_inline.proofs.RootFewLemmas.{few_unbegun, few_unread, most_more, nodes_long}
 use Rattle.pc_inline.proofs.RootLemmas.{first_moment}
 use Rattle.pc_inline_state.proofs.StateLemmas.{keeps_trans}
 
 -- what a root exports has distinct names
-pub names_distinct : (root : Translation) (es : List (ExternName × ItemKind × ℕ)) → es ≡ root.exports
-    → distinct_names (map export_name root.exports) ≡ true → distinct_names (map export_name es) ≡ true
-names_distinct root es are distinct = subst (λ xs. distinct_names (map export_name xs) ≡ true) (sym are) distinct
+pub names_distinct : (modules : ℕ) (root : Translation) (es : List (ExternName × ItemKind × ℕ)) → es ≡ root.exports
+    → IsSoundBody modules root → distinct_names (map export_name es) ≡ true
+names_distinct modules root es are sound =
+    subst (λ xs. distinct_names (map export_name xs) ≡ true) (sym are) sound.exports
 
 module _ (t : TypeTable) (ms : List ModuleRecord) (limit : ℕ) (root : Translation) where
   module _ (old : State) (fresh : IsFresh t old) (g : ComponentDfg) (grows : graph.Grows old.graph g) where
@@ -71,47 +72,47 @@ module _ (t : TypeTable) (ms : List ModuleRecord) (limit : ℕ) (root : Translat
     module _ (c : RuntimeComponentInstanceIndex) (begins : Begins limit old.graph g (Ok c)) (f : Frame)
         (args : List (List ℕ × DefinitionId)) (none : args ≡ []) (done : List (Option TypeDef))
         (unconverted : (b : Types) → AreConverted b t done) (is : f ≡ record (first_frame c done) { arguments = args })
-      where
-        at : PointStands t ms there f first_moment
-        at = begun_point t ms limit old fresh g c begins f args none done unconverted is
+        (bodies : AreSoundBodies (length ms) old.bodies.now) where
+      at : PointStands t ms there f first_moment
+      at = begun_point t ms limit old fresh g bodies c begins f args none done unconverted is
 
-        within : 0 < limit
-        within = begun_below t ms limit old fresh g c begins
+      within : 0 < limit
+      within = begun_below t ms limit old fresh g c begins
 
-        -- the root has begun, and its imports can be prepared
-        pub prepare_point : IsPoint t ms there f
-        prepare_point = (first_moment, at)
+      -- the root has begun, and its imports can be prepared
+      pub prepare_point : IsPoint t ms there f
+      prepare_point = (first_moment, at)
 
-        module _ (ls : List LocalInitializer) (are : ls ≡ root.initializers) (st : State) (f' : Frame)
-            (keeps : Keeps (tables_of there) (tables_of st))
-            (adds : Adds t (most_prepared_of t ls) (tables_of there) (tables_of st)) where
-          begins_with : (r : Result Frame Error)
-              → Each t ms limit old.bodies.now root (λ body. BeginsBody t ms limit body st r)
-              → BeginsRoot t ms limit root old st r
-          begins_with r each =
-              let most = begun_prepared t old fresh g (begun_graph t old fresh g limit (Ok c) begins) ls
-              root.initializers
-              are (tables_of st) adds in
-              record {
-                keeps = keeps_trans (tables_of old) (tables_of there) (tables_of st) (graph_keeps t old fresh g grows)
-                    keeps;
-                most = most;
-                few = few_begun t ms limit old.bodies.now root old.types within (tables_of st) most;
-                begins = each;
-              }
+      module _ (ls : List LocalInitializer) (are : ls ≡ root.initializers) (st : State) (f' : Frame)
+          (keeps : Keeps (tables_of there) (tables_of st))
+          (adds : Adds t (most_prepared_of t ls) (tables_of there) (tables_of st)) where
+        begins_with : (r : Result Frame Error)
+            → Each t ms limit old.bodies.now root (λ body. BeginsBody t ms limit body st r)
+            → BeginsRoot t ms limit root old st r
+        begins_with r each =
+            let most = begun_prepared t old fresh g (begun_graph t old fresh g limit (Ok c) begins) ls
+            root.initializers
+            are (tables_of st) adds in
+            record {
+              keeps = keeps_trans (tables_of old) (tables_of there) (tables_of st) (graph_keeps t old fresh g grows)
+                  keeps;
+              most = most;
+              few = few_begun t ms limit old.bodies.now root old.types within (tables_of st) most;
+              begins = each;
+            }
 
-          -- they were
-          pub begins_done : (r : ⊤) → Prepared t ms ls there f st f' (Ok r) → BeginsRoot t ms limit root old st (Ok f')
-          begins_done r prepared =
-              begins_with (Ok f')
-              (root_begun t ms limit old.bodies.now root there f st f' ls are refl within at r prepared)
+        -- they were
+        pub begins_done : (r : ⊤) → Prepared t ms ls there f st f' (Ok r) → BeginsRoot t ms limit root old st (Ok f')
+        begins_done r prepared =
+            begins_with (Ok f')
+            (root_begun t ms limit old.bodies.now root there f st f' ls are refl within at r prepared)
 
-          -- or they weren't
-          pub begins_undone : (e : Error) → Prepared t ms ls there f st f' (Err e) → (r : Result Frame Error)
-              → IsErrAnd r (λ x. x ≡ e) → BeginsRoot t ms limit root old st r
-          begins_undone e prepared r is =
-              begins_with r (begins_end t ms limit old.bodies.now root st r e is
-              (root_unprepared t ms limit old.bodies.now root there f st f' ls are refl within at e prepared))
+        -- or they weren't
+        pub begins_undone : (e : Error) → Prepared t ms ls there f st f' (Err e) → (r : Result Frame Error)
+            → IsErrAnd r (λ x. x ≡ e) → BeginsRoot t ms limit root old st r
+        begins_undone e prepared r is =
+            begins_with r (begins_end t ms limit old.bodies.now root st r e is
+            (root_unprepared t ms limit old.bodies.now root there f st f' ls are refl within at e prepared))
 
   -- the error of the beginning is that of the root
   pub root_unbegun : (old st : State) (e : Error) → BeginsRoot t ms limit root old st (Err e) → (r : Result ⊤ Error)
@@ -165,9 +166,9 @@ module _ (t : TypeTable) (ms : List ModuleRecord) (limit : ℕ) (root : Translat
 
         -- it exports
         pub root_done : Counts t ms limit root.initializers st f st' (Ok g)
-            → (es : List (ExternName × ItemKind × ℕ)) → es ≡ root.exports → (end : State) (r : Result ⊤ Error)
-            → MakesExports t ms es st' end g r → EndsRoot t ms limit root old end r
-        root_done counts es are end r made = record {
+            → (es : List (ExternName × ItemKind × ℕ)) → es ≡ root.exports → (end : State) (g' : Frame)
+            (r : Result ⊤ Error) → MakesExports t ms es st' g end g' r → EndsRoot t ms limit root old end r
+        root_done counts es are end g' r made = record {
           keeps = keeps_trans (tables_of old) (tables_of st') (tables_of end) kept made.keeps;
           adds = (
             _,
@@ -175,6 +176,8 @@ module _ (t : TypeTable) (ms : List ModuleRecord) (limit : ℕ) (root : Translat
                 (tables_of st) (tables_of st') begun.most adds.1) made.adds,
           );
           few = few_exported t ms limit old.bodies.now root old.types st f begun.keeps.bodies has begun.most st' g
-              counts es are (tables_of end) made.adds r;
-          inlines = root_exports t ms limit old.bodies.now root st' g is_read end es are r made.numbers made.exports;
+              counts es are end g' r made;
+          inlines = root_exports t ms limit old.bodies.now root st' g is_read end g' es are r made
+              (nodes_long t ms limit old.bodies.now root old.types st f begun.keeps.bodies has begun.most st' g counts
+              es are end g' r made);
         }

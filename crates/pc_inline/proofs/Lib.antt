@@ -1,19 +1,9 @@
 -- What the functions of this crate rest on, and those of the crates above: the public ones are theirs too.
-mod ExportLemmas
-mod GivenLemmas
-mod PreparedLemmas
-mod PrepareLemmas
 mod CountLemmas
 mod PrepareAllLemmas
 mod RootLemmas
 mod FreshLemmas
 mod EndLemmas
-mod RootKeptLemmas
-mod KeepsLemmas
-mod ReachLemmas
-mod ExportAddsLemmas
-mod ReachNodeLemmas
-mod ExportAllLemmas
 mod SkipLemmas
 mod TotalLemmas
 mod DriverLemmas

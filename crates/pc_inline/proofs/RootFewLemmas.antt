@@ -1,9 +1,9 @@
 -- How few entries and types a root has.
-use Rattle.std.proofs.Common.{◌≡◌, ◌<◌, ◌≤◌, ◌+◌, ◌*◌, ◌⊎◌, ℕ, zero, suc, List, length, Some, Result, Ok, Err, refl}
-use Rattle.std.proofs.Common.{sym, ap, subst, ◌∙◌, inl, inr, arith}
-use Rattle.std.specs.Prelude.{⊤, OnOk}
+use Rattle.std.proofs.Common.{◌≡◌, ◌<◌, ◌≤◌, ◌+◌, ◌*◌, ◌⊎◌, ℕ, zero, suc, Bool, true, false, List, length, map, Some}
+use Rattle.std.proofs.Common.{Result, Ok, Err, refl, sym, ap, subst, ◌∙◌, if◌then◌else◌, inl, inr, arith}
+use Rattle.std.proofs.lemmas.Bool.{lt-ltb, ltb-true}
+use Rattle.std.specs.Prelude.{⊤, IfOk, OnOk, nat_lt}
 use Rattle.std.specs.Result.{IsErrAnd}
-use Rattle.std.proofs.lemmas.List.{length-map}
 use Rattle.pc_numbers.specs.declared.runtime.RuntimeComponentInstanceIndex.{RuntimeComponentInstanceIndex}
 use Rattle.pc_types.specs.declared.error.Error.{Error}
 use Rattle.pc_types.specs.declared.error.Error.TheVariants as error
@@ -11,16 +11,19 @@ use Rattle.pc_types.specs.declared.module_record.ModuleRecord.{ModuleRecord}
 use Rattle.pc_types.specs.declared.parsed.TypeTable.{TypeTable}
 use Rattle.pc_types.specs.declared.types.TypeKind.{TypeKind}
 use Rattle.pc_types.specs.declared.types.TypeKind.TheVariants as kind
-use Rattle.pc_types_lists.specs.Adds.{AddsTypes}
+use Rattle.pc_types_lists.specs.Adds.{AddsTypes, most_types}
 use Rattle.pc_types_lists.specs.Types.{IsBuilder, Types, held, types_held}
 use Rattle.pc_types_lists.proofs.FewLemmas.{few_aside, few_both, held_few}
 use Rattle.pc_parsed.specs.declared.payload.ExternName.{ExternName}
 use Rattle.pc_parsed.specs.declared.payload.ItemKind.{ItemKind}
 use Rattle.pc_spec_reading.specs.Answer.{IsPast}
 use Rattle.pc_spec_reading.specs.Item.{Items, exports_in}
-use Rattle.pc_spec_reading.specs.Scope.{Moment}
+use Rattle.pc_spec_reading.specs.Nodes.{Finish}
+use Rattle.pc_spec_reading.specs.Outcome.{Outcome, and_then, done, past}
+use Rattle.pc_spec_reading.specs.Reading.{reading_of, result_of}
+use Rattle.pc_spec_reading.specs.Scope.{Moment, Scope}
 use Rattle.pc_spec_reading.specs.Section.{named_item}
-use Rattle.pc_spec_reading.specs.World.{full}
+use Rattle.pc_spec_reading.specs.World.{World, full, grown, has_room}
 use Rattle.pc_local.specs.declared.item.LocalInitializer.{LocalInitializer}
 use Rattle.pc_local.specs.declared.item.Translation.{Translation}
 use Rattle.pc_local.specs.Standing.{BodyStands, ItemsStand, no_names}
@@ -33,25 +36,28 @@ use Rattle.pc_dfg.specs.Numbers.{slots_of}
 use Rattle.pc_dfg.specs.Pushed.{with_component_instance}
 use Rattle.pc_inline_state.specs.declared.frame.Frame.{Frame}
 use Rattle.pc_inline_state.specs.declared.state.State.{State}
-use Rattle.pc_inline_state.specs.Adds.{Adds, most_of_items, most_prepared_of}
+use Rattle.pc_inline_state.specs.Adds.{Adds, most_of_items, most_prepared_of, types_among}
 use Rattle.pc_inline_stack.specs.Begins.{Begins}
-use Rattle.pc_inline.specs.Roots.{BegunHasFew, EndsWith, HasAtMost, HasFew, HasNothing, IsLong, IsLongOrHasFew}
+use Rattle.pc_inline.specs.Roots.{BegunHasFew, EndsWith, HasAtMost, HasFew, HasNothing, IsCrowded, IsLong}
+use Rattle.pc_inline.specs.Roots.{IsLongOrHasFew}
 use Rattle.pc_inline_state.specs.Fresh.{IsFresh}
 use Rattle.pc_inline.specs.Roots.{RootBegun, RootHasFew, RootHasFewFrom, first_total}
 use Rattle.pc_inline_state.specs.Fresh.{counted_tables}
 use Rattle.pc_inline_stack.specs.Driving.{Counts, EndsIn, reading_from}
+use Rattle.pc_inline_stack.specs.Stacks.{types_exported}
+use Rattle.pc_inline_exports.specs.Exporting.{ExportsEnd, MakesExports, if_room}
 use Rattle.pc_inline.specs.Inlines.{HasNoRoom}
 use Rattle.pc_inline_state.specs.Points.{IsFullSomewhere, full_closures, full_cores, full_definitions, full_exports}
-use Rattle.pc_inline_state.specs.Points.{full_graph, full_instances, full_types}
+use Rattle.pc_inline_state.specs.Points.{PointStands, full_graph, full_instances, full_resources, full_types}
 use Rattle.pc_inline_state.specs.Tables.{Tables, tables_of}
-use Rattle.pc_inline_state.specs.Today.{built_root}
+use Rattle.pc_inline_state.specs.Today.{built_exports, built_root, today}
 use Rattle.pc_inline_state.specs.Typed.{no_resources}
 use Rattle.pc_inline_state.specs.Gained.{AddsTables}
 use Rattle.pc_inline_state.proofs.AddsLemmas.{adds_refl}
 use Rattle.pc_inline_state.proofs.GainedLemmas.{tables_aside, tables_both}
-use Rattle.pc_inline.proofs.RootLemmas.{counted_begins}
-use Rattle.pc_inline_stack.proofs.TodayLemmas.{past_read}
-use Rattle.pc_inline_stack.proofs.WeightLemmas.{most_of_body, most_of_prepared}
+use Rattle.pc_inline.proofs.EndLemmas.{long_past}
+use Rattle.pc_inline.proofs.RootLemmas.{counted_begins, finish, long_root, reading_ends, root_stands}
+use Rattle.pc_inline_stack.proofs.WeightLemmas.{most_of_body, most_of_prepared, types_named}
 
 -- a graph with nothing in any list
 abbrev pub HasNone : ComponentDfg → Type 0
@@ -154,6 +160,11 @@ module _ (t : TypeTable) (old : State) (fresh : IsFresh t old) (g : ComponentDfg
         instances = let more = few.instances in let nothing = ap (λ is. length is) fresh.instances in
             omega (arith, more, nothing);
         begun = omega (arith, begun, one);
+        resources =
+            let more = few.resources in
+            let first = none.0 list.imported_resources in
+            let second = none.0 list.resources in
+            omega (arith, more, first, second);
       }
 
   -- what a root has whose imports were prepared, or some of them
@@ -191,6 +202,7 @@ module _ (t : TypeTable) where
         closures = let so_far = most.closures in let more = few.closures in omega (arith, so_far, more);
         instances = let so_far = most.instances in let more = few.instances in omega (arith, so_far, more);
         begun = let so_far = most.begun in let more = few.begun in omega (arith, so_far, more);
+        resources = let so_far = most.resources in let more = few.resources in omega (arith, so_far, more);
       }
 
   -- a total that bounds it
@@ -220,15 +232,20 @@ module _ (t : TypeTable) where
     abbrev prepared : ℕ
     prepared = most_prepared_of t root.initializers
 
+    -- what the types that it exports add at the most
+    abbrev exported : ℕ
+    exported = types_among root.exports * (1 + most_types t)
+
     module _ (body : Items) (stands : BodyStands bodies no_names root body) where
-      -- the first total bounds what its imports and items add at the most, and four entries for each export
-      enough : (n : ℕ) → n + (prepared + most_of_items t root.initializers + 4 * length root.exports)
-          < first_total t ms body n
+      -- the first total bounds what its imports, its items and the types that it exports add at the most
+      enough : (n : ℕ) → n + (prepared + most_of_items t root.initializers + exported) < first_total t ms body n
       enough n =
           let one = most_of_body t ms bodies no_names root.initializers body stands.items in
           let two = most_of_prepared t ms bodies no_names root.initializers body stands.items in
-          let same : length root.exports ≡ length (exports_in body) =
-          sym (length-map root.exports named_item) ∙ ap (λ xs. length xs) stands.exports in
+          let types : types_among root.exports ≡ types_exported (exports_in body) =
+          types_named root.exports ∙ ap types_exported stands.exports in
+          let same : exported ≡ types_exported (exports_in body) * (1 + most_types t) =
+          ap (λ k. k * (1 + most_types t)) types in
           omega (arith, one, two, same)
 
     -- and one whose imports were prepared, or some of them
@@ -261,14 +278,21 @@ module _ (t : TypeTable) where
         by (inl h) = inl (h.0, tt, h.1)
         by (inr nothing) = inr (tt, nothing)
 
-    -- what a root has whose items were read, or some of them: its total bounds what was added, and its exports too
-    pub record HasRun (body : Items) (counted : ℕ) (x : Tables) (r : Result Frame Error) : Type 0 where
+    -- where the items of a root have been read and this is the total, the code is there
+    abbrev RanTo : Items → (counted total : ℕ) → State → Frame → Type 0
+    RanTo body counted total st g =
+        (last : Moment) × (built_root t ms limit (Some counted) body ≡ done last) × (last.world.total ≡ Some total)
+        × PointStands t ms st g last
+
+    -- what a root has whose items were read, or some of them: its total bounds what was added, and the types that it
+    -- exports too
+    record HasRun (body : Items) (counted : ℕ) (st : State) (r : Result Frame Error) : Type 0 where
       pub total : ℕ
       pub added : ℕ
       pub below : total < full
-      pub few : counted + (prepared + added + 4 * length root.exports) < total
-      pub most : HasAtMost t (prepared + added) old x
-      pub ends : OnOk r (EndsWith t ms limit body counted total)
+      pub few : counted + (prepared + added + exported) < total
+      pub most : HasAtMost t (prepared + added) old (tables_of st)
+      pub ends : IfOk r (RanTo body counted total st)
 
     module _ (st : State) (f : Frame) (among : st.bodies.now ≡ bodies)
         (begun : (body : Items) → BodyStands bodies no_names root body → RootBegun t ms limit body st f)
@@ -277,25 +301,24 @@ module _ (t : TypeTable) where
         -- where it is done, that is its total
         total_at : (c : ℕ) (now : Moment) (total : ℕ)
             → built_root t ms limit (Some c) body ≡ reading_from t ms limit body now → (r : Result Frame Error)
-            → EndsIn t ms limit total (reading_from t ms limit body now) r
-            → OnOk r (EndsWith t ms limit body c total)
+            → EndsIn t ms limit st' total (reading_from t ms limit body now) r
+            → IfOk r (RanTo body c total st')
         unfolding EndsIn
-        total_at c now total reads (Ok g) ends = (ends.0, reads ∙ ends.1, ends.2)
+        total_at c now total reads (Ok g) ends = (ends.0, reads ∙ ends.1, ends.2, ends.3)
         total_at c now total reads (Err e) ends = tt
 
         has_run : (r : Result Frame Error) → Counts t ms limit root.initializers st f st' r → (c : ℕ)
-            → IsLong t ms limit body c ⊎ HasRun body c (tables_of st') r
+            → IsLong t ms limit body c ⊎ HasRun body c st' r
         unfolding Counts
         has_run r counts c =
-            elim ((begun body stands).counted c)
-            as (λ _. IsLong t ms limit body c ⊎ HasRun body c (tables_of st') r) [
+            elim ((begun body stands).counted c) as (λ _. IsLong t ms limit body c ⊎ HasRun body c st' r) [
               | inl long ↦ inl long
               | inr room ↦
                   let start = room.1 in
                   let there = subst (λ bs. ItemsStand bs no_names root.initializers body) (sym among) stands.items in
                   elim (counts body start.now (first_total t ms body c) there start.stands start.is_total room.0)
-                  as (λ _. IsLong t ms limit body c ⊎ HasRun body c (tables_of st') r) [
-                    | inl long ↦ inl (start.reads ∙ long)
+                  as (λ _. IsLong t ms limit body c ⊎ HasRun body c st' r) [
+                    | inl long ↦ inl (long_root t ms limit body c (start.reads ∙ long))
                     | inr k ↦
                         let le = enough body stands c in
                         let few = k.few in
@@ -324,24 +347,107 @@ module _ (t : TypeTable) where
                 ))
           ]
 
-      -- the root exports
-      pub few_exported : (g : Frame) → Counts t ms limit root.initializers st f st' (Ok g)
-          → (es : List (ExternName × ItemKind × ℕ)) → es ≡ root.exports → (x : Tables)
-          → Adds t (4 * length es) (tables_of st') x → (r : Result ⊤ Error)
-          → RootHasFew t ms limit bodies root old x r
-      few_exported g counts es are x exported r body stands n =
-          elim (has_run body stands (Ok g) counts n) as (λ _. RootHasFewFrom t ms limit body n old x r) [
-            | inl long ↦ inl long
-            | inr h ↦
-                let few = h.few in
-                let many = ap (λ xs. length xs) are in
-                inr (inl (
-                  h.total,
-                  on_ok r h.ends,
-                  few_of n h.total (prepared + h.added + 4 * length es) old x h.below (omega (arith, few, many))
-                      (most_more (prepared + h.added) (4 * length es) old (tables_of st') x h.most exported),
-                ))
-          ]
+      module _ (g : Frame) (counts : Counts t ms limit root.initializers st f st' (Ok g))
+          (es : List (ExternName × ItemKind × ℕ)) (are : es ≡ root.exports) (end : State) (g' : Frame)
+          (r : Result ⊤ Error) (made : MakesExports t ms es st' g end g' r) where
+        abbrev weight : ℕ
+        weight = 8 * made.nodes
+
+        module _ (body : Items) (stands : BodyStands bodies no_names root body) (n : ℕ) (h : HasRun body n st' (Ok g))
+          where
+            -- how the exports end that begin where the code is, in the total that they come to
+            abbrev Ending : Type 0
+            Ending =
+                (s : Scope) × (w : World) × (o : Outcome Finish) × (w.total ≡ Some h.total)
+                × (reading_of today t ms limit (Some n) body
+                ≡ and_then (if_room (Some (h.total + weight)) o) (finish t ms limit body))
+                × ExportsEnd t ms end g' s w made.nodes o r
+
+            ending : Ending
+            ending =
+                let last = h.ends.0 in
+                let is = h.ends.1 in
+                let total = h.ends.2 in
+                let x = made.exports last.scope last.world (ap has_room total ∙ lt-ltb h.total full h.below)
+                (root_stands t ms st' g last h.ends.3) in
+                let named = ap (map named_item) are ∙ stands.exports in
+                let here : built_exports t last.scope (exports_in body) 0 last.world
+                ≡ if_room (grown last.world.total weight) x.0 =
+                subst (λ xs. built_exports t last.scope xs 0 last.world ≡ if_room (grown last.world.total weight) x.0)
+                named x.1 in
+                let counted = here ∙ ap (λ k. if_room (grown k weight) x.0) total in (
+                  last.scope,
+                  last.world,
+                  x.0,
+                  total,
+                  reading_ends t ms limit body (Some n) last is (if_room (Some (h.total + weight)) x.0) counted,
+                  x.2,
+                )
+
+            -- the total is too much, or the reading ends in it as the exports do
+            room_after : IsLong t ms limit body n ⊎ ((h.total + weight < full)
+                × (reading_of today t ms limit (Some n) body ≡ and_then ending.2 (finish t ms limit body)))
+            room_after = by (nat_lt (h.total + weight) full) refl
+              where
+                by : (b : Bool) → nat_lt (h.total + weight) full ≡ b → IsLong t ms limit body n
+                    ⊎ ((h.total + weight < full)
+                    × (reading_of today t ms limit (Some n) body ≡ and_then ending.2 (finish t ms limit body)))
+                by false none =
+                    inl (ending.4 ∙ ap (λ b. and_then (if b then ending.2 else past) (finish t ms limit body)) none)
+                by true room =
+                    inr (
+                      ltb-true (h.total + weight) full room,
+                      ending.4 ∙ ap (λ b. and_then (if b then ending.2 else past) (finish t ms limit body)) room,
+                    )
+
+            ends_with : (q : Result ⊤ Error) (s : Scope) (w : World) (o : Outcome Finish) → w.total ≡ Some h.total
+                → reading_of today t ms limit (Some n) body ≡ and_then o (finish t ms limit body)
+                → ExportsEnd t ms end g' s w made.nodes o q → OnOk q (EndsWith t ms limit body n (h.total + weight))
+            unfolding ExportsEnd
+            ends_with (Ok x) s w o total reads ends = (
+              result_of ends.exported ends.world,
+              reads ∙ ap (λ x. and_then x (finish t ms limit body)) ends.is,
+              ends.total ∙ ap (λ k. grown k weight) total,
+            )
+            ends_with (Err e) s w o total reads ends = tt
+
+        -- the root exports
+        pub few_exported : RootHasFew t ms limit bodies root old (tables_of end) r
+        few_exported body stands n =
+            elim (has_run body stands (Ok g) counts n)
+            as (λ _. RootHasFewFrom t ms limit body n old (tables_of end) r) [
+              | inl long ↦ inl long
+              | inr h ↦ elim (room_after body stands n h)
+                  as (λ _. RootHasFewFrom t ms limit body n old (tables_of end) r) [
+                    | inl long ↦ inl long
+                    | inr room ↦
+                        let x = ending body stands n h in
+                        let few = h.few in
+                        let adds : Adds t (4 * made.nodes + exported) (tables_of st') (tables_of end) =
+                        subst (λ ys. Adds t (4 * made.nodes + types_among ys * (1 + most_types t)) (tables_of st')
+                        (tables_of end)) are made.adds in
+                        inr (inl (
+                          h.total + weight,
+                          ends_with body stands n h r x.0 x.1 x.2 x.3 room.1 x.5,
+                          few_of n (h.total + weight) (prepared + h.added + (4 * made.nodes + exported)) old
+                              (tables_of end) room.0 (omega (arith, few))
+                              (most_more (prepared + h.added) (4 * made.nodes + exported) old (tables_of st')
+                              (tables_of end) h.most adds),
+                        ))
+                  ]
+            ]
+
+        -- where there are so many nodes, the total is too much
+        pub nodes_long : (body : Items) → BodyStands bodies no_names root body → 4294967295 ≤ 8 * made.nodes → (n : ℕ)
+            → IsLong t ms limit body n
+        nodes_long body stands many n =
+            elim (has_run body stands (Ok g) counts n) as (λ _. IsLong t ms limit body n) [
+              | inl long ↦ long
+              | inr h ↦ elim (room_after body stands n h) as (λ _. IsLong t ms limit body n) [
+                | inl long ↦ long
+                | inr room ↦ let below = room.0 in absurd (omega (arith, many, below))
+              ]
+            ]
 
 -- so many of a kind are held at the most
 held_most : (types : Types) (k : TypeKind) → held types k ≤ types_held types
@@ -373,14 +479,17 @@ never_full t counted total added old new builder below few start adds k is =
     let more = held_few t added old new builder adds k in
     omega (arith, below, few, start, most, more, is)
 
--- where a list is full the reading is past
+-- where there is too much of something the reading is past
 pub no_room : (t : TypeTable) (ms : List ModuleRecord) (limit : ℕ) (body : Items) (old : Types) (st : State)
     → IsBuilder st.types → ((counted : ℕ) → IsLongOrHasFew t ms limit body counted old (tables_of st))
-    → IsFullSomewhere (tables_of st) × (0 < limit) → HasNoRoom t ms limit body (types_held old)
-no_room t ms limit body old st builder few is_full counted start =
-    elim (few counted) as (λ _. IsPast t ms limit counted body) [
-      | inl long ↦ past_read t ms limit body counted long
-      | inr h ↦ absurd (by h)
+    → IsCrowded t ms limit body st → HasNoRoom t ms limit body (types_held old)
+no_room t ms limit body old st builder few crowded counted start =
+    elim crowded.0 as (λ _. IsPast t ms limit counted body) [
+      | inr long ↦ long_past t ms limit body counted (long counted)
+      | inl is_full ↦ elim (few counted) as (λ _. IsPast t ms limit counted body) [
+        | inl long ↦ long_past t ms limit body counted long
+        | inr h ↦ absurd (by is_full h)
+      ]
     ]
   where
     never : {total added : ℕ} → total < full → counted + added < total → HasAtMost t added old (tables_of st)
@@ -393,10 +502,12 @@ no_room t ms limit body old st builder few is_full counted start =
     never below few most (full_definitions h) = let le = most.definitions in omega (arith, below, few, h, le)
     never below few most (full_closures h) = let le = most.closures in omega (arith, below, few, h, le)
     never below few most (full_exports h) = let le = most.instances in omega (arith, below, few, h, le)
+    never below few most (full_resources h) = let le = most.resources in omega (arith, below, few, h, le)
 
-    by : ((total : ℕ) × HasFew t counted total old (tables_of st)) ⊎ HasNothing t limit old (tables_of st) → ⊥
-    by (inl h) = never h.1.below h.1.few h.1.most is_full.0
-    by (inr nothing) = let none = nothing.0 in let some = is_full.1 in omega (arith, none, some)
+    by : IsFullSomewhere (tables_of st)
+        → ((total : ℕ) × HasFew t counted total old (tables_of st)) ⊎ HasNothing t limit old (tables_of st) → ⊥
+    by is_full (inl h) = never h.1.below h.1.few h.1.most is_full
+    by is_full (inr nothing) = let none = nothing.0 in let some = crowded.1 in omega (arith, none, some)
 
 -- the counts of tables change no list
 pub counted_few : (g : ComponentDfg) (types : Types) (added : ℕ) → ((l : ListName) → length (entries_of g l) ≤ added)

@@ -1,5 +1,5 @@
 -- The reading of a root: it begins, its imports are prepared, its items are read, and it exports.
-use Rattle.std.proofs.Common.{◌≡◌, ◌<◌, ◌≤◌, ◌⊎◌, ℕ, Bool, true, false, List, [], Option, None, Some, Ok, Err, inl}
+use Rattle.std.proofs.Common.{◌≡◌, ◌<◌, ◌≤◌, ◌*◌, ◌⊎◌, ℕ, Bool, true, false, List, [], Option, None, Some, Ok, Err, inl}
 use Rattle.std.proofs.Common.{inr, refl, sym, ap, subst, ◌∙◌, arith}
 use Rattle.std.proofs.lemmas.Bool.{lt-ltb, ltb-true}
 use Rattle.std.specs.Prelude.{nat_lt}
@@ -11,21 +11,22 @@ use Rattle.pc_types.specs.declared.module_record.ModuleRecord.{ModuleRecord}
 use Rattle.pc_types.specs.declared.parsed.TypeTable.{TypeTable}
 use Rattle.pc_spec_reading.specs.Item.{Items, exports_in}
 use Rattle.pc_spec_reading.specs.Nodes.{Finish}
-use Rattle.pc_spec_reading.specs.Outcome.{Outcome, and_then, done, over}
-use Rattle.pc_spec_reading.specs.Reading.{begun_in, result_of, read_root, reading_of, finishing}
-use Rattle.pc_spec_reading.specs.Scope.{Moment}
+use Rattle.pc_spec_reading.specs.Outcome.{Outcome, and_then, done, over, past}
+use Rattle.pc_spec_reading.specs.Reading.{Reading, begun_in, result_of, read_root, reading_of, finishing}
+use Rattle.pc_spec_reading.specs.Scope.{Moment, Scope}
 use Rattle.pc_spec_reading.specs.Value.{outermost}
 use Rattle.pc_spec_reading.specs.World.{World, full, new_world}
 use Rattle.pc_dfg.specs.declared.dfg.ComponentDfg.{ComponentDfg}
 use Rattle.pc_inline_state.specs.declared.frame.Frame.{Frame}
 use Rattle.pc_inline_state.specs.declared.state.State.{State}
-use Rattle.pc_inline.specs.Roots.{IsBuiltEnd, IsLong, RootRead, first_total}
+use Rattle.pc_inline.specs.Roots.{IsBuiltEnd, IsCrowded, IsLong, RootRead, first_total}
 use Rattle.pc_inline_stack.specs.Driving.{reading_from}
-use Rattle.pc_inline.specs.Exporting.{ExportsEnd, RootStands}
-use Rattle.pc_inline.specs.Exports.{ExportsStand, NameStands, NumbersExports}
+use Rattle.pc_inline_exports.specs.Exporting.{ExportsEnd, RootStands}
+use Rattle.pc_inline_exports.specs.Exports.{ExportsStand, NameStands}
 use Rattle.pc_inline_state.specs.Points.{PointStands}
 use Rattle.pc_inline_stack.specs.Reads.{Ends}
 use Rattle.pc_inline_state.specs.Today.{built_exports, built_prepare_all, built_reading, built_result, built_root}
+use Rattle.pc_inline_state.specs.Today.{today}
 use Rattle.pc_inline_state.specs.Worlds.{WorldStands}
 
 -- the world in which the root begins, with this total
@@ -55,6 +56,7 @@ world_counted types g w total s = record {
   import_types = s.import_types;
   imports = s.imports;
   imported_resources = s.imported_resources;
+  resources = s.resources;
   intrinsics = s.intrinsics;
   no_adapters = s.no_adapters;
   begun = s.begun;
@@ -65,15 +67,46 @@ module _ (t : TypeTable) (ms : List ModuleRecord) (limit : ℕ) (body : Items) w
   abbrev pub from_start : Option ℕ → Outcome Moment
   from_start total = and_then (built_prepare_all t 0 body (moment_with total)) (reading_from t ms limit body)
 
+  -- the reading of a root that is this outcome, where its total begins so
+  reading_then : (counted : Option ℕ) (o : Outcome Moment) → built_root t ms limit counted body ≡ o
+      → reading_of today t ms limit counted body ≡ and_then o (built_result t body)
+  unfolding reading_of
+  reading_then counted o is = ap (λ x. and_then x (built_result t body)) is
+
+  -- the same where no total is counted
+  pub reading_is : (o : Outcome Moment) → built_root t ms limit None body ≡ o
+      → built_reading t ms limit body ≡ and_then o (built_result t body)
+  reading_is o is = reading_then None o is
+
+  -- where the total is too much before the root exports, it is
+  pub long_root : (n : ℕ) → built_root t ms limit (Some n) body ≡ past → IsLong t ms limit body n
+  long_root n is = reading_then (Some n) past is
+
+  -- what the root means when so many of its exports have been reached
+  abbrev pub finish : Finish → Outcome Reading
+  finish f = done (result_of f.0 f.1)
+
+  -- where the exports of the root end so
+  pub result_is : (now : Moment) (o : Outcome Finish) → built_exports t now.scope (exports_in body) 0 now.world ≡ o
+      → built_result t body now ≡ and_then o finish
+  unfolding finishing
+  result_is now o is = ap (λ x. and_then x finish) is
+
+  -- the reading where its total begins so, its items were read and its exports end so
+  pub reading_ends : (counted : Option ℕ) (now : Moment) → built_root t ms limit counted body ≡ done now
+      → (o : Outcome Finish) → built_exports t now.scope (exports_in body) 0 now.world ≡ o
+      → reading_of today t ms limit counted body ≡ and_then o finish
+  reading_ends counted now is o ends = reading_then counted (done now) is ∙ result_is now o ends
+
   module _ (below : 0 < limit) where
     -- the reading of a root that begins
     pub root_begins : built_root t ms limit None body ≡ from_start None
     unfolding read_root
     root_begins = rw (lt-ltb 0 limit below) refl
 
-    root_long : (n : ℕ) → nat_lt (first_total t ms body n) full ≡ false → IsLong t ms limit body n
+    root_past : (n : ℕ) → nat_lt (first_total t ms body n) full ≡ false → built_root t ms limit (Some n) body ≡ past
     unfolding read_root
-    root_long n none = rw (lt-ltb 0 limit below, none) refl
+    root_past n none = rw (lt-ltb 0 limit below, none) refl
 
     root_counts : (n : ℕ) → nat_lt (first_total t ms body n) full ≡ true
         → built_root t ms limit (Some n) body ≡ from_start (Some (first_total t ms body n))
@@ -89,7 +122,7 @@ module _ (t : TypeTable) (ms : List ModuleRecord) (limit : ℕ) (body : Items) w
         by : (b : Bool) → nat_lt (first_total t ms body n) full ≡ b → IsLong t ms limit body n
             ⊎ ((first_total t ms body n < full)
             × (built_root t ms limit (Some n) body ≡ from_start (Some (first_total t ms body n))))
-        by false none = inl (root_long n none)
+        by false none = inl (long_root n (root_past n none))
         by true room = inr (ltb-true (first_total t ms body n) full room, root_counts n room)
 
   -- no root begins where the limit is 0
@@ -98,12 +131,6 @@ module _ (t : TypeTable) (ms : List ModuleRecord) (limit : ℕ) (body : Items) w
   reading_over none =
       let is : limit ≡ 0 = omega (arith, none) in
       rw (is) refl
-
-  -- the reading of a root that is this outcome
-  pub reading_is : (o : Outcome Moment) → built_root t ms limit None body ≡ o
-      → built_reading t ms limit body ≡ and_then o (built_result t body)
-  unfolding reading_of
-  reading_is o is = ap (λ x. and_then x (built_result t body)) is
 
   -- an error of an outcome is one of what goes on after it
   pub ends_then : (st : State) (f : Frame) (o : Outcome Moment) (go : Moment → Outcome Moment) (e : Error)
@@ -130,7 +157,7 @@ module _ (t : TypeTable) (ms : List ModuleRecord) (limit : ℕ) (body : Items) w
   root_fails below st f o (error.BadType p) is ends = reading_is _ (is ∙ ends)
   root_fails below st f o (error.Unsupported u p) is ends = reading_is _ (is ∙ ends)
   root_fails below st f o error.TooManyInstances is ends = reading_is _ (is ∙ ends)
-  root_fails below st f o error.TooMany is ends = (ends, below)
+  root_fails below st f o error.TooMany is ends = (inl ends, below)
   root_fails below st f o error.NoMemory is ends = tt
   root_fails below st f o (error.Malformed p) is ends = absurd ends
   root_fails below st f o (error.BadTable p) is ends = absurd ends
@@ -139,50 +166,50 @@ module _ (t : TypeTable) (ms : List ModuleRecord) (limit : ℕ) (body : Items) w
   root_fails below st f o (error.DefinedTwice p) is ends = absurd ends
   root_fails below st f o (error.BadOptions p) is ends = absurd ends
 
-  -- an error of the exports is one of the reading
-  pub exports_fail : 0 < limit → (st : State) (f : Frame) (now : Moment) (e : Error)
-      → built_reading t ms limit body ≡ built_result t body now
-      → ExportsEnd t ms st f now.scope now.world [] (built_exports t now.scope (exports_in body) 0 now.world) (Err e)
-      → IsBuiltEnd t ms limit body st e
-  unfolding ExportsEnd finishing
-  exports_fail below st f now (error.Unsupported u p) is ends =
-      is ∙ ap (λ x. and_then x (λ (f : Finish). done (result_of f.0 f.1))) ends
-  exports_fail below st f now error.TooMany is ends = (ends, below)
-  exports_fail below st f now error.NoMemory is ends = tt
-  exports_fail below st f now (error.Invalid p) is ends = absurd ends
-  exports_fail below st f now (error.BadType p) is ends = absurd ends
-  exports_fail below st f now error.TooManyInstances is ends = absurd ends
-  exports_fail below st f now (error.Malformed p) is ends = absurd ends
-  exports_fail below st f now (error.BadTable p) is ends = absurd ends
-  exports_fail below st f now (error.BadIntrinsics p) is ends = absurd ends
-  exports_fail below st f now (error.UnknownIntrinsic p) is ends = absurd ends
-  exports_fail below st f now (error.DefinedTwice p) is ends = absurd ends
-  exports_fail below st f now (error.BadOptions p) is ends = absurd ends
+  module _ (st : State) (f : Frame) (s : Scope) (w : World) (nodes : ℕ) (o : Outcome Finish)
+      (is : built_reading t ms limit body ≡ and_then o finish) where
+    -- an error of the exports is one of the reading, where so many nodes are too much from every total on
+    pub exports_fail : 0 < limit → (4294967295 ≤ 8 * nodes → (n : ℕ) → IsLong t ms limit body n) → (e : Error)
+        → ExportsEnd t ms st f s w nodes o (Err e) → IsBuiltEnd t ms limit body st e
+    unfolding ExportsEnd
+    exports_fail below many (error.Unsupported u p) ends = is ∙ ap (λ x. and_then x finish) ends
+    exports_fail below many error.TooMany ends = elim ends as (λ _. IsCrowded t ms limit body st) [
+      | inl none ↦ (inl none, below)
+      | inr more ↦ (inr (many more), below)
+    ]
+    exports_fail below many error.NoMemory ends = tt
+    exports_fail below many (error.Invalid p) ends = absurd ends
+    exports_fail below many (error.BadType p) ends = absurd ends
+    exports_fail below many error.TooManyInstances ends = absurd ends
+    exports_fail below many (error.Malformed p) ends = absurd ends
+    exports_fail below many (error.BadTable p) ends = absurd ends
+    exports_fail below many (error.BadIntrinsics p) ends = absurd ends
+    exports_fail below many (error.UnknownIntrinsic p) ends = absurd ends
+    exports_fail below many (error.DefinedTwice p) ends = absurd ends
+    exports_fail below many (error.BadOptions p) ends = absurd ends
 
-  -- the root was read and exports
-  pub root_read : (st : State) (f : Frame) (now : Moment) → built_reading t ms limit body ≡ built_result t body now
-      → NumbersExports st.graph
-      → ExportsEnd t ms st f now.scope now.world [] (built_exports t now.scope (exports_in body) 0 now.world) (Ok tt)
-      → RootRead t ms limit body st
-  unfolding ExportsEnd finishing ExportsStand
-  root_read st f now is numbers ends = record {
-    result = result_of ends.0 now.world;
-    outcome = is ∙ ap (λ x. and_then x (λ (f : Finish). done (result_of f.0 f.1))) ends.1;
-    sound = ends.2.sound;
-    world = world_counted st.types st.graph now.world None ends.2.world;
-    exports = ends.2.exports;
-    numbers = numbers;
-  }
+    -- the root was read and exports
+    pub root_read : ExportsEnd t ms st f s w nodes o (Ok tt) → RootRead t ms limit body st
+    unfolding ExportsEnd ExportsStand
+    root_read ends = record {
+      result = result_of ends.exported ends.world;
+      outcome = is ∙ ap (λ x. and_then x finish) ends.is;
+      sound = ends.stands.sound;
+      world = world_counted st.types st.graph ends.world None ends.stands.world;
+      exports = ends.stands.exports;
+      numbers = ends.numbers;
+    }
 
 -- after its items the root exports nothing yet
 pub root_stands : (t : TypeTable) (ms : List ModuleRecord) (st : State) (f : Frame) (now : Moment)
-    → PointStands t ms st f now → now.world.total ≡ None → RootStands t ms st f now.scope now.world []
-root_stands t ms st f now at total = record {
+    → PointStands t ms st f now → RootStands t ms st f now.scope now.world []
+root_stands t ms st f now at = record {
   sound = at.sound;
+  here = at.here;
+  converted = at.converted;
   frame = at.frame;
   world = at.world;
-  total = total;
-  exports = subst (λ es. AllZip (NameStands st.types st.graph) es []) (sym at.unexported.exports) tt;
+  exports = subst (λ es. AllZip (NameStands t st.types st.graph) es []) (sym at.unexported.exports) tt;
 }
 
 -- a point is one whatever total is counted

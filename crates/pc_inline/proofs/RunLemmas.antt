@@ -27,10 +27,9 @@ use Rattle.pc_inline_state.specs.Typed.{no_resources}
 use Rattle.pc_inline.specs.Inlines.{Inlines, IsFault, StandsForReading}
 use Rattle.pc_inline_state.proofs.GainedLemmas.{tables_more, tables_none}
 use Rattle.pc_inline.proofs.CountLemmas.{counted_exports, counted_holds, counted_items, counted_ordered, counted_plain}
-use Rattle.pc_inline.proofs.CountLemmas.{counted_world}
-use Rattle.pc_inline.proofs.EndLemmas.{done_today, end_today}
+use Rattle.pc_inline.proofs.CountLemmas.{counted_numbers, counted_world}
+use Rattle.pc_inline.proofs.EndLemmas.{done_today, end_today, long_past, total_is}
 use Rattle.pc_inline.proofs.RootFewLemmas.{counted_few, no_room, run_adds, run_tables}
-use Rattle.pc_inline_stack.proofs.TodayLemmas.{past_read, total_read}
 
 -- types keep their numbers in the builder that is handed back, whichever resources were known before
 pub run_keeps : (old taken new : Types) (st st' : State) → taken ≡ record old { resources = no_resources }
@@ -61,12 +60,12 @@ module _ (t : TypeTable) (ms : List ModuleRecord) (limit : ℕ) where
         built = read.outcome;
         stands = record {
           world = counted_world g futures streams errors st.types _ read.world;
-          exports = counted_exports g futures streams errors st.types _ read.exports;
-          numbers = record { as_many = read.numbers.as_many; in_order = read.numbers.in_order };
+          exports = counted_exports g futures streams errors st.types t _ read.exports;
+          numbers = counted_numbers g futures streams errors _ read.numbers;
           ordered = counted_ordered g futures streams errors read.sound.ordered;
           items = counted_items g futures streams errors ms read.sound.items;
           plain = counted_plain g futures streams errors read.sound.plain;
-          held = counted_holds g futures streams errors st.types read.sound.held;
+          held = counted_holds g futures streams errors st.types t read.sound.held;
           future_tables = refl;
           stream_tables = refl;
           error_context_tables = refl;
@@ -161,7 +160,7 @@ module _ (t : TypeTable) (ms : List ModuleRecord) (limit : ℕ) where
           → CountsGraph t ms limit counted body old types g
       counts_here g is end few counted =
           elim (here first.types (Ok end) few counted) as (λ _. CountsGraph t ms limit counted body old types g) [
-            | inl long ↦ inl (past_read t ms limit body counted long)
+            | inl long ↦ inl (long_past t ms limit body counted long)
             | inr h ↦ by h
           ]
         where
@@ -174,13 +173,15 @@ module _ (t : TypeTable) (ms : List ModuleRecord) (limit : ℕ) where
               let most = h.2.most in
               inr (record {
                 total = total;
-                is_total = total_read t ms limit body counted h.1.0 total h.1.1 h.1.2;
+                is_total = total_is t ms limit body counted total h.1;
                 below = h.2.below;
                 added = h.2.added;
                 few = h.2.few;
                 types = adds_here h.2.added most.types;
                 lists = λ l. subst (λ x. length (entries_of x l) ≤ h.2.added) (sym is)
                     (counted_few st.graph st.types h.2.added most.lists l);
+                resources = subst (λ (x : ComponentDfg). length x.imported_resources + length x.resources ≤ h.2.added)
+                    (sym is) most.resources;
               })
 
       -- what the graph has is counted
@@ -203,7 +204,7 @@ module _ (t : TypeTable) (ms : List ModuleRecord) (limit : ℕ) where
               added = adds.0;
               types = adds_here adds.0 adds.1.types;
               tables = tables_within adds.0 adds.1;
-              few = inl (past_read t ms limit body counted long);
+              few = inl (long_past t ms limit body counted long);
             }
             | inr h ↦ by h
           ]

@@ -3,26 +3,26 @@ use Rattle.std.proofs.Common.{◌≡◌, ◌≤◌, ◌+◌, ℕ, zero, suc, Boo
 use Rattle.std.proofs.Common.{Ok, Err, refl, sym, subst, ◌∙◌, if◌then◌else◌, arith}
 use Rattle.std.specs.Prelude.{IfOk, length, nat_lt}
 use Rattle.std.specs.List.{fold}
-use Rattle.pc_types.specs.declared.error.Unsupported.TheVariants.{NotBuilt}
+use Rattle.pc_types.specs.declared.error.Unsupported.TheVariants.{ComponentImport}
 use Rattle.pc_types.specs.declared.module_record.ModuleRecord.{ModuleRecord}
 use Rattle.pc_types.specs.declared.parsed.Entity.{Entity}
-use Rattle.pc_types.specs.declared.parsed.Entity.TheVariants as entity
 use Rattle.pc_types.specs.declared.parsed.TypeTable.{TypeTable}
 use Rattle.pc_types.specs.TypeTree.{Identity}
 use Rattle.pc_parsed.specs.declared.payload.ExternName.{ExternName}
 use Rattle.pc_spec_reading.specs.Components.{Call, read_return}
-use Rattle.pc_spec_reading.specs.Imports.{import_resources, importing, prepare}
+use Rattle.pc_spec_reading.specs.Imports.{give, host_value, import_resources, importing, next_import, prepare}
 use Rattle.pc_spec_reading.specs.Item.{ArgumentOf, Item, Items, and_item, exports_in, import_item}
 use Rattle.pc_spec_reading.specs.Item.{instantiate_component_item, no_items}
 use Rattle.pc_spec_reading.specs.Items.{exports_at}
-use Rattle.pc_spec_reading.specs.Outcome.{Fault, Outcome, and_then, at_item, bad_type, done, fault, found, held, over, past}
+use Rattle.pc_spec_reading.specs.Outcome.{Fault, Outcome, and_then, at_item, bad_type, done, fault, found, held, over}
+use Rattle.pc_spec_reading.specs.Outcome.{past}
 use Rattle.pc_spec_reading.specs.Outcome.{unsupported}
 use Rattle.pc_spec_reading.specs.Reading.{Enter, Return, beginning, begun_in, instantiate, returning, read_item}
 use Rattle.pc_spec_reading.specs.Reading.{read_items, read_body, read_child, enter_at, prepared, prepare_all}
 use Rattle.pc_spec_reading.specs.Resource.{ResourcePath, newly, resource_paths}
 use Rattle.pc_spec_reading.specs.Scope.{Moment}
 use Rattle.pc_spec_reading.specs.Total.{body_weight}
-use Rattle.pc_spec_reading.specs.Types.{declared_tree, names_entry}
+use Rattle.pc_spec_reading.specs.Types.{declared_tree, is_defined_entity, names_entry}
 use Rattle.pc_spec_reading.specs.Value.{Component, Value, closed}
 use Rattle.pc_spec_reading.specs.World.{World, grown, has_room}
 use Rattle.pc_inline_state.specs.Today.{built_enter, built_item, built_items, built_prepare}
@@ -99,7 +99,7 @@ module _ (t : TypeTable) (ms : List ModuleRecord) where
 
   module _ (enter : Enter) (child : ChildGrows enter) where
     instance_grows : (n component : ℕ) (args : List ArgumentOf) (ty : ℕ) (now last : Moment)
-        → instantiate (today t) t ms enter n component args ty now ≡ done last → Grows now last
+        → instantiate today t ms enter n component args ty now ≡ done last → Grows now last
     unfolding instantiate
     instance_grows n component args ty now last is =
         let c = now.scope.component_instance in
@@ -140,7 +140,7 @@ module _ (t : TypeTable) (ms : List ModuleRecord) where
     returned body last r is = same_done _ r is
 
     body_grows : (enter : Enter) → ChildGrows enter → (k : Component) (args : List (List ℕ × Value))
-        (known : List (ℕ × Identity)) (w : World) (r : Return) → read_child (today t) t ms limit enter k args known w
+        (known : List (ℕ × Identity)) (w : World) (r : Return) → read_child today t ms limit enter k args known w
         ≡ done r
         → HasGrown w.total r.world.total
     unfolding read_body
@@ -188,18 +188,28 @@ resources_count now i ps = each (newly now.scope.known ps) now
     each (p ∷ ps) now = each ps (importing now i p)
 
 module _ (t : TypeTable) (ms : List ModuleRecord) where
+  -- what the host gives at a moment after another
+  given_counts : (name : ExternName) (e : Entity) (now next : Moment) → IsCountedAs now next
+      → IfOk (give t name e next) (IsCountedAs now)
+  given_counts name e now next same =
+      counts_found now bad_type (declared_tree t next.scope e) _ (λ tree.
+      counts_found now (unsupported ComponentImport) (host_value (next_import next) e tree) _ (λ v. same))
+
   -- an import that is prepared
   prepare_counts : (name : ExternName) (e : Entity) (now last : Moment) → built_prepare t name e now ≡ Ok last
       → IsCountedAs now last
   unfolding prepared today prepare
-  prepare_counts name (entity.Func n) now last is =
-      let i = length now.world.imports in
-      let known = import_resources now i (resource_paths t (entity.Func n)) in
-      let more = resources_count now i (resource_paths t (entity.Func n)) in
+  prepare_counts name e now last is =
       subst (λ r. IfOk r (IsCountedAs now)) is
-      (counts_held now bad_type (names_entry t (entity.Func n)) _
-      (counts_found now bad_type (declared_tree t known.scope (entity.Func n)) _ (λ tree. more)))
-  prepare_counts name e now last is = absurd (not_ok (unsupported NotBuilt) last is)
+      (counts_held now bad_type (names_entry t e) _ (by (is_defined_entity t e)))
+    where
+      brought : Moment
+      brought = import_resources now (length now.world.imports) (resource_paths t e)
+
+      by : (b : Bool) → IfOk (if b then Ok now else give t name e brought) (IsCountedAs now)
+      by true = (refl, refl)
+      by false =
+          given_counts name e now brought (resources_count now (length now.world.imports) (resource_paths t e))
 
   -- the imports of a root
   pub prepared_counts : (is : Items) (n : ℕ) (now last : Moment) → built_prepare_all t n is now ≡ done last

@@ -6,8 +6,6 @@ use Rattle.pc_types.specs.declared.error.Error.TheVariants as error
 use Rattle.pc_types.specs.declared.error.Unsupported.TheVariants.{NotBuilt}
 use Rattle.pc_types.specs.declared.module_record.ModuleRecord.{ModuleRecord}
 use Rattle.pc_types.specs.declared.parsed.TypeTable.{TypeTable}
-use Rattle.pc_parsed.specs.declared.payload.ExternName.{ExternName}
-use Rattle.pc_parsed.specs.declared.payload.ItemKind.{ItemKind}
 use Rattle.pc_spec_reading.specs.Answer.{IsPast}
 use Rattle.pc_spec_reading.specs.Item.{Items}
 use Rattle.pc_spec_reading.specs.Outcome.{Outcome, bad_type, done, fault, invalid, over, unsupported}
@@ -15,14 +13,10 @@ use Rattle.pc_spec_reading.specs.Reading.{Reading, reading_of}
 use Rattle.pc_spec_reading.specs.World.{World}
 use Rattle.pc_dfg.specs.declared.dfg.ComponentDfg.{ComponentDfg}
 use Rattle.pc_dfg.specs.Ordered.{IsOrdered}
-use Rattle.pc_inline.specs.Exports.{ExportsStand, NumbersExports}
+use Rattle.pc_inline_exports.specs.Exports.{ExportsStand, NumbersExports}
 use Rattle.pc_inline_state.specs.Today.{built_reading}
 use Rattle.pc_inline_state.specs.Worlds.{HasItems, HoldsTypes, IsPlain, WorldStands}
 use Rattle.pc_spec_reading.specs.Guard.{everything}
-
--- the name of an export
-abbrev pub export_name : ExternName × ItemKind × ℕ → List ℕ
-export_name e = e.0.name
 
 -- the world at the end of a reading; no total is counted
 abbrev pub last_world : Reading → World
@@ -36,18 +30,19 @@ last_world r = record {
 }
 
 -- a graph stands for a reading, with the types that the builder holds
-pub record GraphStands (ms : List ModuleRecord) (types : Types) (g : ComponentDfg) (r : Reading) : Type 0 where
+pub record GraphStands (t : TypeTable) (ms : List ModuleRecord) (types : Types) (g : ComponentDfg) (r : Reading)
+    : Type 0 where
   -- its side effects, imports and trampolines are those of the reading
   pub world : WorldStands types g (last_world r)
   -- and so are its exports
-  pub exports : ExportsStand types g r.nodes
-  pub numbers : NumbersExports g
+  pub exports : ExportsStand t types g r.nodes
+  pub numbers : NumbersExports g r.nodes
   -- it is ordered, and its definitions are items of the modules' instances
   pub ordered : IsOrdered g
   pub items : HasItems ms g
   pub plain : IsPlain g
   -- the types and signatures that it names are there
-  pub held : HoldsTypes types g
+  pub held : HoldsTypes types t g
   -- it counts the tables that the builder holds
   pub future_tables : g.num_future_tables ≡ length types.future_tables
   pub stream_tables : g.num_stream_tables ≡ length types.stream_tables
@@ -60,7 +55,7 @@ pub record StandsForReading (t : TypeTable) (ms : List ModuleRecord) (limit : �
   pub outcome : reading_of everything t ms limit None body ≡ done result
   -- so it is as far as it is built: each item was
   pub built : built_reading t ms limit body ≡ done result
-  pub stands : GraphStands ms types g result
+  pub stands : GraphStands t ms types g result
 
 -- the total of the reading is too much, wherever it begins that counts the types that were held before, and the core
 -- signatures of the table

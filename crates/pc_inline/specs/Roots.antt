@@ -9,7 +9,7 @@ use Rattle.pc_types.specs.declared.module_record.ModuleRecord.{ModuleRecord}
 use Rattle.pc_types.specs.declared.parsed.TypeTable.{TypeTable}
 use Rattle.pc_spec_reading.specs.Item.{Items}
 use Rattle.pc_spec_reading.specs.Outcome.{bad_type, done, fault, invalid, over, past, unsupported}
-use Rattle.pc_spec_reading.specs.Reading.{Reading}
+use Rattle.pc_spec_reading.specs.Reading.{Reading, reading_of}
 use Rattle.pc_spec_reading.specs.Scope.{Moment}
 use Rattle.pc_spec_reading.specs.Total.{body_weight, prepared_weight}
 use Rattle.pc_spec_reading.specs.World.{full}
@@ -21,11 +21,11 @@ use Rattle.pc_inline_state.specs.declared.state.State.{State}
 use Rattle.pc_inline_state.specs.Adds.{most_prepared_of}
 use Rattle.pc_inline_state.specs.Gained.{AddsTables}
 use Rattle.pc_inline_stack.specs.Driving.{reading_from}
-use Rattle.pc_inline.specs.Exports.{ExportsStand, NumbersExports}
+use Rattle.pc_inline_exports.specs.Exports.{ExportsStand, NumbersExports}
 use Rattle.pc_inline.specs.Inlines.{last_world}
 use Rattle.pc_inline_state.specs.Points.{IsFullSomewhere, IsSoundState, PointStands}
 use Rattle.pc_inline_state.specs.Tables.{Keeps, Tables, tables_of}
-use Rattle.pc_inline_state.specs.Today.{built_reading, built_root}
+use Rattle.pc_inline_state.specs.Today.{built_reading, built_root, today}
 use Rattle.pc_inline_state.specs.Worlds.{WorldStands}
 
 -- a state stands for the reading of a root
@@ -34,16 +34,25 @@ pub record RootRead (t : TypeTable) (ms : List ModuleRecord) (limit : ℕ) (body
   pub outcome : built_reading t ms limit body ≡ done result
   pub sound : IsSoundState t ms st
   pub world : WorldStands st.types st.graph (last_world result)
-  pub exports : ExportsStand st.types st.graph result.nodes
-  pub numbers : NumbersExports st.graph
+  pub exports : ExportsStand t st.types st.graph result.nodes
+  pub numbers : NumbersExports st.graph result.nodes
 
--- the reading as far as it is built ends so, or a list is full where the root has begun
+-- the total of the reading as far as it is built, which begins with this one, is too much
+abbrev pub IsLong : TypeTable → List ModuleRecord → (limit : ℕ) → Items → (counted : ℕ) → Type 0
+IsLong t ms limit body counted = reading_of today t ms limit (Some counted) body ≡ past
+
+-- a list is full, or the total is too much wherever it begins; and the root has begun
+abbrev pub IsCrowded : TypeTable → List ModuleRecord → (limit : ℕ) → Items → State → Type 0
+IsCrowded t ms limit body st =
+    (IsFullSomewhere (tables_of st) ⊎ ((counted : ℕ) → IsLong t ms limit body counted)) × (0 < limit)
+
+-- the reading as far as it is built ends so, or there is too much of something
 abbrev pub IsBuiltEnd : TypeTable → List ModuleRecord → (limit : ℕ) → Items → State → Error → Type 0
 IsBuiltEnd t ms limit body st (error.Invalid p) = built_reading t ms limit body ≡ fault invalid p
 IsBuiltEnd t ms limit body st (error.BadType p) = built_reading t ms limit body ≡ fault bad_type p
 IsBuiltEnd t ms limit body st (error.Unsupported u p) = built_reading t ms limit body ≡ fault (unsupported u) p
 IsBuiltEnd t ms limit body st error.TooManyInstances = built_reading t ms limit body ≡ over
-IsBuiltEnd t ms limit body st error.TooMany = IsFullSomewhere (tables_of st) × (0 < limit)
+IsBuiltEnd t ms limit body st error.TooMany = IsCrowded t ms limit body st
 IsBuiltEnd t ms limit body st error.NoMemory = Unit {0}
 IsBuiltEnd t ms limit body st e = ⊥
 
@@ -72,10 +81,6 @@ pub record RootStarts (t : TypeTable) (ms : List ModuleRecord) (limit : ℕ) (bo
 abbrev pub first_total : TypeTable → List ModuleRecord → Items → (counted : ℕ) → ℕ
 first_total t ms body counted = counted + (1 + (body_weight t ms body + prepared_weight t ms body))
 
--- the total of the reading as far as it is built, which begins with this one, is too much before its exports
-abbrev pub IsLong : TypeTable → List ModuleRecord → (limit : ℕ) → Items → (counted : ℕ) → Type 0
-IsLong t ms limit body counted = built_root t ms limit (Some counted) body ≡ past
-
 -- a root has begun and its imports have been prepared, whether or not the total is counted, and wherever it begins
 pub record RootBegun (t : TypeTable) (ms : List ModuleRecord) (limit : ℕ) (body : Items) (st : State) (f : Frame)
     : Type 0 where
@@ -100,6 +105,7 @@ pub record HasAtMost (t : TypeTable) (added : ℕ) (old : Types) (new : Tables) 
   pub closures : length new.closures ≤ added
   pub instances : length new.instances ≤ added
   pub begun : new.graph.num_runtime_component_instances ≤ added + 1
+  pub resources : length new.graph.imported_resources + length new.graph.resources ≤ added
 
 -- a total that begins with another bounds what was added
 pub record HasFew (t : TypeTable) (counted total : ℕ) (old : Types) (new : Tables) : Type 0 where
@@ -125,11 +131,10 @@ BegunHasFew t ms limit bodies root old new =
     (body : Items) → BodyStands bodies no_names root body → (counted : ℕ)
     → IsLongOrHasFew t ms limit body counted old new
 
--- in this total the reading as far as it is built ends when the items of the root have been read, where it begins with
--- that one
+-- in this total the reading as far as it is built ends, where it begins with that one
 abbrev pub EndsWith : TypeTable → List ModuleRecord → (limit : ℕ) → Items → (counted total : ℕ) → Type 0
 EndsWith t ms limit body counted total =
-    (last : Moment) × (built_root t ms limit (Some counted) body ≡ done last) × (last.world.total ≡ Some total)
+    (r : Reading) × (reading_of today t ms limit (Some counted) body ≡ done r) × (r.total ≡ Some total)
 
 -- where the root is done, that total is the one of its reading
 abbrev pub RootHasFewFrom : TypeTable → List ModuleRecord → (limit : ℕ) → Items → (counted : ℕ) → (old : Types)

@@ -1,35 +1,36 @@
 //! The root: it begins, its imports are prepared, its items are read in order, and it exports.
 
-ghost use Rattle.std.specs.Prelude.{◌≡◌, ℕ, None, true, map, IfOk};
+ghost use Rattle.std.specs.Prelude.{◌≡◌, ℕ, None, true, [], length, IfOk, OnOk};
 ghost use Rattle.std.specs.List.{list_all};
-ghost use Rattle.pc_types.specs.Names.{distinct_names};
 ghost use Rattle.pc_types.specs.Record.{is_sound};
 ghost use Rattle.pc_types.specs.Table.{table_fault};
 ghost use Rattle.pc_types_builder.specs.Types.{KeepsTypes};
 ghost use Rattle.pc_spec_reading.specs.Item.{Items};
+ghost use Rattle.pc_local.specs.Sound.{AreSoundBodies, IsSoundBody};
 ghost use Rattle.pc_local.specs.Standing.{BodyStands, no_names};
 ghost use Rattle.pc_inline_state.specs.Adds.{Adds, most_prepared, most_prepared_of};
 ghost use Rattle.pc_inline_state.specs.Gained.{AddsTables};
 ghost use Rattle.pc_inline.specs.Roots.{BeginsRoot, EndsRoot};
 ghost use Rattle.pc_inline_state.specs.Fresh.{IsFresh};
-ghost use Rattle.pc_inline.specs.Inlines.{Inlines, export_name};
-ghost use Rattle.pc_inline_state.specs.Kinds.{kinds_of};
+ghost use Rattle.pc_inline.specs.Inlines.{Inlines};
 ghost use Rattle.pc_inline_state.specs.Points.{IsInput, IsPoint};
+ghost use Rattle.pc_inline_state.specs.Ready.{IsReady};
 ghost use Rattle.pc_inline_stack.specs.Reads.{AreItems, Prepared};
 ghost use Rattle.pc_inline_items.specs.StepsLocal.{PreparesLocal};
 ghost use Rattle.pc_inline_state.specs.Tables.{Keeps, tables_of};
 ghost use Rattle.pc_inline_stack.specs.Totals.{CountsGraph, GainsFew};
 ghost use Rattle.pc_inline_state.specs.Typed.{no_resources};
 
-use crate::exports::export_all;
-use crate::prepare::prepare;
 use pc_dfg::ComponentDfg;
 use pc_entity::TextMap;
+use pc_inline_exports::export_all;
+use pc_inline_imports::prepare;
 use pc_inline_stack::{begin_instance, run};
-use pc_inline_state::{Context, CoreModules, Frame, ItemError, Numbers, State, error_at, kinds_of};
+use pc_inline_state::{Context, CoreModules, Frame, ItemError, Numbers, State, error_at};
 use pc_local::{LocalInitializer, LocalProgram, Translation};
 use pc_types::{Error, TypeTable};
 use pc_types_builder::{ComponentTypesBuilder, Converted, ResourcesBuilder};
+use pc_types_walk::{Leads, TableNames};
 use std::alloc::Global;
 use std::mem;
 
@@ -41,11 +42,14 @@ fn prepare_item(
     item: &LocalInitializer,
 ) -> Result<(), ItemError>
     requires input { IsInput context.now.table.now context.now.modules }
+    requires ready { IsReady context.now }
     requires here { IsPoint context.now.table.now context.now.modules state.old frame.old }
+    requires undeclared { state.old.graph.resources ≡ [] }
     ensures keeps { Keeps (tables_of state.old) (tables_of state.new) }
     ensures same { frame.new.component_instance ≡ frame.old.component_instance }
     ensures adds { Adds context.now.table.now (most_prepared context.now.table.now item.now)
         (tables_of state.old) (tables_of state.new) }
+    ensures undeclared { OnOk result (state.new.graph.resources ≡ []) }
     ensures steps { PreparesLocal context.now.table.now context.now.modules item.now
         state.old frame.old state.new frame.new result }
 {
@@ -63,7 +67,9 @@ pub(crate) fn prepare_all(
     items: &[LocalInitializer],
 ) -> Result<(), Error>
     requires input { IsInput context.now.table.now context.now.modules }
+    requires ready { IsReady context.now }
     requires here { IsPoint context.now.table.now context.now.modules state.old frame.old }
+    requires undeclared { state.old.graph.resources ≡ [] }
     requires items { AreItems state.old.bodies.now items.now }
     ensures keeps { Keeps (tables_of state.old) (tables_of state.new) }
     ensures same { frame.new.component_instance ≡ frame.old.component_instance }
@@ -88,8 +94,10 @@ fn begin_root(
     limit: u32,
 ) -> Result<Frame, Error>
     requires input { IsInput context.now.table.now context.now.modules }
+    requires ready { IsReady context.now }
     requires fresh { IsFresh context.now.table.now state.old }
     requires stands { (body : Items) × BodyStands state.old.bodies.now no_names root.now body }
+    requires bodies { AreSoundBodies (length context.now.modules) state.old.bodies.now }
     ensures { BeginsRoot context.now.table.now context.now.modules limit root.now state.old state.new result }
 {
     let instance = begin_instance(&mut state.graph, limit)?;
@@ -108,15 +116,16 @@ pub(crate) fn inline_root(
     limit: u32,
 ) -> Result<(), Error>
     requires input { IsInput context.now.table.now context.now.modules }
-    requires kinds { context.now.kinds ≡ kinds_of context.now.table.now }
+    requires ready { IsReady context.now }
     requires fresh { IsFresh context.now.table.now state.old }
     requires stands { (body : Items) × BodyStands state.old.bodies.now no_names root.now body }
-    requires distinct { distinct_names (map export_name root.now.exports) ≡ true }
+    requires sound { IsSoundBody (length context.now.modules) root.now }
+    requires bodies { AreSoundBodies (length context.now.modules) state.old.bodies.now }
     ensures { EndsRoot context.now.table.now context.now.modules limit root.now state.old state.new result }
 {
     let begun = begin_root(context, state, root, limit)?;
-    let frame = run(context, state, root, begun, limit)?;
-    export_all(context, state, &frame, root.exports.as_slice())
+    let mut frame = run(context, state, root, begun, limit)?;
+    export_all(context, state, &mut frame, root.exports.as_slice())
 }
 
 /// No resource is known, and types are converted in the root.
@@ -139,7 +148,8 @@ pub fn inline_run(
     requires table { table_fault table.now ≡ None }
     requires modules { list_all (is_sound table.now) program.now.modules ≡ true }
     requires stands { (body : Items) × BodyStands program.now.components no_names program.now.root body }
-    requires distinct { distinct_names (map export_name program.now.root.exports) ≡ true }
+    requires root { IsSoundBody (length program.now.modules) program.now.root }
+    requires components { AreSoundBodies (length program.now.modules) program.now.components }
     ensures inlines { (body : Items) → BodyStands program.now.components no_names program.now.root body
         → Inlines table.now program.now.modules limit body types.old types.new result }
     ensures few { (body : Items) → BodyStands program.now.components no_names program.now.root body
@@ -153,16 +163,19 @@ pub fn inline_run(
         → GainsFew table.now program.now.modules limit counted body types.old types.new }
 {
     let modules = CoreModules::new(alloc, program.modules.as_slice())?;
+    let leads = Leads::new(alloc, table)?;
+    let names = TableNames::new(alloc, table)?;
     let context = Context {
         alloc,
         table,
-        kinds: kinds_of(table),
+        leads,
+        names,
         modules,
     };
     let numbers = Numbers::new(alloc, table)?;
     forget_resources(alloc, types);
     let builder = mem::replace(types, ComponentTypesBuilder::new(alloc));
-    let mut state = State::new(alloc, builder, numbers, &program.components);
+    let mut state = State::new(alloc, builder, numbers, &program.components, table);
     let inlined = inline_root(&context, &mut state, &program.root, limit);
     let graph = state.take_graph(alloc);
     mem::swap(types, &mut state.types);

@@ -4,8 +4,6 @@
 //! begins in it, and it exports.
 #![tactic(auto)]
 
-mod exports;
 mod inliner;
-mod prepare;
 
 pub use inliner::inline_run;

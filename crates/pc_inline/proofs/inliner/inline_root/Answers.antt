@@ -7,7 +7,8 @@ run-requires c =
     let here = run_starts _ _ _ c.args.root.now _ _ _ c.in_ok-begun.ensures c.requires.stands in
     record {
       input = c.requires.input;
-      kinds = c.requires.kinds;
+      ready = c.requires.ready;
+      sound = c.requires.sound;
       here = here.0;
       items = here.1;
       begun = here.2;
@@ -19,15 +20,16 @@ export_all-requires c =
     let here = export_starts _ _ _ c.args.root.now _ _ _ c.in_ok-begun.ensures _ c.run.ensures.keeps c.run.ensures.adds
     _ c.in_ok-frame.ensures.runs c.requires.stands in
     record {
+      input = c.requires.input;
       root = here.0;
       unexported = here.1;
-      distinct = names_distinct c.args.root.now _ c.as_slice.ensures c.requires.distinct;
+      distinct = names_distinct _ c.args.root.now _ c.as_slice.ensures c.requires.sound;
     }
 
 pub returns : goal.returns
 returns c =
     root_done _ _ _ c.args.root.now _ _ _ c.in_ok-begun.ensures _ c.run.ensures.keeps c.run.ensures.adds _
-    c.in_ok-frame.ensures.runs c.in_ok-frame.ensures.counts _ c.as_slice.ensures _ _ c.export_all.ensures
+    c.in_ok-frame.ensures.runs c.in_ok-frame.ensures.counts _ c.as_slice.ensures _ _ _ c.export_all.ensures
 
 pub returns-in_err-begun : goal.returns-in_err-begun
 returns-in_err-begun c =

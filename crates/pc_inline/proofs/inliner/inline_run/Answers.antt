@@ -1,17 +1,33 @@
-use Rattle.std.proofs.Common.{ap, ◌∙◌}
+use Rattle.std.proofs.Common.{ap, length, subst, sym, ◌∙◌}
+use Rattle.pc_local.specs.Sound.{AreSoundBodies, IsSoundBody}
 use Rattle.pc_inline.proofs.RunLemmas.{gains_nothing, run_counts, run_ends, run_gained, run_gains}
 use Rattle.pc_inline.proofs.RunLemmas.{run_keeps, run_unfed, stands_among}
 use Rattle.pc_inline.proofs.inliner.inline_run.Goals as goal
 
 pub inline_root-inlined-requires-clause-fresh : goal.inline_root-inlined-requires-clause-fresh
 inline_root-inlined-requires-clause-fresh c =
-    c.new-state.ensures.fresh c.args.table.now
+    c.new-state.ensures.fresh
     (ap (λ b. b.resources) (c.replace-builder.ensures.value ∙ c.forget_resources.ensures)) (c.in_ok-numbers.ensures _)
 
 pub inline_root-inlined-requires-clause-stands : goal.inline_root-inlined-requires-clause-stands
 inline_root-inlined-requires-clause-stands c =
     let s = c.requires.stands in
     (s.0, stands_among _ _ c.new-state.ensures.bodies c.args.program.now.root _ s.1)
+
+pub inline_root-inlined-requires-clause-ready : goal.inline_root-inlined-requires-clause-ready
+inline_root-inlined-requires-clause-ready c =
+    record { leads = c.in_ok-leads.ensures; names = c.in_ok-names.ensures }
+
+pub inline_root-inlined-requires-clause-sound : goal.inline_root-inlined-requires-clause-sound
+inline_root-inlined-requires-clause-sound c =
+    subst (λ xs. IsSoundBody (length xs) c.args.program.now.root)
+    (sym (c.in_ok-modules.ensures ∙ c.as_slice.ensures)) c.requires.root
+
+pub inline_root-inlined-requires-clause-bodies : goal.inline_root-inlined-requires-clause-bodies
+inline_root-inlined-requires-clause-bodies c =
+    subst (λ xs. AreSoundBodies (length xs) c.new-state.result.bodies.now)
+    (sym (c.in_ok-modules.ensures ∙ c.as_slice.ensures))
+    (subst (AreSoundBodies (length c.args.program.now.modules)) (sym c.new-state.ensures.bodies) c.requires.components)
 
 pub returns-clause-inlines : goal.returns-clause-inlines
 returns-clause-inlines c body stands =
@@ -63,3 +79,17 @@ returns-in_err-numbers-clause-inlines c body stands =
 
 pub returns-in_err-numbers-clause-adds : goal.returns-in_err-numbers-clause-adds
 returns-in_err-numbers-clause-adds c body stands counted = gains_nothing _ _ _ body _ counted
+
+pub returns-in_err-leads-clause-inlines : goal.returns-in_err-leads-clause-inlines
+returns-in_err-leads-clause-inlines c body stands =
+    run_unfed _ _ _ body _ _ _ c.from_residual-in_err-leads.ensures.1
+
+pub returns-in_err-leads-clause-adds : goal.returns-in_err-leads-clause-adds
+returns-in_err-leads-clause-adds c body stands counted = gains_nothing _ _ _ body _ counted
+
+pub returns-in_err-names-clause-inlines : goal.returns-in_err-names-clause-inlines
+returns-in_err-names-clause-inlines c body stands =
+    run_unfed _ _ _ body _ _ _ c.from_residual-in_err-names.ensures.1
+
+pub returns-in_err-names-clause-adds : goal.returns-in_err-names-clause-adds
+returns-in_err-names-clause-adds c body stands counted = gains_nothing _ _ _ body _ counted

@@ -7,10 +7,15 @@ use Rattle.pc_inline_state.proofs.StateLemmas.{keeps_trans}
 use Rattle.pc_inline.proofs.inliner.prepare_all.Goals as goal
 
 pub loop-n-init : goal.loop-n-init
-loop-n-init c = none_prepared _ _ _ _ _ c.requires.here
+loop-n-init c = none_prepared _ _ _ _ _ c.requires.here c.requires.undeclared
 
 pub prepare_item-requires : goal.prepare_item-requires
-prepare_item-requires c = record { input = c.requires.input; here = c.loop-n.invariant.prepared.point }
+prepare_item-requires c = record {
+  input = c.requires.input;
+  ready = c.requires.ready;
+  here = c.loop-n.invariant.prepared.point;
+  undeclared = c.loop-n.invariant.undeclared;
+}
 
 pub loop-n-preserved : goal.loop-n-preserved
 loop-n-preserved c =
@@ -21,6 +26,7 @@ loop-n-preserved c =
       adds = added_more _ (most_prepared c.args.context.now.table.now) c.args.items.now c.loop-n.n _
           c.loop-n-test.true c.index-items-n.is _ _ _
           c.loop-n.invariant.adds c.in_default.ensures.adds;
+      undeclared = c.in_default.ensures.undeclared;
     }
 
 pub returns-in-Err : goal.returns-in-Err

@@ -22,5 +22,6 @@ returns-in_default c = record {
   keeps = keeps_refl _;
   same = refl;
   adds = adds_refl _ _ _;
+  undeclared = c.requires.undeclared;
   steps = other_prepares _ _ _ _ _ c.in_default.not-Import;
 }
