@@ -28,7 +28,7 @@ use Rattle.pc_translate.proofs.ModuleTreeLemmas.{is_module_def, module_entry}
 use Rattle.pc_translate.specs.ModuleTypes.{AddsModules, IsExported, IsModuleType}
 
 -- a list that keeps its items and is no longer is as it was
-kept_same : {A : Type 0} (xs ys : List A) → Kept xs ys
+pub kept_same : {A : Type 0} (xs ys : List A) → Kept xs ys
     → ((i : ℕ) → length xs ≤ i → i < length ys → ⊥) → ys ≡ xs
 kept_same [] [] kept none = refl
 kept_same [] (y ∷ ys) kept none = absurd (none 0 (omega arith) (omega arith))
@@ -68,7 +68,7 @@ not_signature k other same = true≢false (sym other ∙ ap is_other same)
 module _ (t : TypeTable) (n : ℕ) (imports : List (List ℕ × List ℕ × CoreEntity))
     (exports : List (List ℕ × CoreEntity)) (at : slice_get t.types n ≡ Some (entry.Module imports exports)) where
   -- a module type names no entry, so no other is reached from it
-  alone : {m : ℕ} → IsReached t n m → m ≡ n
+  pub alone : {m : ℕ} → IsReached t n m → m ≡ n
   alone asked = refl
   alone (named k m e reached found among) =
       let here : slice_get t.types n ≡ Some e = subst (λ q. slice_get t.types q ≡ Some e) (alone reached) found in

@@ -4,7 +4,7 @@ use Rattle.std.proofs.Common.{if◌then◌else◌, refl, sym, ap, subst, ◌∙�
 use Rattle.std.specs.Prelude.{slice_get, option_map}
 use Rattle.std.specs.List.{AllZip, filter_map, fold, list_any}
 use Rattle.std.proofs.lemmas.Bool.{eq-eqb}
-use Rattle.std.proofs.lemmas.Option.{none-some, same_Some}
+use Rattle.std.proofs.lemmas.Option.{none-some, same_Some, slice_get-map}
 use Rattle.pc_entity.specs.Lists.{AreDistinct}
 use Rattle.pc_entity.proofs.Elements.{true_and}
 use Rattle.pc_entity.proofs.Naming.{bytes_eq-refl}
@@ -12,6 +12,7 @@ use Rattle.pc_types_lists.specs.Types.{Types}
 use Rattle.pc_numbers.specs.declared.runtime.ImportIndex.{ImportIndex}
 use Rattle.pc_numbers.specs.declared.runtime.RuntimeImportIndex.{RuntimeImportIndex}
 use Rattle.pc_types.specs.declared.module_record.ModuleRecord.{ModuleRecord}
+use Rattle.pc_types.specs.declared.parsed.TypeTable.{TypeTable}
 use Rattle.pc_types.specs.TypeTree.{Path}
 use Rattle.pc_spec_plan.specs.Log.{Entry}
 use Rattle.pc_info.specs.declared.component.ComponentTranslation.{ComponentTranslation}
@@ -23,6 +24,7 @@ use Rattle.pc_spec_reading.specs.Asked.{needed_path, paths_needed, with_path}
 use Rattle.pc_spec_reading.specs.Reading.{Reading}
 use Rattle.pc_spec_reading.specs.SameTypes.{same_names, same_path}
 use Rattle.pc_dfg.specs.declared.dfg.ComponentDfg.{ComponentDfg}
+use Rattle.pc_dfg.specs.Means.{HasPath}
 use Rattle.pc_dfg_finish.specs.Finishes.{Finishes}
 use Rattle.pc_inline.specs.Inlines.{GraphStands}
 use Rattle.pc_inline_state.proofs.HoldsLemmas.{holds_so, reads_fit}
@@ -85,13 +87,28 @@ paths_of : (xs : List (ImportIndex × List (List ℕ))) → map path_of (map imp
 paths_of [] = refl
 paths_of (x ∷ xs) = ap (λ ps. path_of (import_view x) ∷ ps) (paths_of xs)
 
+-- numbers of host items have the paths of these
+paths_at : (g : ComponentDfg) (rs : List RuntimeImportIndex) (ps : List Path)
+    → AllZip (λ (r : RuntimeImportIndex). HasPath g r.0) rs ps
+    → map (λ n. option_map path_of (slice_get (map import_view g.imports) n)) (map (λ (r : RuntimeImportIndex). r.0) rs)
+    ≡ map Some ps
+paths_at g [] [] h = refl
+paths_at g [] (p ∷ ps) h = absurd h
+paths_at g (r ∷ rs) [] h = absurd h
+paths_at g (r ∷ rs) (p ∷ ps) h =
+    let one : option_map path_of (slice_get (map import_view g.imports) r.0) ≡ Some p =
+    ap (option_map path_of) (slice_get-map import_view g.imports r.0 ∙ ap (option_map import_view) h.0) in
+    let rest = paths_at g rs ps h.1 in
+    λ i. one i ∷ rest i
+
 -- each path that a log needs stands once
 pub once_each : (log : List (Entry reading.Mark)) → AreDistinct (paths_needed log)
 unfolding paths_needed
 once_each log = distinct_paths [] (filter_map needed_path log) (λ i j x at_i at_j. absurd (none-some x at_i))
 
-module _ (types : Types) (ms : List ModuleRecord) (g : ComponentDfg) (r : Reading) (converted : ℕ → Mark)
-    (plan : ComponentTranslation) (stands : GraphStands ms types g r) (finished : Finishes g converted plan) where
+module _ (t : TypeTable) (types : Types) (ms : List ModuleRecord) (g : ComponentDfg) (r : Reading)
+    (converted : ℕ → Mark) (plan : ComponentTranslation) (stands : GraphStands t ms types g r)
+    (finished : Finishes g converted plan) where
   -- the host items of the plan by their paths are those that the log needs
   paths_are : map path_of (map import_view plan.component.imports) ≡ paths_needed r.log
   paths_are = paths_of plan.component.imports ∙ ap (map world.path_of) finished.imports ∙ stands.world.imports
@@ -105,13 +122,15 @@ module _ (types : Types) (ms : List ModuleRecord) (g : ComponentDfg) (r : Readin
           name = s.name;
           extern_data = s.extern_data;
           typed = holds_so types (Fits g) (ReadsAs r.imported_resources)
-              (reads_fit g stands.plain r.imported_resources) (mark.Type_ x.1.ty)
+              (reads_fit g r.imported_resources stands.world.imported_resources) (mark.Type_ x.1.ty)
               (reading.of_type h.import_type) s.typed;
         })
         g.import_types r.imports stands.world.import_types);
     imports = paths_are;
     resources = ap (λ (rs : List RuntimeImportIndex). map (λ n. option_map path_of (slice_get
         (map import_view plan.component.imports) n)) (map (λ (r : RuntimeImportIndex). r.0) rs))
-        (finished.imported_resources ∙ stands.plain.imported_resources)
-        ∙ sym (ap (map Some) stands.world.imported_resources);
+        finished.imported_resources
+        ∙ ap (λ (is : List (ImportIndex × List (List ℕ))). map (λ n. option_map path_of (slice_get
+        (map import_view is) n)) (map (λ (r : RuntimeImportIndex). r.0) g.imported_resources)) finished.imports
+        ∙ paths_at g g.imported_resources r.imported_resources stands.world.imported_resources;
   }

@@ -5,7 +5,6 @@ use Rattle.std.specs.Prelude.{nat_lt, option_map}
 use Rattle.std.specs.List.{list_all}
 use Rattle.std.specs.Result.{IsErrAnd}
 use Rattle.std.proofs.lemmas.Option.{same_Some}
-use Rattle.std.proofs.lemmas.Simd.{map-map}
 use Rattle.pc_types_lists.specs.Types.{IsBuilder, Types, types_held}
 use Rattle.pc_types_lists.proofs.FewLemmas.{few_none}
 use Rattle.pc_types.specs.declared.error.Error.{Error}
@@ -15,7 +14,6 @@ use Rattle.pc_types.specs.declared.error.Unsupported.{Unsupported}
 use Rattle.pc_types.specs.declared.error.Unsupported.TheVariants as unsupported
 use Rattle.pc_types.specs.declared.module_record.ModuleRecord.{ModuleRecord}
 use Rattle.pc_types.specs.declared.parsed.TypeTable.{TypeTable}
-use Rattle.pc_types.specs.Names.{distinct_names}
 use Rattle.pc_types.specs.Record.{is_sound}
 use Rattle.pc_types.specs.Table.{is_some_and}
 use Rattle.pc_info.specs.declared.component.ComponentTranslation.{ComponentTranslation}
@@ -25,19 +23,19 @@ use Rattle.pc_parsed.specs.Program.{is_numbered}
 use Rattle.pc_parsed.specs.StaticFault.{static_fault}
 use Rattle.pc_parsed.proofs.KindLemmas.{IsStatic, static_kind}
 use Rattle.pc_spec_reading.specs.Answer.{answer_from, answer_of, ending, or_fault}
-use Rattle.pc_spec_reading.specs.Item.{ExportOf, Items, exports_in}
+use Rattle.pc_spec_reading.specs.Item.{Items}
 use Rattle.pc_spec_reading.specs.Nest.{root_of}
 use Rattle.pc_spec_reading.specs.Outcome.{Outcome, bad_type, fault, invalid, over, past}
 use Rattle.pc_spec_reading.specs.Outcome as outcome
 use Rattle.pc_spec_reading.specs.Reading.{Reading, reading}
-use Rattle.pc_spec_reading.specs.Section.{modules_of, named_item}
+use Rattle.pc_spec_reading.specs.Section.{modules_of}
 use Rattle.pc_spec_reading.specs.Total.{counted}
 use Rattle.pc_spec_reading.specs.World.{full}
-use Rattle.pc_local.proofs.NameLemmas.{modules_sound, root_names}
+use Rattle.pc_local.proofs.NameLemmas.{modules_sound}
 use Rattle.pc_local.specs.declared.item.LocalProgram.{LocalProgram}
 use Rattle.pc_local.specs.Program.{ProgramStands}
 use Rattle.pc_local.specs.Standing.{BodyStands, no_names}
-use Rattle.pc_inline.specs.Inlines.{EndsAs as IsEnd, HasNoRoom, IsFault, export_name}
+use Rattle.pc_inline.specs.Inlines.{EndsAs as IsEnd, HasNoRoom, IsFault}
 use Rattle.pc_inline_state.proofs.GainedLemmas.{tables_none}
 use Rattle.pc_inline_stack.specs.Totals.{GainsFew}
 use Rattle.pc_translate.proofs.AnswerLemmas.{built_end, built_fault, end_answer, fault_answer, full_answer, full_first}
@@ -94,9 +92,9 @@ module _ (t : TypeTable) (exposed : Option (List ℕ)) (limit held : ℕ) (ps : 
       → (built_answer t exposed limit ps ≡ Some (ending o)) × (answer_from t exposed limit None ps ≡ Some (ending o))
   unfolding built_answer answer_from meaning
   both_answer can o means built =
-      let input : is_built_input t exposed ps ≡ true =
-      ap (is_some_and (are_built t)) can.built.1 ∙ can.built.2 in (
-        built_end (is_numbered t ps) (is_built_input t exposed ps) (static_fault t exposed ps)
+      let input : is_built_input exposed ps ≡ true =
+      ap (is_some_and are_built) can.built.1 ∙ can.built.2 in (
+        built_end (is_numbered t ps) (is_built_input exposed ps) (static_fault t exposed ps)
             (built_meaning t exposed limit ps) o can.numbered can.sound input built,
         end_answer (static_fault t exposed ps) (reading t exposed limit None ps) o can.sound means,
       )
@@ -106,9 +104,9 @@ module _ (t : TypeTable) (exposed : Option (List ℕ)) (limit held : ℕ) (ps : 
       → built_answer t exposed limit ps ≡ Some (ending o)
   unfolding built_answer
   built_alone can o built =
-      let input : is_built_input t exposed ps ≡ true =
-      ap (is_some_and (are_built t)) can.built.1 ∙ can.built.2 in
-      built_end (is_numbered t ps) (is_built_input t exposed ps) (static_fault t exposed ps)
+      let input : is_built_input exposed ps ≡ true =
+      ap (is_some_and are_built) can.built.1 ∙ can.built.2 in
+      built_end (is_numbered t ps) (is_built_input exposed ps) (static_fault t exposed ps)
       (built_meaning t exposed limit ps) o can.numbered can.sound input built
 
   -- a static fault is both answers
@@ -116,7 +114,7 @@ module _ (t : TypeTable) (exposed : Option (List ℕ)) (limit held : ℕ) (ps : 
       → (built_answer t exposed limit ps ≡ Some (Err e)) × (answer_from t exposed limit None ps ≡ Some (Err e))
   unfolding built_answer answer_from
   static_answer e numbered at = (
-    built_fault (is_numbered t ps) (is_built_input t exposed ps) (static_fault t exposed ps)
+    built_fault (is_numbered t ps) (is_built_input exposed ps) (static_fault t exposed ps)
         (built_meaning t exposed limit ps) e numbered at,
     fault_answer (static_fault t exposed ps) (option_map ending (reading t exposed limit None ps)) e at,
   )
@@ -252,17 +250,6 @@ pub program_sound : (t : TypeTable) (exposed : Option (List ℕ)) (ps : List Pay
 program_sound t exposed ps program stands can =
     subst (λ (ms : List ModuleRecord). list_all (is_sound t) ms ≡ true) (sym stands.modules)
     (modules_sound t exposed ps can.sound)
-
--- what a program exports has distinct names
-pub names_distinct : (t : TypeTable) (exposed : Option (List ℕ)) (ps : List Payload) (program : LocalProgram)
-    → ProgramStands exposed ps program → CanBeRead t exposed ps
-    → distinct_names (map export_name program.root.exports) ≡ true
-names_distinct t exposed ps program stands can =
-    let same : map (λ (e : ExportOf). e.name.name) (exports_in stands.body) ≡ map export_name program.root.exports =
-    ap (map (λ (e : ExportOf). e.name.name)) (sym stands.root.exports)
-    ∙ map-map (λ (e : ExportOf). e.name.name) named_item program.root.exports in
-    subst (λ (ns : List (List ℕ)). distinct_names ns ≡ true) same
-    (root_names t exposed ps stands.body can.sound stands.nests)
 
 -- the plan of a program is the translation of its payloads
 pub translates_program : (t : TypeTable) (exposed : Option (List ℕ)) (limit : ℕ) (ps : List Payload)

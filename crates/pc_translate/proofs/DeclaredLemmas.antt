@@ -1,7 +1,8 @@
 -- What a plan has is what the reading declares and makes; a plain graph has no intrinsics.
-use Rattle.std.proofs.Common.{◌≡◌, ◌<◌, ℕ, zero, suc, List, [], ◌∷◌, length, map, None, Some, refl, sym, ap, subst, ◌∙◌}
-use Rattle.std.proofs.Common.{arith}
-use Rattle.std.specs.Prelude.{slice_get}
+use Rattle.std.proofs.Common.{◌≡◌, ◌<◌, ◌+◌, ℕ, zero, suc, List, [], ◌∷◌, ◌++◌, length, map, Option, None, Some, refl}
+use Rattle.std.proofs.Common.{sym, ap, subst, ◌∙◌, append_assoc, arith}
+use Rattle.std.specs.Prelude.{option_and_then, option_map, slice_get}
+use Rattle.std.proofs.lemmas.List.{length-append}
 use Rattle.std.specs.List.{AllZip, Contains, cons_option, filter_map}
 use Rattle.std.proofs.lemmas.Option.{none-some, same_Some}
 use Rattle.pc_entity.specs.declared.packed_option.PackedOption.{PackedOption}
@@ -11,6 +12,7 @@ use Rattle.pc_numbers.specs.declared.module_entity.ModuleInternedTypeIndex.{Modu
 use Rattle.pc_numbers.specs.declared.runtime.RuntimeComponentInstanceIndex.{RuntimeComponentInstanceIndex}
 use Rattle.pc_types.specs.declared.intrinsic.UnsafeIntrinsic.{UnsafeIntrinsic}
 use Rattle.pc_types.specs.declared.module_record.ModuleRecord.{ModuleRecord}
+use Rattle.pc_types.specs.declared.parsed.TypeTable.{TypeTable}
 use Rattle.pc_types.specs.declared.parsed.CoreKind.{CoreKind}
 use Rattle.pc_spec_plan.specs.CoreValue.{map_value}
 use Rattle.pc_spec_plan.specs.Machine.{State}
@@ -26,6 +28,7 @@ use Rattle.pc_dfg.specs.declared.dfg.ComponentDfg.{ComponentDfg}
 use Rattle.pc_dfg.specs.declared.instance.Resource.{Resource}
 use Rattle.pc_dfg.specs.declared.instance.SideEffect.{SideEffect}
 use Rattle.pc_dfg.specs.Effects.{MeansEffect, means_declared, means_made}
+use Rattle.pc_dfg.specs.Ordered.{declared_by}
 use Rattle.pc_dfg.proofs.UniqueLemmas.{means_unique}
 use Rattle.pc_dfg_finish.specs.Finishes.{Finishes, StandsForOne}
 use Rattle.pc_inline.specs.Inlines.{GraphStands}
@@ -37,7 +40,7 @@ use Rattle.pc_inline_state.specs.Fits.{Fits}
 use Rattle.pc_inline_state.specs.Holds.{ReadsAs, number_of, whole_of}
 use Rattle.pc_inline_state.specs.Worlds.{EffectStands}
 use Rattle.pc_translate.proofs.ListLemmas.{none_counted}
-use Rattle.pc_translate.proofs.WiredLemmas.{no_adapters, none_at, occurring_item}
+use Rattle.pc_translate.proofs.WiredLemmas.{no_adapters, occurring_item}
 use Rattle.pc_translate.specs.Asked.{AreSigned, Declares, HasDeclared, HasSignature, resource_owner}
 use Rattle.pc_translate.specs.Planning.{as_handed_in}
 
@@ -49,25 +52,75 @@ owner_mapped f (declared v) = refl
 owner_mapped f (made v) = refl
 owner_mapped f (needed path) = refl
 
--- a graph without resources declares none
-none_declared : (g : ComponentDfg) (e : SideEffect) (x : Entry Mark) → g.resources ≡ [] → MeansEffect g e x
-    → resource_owner x ≡ None
-none_declared g e x none (means_made at means) = refl
-none_declared g e x none (means_declared {n = n} {x = y} at means) =
-    absurd (none_at g.resources n.0 y none at)
+-- the component instance that a graph has for the resource of this number
+abbrev owner_at : List Resource → ℕ → Option ℕ
+owner_at rs n = option_map (λ (x : Resource). x.instance.0) (slice_get rs n)
 
--- entries that declare no resource have no owners
-no_owners : (types : Types) (g : ComponentDfg) → g.resources ≡ [] → (es : List SideEffect)
-    (xs : List (Entry reading.Mark)) → AllZip (EffectStands types g) es xs → filter_map resource_owner xs ≡ []
-no_owners types g none [] [] h = refl
-no_owners types g none [] (x ∷ xs) h = absurd h
-no_owners types g none (e ∷ es) [] h = absurd h
-no_owners types g none (e ∷ es) (x ∷ xs) h =
-    let one : resource_owner x ≡ None = ap resource_owner (sym h.0.is)
+-- that of the resource that a side effect declares, if it declares one
+abbrev effect_owner : ComponentDfg → SideEffect → Option ℕ
+effect_owner g e = option_and_then (owner_at g.resources) (declared_by e)
+
+-- an entry has the owner of the side effect that does it
+owner_meant : (g : ComponentDfg) (e : SideEffect) (x : Entry Mark) → MeansEffect g e x
+    → resource_owner x ≡ effect_owner g e
+owner_meant g e x (means_made at means) = refl
+owner_meant g e x (means_declared {x = y} at means) =
+    sym (ap (option_map (λ (x : Resource). x.instance.0)) at)
+
+-- so have all
+owners_meant : (types : Types) (g : ComponentDfg) (es : List SideEffect) (xs : List (Entry reading.Mark))
+    → AllZip (EffectStands types g) es xs → filter_map resource_owner xs ≡ filter_map (effect_owner g) es
+owners_meant types g [] [] h = refl
+owners_meant types g [] (x ∷ xs) h = absurd h
+owners_meant types g (e ∷ es) [] h = absurd h
+owners_meant types g (e ∷ es) (x ∷ xs) h =
+    let one : resource_owner x ≡ effect_owner g e = ap resource_owner (sym h.0.is)
     ∙ owner_mapped (whole_of types (Fits g)) h.0.numbered ∙ sym (owner_mapped (number_of types (Fits g)) h.0.numbered)
-    ∙ none_declared g e (map_entry (number_of types (Fits g)) h.0.numbered) none h.0.means in
-    let rest = no_owners types g none es xs h.1 in
+    ∙ owner_meant g e (map_entry (number_of types (Fits g)) h.0.numbered) h.0.means in
+    let rest = owners_meant types g es xs h.1 in
     λ i. cons_option (one i) (rest i)
+
+-- the owners of effects are those of the resources that these declare
+owners_declared : (g : ComponentDfg) (es : List SideEffect)
+    → filter_map (effect_owner g) es ≡ filter_map (owner_at g.resources) (filter_map declared_by es)
+owners_declared g [] = refl
+owners_declared g (e ∷ es) = by (declared_by e) (owners_declared g es)
+  where
+    by : (o : Option ℕ)
+        → filter_map (effect_owner g) es ≡ filter_map (owner_at g.resources) (filter_map declared_by es)
+        → cons_option (option_and_then (owner_at g.resources) o) (filter_map (effect_owner g) es)
+        ≡ filter_map (owner_at g.resources) (cons_option o (filter_map declared_by es))
+    by None rest = rest
+    by (Some n) rest = ap (cons_option (owner_at g.resources n)) rest
+
+-- what stands behind others
+behind_others : {A : Type 0} (pre xs : List A) (x : A) → slice_get (pre ++ x ∷ xs) (length pre) ≡ Some x
+behind_others [] xs x = refl
+behind_others (y ∷ pre) xs x = behind_others pre xs x
+
+-- resources behind others, each by its number in order, have their owners in order
+owners_counted : (pre rs : List Resource) (ns : List ℕ) → length ns ≡ length rs
+    → ((i k : ℕ) → slice_get ns i ≡ Some k → k ≡ length pre + i)
+    → filter_map (owner_at (pre ++ rs)) ns ≡ map (λ (x : Resource). x.instance.0) rs
+owners_counted pre [] [] same each = refl
+owners_counted pre [] (n ∷ ns) same each = absurd (omega (arith, same))
+owners_counted pre (r ∷ rs) [] same each = absurd (omega (arith, same))
+owners_counted pre (r ∷ rs) (n ∷ ns) same each =
+    let here : n ≡ length pre = each 0 n refl ∙ (omega arith) in
+    let first : owner_at (pre ++ r ∷ rs) n ≡ Some r.instance.0 =
+    ap (owner_at (pre ++ r ∷ rs)) here ∙ ap (option_map (λ (x : Resource). x.instance.0)) (behind_others pre rs r) in
+    let seam : (pre ++ r ∷ []) ++ rs ≡ pre ++ r ∷ rs = append_assoc pre (r ∷ []) rs in
+    let rest : filter_map (owner_at (pre ++ r ∷ rs)) ns ≡ map (λ (x : Resource). x.instance.0) rs =
+    subst (λ all. filter_map (owner_at all) ns ≡ map (λ (x : Resource). x.instance.0) rs) seam
+    (owners_counted (pre ++ r ∷ []) rs ns (omega (arith, same)) (later n ns each)) in
+    λ i. cons_option (first i) (rest i)
+  where
+    later : (n : ℕ) (ns : List ℕ) → ((i k : ℕ) → slice_get (n ∷ ns) i ≡ Some k → k ≡ length pre + i) → (i k : ℕ)
+        → slice_get ns i ≡ Some k → k ≡ length (pre ++ r ∷ []) + i
+    later n ns each i k at =
+        let here = each (suc i) k at in
+        let long = length-append pre (r ∷ []) in
+        omega (arith, here, long)
 
 -- what declares a resource is an effect
 owners_traced : {τ : Type 0} (log : List (Entry τ))
@@ -78,6 +131,13 @@ owners_traced (declared_resource representation destructor c ∷ log) = ap (λ c
 owners_traced (declared v ∷ log) = owners_traced log
 owners_traced (made v ∷ log) = owners_traced log
 owners_traced (needed path ∷ log) = owners_traced log
+
+-- the owners of resources, by number
+owners_mapped : (rs : List Resource)
+    → map (λ (c : RuntimeComponentInstanceIndex). c.0) (map (λ (x : Resource). x.instance) rs)
+    ≡ map (λ (x : Resource). x.instance.0) rs
+owners_mapped [] = refl
+owners_mapped (r ∷ rs) = ap (λ (ns : List ℕ). r.instance.0 ∷ ns) (owners_mapped rs)
 
 -- an item of a module's instance is no intrinsic
 pub no_intrinsic : (ms : List ModuleRecord) (g : ComponentDfg) (k : CoreKind) (s : ModuleInternedTypeIndex)
@@ -97,15 +157,16 @@ behind_mapped f [] n y at = absurd (none-some y at)
 behind_mapped f (x ∷ xs) zero y at = (x, refl, same_Some (f x) y at)
 behind_mapped f (x ∷ xs) (suc n) y at = behind_mapped f xs n y at
 
-module _ (types : Types) (ms : List ModuleRecord) (g : ComponentDfg) (r : Reading) (converted : ℕ → Mark)
-    (plan : ComponentTranslation) (stands : GraphStands ms types g r) (finished : Finishes g converted plan) where
+module _ (t : TypeTable) (types : Types) (ms : List ModuleRecord) (g : ComponentDfg) (r : Reading)
+    (converted : ℕ → Mark) (plan : ComponentTranslation) (stands : GraphStands t ms types g r)
+    (finished : Finishes g converted plan) where
   -- what stands for one of the graph has the value of an entry that declares it, and its signature
   pub declared_one : (modules : List ModuleTranslation) (s : State Mark) (n : ℕ) → StandsForOne g plan modules s n
       → HasDeclared types plan modules s r n
   declared_one modules s n one =
       let x = stands.world.are_declared one.trampoline.0 one.entry one.at in
       let reads = ReadsAs r.imported_resources in
-      let as_read = so types (Fits g) reads (reads_fit g stands.plain r.imported_resources) in
+      let as_read = so types (Fits g) reads (reads_fit g r.imported_resources stands.world.imported_resources) in
       let whole = value_twice as_read (whole_of types reads) x.stands.numbered ∙ x.stands.is in
       record {
         value = map_value as_read x.stands.numbered;
@@ -127,10 +188,12 @@ module _ (types : Types) (ms : List ModuleRecord) (g : ComponentDfg) (r : Readin
         omega (arith, few, less);
     trampolines = each;
     as_many = finished.signatures;
-    resources = ap (map (λ (c : RuntimeComponentInstanceIndex). c.0)) (finished.resources
-        ∙ ap (map (λ (x : Resource). x.instance)) stands.plain.resources)
-        ∙ sym (owners_traced r.log ∙ no_owners types g stands.plain.resources g.side_effects (trace r.log)
-        stands.world.effects);
+    resources = ap (map (λ (c : RuntimeComponentInstanceIndex). c.0)) finished.resources
+        ∙ owners_mapped g.resources
+        ∙ sym (owners_traced r.log ∙ owners_meant types g g.side_effects (trace r.log) stands.world.effects
+        ∙ owners_declared g g.side_effects
+        ∙ owners_counted [] g.resources (filter_map declared_by g.side_effects) stands.ordered.resources.all
+        (λ i k at. stands.ordered.resources.each i k at ∙ (omega arith)));
     adapters = ap length (no_adapters 0 ms)
         ∙ sym (none_counted is_made r.log stands.world.no_adapters);
   }

@@ -1,8 +1,9 @@
 -- The exports of a plan have their items, and it counts what it has.
-use Rattle.std.proofs.Common.{◌≡◌, ℕ, List, length, map, sym, ap, subst, ◌∙◌}
+use Rattle.std.proofs.Common.{◌≡◌, ℕ, List, map, sym, ap, subst, ◌∙◌}
 use Rattle.std.specs.Prelude.{slice_get}
 use Rattle.pc_types_lists.specs.Types.{Types}
 use Rattle.pc_types.specs.declared.module_record.ModuleRecord.{ModuleRecord}
+use Rattle.pc_types.specs.declared.parsed.TypeTable.{TypeTable}
 use Rattle.pc_spec_plan.specs.Counts.{own_counts}
 use Rattle.pc_names.specs.Stands.{StandsFor}
 use Rattle.pc_trampoline.specs.declared.part.Mark.{Mark}
@@ -21,8 +22,9 @@ use Rattle.pc_translate.specs.Lists.{FindsExports, IsTidy, NumbersItems}
 use Rattle.pc_translate.specs.Planning.{as_handed_in}
 use Rattle.pc_translate.specs.Translation.{counts_of}
 
-module _ (types : Types) (ms : List ModuleRecord) (g : ComponentDfg) (r : Reading) (converted : ℕ → Mark)
-    (plan : ComponentTranslation) (stands : GraphStands ms types g r) (finished : Finishes g converted plan) where
+module _ (t : TypeTable) (types : Types) (ms : List ModuleRecord) (g : ComponentDfg) (r : Reading)
+    (converted : ℕ → Mark) (plan : ComponentTranslation) (stands : GraphStands t ms types g r)
+    (finished : Finishes g converted plan) where
   -- a plain graph has no adapters
   no_modules : AreDistinct (map module_of g.adapter_modules)
   no_modules i j x at at' =
@@ -40,11 +42,11 @@ module _ (types : Types) (ms : List ModuleRecord) (g : ComponentDfg) (r : Readin
     trampolines_used = finished.trampolines_used;
   }
 
-  pub numbers_items : NumbersItems plan.component
+  pub numbers_items : NumbersItems plan.component r.nodes
   numbers_items = record {
     as_many = sym (zip_length IsItem g.export_items plan.component.export_items finished.items)
-        ∙ sym stands.numbers.as_many ∙ ap length (sym finished.names);
-    in_order = λ n e at. stands.numbers.in_order n e
+        ∙ stands.numbers.as_many;
+    last = λ n e at. stands.numbers.last n e
         (ap (λ (es : List NamedExport). slice_get es n) (sym finished.names) ∙ at);
   }
 

@@ -9,6 +9,7 @@ mod WiredLemmas
 mod AskedLemmas
 mod DeclaredLemmas
 mod HeldLemmas
+mod HeldModuleLemmas
 mod ToldLemmas
 -- so it is the translation of the payloads
 mod TranslatesLemmas

@@ -89,6 +89,16 @@ module _ (known : List (ℕ × Identity)) (c : ℕ) (t : TypeTable) where
 
   module _ (n : ℕ) (imports : List (List ℕ × List ℕ × CoreEntity)) (exports : List (List ℕ × CoreEntity))
       (at : slice_get t.types n ≡ Some (entry.Module imports exports)) where
+    -- the tree of a module type hangs on nothing but the table
+    pub module_tree_is : tree_of known c t n
+        ≡ option_and_then (λ i. option_map (module_of i) (map_all (module_export_tree t) exports))
+        (map_all (module_import_tree t) imports)
+    module_tree_is =
+        let x = tree_at [] t.types n (entry.Module imports exports) at in
+        let first : 0 + n ≡ n = omega arith in
+        ap (option_and_then (λ (o : Option TypeTree). o)) (subst (λ k. slice_get (trees_from known c t [] t.types) k
+        ≡ Some (entry_tree known c t x.0 (entry.Module imports exports))) first x.1)
+
     -- the tree of a module type is one of a module
     module_tree : (tree : TypeTree) → tree_of known c t n ≡ Some tree
         → (i : List (List ℕ × List ℕ × CoreTree)) × (e : List (List ℕ × CoreTree)) × (module_of i e ≡ tree)
@@ -99,6 +109,15 @@ module _ (known : List (ℕ × Identity)) (c : ℕ) (t : TypeTable) where
         (entry.Module imports exports))) first x.1 in
         made_of module_of (map_all (module_import_tree t) imports) (map_all (module_export_tree t) exports) tree
         (sym (ap (option_and_then (λ (o : Option TypeTree). o)) here) ∙ is)
+
+-- a module type has one tree, whatever is known and wherever it is read
+pub one_module_tree : (t : TypeTable) (n : ℕ) → IsModuleType t n → (known : List (ℕ × Identity)) (c : ℕ)
+    (known' : List (ℕ × Identity)) (c' : ℕ) (a b : TypeTree) → tree_of known c t n ≡ Some a
+    → tree_of known' c' t n ≡ Some b → a ≡ b
+one_module_tree t n is known c known' c' a b first second =
+    let e = module_entry t n is in
+    same_Some a b (sym first ∙ module_tree_is known c t n e.0 e.1 e.2 ∙ sym (module_tree_is known' c' t n e.0 e.1 e.2)
+    ∙ second)
 
 -- a type with the tree of a module is a module type
 with_module_tree : (b : Types) (who : ResourceIndex → Identity) (d : TypeDef) (i : List (List ℕ × List ℕ × CoreTree))

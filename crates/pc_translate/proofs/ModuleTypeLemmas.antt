@@ -20,13 +20,11 @@ use Rattle.pc_trampoline.specs.declared.part.Mark.TheVariants as mark
 use Rattle.pc_info.specs.declared.component.ComponentTranslation.{ComponentTranslation}
 use Rattle.pc_dfg.specs.declared.dfg.ComponentDfg.{ComponentDfg}
 use Rattle.pc_dfg.specs.declared.export.Export.{Export}
-use Rattle.pc_dfg.specs.declared.export.Export.TheVariants as export
 use Rattle.pc_dfg_linearize.specs.declared.error.FinishError.{FinishError}
-use Rattle.pc_dfg_linearize.proofs.AllLemmas.{all_at}
 use Rattle.pc_dfg_finish.specs.Finishes.{Finishes}
 use Rattle.pc_dfg_finish.specs.ModuleTypes.{IsTyped, module_mark, static_type, type_at}
 use Rattle.pc_translate.specs.Finished.{IsFinished}
-use Rattle.pc_translate.specs.ModuleTypes.{AreModuleTypes, HasNoModule, IsModuleType, StayTyped}
+use Rattle.pc_translate.specs.ModuleTypes.{AreModuleTypes, IsModuleType, StayTyped}
 
 -- a module type is an entry of the table
 pub module_there : (t : TypeTable) (n : ℕ) → IsModuleType t n → n < length t.types
@@ -81,12 +79,6 @@ module _ (types : List (Option TypeModuleIndex)) (k : ℕ) (i : TypeModuleIndex)
     ];
   }
 
--- where none is a handed-in module, no export has the type of one
-pub none_static : (es : List Export) (n : ℕ) (e : Export) → HasNoModule es → slice_get es n ≡ Some e
-    → static_type e ≡ None
-none_static es n (export.ModuleStatic ty m) none at = absurd (none n ty m at)
-none_static es n e none at = refl
-
 -- an export whose type was converted has it still
 pub typed_still : (old new : List (Option TypeModuleIndex)) → StayTyped old new → (e : Export) → IsTyped old e
     → IsTyped new e
@@ -105,7 +97,7 @@ typed_next old new keeps es i e at all typed =
     subst (All (IsTyped new)) (sym (take-next es i e at)) (All-push (IsTyped new) (take i es) e before typed)
 
 -- the mark of a module type that was converted is its type
-mark_typed : (b : Types) (t : TypeTable) (types : List (Option TypeModuleIndex)) (ty : ℕ) → AreModuleTypes b t types
+pub mark_typed : (b : Types) (t : TypeTable) (types : List (Option TypeModuleIndex)) (ty : ℕ) → AreModuleTypes b t types
     → IsSome (type_at types ty)
     → (i : TypeModuleIndex) × (module_mark types ty ≡ mark.Type_ (def.Module i)) × IsEntry b t ty (def.Module i)
 mark_typed b t types ty are there = by (type_at types ty) refl there
@@ -120,26 +112,12 @@ mark_typed b t types ty are there = by (type_at types ty) refl there
     )
 
 -- a plan over the types of the modules is finished
-is_finished : (b : Types) (t : TypeTable) (g : ComponentDfg) (types : List (Option TypeModuleIndex))
-    (plan : ComponentTranslation) → AreModuleTypes b t types → All (IsTyped types) g.export_items
-    → Finishes g (module_mark types) plan → IsFinished b t g plan
-is_finished b t g types plan are typed finishes = record {
-  converted = module_mark types;
-  types = λ n ty m at. mark_typed b t types ty are
-      (all_at (IsTyped types) g.export_items n (export.ModuleStatic ty m) typed at);
-  finishes = finishes;
-}
-
--- and so is each that is answered
 pub all_finished : (b : Types) (t : TypeTable) (g : ComponentDfg) (types : List (Option TypeModuleIndex))
     → AreModuleTypes b t types → All (IsTyped types) g.export_items → (r : Result ComponentTranslation FinishError)
     → IfOk r (λ p. Finishes g (module_mark types) p) → IfOk r (λ p. IsFinished b t g p)
-all_finished b t g types are typed (Ok plan) finishes = is_finished b t g types plan are typed finishes
+all_finished b t g types are typed (Ok plan) finishes =
+    record { types = types; are = are; typed = typed; finishes = finishes }
 all_finished b t g types are typed (Err e) none = tt
-
--- a list that is lent has no module where that has none
-pub none_lent : (xs ys : List Export) → ys ≡ xs → HasNoModule xs → HasNoModule ys
-none_lent xs ys same none = subst (λ es. HasNoModule es) (sym same) none
 
 -- the export that a loop comes to
 pub export_at : (es : List Export) (i : ℕ) (e : Export) → i < length es → e ≡ get_or es i e → slice_get es i ≡ Some e

@@ -10,6 +10,7 @@ use Rattle.pc_numbers.specs.declared.runtime.ResourceIndex.{ResourceIndex}
 use Rattle.pc_numbers.specs.declared.runtime.RuntimeImportIndex.{RuntimeImportIndex}
 use Rattle.pc_numbers.specs.declared.runtime.TrampolineIndex.{TrampolineIndex}
 use Rattle.pc_types.specs.declared.module_record.ModuleRecord.{ModuleRecord}
+use Rattle.pc_types.specs.declared.parsed.TypeTable.{TypeTable}
 use Rattle.pc_types.specs.declared.parsed.CoreFuncSig.{CoreFuncSig}
 use Rattle.pc_types.specs.declared.types.TypeKind.TheVariants as kind
 use Rattle.pc_types.specs.TypeTree.{Identity}
@@ -143,8 +144,8 @@ module _ (types : Types) (reads : (ResourceIndex → Identity) → Type 0) where
       whole_signature (reading.of_type tree) h = absurd (none-some s h)
   signed_whole v n s under is = absurd under
 
-module _ (types : Types) (ms : List ModuleRecord) (g : ComponentDfg) (r : Reading) (stands : GraphStands ms types g r)
-    (builder : IsBuilder types) where
+module _ (t : TypeTable) (types : Types) (ms : List ModuleRecord) (g : ComponentDfg) (r : Reading)
+    (stands : GraphStands t ms types g r) (builder : IsBuilder types) where
   -- a lowering has the core signature of its options
   lowering_told : (n : ℕ) (x : SignedTrampoline) → slice_get g.trampolines n ≡ Some x → IsLowering x.1
       → x.0 ≡ of_head g (parts_of x.1).head

@@ -21,6 +21,7 @@ use Rattle.pc_translate.proofs.HeldLemmas.{counts, finds, is_tidy, numbers_items
 use Rattle.pc_translate.proofs.RunLemmas.{runs}
 use Rattle.pc_translate.proofs.ToldLemmas.{is_told}
 use Rattle.pc_translate.proofs.WiredLemmas.{stand_in_order}
+use Rattle.pc_dfg_finish.specs.ModuleTypes.{module_mark}
 use Rattle.pc_translate.specs.Causes.{CanBeRead, built_meaning, meaning}
 use Rattle.pc_translate.specs.Planning.{IsPlanOfBody, as_handed_in}
 use Rattle.pc_translate.specs.Translation.{Translates}
@@ -58,9 +59,9 @@ module _ (t : TypeTable) (exposed : Option (List ℕ)) (limit : ℕ) (ps : List 
       let g = p.graph in
       let r : Reading = p.stands.result in
       let s = p.stands.stands in
-      let c : ℕ → Mark = p.finished.converted in
+      let c : ℕ → Mark = module_mark p.finished.types in
       let f = p.finished.finishes in
-      let run = runs types ms g r plan c s f in
+      let run = runs t types ms g r plan s p.finished in
       record {
         can_be_read = can;
         result = r;
@@ -69,14 +70,14 @@ module _ (t : TypeTable) (exposed : Option (List ℕ)) (limit : ℕ) (ps : List 
         does = does_as types _ r run.typed run.makes;
         typed = run.typed;
         handed_in = stand_in_order ms;
-        counts = counts types ms g r c plan s f;
-        asked = asks_host types ms g r c plan s f;
-        declared = declares types ms g r c plan s f run.typed.never_stuck.last
-            (λ n below. declared_one types ms g r c plan s f _ _ n (run.trampolines n below));
-        signed = signs types ms g r c plan s f;
-        tidy = is_tidy types ms g r c plan s f;
-        items = numbers_items types ms g r c plan s f;
+        counts = counts t types ms g r c plan s f;
+        asked = asks_host t types ms g r c plan s f;
+        declared = declares t types ms g r c plan s f run.typed.never_stuck.last
+            (λ n below. declared_one t types ms g r c plan s f _ _ n (run.trampolines n below));
+        signed = signs t types ms g r c plan s f;
+        tidy = is_tidy t types ms g r c plan s f;
+        items = numbers_items t types ms g r c plan s f;
         held = f.held;
-        finds = finds types ms g r c plan s f;
-        values_apart = run.values_apart _ (is_told types ms g r s builder);
+        finds = finds t types ms g r c plan s f;
+        values_apart = run.values_apart _ (is_told t types ms g r s builder);
       }

@@ -1,10 +1,10 @@
 -- A plain graph whose definitions are core items: it is wired to the modules that were handed in, and there is nothing
--- in it to group or to convert.
+-- in it to group.
 use Rattle.std.proofs.Common.{zero, suc, ◌≡◌, ℕ, ◌+◌, List, [], ◌∷◌, length, map, Option, None, Some, true, refl, sym}
-use Rattle.std.proofs.Common.{ap, ◌∙◌, arith, All, Contains, false}
+use Rattle.std.proofs.Common.{ap, ◌<◌, ◌∙◌, arith, All, Contains, false, subst}
 use Rattle.std.specs.Prelude.{slice_get}
 use Rattle.std.proofs.lemmas.List.{append-nil}
-use Rattle.std.proofs.lemmas.List.Elements.{All-contains, All-cons, All-nil}
+use Rattle.std.proofs.lemmas.List.Elements.{All-contains, All-cons, All-map, All-nil}
 use Rattle.std.proofs.lemmas.Option.{none-some, same_Some}
 use Rattle.pc_numbers.specs.declared.component_entity.StaticModuleIndex.{StaticModuleIndex}
 use Rattle.pc_numbers.specs.declared.entity_index.EntityIndex.{EntityIndex}
@@ -28,14 +28,16 @@ use Rattle.pc_dfg.specs.declared.instance.Instance.TheVariants as source
 use Rattle.pc_dfg.specs.declared.instance.Resource.{Resource}
 use Rattle.pc_dfg.specs.declared.instance.SideEffect.{SideEffect}
 use Rattle.pc_dfg.specs.declared.instance.SideEffect.TheVariants as effect
-use Rattle.pc_dfg.specs.Names.{each_of, in_effect, in_instance, in_resource}
+use Rattle.pc_dfg.specs.Effects.{Argument, host_arguments}
+use Rattle.pc_dfg.specs.Names.{each_of, if_any, in_effect, in_instance, in_resource}
 use Rattle.pc_dfg.specs.Numbers.{slots_of}
 use Rattle.pc_dfg_linearize.specs.Grouped.{IsGrouped}
 use Rattle.pc_translate.specs.ModuleTypes.{HasModuleType}
 use Rattle.pc_dfg_linearize.specs.Wired.{IsWired, Occurs, OfFunctions, callbacks, in_a_module, in_a_slot, in_an_adapter}
 use Rattle.pc_dfg_linearize.specs.Wired.{in_an_effect, in_an_export, is_function, post_returns, reallocs}
-use Rattle.pc_inline_state.specs.Tables.{IsItem, is_entity, is_trampoline}
-use Rattle.pc_inline_state.specs.Worlds.{HasItems, IsLifted, IsPlain, slot_kind}
+use Rattle.pc_inline_state.specs.Tables.{IsItem, is_entity, is_named, is_trampoline}
+use Rattle.pc_inline_state.specs.Worlds.{HasItems, HoldsModule, HoldsTypes, IsPlain, slot_kind}
+use Rattle.pc_types_lists.specs.Types.{Types}
 use Rattle.pc_translate.specs.Planning.{as_handed_in}
 
 -- modules as they were handed in are the handed-in ones, and have no adapters
@@ -84,23 +86,25 @@ module _ (g : ComponentDfg) (plain : IsPlain g) where
         absurd (none_at g.adapter_modules m has.0 plain.adapter_modules has.1);
   }
 
-  -- no handed-in module is exported
-  pub no_static : (n ty : ℕ) (m : StaticModuleIndex) → slice_get g.export_items n ≡ Some (export.ModuleStatic ty m) → ⊥
-  no_static n ty m at = plain.export_items n (export.ModuleStatic ty m) at
+  module _ (types : Types) (t : TypeTable) where
+    -- the types of the handed-in modules among these exports are held
+    abbrev ModulesHeld : List Export → Type 0
+    ModulesHeld xs = (n ty : ℕ) (m : StaticModuleIndex) → slice_get xs n ≡ Some (export.ModuleStatic ty m)
+        → HoldsModule types t g ty
 
-  -- so each that is has a module type of the table
-  pub are_modules : (t : TypeTable) → All (HasModuleType t) g.export_items
-  are_modules t = each g.export_items plain.export_items
-    where
-      by : (x : Export) → IsLifted x → HasModuleType t x
-      by (export.LiftedFunction ty f o) l = tt
-      by x l = absurd l
+    module_typed : (x : Export) (xs : List Export) → ModulesHeld (x ∷ xs) → HasModuleType t x
+    module_typed (export.ModuleStatic ty m) xs held = (held zero ty m refl).there
+    module_typed x xs held = tt
 
-      each : (xs : List Export) → ((n : ℕ) (x : Export) → slice_get xs n ≡ Some x → IsLifted x)
-          → All (HasModuleType t) xs
-      each [] lifted = All-nil (HasModuleType t)
-      each (x ∷ xs) lifted =
-          All-cons (HasModuleType t) x xs (by x (lifted zero x refl)) (each xs (λ n y at. lifted (suc n) y at))
+    modules_typed : (xs : List Export) → ModulesHeld xs → All (HasModuleType t) xs
+    modules_typed [] held = All-nil (HasModuleType t)
+    modules_typed (x ∷ xs) held =
+        All-cons (HasModuleType t) x xs (module_typed x xs held)
+        (modules_typed xs (λ n ty m at. held (suc n) ty m at))
+
+    -- each handed-in module that is exported has a module type of the table
+    pub are_modules : HoldsTypes types t g → All (HasModuleType t) g.export_items
+    are_modules held = modules_typed g.export_items held.modules
 
   module _ (ms : List ModuleRecord) (items : HasItems ms g) where
     -- a definition that is a core item
@@ -115,18 +119,26 @@ module _ (g : ComponentDfg) (plain : IsPlain g) where
     argument_item i (Some (source.Static m args)) at d there =
         let of_module = items.modules i m args at in
         All-contains IsCore args d of_module.3 there
-    argument_item i (Some (source.Import r args)) at d there = absurd (plain.instances i (source.Import r args) at)
+    argument_item i (Some (source.Import r args)) at d there =
+        let all = items.hosts i r args at in
+        All-contains IsCore (map (λ (a : Argument). a.1.1) (host_arguments args)) d
+        (All-map IsCore (λ (a : Argument). a.1.1) (host_arguments args) all) there
 
-    -- and a graph without resources has no destructors
-    no_destructor : (n : ℕ) (o : Option Resource) → slice_get g.resources n ≡ o → (d : CoreDef)
-        → Contains (each_of in_resource o) d → ⊥
-    no_destructor n None at d there = none_in d there
-    no_destructor n (Some x) at d there = none_at g.resources n x plain.resources at
+    -- a destructor is
+    destructor_item : (n : ℕ) (o : Option Resource) → slice_get g.resources n ≡ o → (d : CoreDef)
+        → Contains (each_of in_resource o) d → IsCore d
+    unfolding in_resource
+    destructor_item n None at d there = absurd (none_in d there)
+    destructor_item n (Some x) at d there = All-contains IsCore (if_any x.dtor) d (by x.dtor refl) there
+      where
+        by : (o : Option CoreDef) → x.dtor ≡ o → All IsCore (if_any o)
+        by None is = All-nil IsCore
+        by (Some y) is = All-cons IsCore y [] (kind.Func, items.destructors n x y at is) (All-nil IsCore)
 
     effect_item : (e : SideEffect) (d : CoreDef) → Contains (in_effect g e) d → IsCore d
     unfolding in_effect
     effect_item (effect.Instance i c) d there = argument_item i.0 (slice_get g.instances i.0) refl d there
-    effect_item (effect.Resource n) d there = absurd (no_destructor n.0 (slice_get g.resources n.0) refl d there)
+    effect_item (effect.Resource n) d there = destructor_item n.0 (slice_get g.resources n.0) refl d there
 
     -- a definition that occurs in the graph is
     pub occurring_item : {d : CoreDef} → Occurs g d → IsCore d
@@ -148,10 +160,15 @@ module _ (g : ComponentDfg) (plain : IsPlain g) where
         let found = ap (λ (x : StaticModuleIndex). slice_get ms x.0) same_module ∙ handed_in in
         let same_record : entity.module_record ≡ r = same_Some _ _ (sym entity.handed_in ∙ found) in
         ap (λ (x : ModuleRecord). has_entity x n) (sym same_record) ∙ entity.has
+    has_it m args r (is_named host) at handed_in =
+        absurd (let same : source.Import host.import host.arguments ≡ source.Static m args =
+        same_Some _ _ (sym host.made ∙ at) in
+        let no : ⊥ = cc in no)
 
     -- an item that is a function may be one, as far as its number tells
     function_item : {d : CoreDef} → IsItem ms g kind.Func d → is_function d ≡ true
     function_item (is_entity of_kind entity) = ap (λ k. same_kind k kind.Func) of_kind
+    function_item (is_named host) = refl
     function_item (is_trampoline below) = refl
 
     function_slot : (k : plan.SlotKind) (n : ℕ) (d : CoreDef) → OfFunctions k → slice_get (slots_of g k) n ≡ Some d
@@ -175,5 +192,6 @@ module _ (g : ComponentDfg) (plain : IsPlain g) where
           (ap (λ (rs : List ModuleRecord). slice_get rs m.0) (sym (all_handed_in ms)) ∙ handed_in);
       functions = function_slot;
       adapter_modules = λ m x at. absurd (none_at g.adapter_modules m x plain.adapter_modules at);
-      exports = λ n ty m at. absurd (no_static n ty m at);
+      exports = λ n ty m at. subst (λ (rs : List ModuleRecord). m.0 < length rs) (sym (all_handed_in ms))
+          (items.statics n ty m at);
     }

@@ -15,7 +15,7 @@ use Rattle.pc_spec_reading.specs.Nest.{root_of}
 use Rattle.pc_spec_reading.specs.Outcome.{Outcome}
 use Rattle.pc_spec_reading.specs.Reading.{Reading, reading}
 use Rattle.pc_spec_reading.specs.Section.{modules_of}
-use Rattle.pc_inline_state.specs.Today.{built_reading, is_built_item}
+use Rattle.pc_inline_state.specs.Today.{built_reading, is_built}
 
 -- what payloads mean; no total is counted yet
 unfoldable pub meaning : TypeTable → (exposed : Option (List ℕ)) → (limit : ℕ) → List Payload → Option (Outcome Reading)
@@ -31,19 +31,19 @@ abbrev pub HasRoot : (exposed : Option (List ℕ)) → List Payload → (Items �
 HasRoot exposed ps P = (body : Items) × (root_of exposed ps ≡ Some body) × P body
 
 -- items that are all of kinds that are built; those of a nested body are looked at where it is instantiated
-abbrev pub are_built : TypeTable → Items → Bool
-are_built t no_items = true
-are_built t (and_item i is) = is_built_item t i && are_built t is
+abbrev pub are_built : Items → Bool
+are_built no_items = true
+are_built (and_item i is) = is_built i && are_built is
 
 -- the items of the root are of kinds that are built
-abbrev pub is_built_input : TypeTable → (exposed : Option (List ℕ)) → List Payload → Bool
-is_built_input t exposed ps = is_some_and (are_built t) (root_of exposed ps)
+abbrev pub is_built_input : (exposed : Option (List ℕ)) → List Payload → Bool
+is_built_input exposed ps = is_some_and are_built (root_of exposed ps)
 
 -- an input can be numbered, has no static fault, and its root's items are of kinds that are built
 pub record CanBeRead (t : TypeTable) (exposed : Option (List ℕ)) (ps : List Payload) : Type 0 where
   pub numbered : is_numbered t ps ≡ true
   pub sound : static_fault t exposed ps ≡ None
-  pub built : HasRoot exposed ps (λ body. are_built t body ≡ true)
+  pub built : HasRoot exposed ps (λ body. are_built body ≡ true)
 
 -- the answer as far as it is built, in the order of answers. Of the total nothing is counted but whether each list can
 -- be numbered; and what isn't built in the root is told at the first payload, before the reading
@@ -52,7 +52,7 @@ unfoldable pub built_answer : TypeTable → (exposed : Option (List ℕ)) → (l
 built_answer t exposed limit ps =
     if is_numbered t ps
     then or_fault (static_fault t exposed ps)
-    (if is_built_input t exposed ps
+    (if is_built_input exposed ps
     then option_map ending (built_meaning t exposed limit ps)
     else Some (Err not_built))
     else Some (Err error.TooMany)

@@ -1,5 +1,6 @@
 -- Whether the lists of a plan fit each other.
-use Rattle.std.specs.Prelude.{◌≡◌, ◌<◌, ℕ, length, take, slice_get, Some, false}
+use Rattle.std.specs.Prelude.{◌≡◌, ◌<◌, ◌+◌, ℕ, List, length, take, slice_get, Some, false}
+use Rattle.pc_spec_plan.specs.ExportNode.{NamedNode}
 use Rattle.pc_spec_plan.specs.PlanView.{Initializer}
 use Rattle.pc_names.specs.Stands.{StandsFor}
 use Rattle.pc_info.specs.declared.component.Component.{Component}
@@ -9,11 +10,15 @@ use Rattle.pc_info.specs.Slots.{AtMostOne, IsUsed, MakesAdapters, TakesLowering,
 use Rattle.pc_info.specs.Standing.{AreNumberedBehind, CarriesNext, IsMadeLate, Makes, Piece, a_trampoline}
 use Rattle.pc_info.specs.Standing.{an_options_entry, is_side_effect, steps_in}
 use Rattle.pc_info.specs.View.{trampolines_view}
+use Rattle.pc_parsed.specs.Mark.{Mark}
+use Rattle.pc_inline_exports.specs.Exports.{sizes}
 
--- each export of a plan has the item at its place, and no item stands beside these
-pub record NumbersItems (c : Component) : Type 0 where
-  pub as_many : length c.export_items ≡ length c.exports.definitions
-  pub in_order : (n : ℕ) (e : Entry) → slice_get c.exports.definitions n ≡ Some e → number_of e ≡ n
+-- a plan has as many export items as these exports have nodes, and the item of each export stands behind those of the
+-- exports before it, with those of what is under it in front of it
+pub record NumbersItems (c : Component) (nodes : List (NamedNode Mark)) : Type 0 where
+  pub as_many : length c.export_items ≡ sizes nodes
+  pub last : (n : ℕ) (e : Entry) → slice_get c.exports.definitions n ≡ Some e
+      → number_of e + 1 ≡ sizes (take (n + 1) nodes)
 
 -- a look-up of an export finds what the list of them has
 abbrev pub FindsExports : Component → Type 0

@@ -1,25 +1,32 @@
 -- The types of handed-in modules that a graph exports, as numbers of the types builder.
 use Rattle.std.specs.Prelude.{◌≡◌, ◌≤◌, ◌<◌, ◌+◌, ℕ, true, List, length, Option, Some, slice_get, Contains}
 use Rattle.std.specs.Prelude.{IsSome, IsSomeAnd, IfSome}
-use Rattle.pc_numbers.specs.declared.component_entity.StaticModuleIndex.{StaticModuleIndex}
+use Rattle.pc_numbers.specs.declared.runtime.ResourceIndex.{ResourceIndex}
 use Rattle.pc_types.specs.declared.parsed.TypeTable.{TypeTable}
 use Rattle.pc_types.specs.declared.type_index.TypeModuleIndex.{TypeModuleIndex}
 use Rattle.pc_types.specs.declared.types.TypeDef.TheVariants as def
 use Rattle.pc_types.specs.Table.{is_module, is_some_and}
+use Rattle.pc_types.specs.TypeTree.{Identity, TypeTree, tree_of}
 use Rattle.pc_types_builder.specs.Types.{IsFull, IsTooFullFor, Types}
-use Rattle.pc_types_builder.specs.Trees.{IsEntry}
+use Rattle.pc_types_builder.specs.Trees.{HasTree, IsEntry}
 use Rattle.pc_types_builder.specs.Asked.{IsReachedSignature}
 use Rattle.pc_dfg.specs.declared.export.Export.{Export}
-use Rattle.pc_dfg.specs.declared.export.Export.TheVariants as export
 use Rattle.pc_dfg_finish.specs.ModuleTypes.{static_type, type_at}
 
 -- an entry of the table is a module type
 abbrev pub IsModuleType : TypeTable → ℕ → Type 0
 IsModuleType t n = is_some_and is_module (slice_get t.types n) ≡ true
 
--- none of these exports is a handed-in module
-abbrev pub HasNoModule : List Export → Type 0
-HasNoModule es = (n ty : ℕ) (m : StaticModuleIndex) → slice_get es n ≡ Some (export.ModuleStatic ty m) → ⊥
+-- the builder holds a module type of the table under a number
+pub record HoldsModule (b : Types) (t : TypeTable) (n : ℕ) : Type 0 where
+  pub there : IsModuleType t n
+  pub known : List (ℕ × Identity)
+  pub component_instance : ℕ
+  pub tree : TypeTree
+  pub is : tree_of known component_instance t n ≡ Some tree
+  pub number : TypeModuleIndex
+  pub who : ResourceIndex → Identity
+  pub holds : HasTree b who (def.Module number) tree
 
 -- a handed-in module that is exported has a module type of the table
 abbrev pub HasModuleType : TypeTable → Export → Type 0
@@ -28,6 +35,10 @@ HasModuleType t e = IfSome (static_type e) (IsModuleType t)
 -- a handed-in module with this type of the table is among the exports
 abbrev pub IsExported : List Export → ℕ → Type 0
 IsExported es n = (e : Export) × Contains es e × (static_type e ≡ Some n)
+
+-- and those of all handed-in modules among these exports
+abbrev pub HoldsModules : Types → TypeTable → List Export → Type 0
+HoldsModules b t es = (n : ℕ) → IsExported es n → HoldsModule b t n
 
 -- nothing is added but module types and core signatures: the types of entries with P, and signatures that these name
 pub record AddsModules (t : TypeTable) (P : ℕ → Type 0) (old new : Types) : Type 0 where

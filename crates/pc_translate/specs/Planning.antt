@@ -1,5 +1,5 @@
 -- What comes of a local program: a plan that stands for the reading of its root, or why there is none.
-use Rattle.std.specs.Prelude.{◌&&◌, ℕ, Bool, true, false, [], List, Result, Ok, Err, is_some}
+use Rattle.std.specs.Prelude.{ℕ, Bool, true, false, [], List, Result, Ok, Err}
 use Rattle.pc_types_lists.specs.Types.{Types, types_held}
 use Rattle.pc_types.specs.declared.error.Error.{Error}
 use Rattle.pc_types.specs.declared.error.Error.TheVariants as error
@@ -16,34 +16,22 @@ use Rattle.pc_dfg_linearize.specs.declared.error.FinishError.{FinishError}
 use Rattle.pc_dfg_linearize.specs.declared.error.FinishError.TheVariants as finish_error
 use Rattle.pc_translate.specs.Finished.{IsFinished}
 use Rattle.pc_inline.specs.Inlines.{IsFault, StandsForReading}
-use Rattle.pc_inline_state.specs.Kinds.{import_kind}
-use Rattle.pc_inline_state.specs.Today.{is_built_kind}
-use Rattle.pc_inline_items.specs.Members.{are_built}
-use Rattle.pc_inline_state.specs.declared.kinds.TableKinds.{TableKinds}
 
 -- why a graph has no plan, as an error of the translation
 abbrev pub error_of_finish : FinishError → Error
 error_of_finish finish_error.TooMany = error.TooMany
 error_of_finish finish_error.NoMemory = error.NoMemory
 
-module _ (kinds : TableKinds) where
-  -- a local item of a kind that is built
-  abbrev pub is_built_local : LocalInitializer → Bool
-  is_built_local (local.Import name ty) = is_some (import_kind kinds ty)
-  is_built_local (local.Lift func ty signature opts) = true
-  is_built_local (local.Lower func ty signature opts) = true
-  is_built_local (local.ModuleStatic index ty) = true
-  is_built_local (local.ModuleInstantiate m args) = true
-  is_built_local (local.ModuleSynthetic items) = true
-  is_built_local (local.ComponentStatic index vars) = true
-  is_built_local (local.ComponentInstantiate c args ty) = kinds.has_no_resource && are_built args
-  is_built_local (local.ComponentSynthetic exports ty) = are_built exports
-  is_built_local (local.AliasCoreExport k n name) = true
-  is_built_local (local.AliasComponentExport k n name) = is_built_kind k
-  is_built_local (local.AliasModule v) = true
-  is_built_local (local.AliasComponent v) = true
-  is_built_local (local.Export name k n) = is_built_kind k
-  is_built_local _ = false
+-- a local item of a kind that is built
+abbrev pub is_built_local : LocalInitializer → Bool
+is_built_local local.IntrinsicsImport = false
+is_built_local (local.Builtin c) = false
+is_built_local (local.WaitableSet c) = false
+is_built_local (local.TaskReturn signature result opts) = false
+is_built_local (local.ErrorContext c) = false
+is_built_local (local.Context c) = false
+is_built_local (local.ThreadNewIndirect signature start table) = false
+is_built_local _ = true
 
 -- a module as it was handed in
 abbrev pub as_handed_in : ModuleRecord → ModuleTranslation

@@ -18,7 +18,7 @@ use Rattle.pc_info.specs.Modules.{StandInOrder}
 use Rattle.pc_info.specs.View.{view, counts_view}
 use Rattle.pc_info.specs.Apart.{AreApart}
 use Rattle.pc_parsed.specs.declared.payload.Payload.{Payload}
-use Rattle.pc_spec_reading.specs.Answer.{HasTotal, IsPast}
+use Rattle.pc_spec_reading.specs.Answer.{IsPast}
 use Rattle.pc_spec_reading.specs.Item.{Items}
 use Rattle.pc_spec_reading.specs.Nest.{root_of}
 use Rattle.pc_spec_reading.specs.Outcome.{done}
@@ -27,7 +27,7 @@ use Rattle.pc_spec_reading.specs.Reading.{Reading, reading_of}
 use Rattle.pc_spec_reading.specs.Section.{modules_of}
 use Rattle.pc_spec_reading.specs.World.{full}
 use Rattle.pc_inline_state.specs.Gained.{AddsTables}
-use Rattle.pc_inline_stack.specs.Totals.{GainsFew}
+use Rattle.pc_inline_stack.specs.Totals.{GainsFew, HasTotal}
 use Rattle.pc_translate.specs.Asked.{AreSigned, AsksHost, Declares}
 use Rattle.pc_translate.specs.Causes.{CanBeRead, HasCause, HasRoot, built_meaning, meaning}
 use Rattle.pc_translate.specs.Lists.{FindsExports, IsTidy, NumbersItems}
@@ -70,8 +70,8 @@ pub record Translates (t : TypeTable) (exposed : Option (List ℕ)) (limit : ℕ
   pub signed : AreSigned types (view plan modules) result
   -- each options entry and trampoline is used, none is made twice, and each stands where it has to
   pub tidy : IsTidy plan
-  -- each export of the plan has its item
-  pub items : NumbersItems plan.component
+  -- each export of the plan has its item, and each node of an export
+  pub items : NumbersItems plan.component result.nodes
   pub held : has_items plan.component ≡ true
   -- and is found under its name
   pub finds : FindsExports plan.component

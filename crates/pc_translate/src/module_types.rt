@@ -10,7 +10,7 @@ ghost use Rattle.pc_types_builder.specs.Trees.{IsEntry};
 ghost use Rattle.pc_dfg.specs.declared.export.Export.{Export};
 ghost use Rattle.pc_dfg_linearize.specs.declared.error.FinishError.TheVariants as refusal;
 ghost use Rattle.pc_dfg_finish.specs.ModuleTypes.{IsTyped, static_type, type_at};
-ghost use Rattle.pc_translate.specs.ModuleTypes.{AddsModules, AreModuleTypes, HasModuleType, HasNoModule, HasNoPlace};
+ghost use Rattle.pc_translate.specs.ModuleTypes.{AddsModules, AreModuleTypes, HasModuleType, HoldsModules, HasNoPlace};
 ghost use Rattle.pc_translate.specs.ModuleTypes.{IsExported, IsModuleType, LacksPlace, StayTyped};
 
 use pc_dfg::Export;
@@ -102,7 +102,6 @@ fn convert_item(
     ensures keeps { OnOk result (StayTyped done.old done.new) }
     ensures here { OnOk result (IsTyped done.new item.now) }
     ensures full { result ≡ Err refusal.TooMany → HasNoPlace types.new table.now item.now }
-    ensures unchanged { static_type item.now ≡ None → types.new ≡ types.old }
 {
     match static_type(item) {
         Some(ty) => convert(types, table, done, ty),
@@ -125,7 +124,6 @@ fn convert_items(
     ensures typed { IfOk result (λ m. All (IsTyped m) items.now) }
     ensures full { result ≡ Err refusal.TooMany
         → (e : Export) × Contains items.now e × HasNoPlace types.new table.now e }
-    ensures unchanged { HasNoModule items.now → types.new ≡ types.old }
 {
     let mut done = none_converted(alloc, table)?;
     for item in items {
@@ -148,10 +146,10 @@ pub(crate) fn module_types(
     ensures types { IfOk result (λ m. AreModuleTypes types.new table.now m) }
     ensures typed { IfOk result (λ m. All (IsTyped m) items.now) }
     ensures full { result ≡ Err refusal.TooMany → LacksPlace table.now items.now types.old types.new }
-    ensures unchanged { HasNoModule items.now → types.new ≡ types.old }
+    ensures unchanged { HoldsModules types.old table.now items.now → types.new ≡ types.old }
 {
     let converted = convert_items(alloc, types, table, items);
-    // No two types are equal, so no more were added than the table has entries and signatures.
+    // No two types are equal, so no more were added than the table has entries and signatures, and none that was held.
     types.types_are_distinct();
     converted
 }

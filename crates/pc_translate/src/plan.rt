@@ -8,7 +8,7 @@ ghost use Rattle.pc_dfg_linearize.specs.declared.error.FinishError.TheVariants a
 ghost use Rattle.pc_dfg_linearize.specs.Full.{HasTooMany};
 ghost use Rattle.pc_dfg_linearize.specs.Grouped.{IsGrouped};
 ghost use Rattle.pc_translate.specs.Finished.{IsFinished};
-ghost use Rattle.pc_translate.specs.ModuleTypes.{AddsModules, HasModuleType, HasNoModule, IsExported, LacksPlace};
+ghost use Rattle.pc_translate.specs.ModuleTypes.{AddsModules, HasModuleType, HoldsModules, IsExported, LacksPlace};
 
 use crate::module_types::module_types;
 use pc_dfg::ComponentDfg;
@@ -34,7 +34,9 @@ pub fn finish(
 
     // It gains the types of the exported modules and the core signatures that these name, and no other type.
     ensures adds { AddsModules table.now (IsExported graph.export_items) types.old types.new }
-    ensures unchanged { HasNoModule graph.export_items → types.new ≡ types.old }
+
+    // Where it holds those types, it gains nothing.
+    ensures unchanged { HoldsModules types.old table.now graph.export_items → types.new ≡ types.old }
     ensures full { result ≡ Err refusal.TooMany
         → HasTooMany graph ⊎ LacksPlace table.now graph.export_items types.old types.new }
     ensures plan { IfOk result (λ p. IsFinished types.new table.now graph p) }

@@ -1,16 +1,15 @@
 //! The top call over payloads.
 
-ghost use Rattle.std.specs.Prelude.{◌≡◌, ℕ, [], false, true, map, None, Some, Err, is_some, IfErr, IfOk, OnOk};
+ghost use Rattle.std.specs.Prelude.{◌≡◌, ℕ, [], false, true, length, map, None, Some, Err, is_some, IfErr, IfOk, OnOk};
 ghost use Rattle.std.specs.List.{list_all};
 ghost use Rattle.std.specs.Option.{option_map};
-ghost use Rattle.pc_types.specs.Names.{distinct_names};
 ghost use Rattle.pc_types.specs.Record.{is_sound};
 ghost use Rattle.pc_types.specs.Table.{table_fault};
 ghost use Rattle.pc_types_lists.specs.Types.{KeepsTypes, no_types, types_held};
 ghost use Rattle.pc_spec_reading.specs.Item.{Items};
 ghost use Rattle.pc_local.specs.Program.{ProgramStands};
+ghost use Rattle.pc_local.specs.Sound.{AreSoundBodies, IsSoundBody};
 ghost use Rattle.pc_local.specs.Standing.{BodyStands, no_names};
-ghost use Rattle.pc_inline.specs.Inlines.{export_name};
 ghost use Rattle.pc_inline_stack.specs.Totals.{GainsFew};
 ghost use Rattle.pc_translate.specs.Causes.{CanBeRead, HasCause, HasOwnCause};
 ghost use Rattle.pc_translate.specs.Planning.{Plans, as_handed_in, error_of_finish};
@@ -66,7 +65,7 @@ fn built_program(
         return Err(Error::TooMany);
     }
     let program = translate_payloads(alloc, table, exposed, payloads)?;
-    if !is_built(table, &program) {
+    if !is_built(&program) {
         return Err(not_built());
     }
     Ok(program)
@@ -93,7 +92,8 @@ fn plan_of(
     requires table { table_fault table.now ≡ None }
     requires modules { list_all (is_sound table.now) program.now.modules ≡ true }
     requires stands { (body : Items) × BodyStands program.now.components no_names program.now.root body }
-    requires distinct { distinct_names (map export_name program.now.root.exports) ≡ true }
+    requires root { IsSoundBody (length program.now.modules) program.now.root }
+    requires components { AreSoundBodies (length program.now.modules) program.now.components }
     ensures plan { (body : Items) → BodyStands program.now.components no_names program.now.root body
         → Plans table.now program.now.modules tunables.now.max_component_instances body types.old types.new result }
     ensures keeps { KeepsTypes types.old types.new }
@@ -111,7 +111,10 @@ fn plan_of(
         program,
         tunables.max_component_instances,
     )?;
-    finish(alloc, graph, table, types).map_err(finish_error)
+    let finished = finish(alloc, graph, table, types).map_err(finish_error);
+    // No two types are equal, so no module type is there twice.
+    types.types_are_distinct();
+    finished
 }
 
 /// The plan that payloads are translated to, and its core modules: those of the payloads, in order.

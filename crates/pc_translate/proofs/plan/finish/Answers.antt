@@ -1,7 +1,7 @@
-use Rattle.std.proofs.Common.{All, inl, inr, subst}
+use Rattle.std.proofs.Common.{All, inl, inr, subst, sym}
 use Rattle.pc_dfg_finish.specs.ModuleTypes.{IsTyped}
-use Rattle.pc_translate.specs.ModuleTypes.{AddsModules, IsExported, LacksPlace}
-use Rattle.pc_translate.proofs.ModuleTypeLemmas.{all_finished, none_lent}
+use Rattle.pc_translate.specs.ModuleTypes.{AddsModules, HoldsModules, IsExported, LacksPlace}
+use Rattle.pc_translate.proofs.ModuleTypeLemmas.{all_finished}
 use Rattle.pc_translate.proofs.plan.finish.Goals as goal
 
 pub returns-in_err-module_types-clause-adds : goal.returns-in_err-module_types-clause-adds
@@ -10,8 +10,9 @@ returns-in_err-module_types-clause-adds c =
     c.as_slice.ensures c.in_err-module_types.ensures.adds
 
 pub returns-in_err-module_types-clause-unchanged : goal.returns-in_err-module_types-clause-unchanged
-returns-in_err-module_types-clause-unchanged c none =
-    c.in_err-module_types.ensures.unchanged (none_lent _ _ c.as_slice.ensures none)
+returns-in_err-module_types-clause-unchanged c held =
+    c.in_err-module_types.ensures.unchanged
+    (subst (HoldsModules c.args.types.now c.args.table.now) (sym c.as_slice.ensures) held)
 
 pub returns-in_err-module_types-clause-full : goal.returns-in_err-module_types-clause-full
 returns-in_err-module_types-clause-full c is =
@@ -25,7 +26,9 @@ returns-clause-adds c =
     c.as_slice.ensures c.in_ok-module_types.ensures.adds
 
 pub returns-clause-unchanged : goal.returns-clause-unchanged
-returns-clause-unchanged c none = c.in_ok-module_types.ensures.unchanged (none_lent _ _ c.as_slice.ensures none)
+returns-clause-unchanged c held =
+    c.in_ok-module_types.ensures.unchanged
+    (subst (HoldsModules c.args.types.now c.args.table.now) (sym c.as_slice.ensures) held)
 
 pub returns-clause-full : goal.returns-clause-full
 returns-clause-full c is = inl (c.finish.ensures.full is)

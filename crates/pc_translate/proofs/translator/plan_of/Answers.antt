@@ -25,8 +25,8 @@ finish-requires-clause-are_modules c =
 pub returns-clause-plan : goal.returns-clause-plan
 returns-clause-plan c = λ body stands.
     still_plans _ _ _ body _ _ _ (c.in_ok-graph.ensures.inlines body stands) _ c.finish.ensures.unchanged
-    (c.in_ok-graph.ensures.few body stands) c.finish.result c.finish.ensures.plan c.finish.ensures.full c.map_err.result
-    c.map_err.ensures.cases
+    c.types_are_distinct.ensures (c.in_ok-graph.ensures.few body stands) c.finish.result c.finish.ensures.plan c.finish.ensures.full c.map_err-finished.result
+    c.map_err-finished.ensures.cases
 
 pub returns-clause-keeps : goal.returns-clause-keeps
 returns-clause-keeps c =

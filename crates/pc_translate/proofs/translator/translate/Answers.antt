@@ -1,8 +1,9 @@
 use Rattle.std.proofs.Common.{ℕ, List, Bor}
 use Rattle.std.specs.Option.{option_map}
 use Rattle.pc_local.proofs.NameLemmas.{table_sound}
+use Rattle.pc_local.proofs.SoundLemmas.{components_are_sound, root_is_sound}
 use Rattle.pc_types_lists.specs.Types.{types_held}
-use Rattle.pc_translate.proofs.CauseLemmas.{counts_gained, gains, gains_nothing, names_distinct, plan_refused}
+use Rattle.pc_translate.proofs.CauseLemmas.{counts_gained, gains, gains_nothing, plan_refused}
 use Rattle.pc_translate.proofs.CauseLemmas.{program_refused, program_sound, translates_program}
 use Rattle.pc_translate.proofs.translator.translate.Goals as goal
 
@@ -22,9 +23,13 @@ pub plan_of-requires-clause-modules : goal.plan_of-requires-clause-modules
 plan_of-requires-clause-modules c =
     program_sound _ _ _ _ c.in_ok-program.ensures.program c.in_ok-program.ensures.can
 
-pub plan_of-requires-clause-distinct : goal.plan_of-requires-clause-distinct
-plan_of-requires-clause-distinct c =
-    names_distinct _ _ _ _ c.in_ok-program.ensures.program c.in_ok-program.ensures.can
+pub plan_of-requires-clause-root : goal.plan_of-requires-clause-root
+plan_of-requires-clause-root c =
+    root_is_sound _ _ _ _ c.in_ok-program.ensures.program c.in_ok-program.ensures.can.sound
+
+pub plan_of-requires-clause-components : goal.plan_of-requires-clause-components
+plan_of-requires-clause-components c =
+    components_are_sound _ _ _ _ c.in_ok-program.ensures.program c.in_ok-program.ensures.can.sound
 
 pub returns-in_err-plan-clause-refused : goal.returns-in_err-plan-clause-refused
 returns-in_err-plan-clause-refused c =
