@@ -1,11 +1,10 @@
-//! Functions that go from one component to another. The lowering of one that was lifted isn't built yet.
+//! Functions that go from one component to another. The lowering of one that was lifted isn't built.
 
 use crate::inputs::{ALONE, are_refused, between, holds, is_answered};
 use pc_tool::Status;
 use std::alloc::{AllocError, Global};
 
-/// Lowered functions of components, in each place where a function can stand, and where the lowering is told. One is
-/// over a table with a resource, and is refused as a whole.
+/// Lowered functions of components, in each place where a function can stand, and where the lowering is told.
 static ADAPTERS: [(&str, &str); 6] = [
     // async lower
     (
@@ -54,7 +53,7 @@ static ADAPTERS: [(&str, &str); 6] = [
            {"types":[{"resource":[4,"i32",0]}]},"end",{"component-instances":[{"instantiate":[0,[],2]}]},
            {"aliases":[{"export":["func",0,"f"]}]},{"component-instances":[{"instantiate":[1,[["f","func",0]],3]}]},
            "end"]}"#,
-        "fault unsupported not-built at payload 0 item 0\n",
+        "fault unsupported not-built at instance 2 item 1\n",
     ),
     // realloc is an adapter
     (

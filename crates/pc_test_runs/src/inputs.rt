@@ -22,7 +22,7 @@ options 0 0 utf8 sync - - - -
 export \"f\" lifted export(0 func 0) options 0
 ";
 
-/// The text for an input that holds what isn't built yet. No item of it is read, so the place is the first.
+/// The text for an input whose root holds what isn't built. No item of it is read, so the place is the first.
 pub(crate) const NOT_BUILT: &str = "fault unsupported not-built at payload 0 item 0\n";
 
 /// How streams behave: the most bytes a call, and the call that fails.

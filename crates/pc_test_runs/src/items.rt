@@ -84,7 +84,7 @@ static LISTS: [(&str, &str); 4] = [
 ];
 
 /// Names that stand twice in a component, and names that may: there the type of an import, which is no function, is the
-/// fault, or the component within isn't built.
+/// fault.
 static COMPONENTS: [(&str, &str); 7] = [
     (
         r#""version",{"imports":[["a",["func",0]],["a",["module",0]]]},"end""#,

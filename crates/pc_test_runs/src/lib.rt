@@ -8,6 +8,8 @@ mod captures;
 #[cfg(test)]
 mod contexts;
 #[cfg(test)]
+mod exports;
+#[cfg(test)]
 mod forms;
 #[cfg(test)]
 mod hosts;
@@ -25,6 +27,8 @@ mod lowerings;
 mod nested;
 #[cfg(test)]
 mod refusals;
+#[cfg(test)]
+mod resources;
 #[cfg(test)]
 mod root;
 #[cfg(test)]

@@ -323,7 +323,7 @@ init static 1 0 [export(1 memory 0), export(0 func 0), export(1 func 0)]
     ),
 ];
 
-/// A host function as an export of the root. That isn't built yet, and told at the export.
+/// A host function as an export of the root: one that is also lowered, and one beside a function that is lifted.
 static REEXPORTS: [(&str, &str); 2] = [
     (
         r#"{"limit":100,"intrinsics":null,"types":{"core":[[["i32","i32"],[]],[["i32","i32","i32","i32"],["i32"]]],
@@ -337,7 +337,20 @@ static REEXPORTS: [(&str, &str); 2] = [
            {"canon":[["lower",0,0,0,[["memory",0],["realloc",0]]]]},
            {"instances":[{"exports":[["log","func",1]]},{"instantiate":[1,[["env",1]]]}]},
            {"exports":[["again","func",0]]},"end"]}"#,
-        "fault unsupported not-built at export 0\n",
+        "plan 1
+modules 2 0
+counts 2 1 1 1 0 1 0 0 0 0 0 0
+import-type 0 \"log\" func
+import 0 0
+init static 0 0 []
+init lower 0 0
+init memory 0 export(0 memory 0)
+init realloc 0 export(0 func 0)
+init static 1 0 [trampoline(0)]
+options 0 0 utf8 sync - - 0 0
+trampoline 0 component-lower-import[0] 0 0
+export \"again\" imported 0
+",
     ),
     (
         r#"{"limit":100,"intrinsics":null,"types":{"core":[[["i32"],["i32"]]],
@@ -346,11 +359,20 @@ static REEXPORTS: [(&str, &str); 2] = [
            "tags":0,"exports":[["f","func",0]]}},{"instances":[{"instantiate":[0,[]]}]},
            {"aliases":[{"core-export":["func",0,"f"]}]},{"canon":[["lift",0,0,0,[]]]},{"imports":[["h",["func",0]]]},
            {"exports":[["f","func",0],["g","func",1]]},"end"]}"#,
-        "fault unsupported not-built at export 1\n",
+        "plan 1
+modules 1 0
+counts 1 1 0 0 0 0 0 0 0 0 0 0
+import-type 0 \"h\" func
+import 0 0
+init static 0 0 []
+options 0 0 utf8 sync - - - -
+export \"f\" lifted export(0 func 0) options 0
+export \"g\" imported 0
+",
     ),
 ];
 
-/// A lifted function that is lowered. That isn't built yet, and told at its item: whether it comes to that is read.
+/// A lifted function that is lowered. That isn't built, and told at its item: whether it comes to that is read.
 static LIFTED_IS_LOWERED: [(&str, &str); 1] = [(
     r#"{"limit":100,"intrinsics":null,"types":{"core":[[["i32"],["i32"]]],
        "types":[{"func":{"params":[["x","u32"]],"result":"u32","async":false}},{"module":[[],[]]}]},
@@ -367,10 +389,10 @@ fn lifts_and_lowerings_are_planned(rt: HostRuntime) {
     are_planned(&rt, rt.alloc(), ROOT, &LOWERINGS);
     are_planned(&rt, rt.alloc(), ROOT, &LIFTS);
     are_planned(&rt, rt.alloc(), ROOT, &CORE_ITEMS);
+    are_planned(&rt, rt.alloc(), ALONE, &REEXPORTS);
 }
 
 #[test]
-fn functions_that_go_on_are_refused(rt: HostRuntime) {
-    are_refused(&rt, rt.alloc(), ALONE, &REEXPORTS);
+fn a_lifted_function_is_not_lowered(rt: HostRuntime) {
     are_refused(&rt, rt.alloc(), ALONE, &LIFTED_IS_LOWERED);
 }

@@ -1,8 +1,6 @@
 //! Components that stand in each other: defined, instantiated, and given functions, modules, components and instances.
 
-use crate::inputs::{
-    ALONE, Around, NOT_BUILT, SMALLEST_PLAN, are_not_built, are_planned, are_refused,
-};
+use crate::inputs::{ALONE, Around, SMALLEST_PLAN, are_planned, are_refused};
 use crate::root::EMPTY_PLAN;
 
 /// Components that are never instantiated: one without content, one that stands in another, and one that imports the
@@ -152,155 +150,6 @@ static FAULTS: [(&str, &str); 3] = [
     ),
 ];
 
-/// Imports and exports of the root that aren't built, which are told at their place.
-static ROOTS: [(&str, &str); 4] = [
-    (
-        r#"{"limit":100,"intrinsics":null,"types":{"core":[],"types":[{"component":[[],[]]}]},
-           "payloads":["version",{"imports":[["c",["component",0]]]},"end"]}"#,
-        "fault unsupported not-built at instance 0 item 0\n",
-    ),
-    (
-        r#"{"limit":100,"intrinsics":null,"types":{"core":[[["i32"],["i32"]]],
-           "types":[{"func":{"params":[["x","u32"]],"result":"u32","async":false}},{"module":[[],[]]},
-           {"instance":[["f",["func",0]]]}]},"payloads":["version",
-           {"module":{"ty":1,"imports":[],"funcs":[0],"tables":0,"memories":[],"globals":0,"tags":0,
-           "exports":[["f","func",0]]}},{"instances":[{"instantiate":[0,[]]}]},
-           {"aliases":[{"core-export":["func",0,"f"]}]},{"canon":[["lift",0,0,0,[]]]},
-           {"component-instances":[{"exports":[[["f","func",0]],2]}]},{"exports":[["api","instance",0]]},"end"]}"#,
-        "fault unsupported not-built at export 0\n",
-    ),
-    (
-        r#"{"limit":100,"intrinsics":null,"types":{"core":[],"types":[{"instance":[]}]},
-           "payloads":["version",{"component-instances":[{"exports":[[],0]},
-           {"exports":[[["a","instance",0],["b","instance",0]],0]},
-           {"exports":[[["a","instance",1],["b","instance",1]],0]},
-           {"exports":[[["a","instance",2],["b","instance",2]],0]},
-           {"exports":[[["a","instance",3],["b","instance",3]],0]},
-           {"exports":[[["a","instance",4],["b","instance",4]],0]},
-           {"exports":[[["a","instance",5],["b","instance",5]],0]},
-           {"exports":[[["a","instance",6],["b","instance",6]],0]},
-           {"exports":[[["a","instance",7],["b","instance",7]],0]},
-           {"exports":[[["a","instance",8],["b","instance",8]],0]},
-           {"exports":[[["a","instance",9],["b","instance",9]],0]},
-           {"exports":[[["a","instance",10],["b","instance",10]],0]},
-           {"exports":[[["a","instance",11],["b","instance",11]],0]},
-           {"exports":[[["a","instance",12],["b","instance",12]],0]},
-           {"exports":[[["a","instance",13],["b","instance",13]],0]},
-           {"exports":[[["a","instance",14],["b","instance",14]],0]},
-           {"exports":[[["a","instance",15],["b","instance",15]],0]},
-           {"exports":[[["a","instance",16],["b","instance",16]],0]},
-           {"exports":[[["a","instance",17],["b","instance",17]],0]},
-           {"exports":[[["a","instance",18],["b","instance",18]],0]},
-           {"exports":[[["a","instance",19],["b","instance",19]],0]},
-           {"exports":[[["a","instance",20],["b","instance",20]],0]},
-           {"exports":[[["a","instance",21],["b","instance",21]],0]},
-           {"exports":[[["a","instance",22],["b","instance",22]],0]},
-           {"exports":[[["a","instance",23],["b","instance",23]],0]},
-           {"exports":[[["a","instance",24],["b","instance",24]],0]},
-           {"exports":[[["a","instance",25],["b","instance",25]],0]},
-           {"exports":[[["a","instance",26],["b","instance",26]],0]},
-           {"exports":[[["a","instance",27],["b","instance",27]],0]},
-           {"exports":[[["a","instance",28],["b","instance",28]],0]},
-           {"exports":[[["a","instance",29],["b","instance",29]],0]},
-           {"exports":[[["a","instance",30],["b","instance",30]],0]},
-           {"exports":[[["a","instance",31],["b","instance",31]],0]},
-           {"exports":[[["a","instance",32],["b","instance",32]],0]},
-           {"exports":[[["a","instance",33],["b","instance",33]],0]},
-           {"exports":[[["a","instance",34],["b","instance",34]],0]},
-           {"exports":[[["a","instance",35],["b","instance",35]],0]},
-           {"exports":[[["a","instance",36],["b","instance",36]],0]},
-           {"exports":[[["a","instance",37],["b","instance",37]],0]},
-           {"exports":[[["a","instance",38],["b","instance",38]],0]},
-           {"exports":[[["a","instance",39],["b","instance",39]],0]}]},{"exports":[["x","instance",40]]},"end"]}"#,
-        "fault unsupported not-built at export 0\n",
-    ),
-    (
-        r#"{"limit":100,"intrinsics":null,"types":{"core":[],
-           "types":[{"instance":[]},{"func":{"params":[],"result":null,"async":false}}]},
-           "payloads":["version",{"imports":[["h",["func",1]]]},
-           {"component-instances":[{"exports":[[["h","func",0]],0]},
-           {"exports":[[["a","instance",0],["b","instance",0]],0]},
-           {"exports":[[["a","instance",1],["b","instance",1]],0]},
-           {"exports":[[["a","instance",2],["b","instance",2]],0]},
-           {"exports":[[["a","instance",3],["b","instance",3]],0]},
-           {"exports":[[["a","instance",4],["b","instance",4]],0]},
-           {"exports":[[["a","instance",5],["b","instance",5]],0]},
-           {"exports":[[["a","instance",6],["b","instance",6]],0]},
-           {"exports":[[["a","instance",7],["b","instance",7]],0]},
-           {"exports":[[["a","instance",8],["b","instance",8]],0]},
-           {"exports":[[["a","instance",9],["b","instance",9]],0]},
-           {"exports":[[["a","instance",10],["b","instance",10]],0]},
-           {"exports":[[["a","instance",11],["b","instance",11]],0]},
-           {"exports":[[["a","instance",12],["b","instance",12]],0]},
-           {"exports":[[["a","instance",13],["b","instance",13]],0]},
-           {"exports":[[["a","instance",14],["b","instance",14]],0]},
-           {"exports":[[["a","instance",15],["b","instance",15]],0]},
-           {"exports":[[["a","instance",16],["b","instance",16]],0]},
-           {"exports":[[["a","instance",17],["b","instance",17]],0]},
-           {"exports":[[["a","instance",18],["b","instance",18]],0]},
-           {"exports":[[["a","instance",19],["b","instance",19]],0]},
-           {"exports":[[["a","instance",20],["b","instance",20]],0]},
-           {"exports":[[["a","instance",21],["b","instance",21]],0]},
-           {"exports":[[["a","instance",22],["b","instance",22]],0]},
-           {"exports":[[["a","instance",23],["b","instance",23]],0]},
-           {"exports":[[["a","instance",24],["b","instance",24]],0]},
-           {"exports":[[["a","instance",25],["b","instance",25]],0]},
-           {"exports":[[["a","instance",26],["b","instance",26]],0]},
-           {"exports":[[["a","instance",27],["b","instance",27]],0]},
-           {"exports":[[["a","instance",28],["b","instance",28]],0]},
-           {"exports":[[["a","instance",29],["b","instance",29]],0]},
-           {"exports":[[["a","instance",30],["b","instance",30]],0]},
-           {"exports":[[["a","instance",31],["b","instance",31]],0]},
-           {"exports":[[["a","instance",32],["b","instance",32]],0]},
-           {"exports":[[["a","instance",33],["b","instance",33]],0]},
-           {"exports":[[["a","instance",34],["b","instance",34]],0]},
-           {"exports":[[["a","instance",35],["b","instance",35]],0]},
-           {"exports":[[["a","instance",36],["b","instance",36]],0]},
-           {"exports":[[["a","instance",37],["b","instance",37]],0]},
-           {"exports":[[["a","instance",38],["b","instance",38]],0]},
-           {"exports":[[["a","instance",39],["b","instance",39]],0]}]},{"exports":[["x","instance",40]]},"end"]}"#,
-        "fault unsupported not-built at export 0\n",
-    ),
-];
-
-/// Instantiations over a table with a resource, which are refused as a whole.
-static RESOURCES: [(&str, &str); 3] = [
-    (
-        "argument of another kind",
-        r#"{"limit":100,"intrinsics":null,"types":{"core":[],
-           "types":[{"module":[[],[]]},{"instance":[]},"resource",
-           {"func":{"params":[],"result":null,"async":false}}]},
-           "payloads":["version",{"imports":[["h",["func",3]]]},
-           {"module":{"ty":0,"imports":[],"funcs":[],"tables":0,"memories":[],"globals":0,"tags":0,"exports":[]}},
-           {"module":{"ty":0,"imports":[],"funcs":[],"tables":0,"memories":[],"globals":0,"tags":0,"exports":[]}},
-           "component","version",{"imports":[["m",["module",0]]]},{"types":[{"resource":[2,"i32",null]}]},
-           {"instances":[{"instantiate":[0,[]]}]},"end",{"component-instances":[{"instantiate":[0,[["m","func",0]],
-           1]},{"instantiate":[0,[["m","module",1]],1]}]},"end"]}"#,
-    ),
-    (
-        "type import without argument",
-        r#"{"limit":100,"intrinsics":null,"types":{"core":[],
-           "types":[{"module":[[],[]]},{"instance":[]},"resource"]},
-           "payloads":["version",{"module":{"ty":0,"imports":[],"funcs":[],"tables":0,"memories":[],"globals":0,
-           "tags":0,"exports":[]}},{"module":{"ty":0,"imports":[],"funcs":[],"tables":0,"memories":[],"globals":0,
-           "tags":0,"exports":[]}},"component","version",{"imports":[["m",["module",0]],["t",["type",1]]]},
-           {"types":[{"resource":[2,"i32",null]}]},{"instances":[{"instantiate":[0,[]]}]},"end",
-           {"component-instances":[{"instantiate":[0,[["m","module",0]],1]},
-           {"instantiate":[0,[["m","module",1]],1]}]},"end"]}"#,
-    ),
-    (
-        "instantiated twice",
-        r#"{"limit":100,"intrinsics":null,"types":{"core":[],
-           "types":[{"module":[[],[]]},{"instance":[]},"resource"]},
-           "payloads":["version",{"module":{"ty":0,"imports":[],"funcs":[],"tables":0,"memories":[],"globals":0,
-           "tags":0,"exports":[]}},{"module":{"ty":0,"imports":[],"funcs":[],"tables":0,"memories":[],"globals":0,
-           "tags":0,"exports":[]}},"component","version",{"imports":[["m",["module",0]]]},
-           {"types":[{"resource":[2,"i32",null]}]},{"instances":[{"instantiate":[0,[]]}]},"end",
-           {"component-instances":[{"instantiate":[0,[["m","module",0]],1]},
-           {"instantiate":[0,[["m","module",1]],1]}]},"end"]}"#,
-    ),
-];
-
 /// What stands around the payloads of the rows below. The types are those of a function, of a module, of two instances,
 /// the second of which has the function, and of a component.
 const NESTED: Around = Around {
@@ -311,7 +160,7 @@ const NESTED: Around = Around {
 };
 
 /// Payloads in which items go from one component instance to another, and the plan.
-static GIVEN: [(&str, &str); 6] = [
+static GIVEN: [(&str, &str); 8] = [
     // a function of the host, lowered by a child
     (
         r#"{"imports":[["h",["func",0]]]},"component","version",{"imports":[["f",["func",0]]]},
@@ -397,10 +246,28 @@ counts 1 2 0 0 0 0 0 0 0 0 0 0
 init static 0 0 []
 ",
     ),
+    // a function of the host that comes back from a child, and is exported
+    (
+        r#"{"imports":[["h",["func",0]]]},"component","version",{"imports":[["f",["func",0]]]},
+           {"exports":[["e","func",0]]},"end",{"component-instances":[{"instantiate":[0,[["f","func",0]],2]}]},
+           {"aliases":[{"export":["func",0,"e"]}]},{"exports":[["g","func",1]]}"#,
+        "plan 1
+modules 0 0
+counts 0 2 0 0 0 0 0 0 0 0 0 0
+import-type 0 \"h\" func
+import 0 0
+export \"g\" imported 0
+",
+    ),
+    // an instance of a type alone
+    (
+        r#"{"component-instances":[{"exports":[[["t","type",0]],2]}]}"#,
+        EMPTY_PLAN,
+    ),
 ];
 
 /// Payloads whose reading ends elsewhere, and the fault.
-static ENDS: [(&str, &str); 10] = [
+static ENDS: [(&str, &str); 8] = [
     // an argument that is missing, or of another kind
     (
         r#""component","version",{"imports":[["f",["func",0]]]},"end",
@@ -441,22 +308,11 @@ static ENDS: [(&str, &str); 10] = [
            {"component-instances":[{"instantiate":[0,[],2]},{"instantiate":[0,[],2]},{"instantiate":[0,[],2]}]}"#,
         "fault too-many-instances\n",
     ),
-    // an item of a child that isn't built, and a type as an item of the root
+    // an item of a child that isn't built
     (
         r#""component","version",{"canon":[["task.cancel",0]]},"end",
            {"component-instances":[{"instantiate":[0,[],2]}]}"#,
         "fault unsupported not-built at instance 1 item 0\n",
-    ),
-    (
-        r#"{"component-instances":[{"exports":[[["t","type",0]],2]}]}"#,
-        NOT_BUILT,
-    ),
-    // a function of the host that comes back from a child
-    (
-        r#"{"imports":[["h",["func",0]]]},"component","version",{"imports":[["f",["func",0]]]},
-           {"exports":[["e","func",0]]},"end",{"component-instances":[{"instantiate":[0,[["f","func",0]],2]}]},
-           {"aliases":[{"export":["func",0,"e"]}]},{"exports":[["g","func",1]]}"#,
-        "fault unsupported not-built at export 0\n",
     ),
 ];
 
@@ -466,8 +322,6 @@ fn components_are_defined_and_instantiated(rt: HostRuntime) {
     are_refused(&rt, rt.alloc(), ALONE, &BAD_CAPTURES);
     are_planned(&rt, rt.alloc(), ALONE, &PLANS);
     are_refused(&rt, rt.alloc(), ALONE, &FAULTS);
-    are_refused(&rt, rt.alloc(), ALONE, &ROOTS);
-    are_not_built(&rt, rt.alloc(), &RESOURCES);
 }
 
 #[test]

@@ -89,7 +89,7 @@ static ROWS: [(&str, &str); 15] = [
         r#"{"canon":[["lift",0,0,0,[]]]},{"exports":[["f","func",0]]}"#,
         "fault invalid at instance 0 item 1\n",
     ),
-    // a kind that isn't built yet, which comes before every fault
+    // a kind that isn't built, which comes before every fault
     (
         r#"{"instances":[{"instantiate":[1,[]]}]},{"canon":[["task.cancel",0]]}"#,
         NOT_BUILT,
@@ -107,10 +107,10 @@ static LOWERINGS: [(&str, &str); 15] = [
         r#"{"instances":[{"instantiate":[1,[]]}]},{"imports":[["h",["func",0]],["i",["func",2]]]}"#,
         "fault bad-type at instance 0 item 3\n",
     ),
-    // an import of another kind than a function, which isn't built yet: it is told in the order of the imports
+    // the same of imports that are no functions: of two, the first
     (
-        r#"{"imports":[["h",["func",0]],["i",["module",1]]]}"#,
-        "fault unsupported not-built at instance 0 item 2\n",
+        r#"{"imports":[["h",["func",0]],["i",["instance",1]],["j",["module",0]]]}"#,
+        "fault bad-type at instance 0 item 2\n",
     ),
     (
         r#"{"imports":[["h",["func",1]],["i",["module",1]]]}"#,

@@ -1,6 +1,6 @@
 //! Functions over types that are no primitives, in the root and in its children: lists, records, streams and the rest.
-//! A type is converted in the component instance whose item names it; of streams, futures and error contexts the plan
-//! counts one table for each type and component instance.
+//! A type is converted in the component instance whose item names it, that of an instance among them; of streams,
+//! futures and error contexts the plan counts one table for each type and component instance.
 
 use crate::inputs::{Around, are_planned, are_refused};
 
@@ -59,7 +59,8 @@ options 0 1 utf16 sync - - 0 0
 export \"g\" lifted export(0 func 0) options 0
 ",
     ),
-    // two instances of a component that lifts a function of streams and futures: each has tables of its own
+    // two instances of a component that lifts a function of streams and futures: each has tables of its own, and so
+    // has the root, since it names the type of both
     (
         r#""component","version",{"module":{"ty":14,"imports":[],"funcs":[0],"tables":0,"memories":[],"globals":0,
            "tags":0,"exports":[["f","func",0]]}},{"instances":[{"instantiate":[0,[]]}]},
@@ -69,7 +70,7 @@ export \"g\" lifted export(0 func 0) options 0
            {"exports":[["a","func",0],["b","func",1]]}"#,
         "plan 1
 modules 1 0
-counts 2 3 0 0 0 0 0 0 0 2 2 0
+counts 2 3 0 0 0 0 0 0 0 3 3 0
 init static 0 1 []
 init static 0 2 []
 options 0 1 utf8 sync - - - -
@@ -96,7 +97,7 @@ options 0 1 utf8 sync - - - -
 trampoline 0 component-lower-import[0] 0 0
 ",
     ),
-    // two functions of error contexts in one component instance, which has one table for both
+    // two functions of error contexts in one component instance, which has one table for both; the root has another
     (
         r#""component","version",{"module":{"ty":14,"imports":[],"funcs":[0],"tables":0,"memories":[],"globals":0,
            "tags":0,"exports":[["f","func",0]]}},{"instances":[{"instantiate":[0,[]]}]},
@@ -106,7 +107,7 @@ trampoline 0 component-lower-import[0] 0 0
            {"exports":[["a","func",0],["b","func",1]]}"#,
         "plan 1
 modules 1 0
-counts 1 2 0 0 0 0 0 0 0 0 0 1
+counts 1 2 0 0 0 0 0 0 0 0 0 2
 init static 0 1 []
 options 0 1 utf8 sync - - - -
 options 1 1 utf16 sync - - - -
