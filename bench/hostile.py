@@ -667,6 +667,151 @@ def captures_at_each_level(room):
     return nesting(ONE_FUNC, levels, ",".join([close] * depth))
 
 
+def resources(count):
+    """A type table with so many resources behind its four other types."""
+    return fill(NEST_TYPES[:-2] + ",", lambda n: '"resource"', "]}", count)
+
+
+def over(types, *payloads):
+    """An input over this type table, in which as many component instances may begin as the limit allows."""
+    return document(types, ['"version"', *payloads, '"end"'], MOST)
+
+
+def many_resources(room):
+    """The root declares very many resources, each of its own."""
+    count = room // len('"resource",{"resource":[1000000,"i32",null]},')
+    return over(resources(count), fill('{"types":[', lambda n: '{"resource":[%d,"i32",null]}' % (n + 4), "]}", count))
+
+
+def resources_with_destructors(room):
+    """The root declares one resource over and over, each time with a destructor."""
+    declared = listed('{"types":[', lambda n: '{"resource":[4,"i32",0]}', "]}", room)
+    return over(resources(1), ONE_FUNC, INSTANCE, ALIAS, declared)
+
+
+def imported_resources(room):
+    """The root imports very many resources, each of its own."""
+    count = room // len('"resource",["a0000000",["type",1000000]],')
+    return over(resources(count), fill('{"imports":[', lambda n: '["a%07d",["type",%d]]' % (n, n + 4), "]}", count))
+
+
+def one_resource_imported_often(room):
+    """The root imports one resource under very many names."""
+    return over(resources(1), listed('{"imports":[', lambda n: '["a%07d",["type",4]]' % n, "]}", room))
+
+
+def children_with_a_resource(room):
+    """Instances of a component that declares a resource."""
+    child = '"component","version",{"types":[{"resource":[4,"i32",null]}]},"end"'
+    count = min(room // (len(ONE_CHILD) + 1), MOST - 1)
+    return over(resources(1), child, fill('{"component-instances":[', lambda n: ONE_CHILD, "]}", count))
+
+
+def children_given_a_resource(room):
+    """Instances of a component that imports a resource, each given that of the root."""
+    child = '"component","version",{"imports":[["r",["type",5]]]},"end"'
+    given = '{"instantiate":[0,[["r","type",4]],2]}'
+    count = min(room // (len(given) + 1), MOST - 1)
+    begins = fill('{"component-instances":[', lambda n: given, "]}", count)
+    return over(resources(2), '{"imports":[["r",["type",4]]]}', child, begins)
+
+
+def resources_between_long_types(room):
+    """Imports of resources, each its own, and after each one of a function over the last of very many types."""
+    entries = room // 4 // len('{"list":1000000},')
+    count = room // 2 // len('"resource",["r0000000",["type",1000000]],["f0000000",["func",1000000]],')
+    lists = fill(NEST_TYPES[:-2] + ",", lambda n: '{"list":"u8"}' if n == 0 else '{"list":%d}' % (n + 3), "", entries)
+    long_type = ',{"func":{"params":[["a",%d]],"result":null,"async":false}}' % (entries + 3)
+    types = [*lists, long_type, *fill(",", lambda n: '"resource"', "]}", count)]
+    pair = '["r%07d",["type",%d]],["f%07d",["func",%d]]'
+    imports = fill('{"imports":[', lambda n: pair % (n, n + entries + 5, n, entries + 4), "]}", count)
+    return over(types, imports)
+
+
+def doubling_instance_imported(room):
+    """Imports of an instance type that has the one before it twice, forty deep, down to one resource."""
+    levels = fill(',{"instance":[["r",["type",4]]]},',
+                  lambda n: '{"instance":[["a",["instance",%d]],["b",["instance",%d]]]}' % (n + 5, n + 5), "]}", 40)
+    types = "".join([NEST_TYPES[:-2], ',"resource"', *levels])
+    return over(types, listed('{"imports":[', lambda n: '["i%07d",["instance",45]]' % n, "]}", room))
+
+
+def host_instance(room, entity):
+    """An imported instance of very many exports, an alias of each by its name, and the list of these exports."""
+    kind = entity[2:entity.index('"', 2)]
+    count = room // len('["e0000000",%s],{"export":["%s",0,"e0000000"]},' % (entity, kind))
+    types = fill(NEST_TYPES[:-2] + ',{"instance":[', lambda n: '["e%07d",%s]' % (n, entity), "]}]}", count)
+    taken = fill('{"aliases":[', lambda n: '{"export":["%s",0,"e%07d"]}' % (kind, n), "]}", count)
+    return over(types, '{"imports":[["i",["instance",4]]]}', taken)
+
+
+def functions_of_a_host_instance(room):
+    """An imported instance of very many functions, each taken out of it."""
+    return host_instance(room, '["func",1]')
+
+
+def instances_of_a_host_instance(room):
+    """An imported instance of very many instances, each taken out of it."""
+    return host_instance(room, '["instance",2]')
+
+
+def chain_of_host_instances(room):
+    """An imported instance with one in it, and so on, each taken out of the one before."""
+    count = room // len('{"instance":[["a",["instance",1000000]]]},{"export":["instance",1000000,"a"]},')
+    types = fill(NEST_TYPES[:-2] + ",", lambda n: '{"instance":[["a",["instance",%d]]]}' % (n + 3 if n else 2), "]}", count)
+    taken = fill('{"aliases":[', lambda n: '{"export":["instance",%d,"a"]}' % n, "]}", count)
+    return over(types, '{"imports":[["i",["instance",%d]]]}' % (count + 3), taken)
+
+
+def host_modules(room):
+    """Very many imported modules, each instantiated."""
+    count = room // len('["m0000000",["module",0]],{"instantiate":[1000000,[]]},')
+    imports = fill('{"imports":[', lambda n: '["m%07d",["module",0]]' % n, "]}", count)
+    return nesting(imports, fill('{"instances":[', lambda n: '{"instantiate":[%d,[]]}' % n, "]}", count))
+
+
+def wide_host_module(room):
+    """An imported module of very many exports, with an alias of each, and as many imports."""
+    count = room // len('["e0000000",["func",0]],["a","e0000000",["func",0]],["e0000000","func",0],'
+                        '{"core-export":["func",2,"e0000000"]},')
+    taken = fill('', lambda n: '["a","e%07d",["func",0]]' % n, "],[", count)
+    given = fill('', lambda n: '["e%07d",["func",0]]' % n, "]]}]}", count)
+    types = ['{"core":[[[],[]]],"types":[{"module":[[],[]]},{"module":[['] + list(taken) + list(given)
+    bag = fill('{"instances":[{"exports":[', lambda n: '["e%07d","func",0]' % n, ']},{"instantiate":[0,[["a",1]]]}]}', count)
+    aliased = fill('{"aliases":[', lambda n: '{"core-export":["func",2,"e%07d"]}' % n, "]}", count)
+    return over(types, '{"imports":[["m",["module",1]]]}', ONE_FUNC,
+                '{"instances":[{"instantiate":[1,[]]}]}', ALIAS, bag, aliased)
+
+
+def exported_instance(room):
+    """An instance from very many items, which the root exports."""
+    items = listed('{"component-instances":[{"exports":[[', lambda n: '["e%07d","func",0]' % n, "],2]}]}", room)
+    return nesting(IMPORT, items, '{"exports":[["i","instance",0]]}')
+
+
+def exported_instances(room):
+    """Very many instances from items, each of which the root exports."""
+    count = room // len('{"exports":[[["f","func",0]],2]},["e0000000","instance",1000000],')
+    made = fill('{"component-instances":[', lambda n: '{"exports":[[["f","func",0]],2]}', "]}", count)
+    return nesting(IMPORT, made, fill('{"exports":[', lambda n: '["e%07d","instance",%d]' % (n, n), "]}", count))
+
+
+def exported_host_instance(room):
+    """An imported instance of very many functions, which the root exports."""
+    types = listed(NEST_TYPES[:-2] + ',{"instance":[', lambda n: '["e%07d",["func",1]]' % n, "]}]}", room)
+    return over(types, '{"imports":[["i",["instance",4]]]}', '{"exports":[["i","instance",0]]}')
+
+
+def exported_types(room):
+    """The root exports one type under very many names."""
+    return nesting(listed('{"exports":[', lambda n: '["e%07d","type",1]' % n, "]}", room))
+
+
+def exported_modules(room):
+    """The root exports one module under very many names."""
+    return nesting(ONE_FUNC, listed('{"exports":[', lambda n: '["e%07d","module",0]' % n, "]}", room))
+
+
 def many_ends(room):
     """Ends of what never began."""
     return document(PLAIN_TYPES, ['"version"'] + list(repeated(lambda n: '"end"', room)))
@@ -691,10 +836,14 @@ FAMILIES = {
     unused_imports: 0, used_imports: 0, long_signature_lowered: 0, lifts_with_post_return: 0, options_in_one_slot: 0,
     options_of_one_function: 0, repeated_options: 0, versions_of_one_name: 0, exports_that_hash_alike: 0,
     module_names_that_hash_alike: 0, bag_that_hashes_alike: 0, arguments_that_hash_alike: 0, imports_that_hash_alike: 0,
-    types_that_hash_alike: 0, many_children: 0,
-    children_over_a_long_table: 0, children_with_a_long_type: 0, children_in_children: 0, child_of_itself: 1, children_with_arguments: 0,
-    child_with_imports: 0, exports_of_a_child: 0, items_of_an_instance: 0, instances_of_instances: 0,
-    aliases_of_one_member: 0, captures_of_a_child: 0, captures_at_each_level: 0, many_ends: 1, not_utf8: 1,
+    types_that_hash_alike: 0, many_children: 0, children_over_a_long_table: 0, children_with_a_long_type: 0,
+    children_in_children: 0, child_of_itself: 1, children_with_arguments: 0, child_with_imports: 0,
+    exports_of_a_child: 0, items_of_an_instance: 0, instances_of_instances: 0, aliases_of_one_member: 0,
+    captures_of_a_child: 0, captures_at_each_level: 0, many_resources: 0, resources_with_destructors: 0,
+    imported_resources: 0, one_resource_imported_often: 0, children_with_a_resource: 0, children_given_a_resource: 0,
+    resources_between_long_types: 0, doubling_instance_imported: 0, functions_of_a_host_instance: 0, instances_of_a_host_instance: 0,
+    chain_of_host_instances: 0, host_modules: 0, wide_host_module: 0, exported_instance: 0, exported_instances: 0,
+    exported_host_instance: 0, exported_types: 0, exported_modules: 0, many_ends: 1, not_utf8: 1,
 }
 
 
