@@ -6,6 +6,7 @@ use Rattle.std.specs.List.{filter_map}
 use Rattle.std.proofs.lemmas.List.{take-append-le}
 use Rattle.std.proofs.lemmas.Option.{none-some, same_Some, slice_get_within}
 use Rattle.pc_entity.proofs.LookupLemmas.{found_at}
+use Rattle.pc_numbers.specs.declared.module_entity.ModuleInternedTypeIndex.{ModuleInternedTypeIndex}
 use Rattle.pc_dfg.specs.declared.adapter.Adapter.{Adapter}
 use Rattle.pc_dfg.specs.declared.core_def.CoreDef.{CoreDef}
 use Rattle.pc_dfg.specs.declared.core_def.CoreDef.TheVariants as def
@@ -14,7 +15,7 @@ use Rattle.pc_dfg.specs.declared.instance.Instance.{Instance}
 use Rattle.pc_dfg.specs.declared.instance.Instance.TheVariants as source
 use Rattle.pc_dfg.specs.declared.instance.SideEffect.{SideEffect}
 use Rattle.pc_dfg.specs.declared.instance.SideEffect.TheVariants as effect
-use Rattle.pc_dfg.specs.Grows.{Extends, Grows}
+use Rattle.pc_dfg.specs.Grows.{Extends, Grows, HasIntrinsic}
 use Rattle.pc_dfg.specs.Held.{IsHeld, HeldInstance, HeldEffect, HoldsEntry, AreHeld}
 use Rattle.pc_dfg.specs.Lists as list
 use Rattle.pc_dfg.specs.Lists.{ListName, EntryOf, entries_of}
@@ -86,16 +87,18 @@ AllAdd P g h = (l : ListName) → Adds {A = EntryOf l} (P l) (entries_of g l) (e
 abbrev pub NewHeld : (g h : ComponentDfg) → EntryFact
 NewHeld g h l = HoldsEntry (base g h l) l
 
--- the second graph has the lists of the first with held entries at their ends
+-- the second graph has the lists of the first with held entries at their ends, and the signatures of the first
 pub record Added (g h : ComponentDfg) : Type 0 where
   pub lists : AllAdd (NewHeld g h) g h
   pub component_instances : g.num_runtime_component_instances ≤ h.num_runtime_component_instances
+  pub signatures : (place : ℕ) (s : ModuleInternedTypeIndex) → HasIntrinsic g place s → HasIntrinsic h place s
 
 -- such a graph has grown
 pub added_grows : (g h : ComponentDfg) → Added g h → Grows g h
 added_grows g h added = record {
   lists = λ l. (added.lists l).extends;
   component_instances = added.component_instances;
+  signatures = added.signatures;
 }
 
 -- a new side effect names what was there, and follows all instances that were made

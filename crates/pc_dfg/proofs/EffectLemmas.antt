@@ -39,6 +39,7 @@ pub component_instance_grows : (g : ComponentDfg) → Grows g (with_component_in
 component_instance_grows g = record {
   lists = λ l. (component_instance_adds (λ l n x. Unit {0}) g l).extends;
   component_instances = omega arith;
+  signatures = λ place s at. at;
 }
 
 pub component_instance_ordered : (g : ComponentDfg) → IsOrdered g → IsOrdered (with_component_instance g)
@@ -47,6 +48,7 @@ component_instance_ordered g o =
     let added : Added g h = record {
       lists = component_instance_adds (NewHeld g h) g;
       component_instances = omega arith;
+      signatures = λ place s at. at;
     } in
     quiet g h added o refl refl refl
 
@@ -63,6 +65,7 @@ pub instance_alone_grows : (g : ComponentDfg) (ys : List Instance) (x : Instance
 instance_alone_grows g ys x change = record {
   lists = λ l. (instance_alone_adds (λ l n x. Unit {0}) g ys x change tt l).extends;
   component_instances = omega arith;
+  signatures = λ place s at. at;
 }
 
 resource_alone_adds : (P : EntryFact) (g : ComponentDfg) (ys : List Resource) (x : Resource) → Changes g.resources ys x
@@ -78,6 +81,7 @@ pub resource_alone_grows : (g : ComponentDfg) (ys : List Resource) (x : Resource
 resource_alone_grows g ys x change = record {
   lists = λ l. (resource_alone_adds (λ l n x. Unit {0}) g ys x change tt l).extends;
   component_instances = omega arith;
+  signatures = λ place s at. at;
 }
 
 -- numbers that count up, with the next one
@@ -121,6 +125,7 @@ module _ (g : ComponentDfg) (x : Instance) (c : RuntimeComponentInstanceIndex) w
   instance_grows = record {
     lists = λ l. (instance_adds (λ l n x. Unit {0}) tt tt l).extends;
     component_instances = omega arith;
+    signatures = λ place s at. at;
   }
 
   pub instance_ordered : HeldInstance g x → HasBegun g c.0 → IsOrdered g → IsOrdered (with_instance g x c)
@@ -132,6 +137,7 @@ module _ (g : ComponentDfg) (x : Instance) (c : RuntimeComponentInstanceIndex) w
       let added : Added g h = record {
         lists = instance_adds (NewHeld g h) held (inside, begun);
         component_instances = omega arith;
+        signatures = λ place s at. at;
       } in
       let made = ap (λ es. length (made_in es)) (take-append_seam g.side_effects (made_effect ∷ [])) in
       let it : NewEffect g h (length g.side_effects) made_effect = record {
@@ -168,6 +174,7 @@ module _ (g : ComponentDfg) (x : Resource) where
   resource_grows = record {
     lists = λ l. (resource_adds (λ l n x. Unit {0}) tt tt l).extends;
     component_instances = omega arith;
+    signatures = λ place s at. at;
   }
 
   pub resource_ordered : HeldResource g x → IsOrdered g → IsOrdered (with_resource g x)
@@ -179,6 +186,7 @@ module _ (g : ComponentDfg) (x : Resource) where
       let added : Added g h = record {
         lists = resource_adds (NewHeld g h) held inside;
         component_instances = omega arith;
+        signatures = λ place s at. at;
       } in
       let made = ap (λ es. length (made_in es)) (take-append_seam g.side_effects (declaring_effect ∷ [])) in
       let it : NewEffect g h (length g.side_effects) declaring_effect = record {

@@ -39,11 +39,16 @@ module _ (g h : ComponentDfg) (grows : Grows g h) where
 
 -- a graph has only grown where it is as it was
 pub grows_refl : (g : ComponentDfg) → Grows g g
-grows_refl g = record { lists = λ l. unchanged; component_instances = omega arith }
+grows_refl g = record {
+  lists = λ l. unchanged;
+  component_instances = omega arith;
+  signatures = λ place s at. at;
+}
 
 -- and where it grew twice
 pub grows_trans : (a b c : ComponentDfg) → Grows a b → Grows b c → Grows a c
 grows_trans a b c first second = record {
   lists = λ l. extends_trans (entries_of a l) (entries_of b l) (entries_of c l) (first.lists l) (second.lists l);
   component_instances = omega (arith, first.component_instances, second.component_instances);
+  signatures = λ place s at. second.signatures place s (first.signatures place s at);
 }

@@ -19,6 +19,7 @@ mod NameLemmas
 pub mod AddLemmas
 pub mod PushLemmas
 mod EffectLemmas
+pub mod IntrinsicLemmas
 pub mod EmptyLemmas
 -- the join of instantiations
 mod JoinLemmas

@@ -76,6 +76,7 @@ pub import_type_grows : (g : ComponentDfg) (ys : List (List ℕ × ComponentExte
 import_type_grows g ys x change = record {
   lists = λ l. (import_type_adds (λ l n x. Unit {0}) g ys x change tt l).extends;
   component_instances = omega arith;
+  signatures = λ place s at. at;
 }
 
 pub import_type_ordered : (g : ComponentDfg) (ys : List (List ℕ × ComponentExtern)) (x : List ℕ × ComponentExtern)
@@ -87,6 +88,7 @@ import_type_ordered g ys x change held o =
     let added : Added g h = record {
       lists = import_type_adds (NewHeld g h) g ys x change held;
       component_instances = omega arith;
+      signatures = λ place s at. at;
     } in
     quiet g h added o refl refl refl
 
@@ -105,6 +107,7 @@ pub import_grows : (g : ComponentDfg) (ys : List (ImportIndex × List (List ℕ)
 import_grows g ys x change = record {
   lists = λ l. (import_adds (λ l n x. Unit {0}) g ys x change tt l).extends;
   component_instances = omega arith;
+  signatures = λ place s at. at;
 }
 
 pub import_ordered : (g : ComponentDfg) (ys : List (ImportIndex × List (List ℕ))) (x : ImportIndex × List (List ℕ))
@@ -116,6 +119,7 @@ import_ordered g ys x change held o =
     let added : Added g h = record {
       lists = import_adds (NewHeld g h) g ys x change held;
       component_instances = omega arith;
+      signatures = λ place s at. at;
     } in
     quiet g h added o refl refl refl
 
@@ -135,6 +139,7 @@ pub imported_resource_grows : (g : ComponentDfg) (ys : List RuntimeImportIndex) 
 imported_resource_grows g ys x change = record {
   lists = λ l. (imported_resource_adds (λ l n x. Unit {0}) g ys x change tt l).extends;
   component_instances = omega arith;
+  signatures = λ place s at. at;
 }
 
 pub imported_resource_ordered : (g : ComponentDfg) (ys : List RuntimeImportIndex) (x : RuntimeImportIndex)
@@ -146,6 +151,7 @@ imported_resource_ordered g ys x change held o =
     let added : Added g h = record {
       lists = imported_resource_adds (NewHeld g h) g ys x change held;
       component_instances = omega arith;
+      signatures = λ place s at. at;
     } in
     quiet g h added o refl refl refl
 
@@ -164,6 +170,7 @@ pub memory_grows : (g : ComponentDfg) (ys : List (CoreExport MemoryIndex)) (x : 
 memory_grows g ys x change = record {
   lists = λ l. (memory_adds (λ l n x. Unit {0}) g ys x change tt l).extends;
   component_instances = omega arith;
+  signatures = λ place s at. at;
 }
 
 pub memory_ordered : (g : ComponentDfg) (ys : List (CoreExport MemoryIndex)) (x : CoreExport MemoryIndex)
@@ -175,6 +182,7 @@ memory_ordered g ys x change held o =
     let added : Added g h = record {
       lists = memory_adds (NewHeld g h) g ys x change held;
       component_instances = omega arith;
+      signatures = λ place s at. at;
     } in
     quiet g h added o refl refl refl
 
@@ -193,6 +201,7 @@ pub table_grows : (g : ComponentDfg) (ys : List (CoreExport TableIndex)) (x : Co
 table_grows g ys x change = record {
   lists = λ l. (table_adds (λ l n x. Unit {0}) g ys x change tt l).extends;
   component_instances = omega arith;
+  signatures = λ place s at. at;
 }
 
 pub table_ordered : (g : ComponentDfg) (ys : List (CoreExport TableIndex)) (x : CoreExport TableIndex)
@@ -204,6 +213,7 @@ table_ordered g ys x change held o =
     let added : Added g h = record {
       lists = table_adds (NewHeld g h) g ys x change held;
       component_instances = omega arith;
+      signatures = λ place s at. at;
     } in
     quiet g h added o refl refl refl
 
@@ -221,6 +231,7 @@ pub realloc_grows : (g : ComponentDfg) (ys : List CoreDef) (x : CoreDef) → Cha
 realloc_grows g ys x change = record {
   lists = λ l. (realloc_adds (λ l n x. Unit {0}) g ys x change tt l).extends;
   component_instances = omega arith;
+  signatures = λ place s at. at;
 }
 
 pub realloc_ordered : (g : ComponentDfg) (ys : List CoreDef) (x : CoreDef) → Changes g.reallocs ys x
@@ -231,6 +242,7 @@ realloc_ordered g ys x change held o =
     let added : Added g h = record {
       lists = realloc_adds (NewHeld g h) g ys x change held;
       component_instances = omega arith;
+      signatures = λ place s at. at;
     } in
     quiet g h added o refl refl refl
 
@@ -248,6 +260,7 @@ pub callback_grows : (g : ComponentDfg) (ys : List CoreDef) (x : CoreDef) → Ch
 callback_grows g ys x change = record {
   lists = λ l. (callback_adds (λ l n x. Unit {0}) g ys x change tt l).extends;
   component_instances = omega arith;
+  signatures = λ place s at. at;
 }
 
 pub callback_ordered : (g : ComponentDfg) (ys : List CoreDef) (x : CoreDef) → Changes g.callbacks ys x
@@ -258,6 +271,7 @@ callback_ordered g ys x change held o =
     let added : Added g h = record {
       lists = callback_adds (NewHeld g h) g ys x change held;
       component_instances = omega arith;
+      signatures = λ place s at. at;
     } in
     quiet g h added o refl refl refl
 
@@ -275,6 +289,7 @@ pub post_return_grows : (g : ComponentDfg) (ys : List CoreDef) (x : CoreDef) →
 post_return_grows g ys x change = record {
   lists = λ l. (post_return_adds (λ l n x. Unit {0}) g ys x change tt l).extends;
   component_instances = omega arith;
+  signatures = λ place s at. at;
 }
 
 pub post_return_ordered : (g : ComponentDfg) (ys : List CoreDef) (x : CoreDef) → Changes g.post_returns ys x
@@ -285,6 +300,7 @@ post_return_ordered g ys x change held o =
     let added : Added g h = record {
       lists = post_return_adds (NewHeld g h) g ys x change held;
       component_instances = omega arith;
+      signatures = λ place s at. at;
     } in
     quiet g h added o refl refl refl
 
@@ -301,6 +317,7 @@ pub options_grows : (g : ComponentDfg) (ys : List CanonicalOptions) (x : Canonic
 options_grows g ys x change = record {
   lists = λ l. (options_adds (λ l n x. Unit {0}) g ys x change tt l).extends;
   component_instances = omega arith;
+  signatures = λ place s at. at;
 }
 
 pub options_ordered : (g : ComponentDfg) (ys : List CanonicalOptions) (x : CanonicalOptions) → Changes g.options ys x
@@ -311,6 +328,7 @@ options_ordered g ys x change held o =
     let added : Added g h = record {
       lists = options_adds (NewHeld g h) g ys x change held;
       component_instances = omega arith;
+      signatures = λ place s at. at;
     } in
     quiet g h added o refl refl refl
 
@@ -329,6 +347,7 @@ pub trampoline_grows : (g : ComponentDfg) (ys : List SignedTrampoline) (x : Sign
 trampoline_grows g ys x change = record {
   lists = λ l. (trampoline_adds (λ l n x. Unit {0}) g ys x change tt l).extends;
   component_instances = omega arith;
+  signatures = λ place s at. at;
 }
 
 pub trampoline_ordered : (g : ComponentDfg) (ys : List SignedTrampoline) (x : SignedTrampoline)
@@ -340,6 +359,7 @@ trampoline_ordered g ys x change held o =
     let added : Added g h = record {
       lists = trampoline_adds (NewHeld g h) g ys x change held;
       component_instances = omega arith;
+      signatures = λ place s at. at;
     } in
     quiet g h added o refl refl refl
 
@@ -356,6 +376,7 @@ pub adapter_grows : (g : ComponentDfg) (ys : List Adapter) (x : Adapter) → Cha
 adapter_grows g ys x change = record {
   lists = λ l. (adapter_adds (λ l n x. Unit {0}) g ys x change tt l).extends;
   component_instances = omega arith;
+  signatures = λ place s at. at;
 }
 
 pub adapter_ordered : (g : ComponentDfg) (ys : List Adapter) (x : Adapter) → Changes g.adapters ys x
@@ -366,6 +387,7 @@ adapter_ordered g ys x change held o =
     let added : Added g h = record {
       lists = adapter_adds (NewHeld g h) g ys x change held;
       component_instances = omega arith;
+      signatures = λ place s at. at;
     } in
     quiet g h added o refl refl refl
 
@@ -386,6 +408,7 @@ pub adapter_module_grows : (g : ComponentDfg) (ys : List (StaticModuleIndex × L
 adapter_module_grows g ys x change = record {
   lists = λ l. (adapter_module_adds (λ l n x. Unit {0}) g ys x change tt l).extends;
   component_instances = omega arith;
+  signatures = λ place s at. at;
 }
 
 pub adapter_module_ordered : (g : ComponentDfg) (ys : List (StaticModuleIndex
@@ -397,6 +420,7 @@ adapter_module_ordered g ys x change held o =
     let added : Added g h = record {
       lists = adapter_module_adds (NewHeld g h) g ys x change held;
       component_instances = omega arith;
+      signatures = λ place s at. at;
     } in
     quiet g h added o refl refl refl
 
@@ -417,6 +441,7 @@ pub partitioning_grows : (g : ComponentDfg) (ys : List (AdapterModuleId × Entit
 partitioning_grows g ys x change = record {
   lists = λ l. (partitioning_adds (λ l n x. Unit {0}) g ys x change tt l).extends;
   component_instances = omega arith;
+  signatures = λ place s at. at;
 }
 
 pub partitioning_ordered : (g : ComponentDfg) (ys : List (AdapterModuleId × EntityIndex)) (x : AdapterModuleId
@@ -428,6 +453,7 @@ partitioning_ordered g ys x change held o =
     let added : Added g h = record {
       lists = partitioning_adds (NewHeld g h) g ys x change held;
       component_instances = omega arith;
+      signatures = λ place s at. at;
     } in
     quiet g h added o refl refl refl
 
@@ -445,6 +471,7 @@ pub export_item_grows : (g : ComponentDfg) (ys : List Export) (x : Export) → C
 export_item_grows g ys x change = record {
   lists = λ l. (export_item_adds (λ l n x. Unit {0}) g ys x change tt l).extends;
   component_instances = omega arith;
+  signatures = λ place s at. at;
 }
 
 pub export_item_ordered : (g : ComponentDfg) (ys : List Export) (x : Export) → Changes g.export_items ys x
@@ -455,6 +482,7 @@ export_item_ordered g ys x change held o =
     let added : Added g h = record {
       lists = export_item_adds (NewHeld g h) g ys x change held;
       component_instances = omega arith;
+      signatures = λ place s at. at;
     } in
     quiet g h added o refl refl refl
 
@@ -471,6 +499,7 @@ pub export_grows : (g : ComponentDfg) (ys : List NamedExport) (x : NamedExport) 
 export_grows g ys x change = record {
   lists = λ l. (export_adds (λ l n x. Unit {0}) g ys x change tt l).extends;
   component_instances = omega arith;
+  signatures = λ place s at. at;
 }
 
 pub export_ordered : (g : ComponentDfg) (ys : List NamedExport) (x : NamedExport) → Changes g.exports ys x
@@ -481,5 +510,6 @@ export_ordered g ys x change held o =
     let added : Added g h = record {
       lists = export_adds (NewHeld g h) g ys x change held;
       component_instances = omega arith;
+      signatures = λ place s at. at;
     } in
     quiet g h added o refl refl refl

@@ -1,5 +1,9 @@
 -- What becomes of a graph when an entry is put into one of its lists.
-use Rattle.std.specs.Prelude.{◌≡◌, ◌⊎◌, List, [], ◌∷◌, ◌++◌, ◌+◌, length, Contains}
+use Rattle.std.specs.Prelude.{◌≡◌, ◌⊎◌, ℕ, List, [], ◌∷◌, ◌++◌, ◌+◌, length, Contains, Option, Some, slice_get}
+use Rattle.std.specs.Prelude.{slice_set}
+use Rattle.pc_entity.specs.declared.packed_option.PackedOption.{PackedOption}
+use Rattle.pc_entity.specs.declared.packed_option.PackedOption.TheVariants as packed
+use Rattle.pc_numbers.specs.declared.module_entity.ModuleInternedTypeIndex.{ModuleInternedTypeIndex}
 use Rattle.pc_numbers.specs.declared.runtime.RuntimeComponentInstanceIndex.{RuntimeComponentInstanceIndex}
 use Rattle.pc_dfg.specs.declared.dfg.ComponentDfg.{ComponentDfg}
 use Rattle.pc_dfg.specs.declared.instance.Instance.{Instance}
@@ -31,3 +35,17 @@ with_resource g resource = record g {
   resources = g.resources ++ resource ∷ [];
   side_effects = g.side_effects ++ effect.Resource (record { 0 = length g.resources }) ∷ [];
 }
+
+-- the core signature that stands: the one that is held, or else this one
+abbrev pub first_signature : Option (PackedOption ModuleInternedTypeIndex) → ModuleInternedTypeIndex
+    → ModuleInternedTypeIndex
+first_signature (Some (packed.Some held)) signature = held
+first_signature _ signature = signature
+
+-- a graph in which the unsafe intrinsic at a place has this core signature
+abbrev pub with_signature : ComponentDfg → (place : ℕ) → ModuleInternedTypeIndex → ComponentDfg
+with_signature g place s = record g { unsafe_intrinsics = slice_set g.unsafe_intrinsics place (packed.Some s) }
+
+-- a graph in which it has this core signature unless it had one
+abbrev pub with_intrinsic : ComponentDfg → (place : ℕ) → ModuleInternedTypeIndex → ComponentDfg
+with_intrinsic g place s = with_signature g place (first_signature (slice_get g.unsafe_intrinsics place) s)

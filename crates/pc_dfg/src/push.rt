@@ -9,12 +9,14 @@ ghost use Rattle.std.specs.Prelude.{◌≡◌, ◌++◌, ◌∷◌, ◌≤◌, �
 ghost use Rattle.std.specs.Prelude.{All};
 ghost use Rattle.std.specs.Prelude.{Err, IfOk, OnOk, OnErr};
 ghost use Rattle.pc_entity.specs.Lists.{value_of};
-ghost use Rattle.pc_dfg.specs.Grows.{Grows};
+ghost use Rattle.pc_types.specs.IntrinsicType.{intrinsic_place};
+ghost use Rattle.pc_dfg.specs.Grows.{Grows, HasIntrinsic};
 ghost use Rattle.pc_dfg.specs.Held.{IsHeld, HasBegun, HeldOptions, HeldTrampoline, HeldAdapter, HeldInstance};
 ghost use Rattle.pc_dfg.specs.Held.{HeldResource, HeldExport};
 ghost use Rattle.pc_dfg.specs.Numbers.{memory_def, table_def, options_entry, trampoline_entry};
 ghost use Rattle.pc_dfg.specs.Ordered.{IsOrdered};
-ghost use Rattle.pc_dfg.specs.Pushed.{IsPut, with_component_instance, with_instance, with_resource};
+ghost use Rattle.pc_dfg.specs.Pushed.{IsPut, first_signature, with_component_instance, with_instance};
+ghost use Rattle.pc_dfg.specs.Pushed.{with_intrinsic, with_resource};
 
 use crate::listed::{append, intern};
 use crate::trampoline::Trampoline;
@@ -25,10 +27,23 @@ use crate::{
 };
 use pc_entity::{
     DefinedResourceIndex, EntityIndex, ExportIndex, ImportIndex, MemoryIndex,
-    ModuleInternedTypeIndex, NoMemory, ResourceIndex, RuntimeComponentInstanceIndex,
+    ModuleInternedTypeIndex, NoMemory, PackedOption, ResourceIndex, RuntimeComponentInstanceIndex,
     RuntimeImportIndex, Seq, StaticModuleIndex, TableIndex, Text, TrampolineIndex,
 };
-use pc_types::{ComponentExtern, ComponentExternData};
+use pc_types::{ComponentExtern, ComponentExternData, UnsafeIntrinsic};
+
+/// The core signature that stands: the one that is held, or else this one.
+fn first_signature(
+    held: PackedOption<ModuleInternedTypeIndex>,
+    signature: ModuleInternedTypeIndex,
+) -> ModuleInternedTypeIndex
+    ensures { result ≡ first_signature (Some held) signature }
+{
+    match held {
+        PackedOption::Some(held) => held,
+        PackedOption::None => signature,
+    }
+}
 
 impl ComponentDfg {
     /// Adds an import of the root.
@@ -175,6 +190,27 @@ impl ComponentDfg {
         ensures err { OnErr result (self.new ≡ self.old) }
     {
         intern(&mut self.trampolines, (signature, trampoline))
+    }
+
+    /// The core signature of an unsafe intrinsic: the one that it has, or else this one, which it has from then on.
+    pub fn push_intrinsic(
+        &mut self,
+        intrinsic: UnsafeIntrinsic,
+        signature: ModuleInternedTypeIndex,
+    ) -> ModuleInternedTypeIndex
+        requires places { length self.old.unsafe_intrinsics ≡ 21 }
+        ensures first { result
+            ≡ first_signature (slice_get self.old.unsafe_intrinsics (intrinsic_place intrinsic)) signature }
+        ensures put { self.new ≡ with_intrinsic self.old (intrinsic_place intrinsic) signature }
+        ensures held { HasIntrinsic self.new (intrinsic_place intrinsic) result }
+        ensures places { length self.new.unsafe_intrinsics ≡ 21 }
+        ensures grows { Grows self.old self.new }
+        ensures ordered { IsOrdered self.old → IsOrdered self.new }
+    {
+        let place = intrinsic.index() as usize;
+        let first = first_signature(self.unsafe_intrinsics[place], signature);
+        self.unsafe_intrinsics[place] = PackedOption::Some(first);
+        first
     }
 
     /// The number of an adapter.

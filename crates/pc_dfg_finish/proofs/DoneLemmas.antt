@@ -23,7 +23,6 @@ use Rattle.pc_dfg.specs.Held.{HeldEffect}
 use Rattle.pc_dfg.specs.Names.{each_of, if_any}
 use Rattle.pc_dfg.specs.Ordered.{IsOrdered, declared_by, made_by}
 use Rattle.pc_dfg_linearize.specs.declared.id.Id.{Id}
-use Rattle.pc_dfg_linearize.specs.declared.id.Id.TheVariants as id
 use Rattle.pc_dfg_linearize.specs.declared.state.Finish.{Finish}
 use Rattle.pc_dfg_linearize.specs.Arguments.{IsFrom}
 use Rattle.pc_dfg_linearize.specs.Made.{DoneBefore, IsDone, IsNext, Stands, declared_before, ids_in, ids_in_all, owner_of}
@@ -161,14 +160,14 @@ module _ (g : ComponentDfg) (ordered : IsOrdered g) (i : ℕ) (f : Finish) (done
           now.2,
         )
 
-    -- and the steps name the trampolines among it
+    -- and the steps name the trampolines and intrinsics among it
     named_next : AreNamed new new.steps (ids_in_all g (take (i + 1) g.side_effects))
-    named_next t n inside number =
+    named_next y n d inside number is =
         let front = ids_in_all g (take i g.side_effects) in
-        let within = subst (λ xs. Contains xs (id.Trampoline t)) (sym (ids_next g i e at)) inside in
-        elim (Contains-append_cases front (ids_in g e) (id.Trampoline t) within) [
-          | inl before ↦ named_later f new it.stay it.keeps front done.here done.named t n before number
-          | inr now ↦ it.named t n now number
+        let within = subst (λ xs. Contains xs y) (sym (ids_next g i e at)) inside in
+        elim (Contains-append_cases front (ids_in g e) y within) [
+          | inl before ↦ named_later f new it.stay it.keeps front done.here done.named y n d before number is
+          | inr now ↦ it.named y n d now number is
         ]
 
     -- each step is of the graph

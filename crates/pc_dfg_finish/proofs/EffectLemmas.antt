@@ -323,14 +323,15 @@ module _ (g : ComponentDfg) (ordered : IsOrdered g) (grouped : IsGrouped g) (old
               has_aside new made.steps made.instances made.counts new.resources y (continues.numbered y has);
           stay = λ y k has.
               number_aside new made.steps made.instances made.counts new.resources y ∙ continues.stay y k has;
-          keeps = λ k named.
-              names_front new.steps (init.InstantiateModule m (Some c) ∷ []) k
-              (adds_keep old new continues.steps k named);
-          named = λ t k inside number.
-              names_last new.steps (init.InstantiateModule m (Some c)) k
-              (subst (λ z. Contains (definitions_in (init.InstantiateModule z (Some c))) (plan.trampoline k))
-              (sym prepares.is) (instance_named g new x (Some c) t k
-              (subst (λ ds. Contains (flat_map (in_def g) ds) (id.Trampoline t)) in_it inside) number));
+          keeps = λ d named.
+              names_front new.steps (init.InstantiateModule m (Some c) ∷ []) d
+              (adds_keep old new continues.steps d named);
+          named = λ y k d inside number is.
+              names_last new.steps (init.InstantiateModule m (Some c)) d
+              (subst (λ z. Contains (definitions_in (init.InstantiateModule z (Some c))) d) (sym prepares.is)
+              (instance_named g new x (Some c) y k d
+              (subst (λ ds. Contains (flat_map (in_def g) ds) y) in_it inside)
+              (sym (number_aside new made.steps made.instances made.counts new.resources y) ∙ number) is));
           here = subst (λ ds. All (HasNumber made) (flat_map (in_def g) ds)) (sym in_it)
               (here_aside g new made.steps made.instances made.counts new.resources (in_instance x)
               prepares.numbers.here);
@@ -460,13 +461,14 @@ module _ (g : ComponentDfg) (ordered : IsOrdered g) (grouped : IsGrouped g) (old
               has_aside new declared.steps new.instances new.counts declared.resources y (continues.numbered y has);
           stay = λ y k has.
               number_aside new declared.steps new.instances new.counts declared.resources y ∙ continues.stay y k has;
-          keeps = λ k named.
-              names_front new.steps (init.Resource resource ∷ []) k (adds_keep old new continues.steps k named);
-          named = λ t k inside number.
-              names_last new.steps (init.Resource resource) k
-              (subst (λ z. Contains (option_to_list (option_map def_view z)) (plan.trampoline k)) (sym prepares.is)
-              (destructor_named g new x.dtor t k
-              (subst (λ ds. Contains (flat_map (in_def g) ds) (id.Trampoline t)) in_resource_here inside) number));
+          keeps = λ d named.
+              names_front new.steps (init.Resource resource ∷ []) d (adds_keep old new continues.steps d named);
+          named = λ y k d inside number is.
+              names_last new.steps (init.Resource resource) d
+              (subst (λ z. Contains (option_to_list (option_map def_view z)) d) (sym prepares.is)
+              (destructor_named g new x.dtor y k d
+              (subst (λ ds. Contains (flat_map (in_def g) ds) y) in_resource_here inside)
+              (sym (number_aside new declared.steps new.instances new.counts declared.resources y) ∙ number) is));
           here = subst (λ ds. All (HasNumber declared) (flat_map (in_def g) ds)) (sym in_resource_here)
               (here_aside g new declared.steps new.instances new.counts declared.resources (if_any x.dtor)
               prepares.numbers.here);

@@ -25,7 +25,7 @@ mod SlotUseLemmas
 mod LoweringUseLemmas
 mod RangeLemmas
 mod LiftedLemmas
-mod TrampolineUseLemmas
+mod DefinitionUseLemmas
 -- the steps are those of the graph
 mod StageLemmas
 mod DoneLemmas

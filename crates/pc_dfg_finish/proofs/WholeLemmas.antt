@@ -1,20 +1,25 @@
 -- A plan whose side effects were done and whose exports were made is the plan of the graph.
-use Rattle.std.proofs.Common.{◌≡◌, ◌<◌, inl, inr, ◌≤◌, ◌+◌, ℕ, List, length, map, take, Contains, Option}
+use Rattle.std.proofs.Common.{◌≡◌, ◌<◌, ◌⊎◌, inl, inr, ◌≤◌, ◌+◌, ℕ, List, length, map, take, Contains, Option}
 use Rattle.std.proofs.Common.{None, false, Some, refl, sym, ap, subst, ◌∙◌, arith}
-use Rattle.std.specs.Prelude.{slice_get}
+use Rattle.std.specs.Prelude.{option_and_then, option_map, slice_get}
 use Rattle.std.specs.List.{AllZip, filter_map}
 use Rattle.std.proofs.lemmas.List.{length-map, take_all}
 use Rattle.std.proofs.lemmas.List.Elements.{All-contains}
 use Rattle.std.proofs.lemmas.Option.{same_Some, slice_get_within}
+use Rattle.pc_entity.specs.declared.packed_option.PackedOption.TheVariants as packed
+use Rattle.pc_entity.specs.PackedOption.{as_option}
+use Rattle.pc_numbers.specs.declared.module_entity.ModuleInternedTypeIndex.{ModuleInternedTypeIndex}
 use Rattle.pc_numbers.specs.declared.runtime.RuntimeImportIndex.{RuntimeImportIndex}
 use Rattle.pc_numbers.specs.declared.runtime.TrampolineIndex.{TrampolineIndex}
 use Rattle.pc_types.specs.declared.type_index.TypeModuleIndex.{TypeModuleIndex}
+use Rattle.pc_types.specs.IntrinsicType.{intrinsic_place}
 use Rattle.pc_names.specs.Contents.{Contents}
 use Rattle.pc_spec_plan.specs.Counts.{own_counts}
 use Rattle.pc_spec_plan.specs.ExportNode.{NamedNode}
 use Rattle.pc_spec_plan.specs.Log.{Entry}
 use Rattle.pc_spec_plan.specs.Machine.{RuntimeInstance, start}
 use Rattle.pc_spec_plan.specs.PlanView as plan
+use Rattle.pc_spec_plan.specs.PlanView.{Definition}
 use Rattle.pc_trampoline.specs.declared.part.Mark.{Mark}
 use Rattle.pc_trampoline.specs.Parts.{parts_of}
 use Rattle.pc_trampoline.specs.View.{PlanTrampoline, parts_entry, plan_numbers}
@@ -49,11 +54,13 @@ use Rattle.pc_info.specs.Slots.{IsUsed}
 use Rattle.pc_dfg_linearize.specs.Made.{DoneBefore, declared_before, ids_in, ids_in_all}
 use Rattle.pc_dfg_finish.specs.ModuleTypes.{module_mark}
 use Rattle.pc_dfg_linearize.specs.Parts.{HasNumber, number_of, options_id, slot_id}
+use Rattle.pc_dfg_linearize.specs.Represented.{StepsHave, definition_of}
 use Rattle.pc_dfg_linearize.specs.Plan.{Extends, counted_slots, slot_count, steps_view}
 use Rattle.pc_info.specs.Slots.{HasOptions, UsesLowering, UsesSlot, UsesTrampoline, slots_in}
 use Rattle.pc_dfg_linearize.specs.Sound.{IsSound}
 use Rattle.pc_info.specs.Standing.{AreNumberedBehind, IsMadeLate, Makes, Piece, a_trampoline, an_options_entry}
 use Rattle.pc_info.specs.Standing.{is_side_effect}
+use Rattle.pc_dfg_finish.specs.Uses.{IsFunction, UsesDefinition}
 use Rattle.pc_dfg_finish.specs.Unnumbered.{unnumbered, unnumbered_options}
 use Rattle.pc_dfg_finish.specs.Whole.{component_of, translation_of}
 use Rattle.pc_dfg_linearize.specs.Wired.{IsWired}
@@ -75,7 +82,7 @@ use Rattle.pc_dfg_finish.proofs.RiseLemmas.{rises}
 use Rattle.pc_dfg_linearize.proofs.SoundLemmas.{continues_later}
 use Rattle.pc_dfg_finish.proofs.StandingLemmas.{made_late}
 use Rattle.pc_dfg_linearize.proofs.StepNameLemmas.{adds_keep, named_later}
-use Rattle.pc_dfg_finish.proofs.TrampolineUseLemmas.{exported_trampoline, used_trampoline}
+use Rattle.pc_dfg_finish.proofs.DefinitionUseLemmas.{exported_definition, is_trampoline, used_definition}
 use Rattle.pc_dfg_finish.proofs.TwiceLemmas.{trampolines_apart}
 use Rattle.pc_dfg_finish.proofs.UsedLemmas.{NoOptions, no_defs, used_options}
 use Rattle.pc_dfg_linearize.proofs.ValueLemmas.{held_means}
@@ -348,30 +355,50 @@ module _ (g : ComponentDfg) (ordered : IsOrdered g) (f : Finish) (done : DoneBef
               (All-contains IsDirect (in_exports g g.export_items) now.0 (direct_exports g g.export_items) now.1) now.2
         ]
 
-    -- each trampoline is named by a step or an exported function
-    trampolines_used : (n : ℕ) → n < length h.trampolines → UsesTrampoline (translation_of g h names items) n
-    unfolding UsesTrampoline translation_of number_of
-    trampolines_used n within =
-        let given = (further.continues.fills done.fills).trampolines.given n within in
+    -- what an id with a number has become is named by a step or an exported function
+    definition_used : (x : Id) (n : ℕ) (d : Definition) → number_of h x ≡ Some n → definition_of x n ≡ Some d
+        → StepsHave h.steps d ⊎ ((k : ℕ) × (e : PlanItem) × (slice_get items k ≡ Some e) × IsFunction d e)
+    definition_used x n d at becomes =
         let represents = further.continues.represents done.represents in
         let roots = ids_in_all g (take (length g.side_effects) g.side_effects) in
-        let t : TrampolineIndex = record { 0 = given.0 } in
-        elim (only (id.Trampoline t) (n, given.1)) [
+        elim (only x (n, at)) [
           | inl before ↦
-              let root = done.used (id.Trampoline t) before in
-              elim (used_trampoline g h represents root.0 t n (root_numbered root.0 root.1) root.2 given.1) [
+              let root = done.used x before in
+              elim (used_definition g h represents root.0 x n d (root_numbered root.0 root.1) root.2 at becomes) [
                 | inl same ↦ inl (named_later f h further.continues.stay (adds_keep f h further.continues.steps) roots
-                    done.here done.named t n (subst (Contains roots) same root.1) given.1)
+                    done.here done.named root.0 n d root.1 same.0 same.1)
                 | inr step ↦ inl step
               ]
           | inr now ↦
-              elim (used_trampoline g h represents now.0 t n
-              (exported_numbered g types h names items exports now.0 now.1) now.2 given.1) [
-                | inl same ↦ inr (exported_trampoline g types h names items exports t n
-                    (subst (Contains (in_exports g g.export_items)) same now.1) given.1)
+              elim (used_definition g h represents now.0 x n d
+              (exported_numbered g types h names items exports now.0 now.1) now.2 at becomes) [
+                | inl same ↦ inr (exported_definition g types h names items exports now.0 n d now.1 same.0 same.1)
                 | inr step ↦ inl step
               ]
         ]
+
+    -- so is each trampoline
+    trampolines_used : (n : ℕ) → n < length h.trampolines → UsesTrampoline (translation_of g h names items) n
+    unfolding UsesTrampoline translation_of number_of definition_of
+    trampolines_used n within =
+        let given = (further.continues.fills done.fills).trampolines.given n within in
+        elim (definition_used (id.Trampoline (record { 0 = given.0 })) n (plan.trampoline n) given.1 refl) [
+          | inl step ↦ inl step
+          | inr item ↦ inr (item.0, item.1, item.2, is_trampoline n item.1 item.3)
+        ]
+
+    -- and each intrinsic that has a signature
+    intrinsics_used : (n : ℕ) (s : ModuleInternedTypeIndex) → slice_get h.intrinsics n ≡ Some (packed.Some s)
+        → UsesDefinition (translation_of g h names items) (plan.intrinsic n)
+    unfolding UsesDefinition translation_of number_of definition_of
+    intrinsics_used n s at =
+        let i = (further.continues.represents done.represents).intrinsics n s at in
+        let number : number_of h (id.Intrinsic s i.0) ≡ Some n =
+        ap (λ k. option_map (λ (t : ModuleInternedTypeIndex). intrinsic_place i.0)
+        (option_and_then as_option (slice_get h.intrinsics k))) i.1
+        ∙ ap (λ o. option_map (λ (t : ModuleInternedTypeIndex). intrinsic_place i.0) (option_and_then as_option o)) at
+        ∙ ap (λ k. Some k) i.1 in
+        definition_used (id.Intrinsic s i.0) n (plan.intrinsic n) number refl
 
     -- what is named is there
     slots_filled : (k : plan.SlotKind) (n : ℕ) → UsesSlot (translation_of g h names items) k n
@@ -483,4 +510,5 @@ module _ (g : ComponentDfg) (ordered : IsOrdered g) (f : Finish) (done : DoneBef
       options_there = options_there;
       lifted = lifted_within g types h names items exports (further.continues.fills done.fills);
       intrinsics = (further.continues.represents done.represents).intrinsics;
+      intrinsics_used = intrinsics_used;
     }

@@ -1,6 +1,6 @@
 -- The plan of a graph: what it does, and what it has.
 use Rattle.std.specs.List.{AllZip}
-use Rattle.std.specs.Prelude.{◌≡◌, ◌<◌, ◌≤◌, ◌⊎◌, ℕ, List, length, map, take, None, Some}
+use Rattle.std.specs.Prelude.{◌≡◌, ◌<◌, ◌≤◌, ℕ, List, length, map, take, None, Some}
 use Rattle.std.specs.Prelude.{slice_get, true, false}
 use Rattle.pc_numbers.specs.declared.runtime.TrampolineIndex.{TrampolineIndex}
 use Rattle.pc_spec_plan.specs.CoreValue.{CoreValue}
@@ -9,7 +9,7 @@ use Rattle.pc_spec_plan.specs.ExportNode.{NamedNode}
 use Rattle.pc_spec_plan.specs.Log.{Entry, instances_of}
 use Rattle.pc_spec_plan.specs.Machine.{NeverStuck, RuntimeInstance, State, owned_instances, resolve}
 use Rattle.pc_spec_plan.specs.PlanView as plan
-use Rattle.pc_spec_plan.specs.PlanView.{Definition, Initializer, PlanView, SlotKind}
+use Rattle.pc_spec_plan.specs.PlanView.{Definition, Initializer, PlanView, SlotKind, intrinsic}
 use Rattle.pc_spec_plan.specs.Trace.{run_trace}
 use Rattle.pc_trampoline.specs.declared.part.Mark.{Mark}
 use Rattle.pc_trampoline.specs.View.{PlanTrampoline, entry_view}
@@ -44,10 +44,11 @@ use Rattle.pc_dfg.specs.Told.{IsTold, Unsaid}
 use Rattle.pc_info.specs.Apart.{AreApart}
 use Rattle.pc_info.specs.Slots.{FillsWith, MakesAdapters}
 use Rattle.pc_dfg_finish.specs.Apart.{IsOfAdapters, TellsSlots, module_of}
-use Rattle.pc_info.specs.Slots.{AtMostOne, HasOptions, IsUsed, StandsAt, TakesLowering, TakesOptions, UsesLowering}
+use Rattle.pc_info.specs.Slots.{AtMostOne, IsUsed, StandsAt, TakesLowering, UsesLowering}
 use Rattle.pc_info.specs.Slots.{UsesSlot, UsesTrampoline, slots_in}
 use Rattle.pc_info.specs.Standing.{AreNumberedBehind, CarriesNext, IsMadeLate, Makes, Piece, a_trampoline}
 use Rattle.pc_info.specs.Standing.{an_options_entry, is_side_effect, steps_in}
+use Rattle.pc_dfg_finish.specs.Uses.{UsesDefinition}
 use Rattle.pc_dfg_finish.specs.Unnumbered.{unnumbered, unnumbered_options}
 use Rattle.pc_dfg_linearize.specs.Wired.{IsWired, Occurs}
 
@@ -176,3 +177,6 @@ pub record Finishes (g : ComponentDfg) (converted : ℕ → Mark) (plan : Compon
   pub intrinsics : (n : ℕ) (s : ModuleInternedTypeIndex)
       → slice_get plan.component.unsafe_intrinsics n ≡ Some (packed.Some s)
       → (i : UnsafeIntrinsic) × (intrinsic_place i ≡ n) × Occurs g (def.UnsafeIntrinsic s i)
+  -- and only where a step or an exported function names it
+  pub intrinsics_used : (n : ℕ) (s : ModuleInternedTypeIndex)
+      → slice_get plan.component.unsafe_intrinsics n ≡ Some (packed.Some s) → UsesDefinition plan (intrinsic n)

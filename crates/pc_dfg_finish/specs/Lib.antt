@@ -1,6 +1,7 @@
 -- What the public contract rests on, in reading order.
 pub mod Unnumbered
 pub mod Apart
+pub mod Uses
 pub mod Finishes
 pub mod ModuleTypes
 -- How the contracts within the crate say what is made.

@@ -79,16 +79,15 @@ slot_parts_there : (g : ComponentDfg) (f : Finish) (k : plan.SlotKind) (n : ℕ)
 slot_parts_there g f k n d at all =
     subst (All (HasNumber f)) (sym (slot_parts g k n ∙ ap (each_of (in_def g)) at)) all
 
--- its step names the trampoline that is in it
+-- its step names the trampoline or the intrinsic that is in it
 slot_named : (g : ComponentDfg) (f : Finish) (k : plan.SlotKind) (n : ℕ) (i : GlobalInitializer) (d : CoreDef)
     → slice_get (slots_of g k) n ≡ Some d
     → initializer_view i ≡ plan.extract k (slot_count f k) (def_view (def_in g f d))
     → AreNamed f (f.steps ++ i ∷ []) (parts g (slot_id k n))
-slot_named g f k n i d at view t m inside number =
-    let within = subst (λ (xs : List Id). Contains xs (id.Trampoline t))
-    (slot_parts g k n ∙ ap (each_of (in_def g)) at) inside in
-    names_last f.steps i m (subst (λ v. Contains (step_definitions v) (plan.trampoline m)) (sym view)
-    (0, omega arith, def_named g f d t m within number))
+slot_named g f k n i d at view x m e inside number is =
+    let within = subst (λ (xs : List Id). Contains xs x) (slot_parts g k n ∙ ap (each_of (in_def g)) at) inside in
+    names_last f.steps i e (subst (λ v. Contains (step_definitions v) e) (sym view)
+    (0, omega arith, def_named g f d x m e within number is))
 
 -- a slot gets its number
 pub closed_slot : (g : ComponentDfg) (f : Finish) (k : plan.SlotKind) (n : ℕ) (i : GlobalInitializer) (d : CoreDef)

@@ -235,14 +235,13 @@ module _ (g : ComponentDfg) (f : Finish) (m : AdapterModuleId) (x : StaticModule
   module_occurs =
       All-weaker (Contains x.1) (Occurs g) (λ d here. in_a_module m.0 x at here) x.1 (All-contains_itself x.1)
 
-  -- its step names the trampolines among its arguments
+  -- its step names the trampolines and intrinsics among its arguments
   module_named : AreNamed f with_module.steps (parts g (id.AdapterModule m))
   unfolding parts
-  module_named t n inside number =
+  module_named y n e inside number is =
       let within = subst (λ (o : Option (StaticModuleIndex × List CoreDef)).
-      Contains (each_of (λ (y : StaticModuleIndex × List CoreDef). flat_map (in_def g) y.1) o) (id.Trampoline t)) at
-      inside in
-      names_last f.steps made_by n (defs_named g f x.1 t n within number)
+      Contains (each_of (λ (z : StaticModuleIndex × List CoreDef). flat_map (in_def g) z.1) o) y) at inside in
+      names_last f.steps made_by e (defs_named g f x.1 y n e within number is)
 
   -- its arguments can be converted
   module_convertible : All (IsReadyDef g (length f.instances)) x.1

@@ -138,7 +138,7 @@ pub record DoneBefore (g : ComponentDfg) (i : ℕ) (f : Finish) : Type 0 where
   pub ends : EndsWithEffect (steps_view f)
   -- what they depend on has its number
   pub here : All (HasNumber f) (ids_in_all g (take i g.side_effects))
-  -- and the steps name the trampolines among it
+  -- and the steps name the trampolines and intrinsics among it
   pub named : AreNamed f f.steps (ids_in_all g (take i g.side_effects))
   -- only what they lead to has a number
   pub used : (y : Id) → HasNumber f y
