@@ -34,11 +34,11 @@ use Rattle.pc_types_convert.proofs.SoundLemmas.{parts_below, sound_at}
 use Rattle.pc_types_builder.specs.Asked.{AddsAsked, AddsValue, AsksContexts}
 use Rattle.pc_types_builder.specs.Asked.{HasParams, HasReturns, IsReached, IsReachedSignature}
 use Rattle.pc_types_builder.specs.Asked.{IsReachedTuple, IsReachedType, asked, named, of_func, of_module}
-use Rattle.pc_types_builder.specs.Converted.{AreConverted}
+use Rattle.pc_types_builder.specs.Converted.{AreTyped}
 use Rattle.pc_types_builder.specs.Trees.{IsValue, identities}
 use Rattle.pc_types_builder.proofs.Simulation.{prim_is_value}
 use Rattle.pc_types_builder.proofs.StepLemmas.{among_next, converted_entry, take_found}
-use Rattle.pc_types_builder.proofs.TreeLemmas.{converted_grows, entry_grows, tree_grows}
+use Rattle.pc_types_builder.proofs.TreeLemmas.{typed_grows, entry_grows, tree_grows}
 
 -- what a builder is asked for that adds nothing
 pub asked_none : (t : TypeTable) (n : ℕ) (a b : Types) → b ≡ a → AddsAsked t n a b
@@ -117,7 +117,7 @@ asked_both t n a b c g first second = record {
 }
 
 module _ (t : TypeTable) (sound : table_fault t ≡ None) (b : Types) (done : List (Option TypeDef))
-    (are : AreConverted b t done) (k : ℕ) where
+    (are : AreTyped b t done) (k : ℕ) where
   -- a value type that is done has its tree
   val_asked : (v : ValType) (w : InterfaceType) → ValIs b (take k done) v w → IsValue b t v w
   val_asked (val.Prim p) w h = prim_is_value b t (val.Prim p) p w refl h
@@ -169,10 +169,10 @@ module _ (t : TypeTable) (sound : table_fault t ≡ None) (b : Types) (done : Li
 
 -- a step over an entry that is reached
 pub asked_step : (t : TypeTable) → table_fault t ≡ None → (n k : ℕ) → IsReached t n k → (done : List (Option TypeDef))
-    (a b : Types) → AreConverted a t done → Grows a b → (e : DeclType) → slice_get t.types k ≡ Some e
+    (a b : Types) → AreTyped a t done → Grows a b → (e : DeclType) → slice_get t.types k ≡ Some e
     → AddsEntry (take k done) t k e a b → AddsAsked t n a b
 asked_step t sound n k reached done a b are g e at adds = record {
-  only = only_more _ _ (entry_asked t sound b done (converted_grows a b g t done are) k n reached e at) a b adds.only;
+  only = only_more _ _ (entry_asked t sound b done (typed_grows a b g t done are) k n reached e at) a b adds.only;
 }
 
 -- what a step adds that reads the entry of the table and the types in front of it
@@ -186,7 +186,7 @@ step_adds t k f e at here done front before a b adds =
 -- the next of the needed entries
 pub next_asked : (t : TypeTable) → table_fault t ≡ None → (before : List (Option TypeDef)) (n : ℕ) (order : List ℕ)
     → AreNeeded t before n order → (i : ℕ) → i < length order → (done : List (Option TypeDef)) (a b : Types)
-    → AreConverted a t done → Grows a b
+    → AreTyped a t done → Grows a b
     → ((e : DeclType) → slice_get t.types (get_or order i 0) ≡ Some e
     → AddsEntry (take (get_or order i 0) done) t (get_or order i 0) e a b)
     → AddsAsked t n a b

@@ -1,8 +1,7 @@
--- What was converted stays so as other resources become known, or the same again.
-use Rattle.std.proofs.Common.{◌≡◌, ℕ, ◌<◌, Bool, true, false, List, Option, Some, None, refl, sym, ap, ◌∙◌, subst}
-use Rattle.std.proofs.Common.{if◌then◌else◌, ◌==◌}
+-- What was converted stays so where the same resources are known again; and what is the same in each component instance
+-- does whatever is known.
+use Rattle.std.proofs.Common.{◌≡◌, ℕ, ◌<◌, List, Option, Some, None, sym, ap, ◌∙◌, subst, inl, inr, true≢false}
 use Rattle.std.specs.Option.{option_map}
-use Rattle.std.proofs.lemmas.Bool.{eqb-true}
 use Rattle.std.proofs.lemmas.Option.{slice_get_within}
 use Rattle.pc_entity.proofs.LookupLemmas.{found_at}
 use Rattle.pc_numbers.specs.declared.runtime.ResourceIndex.{ResourceIndex}
@@ -14,7 +13,8 @@ use Rattle.pc_types_lists.specs.Known.{resource_of}
 use Rattle.pc_types_lists.specs.Types.{KeepsTypes, Types}
 use Rattle.pc_types_convert.specs.Needed.{IsDone}
 use Rattle.pc_types_convert.proofs.SoundLemmas.{names_earlier}
-use Rattle.pc_types_builder.specs.Converted.{AreConverted}
+use Rattle.pc_types_convert.specs.Plain.{Layers, Takes, only_plain}
+use Rattle.pc_types_builder.specs.Converted.{AreConverted, ArePlain, AreTyped, IsOfKind}
 use Rattle.pc_types_builder.specs.Trees.{IsEntry, identities}
 use Rattle.pc_types_builder.proofs.SameTrees.{same_tree, trees_same}
 pub use Rattle.pc_types_builder.proofs.Simulation.{known_identity}
@@ -52,47 +52,68 @@ module _ (old new : Types) (keeps : KeepsTypes old new) (current : new.resources
       old.resources.current.0 t
       (λ m. identity_same who old.resources.known new.resources.known m (known m)) n) is
 
-  -- so do all that were converted
-  pub converted_keeps : ((n : ℕ) → resource_of old.resources.known n ≡ resource_of new.resources.known n)
-      → (t : TypeTable) (done : List (Option TypeDef)) → AreConverted old t done → AreConverted new t done
-  converted_keeps known t done are = record {
+  -- so do those of all entries that have one
+  typed_keeps : ((n : ℕ) → resource_of old.resources.known n ≡ resource_of new.resources.known n)
+      → (t : TypeTable) (done : List (Option TypeDef)) → AreTyped old t done → AreTyped new t done
+  typed_keeps known t done are = record {
     room = are.room;
     kinds = are.kinds;
     entries = λ n d found. entry_keeps known t n d (are.entries n d found);
-    closed = are.closed;
   }
 
-  -- what was converted leads to what was converted: it stays where those numbers are the same resources
-  pub converted_stays : (t : TypeTable) → table_fault t ≡ None → (done : List (Option TypeDef))
-      → ((n : ℕ) → IsDone done n → resource_of old.resources.known n ≡ resource_of new.resources.known n)
-      → AreConverted old t done → AreConverted new t done
-  converted_stays t sound done known are = record {
+  -- and all that was converted
+  pub converted_keeps : ((n : ℕ) → resource_of old.resources.known n ≡ resource_of new.resources.known n)
+      → (t : TypeTable) (c : Layers) → AreConverted old t c → AreConverted new t c
+  converted_keeps known t c are = record {
+    all = typed_keeps known t c.all are.all;
+    plain = typed_keeps known t c.plain are.plain;
+    same = are.same;
+  }
+
+-- A builder that keeps the types, whatever resources are known, and whatever the current component instance is.
+module _ (old new : Types) (keeps : KeepsTypes old new) (t : TypeTable) (sound : table_fault t ≡ None) where
+  -- the types stay those of their entries that are the same in each component instance
+  pub plain_keeps : (plain : List (Option TypeDef)) → ArePlain t plain → AreTyped old t plain → AreTyped new t plain
+  plain_keeps plain same are = record {
     room = are.room;
     kinds = are.kinds;
-    entries = λ n d found.
-        entry_kept t n d
-        (λ who. same_tree (identities who old.resources.known) (identities who new.resources.known)
-        old.resources.current.0 old.resources.current.0 t (IsDone done) are.closed (λ m e at. names_earlier t m sound e at)
-        (λ m is. found_at t.types m
-        (subst (λ l. m < l) are.room (slice_get_within done m (Some is.0) is.1)))
-        (λ m e is at hangs. (refl, identity_same who old.resources.known new.resources.known m (known m is)))
-        n (d, found))
-        (are.entries n d found);
-    closed = are.closed;
+    entries = λ n d found who.
+        let was = are.entries n d found who in (
+          was.0,
+          sym (same_tree (identities who old.resources.known) (identities who new.resources.known)
+              old.resources.current.0 new.resources.current.0 t (IsDone plain) same.closed
+              (λ m e at. names_earlier t m sound e at)
+              (λ m is. found_at t.types m
+              (subst (λ l. m < l) are.room (slice_get_within plain m (Some is.0) is.1)))
+              (λ m e is at depends. absurd (true≢false (sym depends ∙ same.form m e is at)))
+              n (d, found)) ∙ was.1,
+          tree_keeps old new keeps who d was.0 was.2,
+        );
   }
 
-  -- what was converted stays as an entry becomes known that wasn't converted
-  pub converted_known : (t : TypeTable) → table_fault t ≡ None → (done : List (Option TypeDef)) (n : ℕ)
-      → (IsDone done n → ⊥) → (r : Option ResourceIndex)
-      → ((q : ℕ) → resource_of new.resources.known q
-      ≡ (if q == n then r else resource_of old.resources.known q))
-      → AreConverted old t done → AreConverted new t done
-  converted_known t sound done n none r known are =
-      converted_stays t sound done
-      (λ q is. by q is (q == n) (λ same. eqb-true q n same) (known q)) are
-    where
-      by : (q : ℕ) → IsDone done q → (b : Bool) → (b ≡ true → q ≡ n)
-          → resource_of new.resources.known q ≡ (if b then r else resource_of old.resources.known q)
-          → resource_of old.resources.known q ≡ resource_of new.resources.known q
-      by q is true same put = absurd (none (subst (IsDone done) (same refl) is))
-      by q is false same put = sym put
+  -- they are all that stays where a resource becomes known
+  pub only_plain_keeps : (c : Layers) → AreConverted old t c → AreConverted new t (only_plain c.plain)
+  only_plain_keeps c are =
+      let plain = plain_keeps c.plain are.same are.plain in
+      record { all = plain; plain = plain; same = are.same }
+
+  -- and they can be handed on
+  pub takes_keeps : (was from now : Layers) → Takes was from now → AreConverted old t from → AreConverted new t was
+      → AreConverted new t now
+  takes_keeps was from now takes given are =
+      let plain = plain_keeps from.plain given.same given.plain in
+      record {
+        all = record {
+          room = takes.room ∙ are.all.room;
+          kinds = λ n d e found at. elim (takes.all n d found) as (λ _. IsOfKind e d) [
+            | inl own ↦ are.all.kinds n d e own at
+            | inr its ↦ plain.kinds n d e its at
+          ];
+          entries = λ n d found. elim (takes.all n d found) as (λ _. IsEntry new t n d) [
+            | inl own ↦ are.all.entries n d own
+            | inr its ↦ plain.entries n d its
+          ];
+        };
+        plain = subst (AreTyped new t) (sym takes.plain) plain;
+        same = subst (ArePlain t) (sym takes.plain) given.same;
+      }

@@ -14,6 +14,7 @@ mod CountLemmas
 mod EntryInversion
 mod KindLemmas
 mod PartInversion
+mod PlainLemmas
 mod ReadyLemmas
 mod RefusalLemmas
 mod Simulation

@@ -20,7 +20,7 @@ use Rattle.pc_types.specs.declared.types.InterfaceType.{InterfaceType}
 use Rattle.pc_types_convert.specs.Parts.{PrimIs}
 use Rattle.pc_types_builder.proofs.PartInversion.{prim_from}
 use Rattle.pc_types_convert.specs.Needed.{AreNeeded, Each, IsAmong, IsDone, parts_of}
-use Rattle.pc_types_builder.specs.Converted.{AreConverted}
+use Rattle.pc_types_builder.specs.Converted.{AreTyped}
 use Rattle.pc_types_convert.specs.Entries.{EntryIs}
 use Rattle.pc_types_builder.proofs.StepLemmas.{among_next, earlier_back, parts_done, ready_step, take_found}
 use Rattle.pc_entity.proofs.LookupLemmas.{found_at}
@@ -125,7 +125,7 @@ module _ (t : TypeTable) (sound : table_fault t ≡ None) where
   entry_there : (b next : Types) → Grows b next → IsBuilder next
       → (before done : List (Option TypeDef)) (n : ℕ) (order : List ℕ)
       → AreNeeded t before n order → (k : ℕ) (e : DeclType) → slice_get t.types k ≡ Some e → IsAmong k order
-      → AreConverted b t done
+      → AreTyped b t done
       → Each (IsDone done) (parts_of e) → (d : TypeDef) → IsEntry next t n d → (f : TypeDef)
       × EntryIs next (take k done) t k e f
   entry_there b next g is before done n order needed k e at among are parts d asked =
@@ -154,7 +154,7 @@ module _ (t : TypeTable) (sound : table_fault t ≡ None) where
   -- so the next of the needed entries is something in it
   pub next_there : (b next : Types) → Grows b next → IsBuilder next
       → (before done : List (Option TypeDef)) (n : ℕ) (order : List ℕ)
-      → AreNeeded t before n order → (i : ℕ) → i < length order → AreConverted b t done
+      → AreNeeded t before n order → (i : ℕ) → i < length order → AreTyped b t done
       → Each (IsDone done) (take i order) → ((m : ℕ) → IsDone before m → IsDone done m)
       → (d : TypeDef) → IsEntry next t n d
       → (e : DeclType) × (slice_get t.types (get_or order i 0) ≡ Some e) × (f : TypeDef)

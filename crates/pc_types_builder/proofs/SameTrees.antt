@@ -23,42 +23,9 @@ use Rattle.pc_types.specs.TypeTree.{resource_from, identity_of}
 use Rattle.pc_types_convert.specs.Needed.{Each, parts_of, val_parts, maybe_parts, field_parts, case_parts, entity_parts}
 use Rattle.pc_types_convert.specs.Needed.{extern_parts}
 use Rattle.pc_types_convert.proofs.AmongLemmas.{each_front, each_back}
+use Rattle.pc_types_builder.specs.Depends.{case_error, depends, field_error, is_error, maybe_error}
 use Rattle.pc_types_builder.proofs.Simulation.{tree_at}
 use Rattle.pc_types_builder.proofs.StepLemmas.{each_both}
-
--- whether a value type is that of error contexts
-abbrev pub is_error : ValType → Bool
-is_error (val.Prim prim.ErrorContext) = true
-is_error v = false
-
--- whether one is that may be left out
-abbrev pub maybe_error : Option ValType → Bool
-maybe_error None = false
-maybe_error (Some v) = is_error v
-
--- whether that of a field is
-abbrev pub field_error : List ℕ × ValType → Bool
-field_error f = is_error f.1
-
--- whether that of a case is
-abbrev pub case_error : List ℕ × Option ValType → Bool
-case_error c = maybe_error c.1
-
--- whether the tree of an entry has something of the component instance or of a known resource in it, beside what its
--- parts have: a resource, a stream, a future, or what holds an error context
-abbrev pub hangs : DeclType → Bool
-hangs entry.Resource = true
-hangs (entry.Func params result is_async) = list_any field_error params || maybe_error result
-hangs (entry.Val v) = is_error v
-hangs (entry.Record fields) = list_any field_error fields
-hangs (entry.Variant cases) = list_any case_error cases
-hangs (entry.List v) = is_error v
-hangs (entry.Tuple vs) = list_any is_error vs
-hangs (entry.Option v) = is_error v
-hangs (entry.Result ok err) = maybe_error ok || maybe_error err
-hangs (entry.Stream v) = true
-hangs (entry.Future v) = true
-hangs e = false
 
 -- one of two holds
 or_left : (a b : Bool) → a ≡ true → (a || b) ≡ true
@@ -76,7 +43,7 @@ each_of P all [] = tt
 each_of P all (n ∷ ns) = (all n, each_of P all ns)
 
 -- Under other known resources, in another component instance, with other trees before it: an entry has the same tree,
--- where its parts have, and where it hangs on neither, or both are alike.
+-- where its parts have, and where it depends on neither, or both are alike.
 module _ (k j : List (ℕ × Identity)) (c d : ℕ) (t : TypeTable) (xs ys : List (Option TypeTree)) where
   -- an entry before has the same tree
   abbrev pub SameAt : ℕ → Type 0
@@ -148,7 +115,7 @@ module _ (k j : List (ℕ × Identity)) (c d : ℕ) (t : TypeTable) (xs ys : Lis
 
   -- an entry
   entry_same : (e : DeclType) → length xs ≡ length ys
-      → (hangs e ≡ true → (c ≡ d) × (identity_of k (length xs) ≡ identity_of j (length xs))) → Each SameAt (parts_of e)
+      → (depends e ≡ true → (c ≡ d) × (identity_of k (length xs) ≡ identity_of j (length xs))) → Each SameAt (parts_of e)
       → entry_tree k c t xs e ≡ entry_tree j d t ys e
   entry_same entry.Resource len own h =
       let here = (own refl).0 in
@@ -233,7 +200,7 @@ module _ (k j : List (ℕ × Identity)) (c d : ℕ) (t : TypeTable) (D : ℕ →
     (closed : (n : ℕ) (e : DeclType) → D n → slice_get t.types n ≡ Some e → Each D (parts_of e))
     (below : (n : ℕ) (e : DeclType) → slice_get t.types n ≡ Some e → Each (λ p. p < n) (parts_of e))
     (there : (n : ℕ) → D n → (e : DeclType) × (slice_get t.types n ≡ Some e))
-    (alike : (n : ℕ) (e : DeclType) → D n → slice_get t.types n ≡ Some e → hangs e ≡ true
+    (alike : (n : ℕ) (e : DeclType) → D n → slice_get t.types n ≡ Some e → depends e ≡ true
     → (c ≡ d) × (identity_of k n ≡ identity_of j n)) where
   -- so far as this many numbers
   same_below : (m n : ℕ) → n < m → D n → tree_of k c t n ≡ tree_of j d t n
@@ -246,7 +213,7 @@ module _ (k j : List (ℕ × Identity)) (c d : ℕ) (t : TypeTable) (D : ℕ →
       let all_b = trees_from j d t [] t.types in
       let na : length a.0 ≡ n = omega (arith, a.1) in
       let nb : length b.0 ≡ n = omega (arith, b.1) in
-      let own : hangs x.0 ≡ true → (c ≡ d) × (identity_of k (length a.0) ≡ identity_of j (length a.0)) =
+      let own : depends x.0 ≡ true → (c ≡ d) × (identity_of k (length a.0) ≡ identity_of j (length a.0)) =
       (λ r. subst (λ i. (c ≡ d) × (identity_of k i ≡ identity_of j i)) (sym na) (alike n x.0 is x.1 r)) in
       let parts : Each (SameAt k j c d t a.0 b.0) (parts_of x.0) =
       each_both D (λ p. p < n) (SameAt k j c d t a.0 b.0)

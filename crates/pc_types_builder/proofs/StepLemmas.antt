@@ -1,6 +1,6 @@
 -- A step of a conversion: an entry gets its type, once what it names has.
 use Rattle.std.proofs.Common.{◌≡◌, ℕ, ◌<◌, ◌≤◌, ◌+◌, List, [], ◌∷◌, get_or, length, take, zero, suc, Option, Some, None}
-use Rattle.std.proofs.Common.{refl, sym, ap, ◌∙◌, subst, arith, inl, inr, ◌⊎◌}
+use Rattle.std.proofs.Common.{refl, sym, ap, ◌∙◌, subst, arith, inl, inr, ◌⊎◌, Bool, true, false}
 use Rattle.std.specs.Prelude.{slice_get, slice_set, option_and_then}
 use Rattle.std.proofs.lemmas.List.{length-set, length-take}
 use Rattle.std.proofs.lemmas.Option.{none-some, same_Some, slice_get-get_or, slice_get_within}
@@ -15,7 +15,10 @@ use Rattle.pc_types.specs.Table.{table_fault}
 use Rattle.pc_types.specs.TypeTree.{Identity, TypeTree, declared, earlier_tree, entry_tree, trees_from}
 use Rattle.pc_types_lists.specs.Types.{Types}
 use Rattle.pc_types_builder.specs.Trees.{IsEntry, identities}
-use Rattle.pc_types_builder.specs.Converted.{AreConverted, IsOfKind}
+use Rattle.pc_types_convert.specs.Plain.{Layers, is_plain_entry}
+use Rattle.pc_types_builder.specs.Converted.{AreConverted, ArePlain, AreTyped, IsOfKind}
+use Rattle.pc_types_builder.specs.Depends.{depends}
+use Rattle.pc_types_builder.proofs.PlainLemmas.{plain_entry}
 use Rattle.pc_types_convert.specs.Entries.{EntryIs}
 use Rattle.pc_types_convert.specs.Needed.{AreNeeded, Ascend, Each, IsAmong, IsDone, parts_of}
 use Rattle.pc_types_convert.specs.Parts.{AreHeld}
@@ -138,14 +141,14 @@ pub among_next : (ns : List ℕ) (i : ℕ) → i < length ns → IsAmong (get_or
 among_next ns i within = among_at ns i (get_or ns i 0) (slice_get-get_or ns i 0 within)
 
 -- the converted value types are held
-converted_held : (b : Types) (t : TypeTable) (done : List (Option TypeDef)) → AreConverted b t done → AreHeld b done
+converted_held : (b : Types) (t : TypeTable) (done : List (Option TypeDef)) → AreTyped b t done → AreHeld b done
 converted_held b t done are n w found =
     let who = (λ (r : ResourceIndex). declared 0) in
     let x = are.entries n (def.Interface w) found who in
     value_held b who w x.0 x.2
 
 -- the value types in front of a place are held
-pub front_held : (b : Types) (t : TypeTable) (done front : List (Option TypeDef)) (k : ℕ) → AreConverted b t done
+pub front_held : (b : Types) (t : TypeTable) (done front : List (Option TypeDef)) (k : ℕ) → AreTyped b t done
     → front ≡ take k done → AreHeld b front
 front_held b t done front k are before =
     subst (AreHeld b) (sym before)
@@ -153,7 +156,7 @@ front_held b t done front k are before =
 
 module _ (t : TypeTable) (sound : table_fault t ≡ None) where
   -- what a needed entry names is ready
-  pub ready_step : (b : Types) (done : List (Option TypeDef)) (k : ℕ) (e : DeclType) → AreConverted b t done
+  pub ready_step : (b : Types) (done : List (Option TypeDef)) (k : ℕ) (e : DeclType) → AreTyped b t done
       → slice_get t.types k ≡ Some e
       → Each (IsDone done) (parts_of e) → IsReadyEntry t (take k done) e
   ready_step b done k e are at parts =
@@ -169,14 +172,14 @@ module _ (t : TypeTable) (sound : table_fault t ≡ None) where
       (parts_of e) parts (parts_below t earlier e here.0))
 
   -- the same of the list that a step reads
-  pub ready_front : (b : Types) (done front : List (Option TypeDef)) (k : ℕ) (e : DeclType) → AreConverted b t done
+  pub ready_front : (b : Types) (done front : List (Option TypeDef)) (k : ℕ) (e : DeclType) → AreTyped b t done
       → front ≡ take k done → slice_get t.types k ≡ Some e → Each (IsDone done) (parts_of e) → IsReadyEntry t front e
   ready_front b done front k e are before at parts =
       subst (λ l. IsReadyEntry t l e) (sym before) (ready_step b done k e are at parts)
 
   -- the type of a converted entry has its tree
   pub converted_entry : (b : Types) (done : List (Option TypeDef)) (k : ℕ) (e : DeclType) (d : TypeDef)
-      → slice_get t.types k ≡ Some e → AreConverted b t done
+      → slice_get t.types k ≡ Some e → AreTyped b t done
       → EntryIs b (take k done) t k e d → IsEntry b t k d
   converted_entry b done k e d at are is who =
       let known = identities who b.resources.known in
@@ -197,43 +200,69 @@ module _ (t : TypeTable) (sound : table_fault t ≡ None) where
       (has.0, ap (option_and_then (λ o. o)) here ∙ has.1, has.2)
 
   -- one entry more
-  pub one_more : (b : Types) (done : List (Option TypeDef)) (k : ℕ) (e : DeclType) (d : TypeDef)
-      → slice_get t.types k ≡ Some e → Each (IsDone done) (parts_of e) → AreConverted b t done
-      → EntryIs b (take k done) t k e d → AreConverted b t (slice_set done k (Some d))
-  one_more b done k e d at parts are is = record {
+  typed_put : (b : Types) (done : List (Option TypeDef)) (k : ℕ) (e : DeclType) (d : TypeDef)
+      → slice_get t.types k ≡ Some e → AreTyped b t done → IsOfKind e d → IsEntry b t k d
+      → AreTyped b t (slice_set done k (Some d))
+  typed_put b done k e d at are kind is = record {
     room = length-set done k (Some d) ∙ are.room;
     kinds = λ n f g found at_n.
         elim (set_found done k n (Some d) (Some f) found) as (λ _. IsOfKind g f) [
           | inl here ↦ (
               let same = same_Some e g (sym at ∙ subst (λ m. slice_get t.types m ≡ Some g) here.0 at_n) in
-              subst (λ h. IsOfKind h f) same
-              (subst (λ x. IsOfKind e x) (same_Some d f here.1) (kind_of_entry b (take k done) t k e d is)))
+              subst (λ h. IsOfKind h f) same (subst (λ x. IsOfKind e x) (same_Some d f here.1) kind))
           | inr old ↦ are.kinds n f g old at_n
         ];
     entries = λ n f found.
         elim (set_found done k n (Some d) (Some f) found) as (λ _. IsEntry b t n f) [
           | inl here ↦ subst (λ m. IsEntry b t m f) (sym here.0)
-              (subst (λ x. IsEntry b t k x) (same_Some d f here.1) (converted_entry b done k e d at are is))
+              (subst (λ x. IsEntry b t k x) (same_Some d f here.1) is)
           | inr old ↦ are.entries n f old
-        ];
-    closed = λ n g found at_n.
-        let stay = each_more (IsDone done) (IsDone (slice_set done k (Some d))) (λ m. done_kept done k m d) in
-        elim (set_found done k n (Some d) (Some found.0) found.1) as
-        (λ _. Each (IsDone (slice_set done k (Some d))) (parts_of g)) [
-          | inl here ↦ (
-              let same = same_Some e g (sym at ∙ subst (λ m. slice_get t.types m ≡ Some g) here.0 at_n) in
-              stay (parts_of g) (subst (λ h. Each (IsDone done) (parts_of h)) same parts))
-          | inr old ↦ stay (parts_of g) (are.closed n g (found.0, old) at_n)
         ];
   }
 
+  -- one entry more that is the same in each component instance
+  plain_put : (plain : List (Option TypeDef)) (k : ℕ) (e : DeclType) (d : TypeDef) → slice_get t.types k ≡ Some e
+      → is_plain_entry plain e ≡ true → ArePlain t plain → ArePlain t (slice_set plain k (Some d))
+  plain_put plain k e d at is are =
+      let here = plain_entry plain e is in
+      let stay = each_more (IsDone plain) (IsDone (slice_set plain k (Some d))) (λ m. done_kept plain k m d) in
+      record {
+        form = λ n g found at_n.
+            elim (set_found plain k n (Some d) (Some found.0) found.1) as (λ _. depends g ≡ false) [
+              | inl same ↦ subst (λ h. depends h ≡ false)
+                  (same_Some e g (sym at ∙ subst (λ m. slice_get t.types m ≡ Some g) same.0 at_n)) here.0
+              | inr old ↦ are.form n g (found.0, old) at_n
+            ];
+        closed = λ n g found at_n.
+            elim (set_found plain k n (Some d) (Some found.0) found.1) as
+            (λ _. Each (IsDone (slice_set plain k (Some d))) (parts_of g)) [
+              | inl same ↦ stay (parts_of g) (subst (λ h. Each (IsDone plain) (parts_of h))
+                  (same_Some e g (sym at ∙ subst (λ m. slice_get t.types m ≡ Some g) same.0 at_n)) here.1)
+              | inr old ↦ stay (parts_of g) (are.closed n g (found.0, old) at_n)
+            ];
+      }
+
   -- the same of the lists that a step reads and leaves
-  pub put_more : (b : Types) (done front new : List (Option TypeDef)) (k : ℕ) (e : DeclType) (d : TypeDef)
-      → slice_get t.types k ≡ Some e → Each (IsDone done) (parts_of e) → AreConverted b t done → front ≡ take k done
-      → EntryIs b front t k e d → new ≡ slice_set done k (Some d) → AreConverted b t new
-  put_more b done front new k e d at parts are before is put =
-      subst (AreConverted b t) (sym put)
-      (one_more b done k e d at parts are (subst (λ f. EntryIs b f t k e d) before is))
+  pub put_more : (b : Types) (c new : Layers) (front : List (Option TypeDef)) (k : ℕ) (e : DeclType) (d : TypeDef)
+      → slice_get t.types k ≡ Some e → AreConverted b t c → front ≡ take k c.all → EntryIs b front t k e d
+      → (is_plain : Bool) → is_plain ≡ is_plain_entry c.plain e → new.all ≡ slice_set c.all k (Some d)
+      → ((new.plain ≡ c.plain) ⊎ ((is_plain ≡ true) × (new.plain ≡ slice_set c.plain k (Some d))))
+      → AreConverted b t new
+  put_more b c new front k e d at are before is is_plain plain all_put put =
+      let here = subst (λ f. EntryIs b f t k e d) before is in
+      let kind = kind_of_entry b (take k c.all) t k e d here in
+      let entry = converted_entry b c.all k e d at are.all here in
+      record {
+        all = subst (AreTyped b t) (sym all_put) (typed_put b c.all k e d at are.all kind entry);
+        plain = elim put as (λ _. AreTyped b t new.plain) [
+          | inl same ↦ subst (AreTyped b t) (sym same) are.plain
+          | inr more ↦ subst (AreTyped b t) (sym more.1) (typed_put b c.plain k e d at are.plain kind entry)
+        ];
+        same = elim put as (λ _. ArePlain t new.plain) [
+          | inl same ↦ subst (ArePlain t) (sym same) are.same
+          | inr more ↦ subst (ArePlain t) (sym more.1) (plain_put c.plain k e d at (sym plain ∙ more.0) are.same)
+        ];
+      }
 
   -- what the next of the needed entries names is done
   pub parts_done : (before done : List (Option TypeDef)) (n : ℕ) (order : List ℕ) → AreNeeded t before n order

@@ -17,7 +17,8 @@ use Rattle.pc_types.specs.TypeTree.{borrow_of, stream_of, future_of, func_of, in
 use Rattle.pc_types.specs.TypeTree.{resource_of, no_fields, and_field, no_cases, and_case, no_trees, and_tree, no_tree}
 use Rattle.pc_types.specs.TypeTree.{a_tree, tree_of}
 use Rattle.pc_types_lists.specs.Types.{Types, Grows, KeepsTypes}
-use Rattle.pc_types_builder.specs.Converted.{AreConverted}
+use Rattle.pc_types_convert.specs.Plain.{Layers}
+use Rattle.pc_types_builder.specs.Converted.{AreConverted, AreTyped}
 use Rattle.pc_types_lists.specs.Trees.{NumbersHandlesOf, CoreHasTree, ImportHasTree, ExportHasTree, HasTree}
 use Rattle.pc_types_lists.specs.Trees.{FieldsHaveTrees, CasesHaveTrees, ValsHaveTrees, MaybeHasTree, ParamsHaveTrees}
 use Rattle.pc_types_lists.specs.Trees.{ResultsHaveTree, ExternsHaveTrees}
@@ -167,13 +168,21 @@ entry_grows old new g t n d h who =
     )
 
 -- the types so far stay those of their entries as the builder grows
-pub converted_grows : (old new : Types) → Grows old new → (t : TypeTable) (done : List (Option TypeDef))
-    → AreConverted old t done → AreConverted new t done
-converted_grows old new g t done are = record {
+pub typed_grows : (old new : Types) → Grows old new → (t : TypeTable) (done : List (Option TypeDef))
+    → AreTyped old t done → AreTyped new t done
+typed_grows old new g t done are = record {
   room = are.room;
   kinds = are.kinds;
   entries = λ n d found. entry_grows old new g t n d (are.entries n d found);
-  closed = are.closed;
+}
+
+-- so does all that was converted
+pub converted_grows : (old new : Types) → Grows old new → (t : TypeTable) (c : Layers)
+    → AreConverted old t c → AreConverted new t c
+converted_grows old new g t c are = record {
+  all = typed_grows old new g t c.all are.all;
+  plain = typed_grows old new g t c.plain are.plain;
+  same = are.same;
 }
 
 -- the number of a function type that has a tree is held

@@ -1,8 +1,11 @@
 //! What was converted already.
 
-ghost use Rattle.std.specs.Prelude.{◌≡◌, ◌<◌, OnErr, OnOk, None, Some, length, replicate, slice_get, slice_set, take};
+ghost use Rattle.std.specs.Prelude.{◌≡◌, ◌<◌, ◌⊎◌, OnErr, OnOk, None, Some, length, slice_get, slice_set, take, true};
+ghost use Rattle.pc_types.specs.declared.parsed.TypeTable.{TypeTable};
 ghost use Rattle.pc_types.specs.declared.types.TypeDef.{TypeDef};
-ghost use Rattle.pc_types_lists.specs.Types.{Types};
+ghost use Rattle.pc_types.specs.Table.{table_fault};
+ghost use Rattle.pc_types_lists.specs.Types.{KeepsTypes, Types};
+ghost use Rattle.pc_types_convert.specs.Plain.{none_done};
 ghost use Rattle.pc_types_builder.specs.Converted.{AreConverted};
 
 use pc_entity::NoMemory;
@@ -12,20 +15,20 @@ use std::alloc::Global;
 use std::marker::Model;
 
 /// The types of those entries of a table that were converted so far, for callers that convert many: each entry is then
-/// converted once, whatever is asked for. A contract sees the list of them, by number.
+/// converted once, whatever is asked for. A contract sees the list of them, by number, and the list of those that are
+/// the same in each component instance: no resource, stream, future or error context stands in them.
 ///
-/// It is of one table and one builder, and lasts while the builder's resources stay. It takes the memory of what was
-/// converted, whatever the table's length.
+/// It is of one table and one builder, and lasts while the builder's resources stay; what is the same in each component
+/// instance lasts as long as the builder. It takes the memory of what was converted, whatever the table's length.
 #[derive(Drop)]
 pub struct Converted {
     done: Done,
 }
 
 impl Model for Converted {
-    ghost use Rattle.std.specs.Prelude.{List, Option};
-    ghost use Rattle.pc_types.specs.declared.types.TypeDef.{TypeDef};
+    ghost use Rattle.pc_types_convert.specs.Plain.{Layers};
 
-    ghost Value = { List (Option TypeDef) };
+    ghost Value = { Layers };
 
     ghost view = { λ s. s.done };
 }
@@ -34,11 +37,32 @@ impl Converted {
     /// Of a table of which no entry is converted yet. It takes no memory, and no time that grows with the table.
     pub fn new(alloc: Global, table: &TypeTable) -> Converted
         ensures converted { (b : Types) → AreConverted b table.now result }
-        ensures none { result ≡ replicate (length table.now.types) None }
+        ensures none { result ≡ none_done (length table.now.types) }
     {
         Converted {
             done: Done::new(alloc, table.types.len()),
         }
+    }
+
+    /// The types stay that are the same in each component instance, and only they: a resource becomes known, or types
+    /// are converted in another component instance.
+    pub fn keep_plain(&mut self)
+        ensures { (t : TypeTable) (old new : Types) → table_fault t ≡ None → KeepsTypes old new
+            → AreConverted old t self.old → AreConverted new t self.new }
+    {
+        self.done.keep_plain();
+    }
+
+    /// Two exchange the types that are the same in each component instance. So one that begins has them from one that
+    /// waits for it, and gives them back with those that it converted, and none is copied.
+    pub fn exchange_plain(&mut self, other: &mut Converted)
+        requires { length self.old.all ≡ length other.old.all }
+        ensures here { (t : TypeTable) (old new : Types) → table_fault t ≡ None → KeepsTypes old new
+            → AreConverted old t other.old → AreConverted new t self.old → AreConverted new t self.new }
+        ensures there { (t : TypeTable) (old new : Types) → table_fault t ≡ None → KeepsTypes old new
+            → AreConverted old t self.old → AreConverted new t other.old → AreConverted new t other.new }
+    {
+        self.done.exchange_plain(&mut other.done);
     }
 
     /// The types, by number.
@@ -50,25 +74,28 @@ impl Converted {
 
     /// Those of the entries in front of a number.
     pub(crate) fn in_front(&self, k: u32) -> Earlier<'_>
-        ensures { result ≡ take k self.now }
+        ensures { result ≡ take k self.now.all }
     {
         self.done.in_front(k)
     }
 
     /// The type of an entry that has one.
     pub(crate) fn type_at(&self, n: u32) -> TypeDef
-        requires { (d : TypeDef) × (slice_get self.now n ≡ Some (Some d)) }
-        ensures { slice_get self.now n ≡ Some (Some result) }
+        requires { (d : TypeDef) × (slice_get self.now.all n ≡ Some (Some d)) }
+        ensures { slice_get self.now.all n ≡ Some (Some result) }
     {
         self.done.type_at(n)
     }
 
-    /// An entry gets its type. Only memory may be wanting, and then nothing has changed.
-    pub(crate) fn put(&mut self, k: u32, type_: TypeDef) -> Result<(), NoMemory>
-        requires { k < length self.old }
-        ensures ok { OnOk result (self.new ≡ slice_set self.old k (Some type_)) }
+    /// An entry gets its type, which may be the same in each component instance. Only memory may be wanting, and then
+    /// nothing has changed.
+    pub(crate) fn put(&mut self, k: u32, type_: TypeDef, plain: bool) -> Result<(), NoMemory>
+        requires { k < length self.old.all }
+        ensures all { OnOk result (self.new.all ≡ slice_set self.old.all k (Some type_)) }
+        ensures plain { OnOk result ((self.new.plain ≡ self.old.plain)
+            ⊎ ((plain ≡ true) × (self.new.plain ≡ slice_set self.old.plain k (Some type_)))) }
         ensures err { OnErr result (self.new ≡ self.old) }
     {
-        self.done.put(k, type_)
+        self.done.put(k, type_, plain)
     }
 }

@@ -19,7 +19,7 @@ ghost use Rattle.pc_types_convert.specs.Needed.{AreNeeded, Each, IsDone, parts_o
 
 use crate::Converted;
 use pc_types::{TypeDef, TypeTable};
-use pc_types_convert::{convert, entry_at, needed};
+use pc_types_convert::{convert, entry_at, is_plain, needed};
 use pc_types_lists::{InternedTypes, NoPlace};
 
 /// Entry `n`, which is there, with all that it leads to.
@@ -79,10 +79,10 @@ fn convert_needed(
     converted: &mut Converted,
 ) -> Result<(), NoPlace>
     requires sound { table_fault table.now ≡ None }
-    requires needed { AreNeeded table.now converted.old n order.now }
+    requires needed { AreNeeded table.now converted.old.all n order.now }
     requires converted { AreConverted interned.old table.now converted.old }
     ensures converted { AreConverted interned.new table.now converted.new }
-    ensures done { OnOk result (IsDone converted.new n) }
+    ensures done { OnOk result (IsDone converted.new.all n) }
     ensures grows { Grows interned.old interned.new }
     ensures adds { AddsAsked table.now n interned.old interned.new }
     ensures full { result ≡ Err NoPlace.TooMany → IsTooFullFor interned.new
@@ -105,20 +105,21 @@ fn step(
     requires there { k < length table.now.types }
     requires converted { AreConverted interned.old table.now converted.old }
     requires parts { (e : DeclType) → slice_get table.now.types k ≡ Some e
-        → Each (IsDone converted.old) (parts_of e) }
+        → Each (IsDone converted.old.all) (parts_of e) }
     ensures converted { AreConverted interned.new table.now converted.new }
-    ensures done { OnOk result (IsDone converted.new k) }
-    ensures kept { (m : ℕ) → IsDone converted.old m → IsDone converted.new m }
+    ensures done { OnOk result (IsDone converted.new.all k) }
+    ensures kept { (m : ℕ) → IsDone converted.old.all m → IsDone converted.new.all m }
     ensures grows { Grows interned.old interned.new }
     ensures adds { (e : DeclType) → slice_get table.now.types k ≡ Some e
-        → AddsEntry (take k converted.old) table.now k e interned.old interned.new }
+        → AddsEntry (take k converted.old.all) table.now k e interned.old interned.new }
     ensures full { result ≡ Err NoPlace.TooMany
         → IsTooFullFor interned.new
         (λ b. (e : DeclType) × (slice_get table.now.types k ≡ Some e) × (d : TypeDef)
-        × EntryIs b (take k converted.old) table.now k e d) }
+        × EntryIs b (take k converted.old.all) table.now k e d) }
 {
     let entry = entry_at(table, k);
     let type_ = convert(interned, table, &converted.in_front(k), k, entry)?;
-    converted.put(k, type_)?;
+    let plain = is_plain(converted.done(), entry);
+    converted.put(k, type_, plain)?;
     Ok(())
 }

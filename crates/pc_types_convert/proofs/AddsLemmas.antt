@@ -1,7 +1,7 @@
 -- What the steps of a conversion add, one after another.
-use Rattle.std.proofs.Common.{◌≡◌, true≢false, ℕ, ◌<◌, ◌≤◌, ◌++◌, Bool, true}
+use Rattle.std.proofs.Common.{◌≡◌, true≢false, ℕ, ◌<◌, ◌++◌, Bool, true}
 use Rattle.std.proofs.Common.{false, List, [], ◌∷◌, length, get_or, zero, suc}
-use Rattle.std.proofs.Common.{Some, refl, sym, ap, ◌∙◌, subst, arith, inl, inr, ◌⊎◌, ◌&&◌, Contains}
+use Rattle.std.proofs.Common.{Some, refl, sym, ap, ◌∙◌, subst, arith, inl, inr, ◌&&◌, Contains}
 use Rattle.std.specs.Prelude.{map, slice_get}
 use Rattle.std.specs.List.{list_all}
 use Rattle.std.proofs.lemmas.List.Elements.{Contains-push}
@@ -12,16 +12,14 @@ use Rattle.pc_types.specs.declared.parsed.CoreEntity.TheVariants as core
 use Rattle.pc_types.specs.declared.parsed.CoreFuncSig.{CoreFuncSig}
 use Rattle.pc_types.specs.declared.parsed.TypeTable.{TypeTable}
 use Rattle.pc_types.specs.declared.types.TypeDef.{TypeDef}
-use Rattle.pc_types.specs.declared.types.TypeErrorContextTable.{TypeErrorContextTable}
 use Rattle.pc_types.specs.declared.types.TypeKind.{TypeKind}
 use Rattle.pc_types_lists.specs.Types.{Types, Grows}
-use Rattle.pc_types_lists.specs.Added.{AddsOnly, numbered_type}
+use Rattle.pc_types_lists.specs.Added.{AddsOnly}
 use Rattle.pc_types_lists.specs.Interned.{IsPut}
 use Rattle.pc_types_lists.proofs.Growth.{grows_error_context_tables}
 use Rattle.pc_types_lists.proofs.AddedLemmas.{only_both, only_error_context_tables, only_more, only_none}
 use Rattle.pc_types_lists.proofs.AddedLemmas.{only_in_signatures}
 use Rattle.pc_types_lists.proofs.AddedLemmas.{put_there, below_or}
-use Rattle.pc_types_convert.specs.Parts.{IsErrorContext}
 use Rattle.pc_types_convert.specs.Adds.{AddsContexts, AddsSignatures, AddsType, AddsTuple, IsNamedBy, IsOneOf}
 use Rattle.pc_types_convert.specs.Adds.{one_type, one_tuple, one_signature, one_context}
 use Rattle.pc_types_convert.proofs.PartLemmas.{error_context_grows}

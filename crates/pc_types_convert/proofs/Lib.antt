@@ -9,6 +9,7 @@ pub mod SoundLemmas
 mod FuncLemmas
 mod HeldLemmas
 mod KindAdds
+mod LayerLemmas
 mod NeededLemmas
 mod TabulatedLemmas
 mod ThereLemmas

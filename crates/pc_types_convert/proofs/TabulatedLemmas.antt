@@ -6,7 +6,7 @@ use Rattle.std.specs.Ordering.{nat_cmp}
 use Rattle.std.specs.BTreeMap.{BTreeMap, Updates, get}
 use Rattle.std.specs.Cmp.{unsigned_tied, nat_eq_equiv}
 use Rattle.std.proofs.lemmas.Bool.{eqb-true, eq-eqb}
-use Rattle.std.proofs.lemmas.Option.{none-some}
+use Rattle.std.proofs.lemmas.Option.{none-some, same_Some, slice_get_within}
 use Rattle.pc_types.specs.declared.types.TypeDef.{TypeDef}
 use Rattle.pc_types_convert.specs.Needed.{IsDone}
 use Rattle.pc_types_convert.specs.Tabulated.{tabulated}
@@ -38,7 +38,7 @@ tabulated_same f g i (suc n) same =
     λ p. here p ∷ rest p
 
 -- what a number has where one number is set
-abbrev set_at : {A : Type 0} → (ℕ → Option A) → ℕ → Option A → ℕ → Option A
+abbrev pub set_at : {A : Type 0} → (ℕ → Option A) → ℕ → Option A → ℕ → Option A
 set_at f n x q = if q == n then x else f q
 
 -- another number keeps its value
@@ -67,19 +67,25 @@ tabulated_set f i (suc n) (suc k) x =
     λ p. here p ∷ rest p
 
 -- what a number has in the map after a change
-set_in_map : {A : Type 0} (m n : BTreeMap ℕ A) (k : ℕ) (x : Option A) → Updates nat_cmp m n k x → (q : ℕ)
+pub set_in_map : {A : Type 0} (m n : BTreeMap ℕ A) (k : ℕ) (x : Option A) → Updates nat_cmp m n k x → (q : ℕ)
     → get nat_cmp n q ≡ set_at (get nat_cmp m) k x q
 set_in_map m n k x updates q =
     updates.0 q ∙ (λ i. if (unsigned_tied k q ∙ nat_eq_equiv.symm k q) i then x else get nat_cmp m q)
 
--- one place is written where the map changes at one number
-pub tabulated_put : {A : Type 0} (m n : BTreeMap ℕ A) (k : ℕ) (x : Option A) → Updates nat_cmp m n k x → (room : ℕ)
-    → tabulated (get nat_cmp n) 0 room ≡ slice_set (tabulated (get nat_cmp m) 0 room) k x
-tabulated_put m n k x updates room =
-    tabulated_same (get nat_cmp n) (set_at (get nat_cmp m) k x) 0 room
-    (λ q less. set_in_map m n k x updates (0 + q))
-    ∙ ap (λ p. tabulated (set_at (get nat_cmp m) p x) 0 room) (omega arith)
-    ∙ tabulated_set (get nat_cmp m) 0 room k x
+-- one place is written where one number changes
+pub tabulated_put : {A : Type 0} (f g : ℕ → Option A) (k : ℕ) (x : Option A) → ((q : ℕ) → g q ≡ set_at f k x q)
+    → (room : ℕ) → tabulated g 0 room ≡ slice_set (tabulated f 0 room) k x
+tabulated_put f g k x changes room =
+    tabulated_same g (set_at f k x) 0 room (λ q less. changes (0 + q))
+    ∙ ap (λ p. tabulated (set_at f p x) 0 room) (omega arith)
+    ∙ tabulated_set f 0 room k x
+
+-- a value that is found is that of its number
+pub tabulated_found : {A : Type 0} (f : ℕ → A) (n k : ℕ) (x : A) → slice_get (tabulated f 0 n) k ≡ Some x
+    → (k < n) × (f k ≡ x)
+tabulated_found f n k x found =
+    let within : k < n = omega (arith, slice_get_within (tabulated f 0 n) k x found, tabulated_length f 0 n) in
+    (within, same_Some (f k) x (sym (tabulated_here f n k within) ∙ found))
 
 -- nothing stands where no number has a value
 pub tabulated_none : {A : Type 0} (i n : ℕ) → tabulated {A = Option A} (λ q. None) i n ≡ replicate n None

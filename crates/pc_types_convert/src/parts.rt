@@ -23,7 +23,7 @@ use std::collections::BTreeSet;
 pub fn needed(alloc: Global, table: &TypeTable, done: &Done, n: u32) -> Result<Vec<u32>, NoMemory>
     requires sound { table_fault table.now ≡ None }
     requires there { n < length table.now.types }
-    ensures { IfOk result (λ order. AreNeeded table.now done.now n order.items) }
+    ensures { IfOk result (λ order. AreNeeded table.now done.now.all n order.items) }
 {
     let mut order = Vec::new(alloc);
     let mut opened = BTreeSet::new(alloc);
@@ -48,9 +48,9 @@ pub fn entry_at(table: &TypeTable, k: u32) -> &DeclType
 /// An entry is opened, unless it is done.
 fn open_entry(opened: &mut BTreeSet<u32>, done: &Done, n: u32) -> Result<(), NoMemory>
     ensures kept { OnOk result ((m : ℕ) → IsAmong m opened.old.keys → IsAmong m opened.new.keys) }
-    ensures met { OnOk result (IsDone done.now n ⊎ IsAmong n opened.new.keys) }
+    ensures met { OnOk result (IsDone done.now.all n ⊎ IsAmong n opened.new.keys) }
     ensures only { OnOk result ((m : ℕ) → IsAmong m opened.new.keys → IsAmong m opened.old.keys ⊎ (m ≡ n)) }
-    ensures fresh { OnOk result ((m : ℕ) → IsAmong m opened.new.keys → IsDone done.now m → IsAmong m opened.old.keys) }
+    ensures fresh { OnOk result ((m : ℕ) → IsAmong m opened.new.keys → IsDone done.now.all m → IsAmong m opened.old.keys) }
 {
     if !is_done(done, n) {
         opened.insert(n)?;
@@ -60,8 +60,8 @@ fn open_entry(opened: &mut BTreeSet<u32>, done: &Done, n: u32) -> Result<(), NoM
 
 /// Whether an entry has its type.
 fn is_done(done: &Done, n: u32) -> bool
-    ensures yes { result ≡ true → IsDone done.now n }
-    ensures no { result ≡ false → IsDone done.now n → ⊥ }
+    ensures yes { result ≡ true → IsDone done.now.all n }
+    ensures no { result ≡ false → IsDone done.now.all n → ⊥ }
 {
     done.get(n).is_some()
 }
@@ -69,9 +69,9 @@ fn is_done(done: &Done, n: u32) -> bool
 /// Each of some entries is opened, unless it is done.
 fn open_entries(opened: &mut BTreeSet<u32>, done: &Done, ns: &[u32]) -> Result<(), NoMemory>
     ensures kept { OnOk result ((m : ℕ) → IsAmong m opened.old.keys → IsAmong m opened.new.keys) }
-    ensures met { OnOk result (Each (λ n. IsDone done.now n ⊎ IsAmong n opened.new.keys) ns.now) }
+    ensures met { OnOk result (Each (λ n. IsDone done.now.all n ⊎ IsAmong n opened.new.keys) ns.now) }
     ensures only { OnOk result ((m : ℕ) → IsAmong m opened.new.keys → IsAmong m opened.old.keys ⊎ IsAmong m ns.now) }
-    ensures fresh { OnOk result ((m : ℕ) → IsAmong m opened.new.keys → IsDone done.now m → IsAmong m opened.old.keys) }
+    ensures fresh { OnOk result ((m : ℕ) → IsAmong m opened.new.keys → IsDone done.now.all m → IsAmong m opened.old.keys) }
 {
     for n in ns {
         open_entry(opened, done, *n)?;

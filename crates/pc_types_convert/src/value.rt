@@ -65,7 +65,7 @@ pub(crate) fn value(
 }
 
 /// The value type of a primitive that needs no table.
-fn plain_type(p: PrimType) -> Option<InterfaceType>
+pub(crate) fn plain_type(p: PrimType) -> Option<InterfaceType>
     ensures { result ≡ plain_type p }
 {
     match p {

@@ -1,5 +1,6 @@
 use Rattle.std.proofs.Common.{refl, subst, sym}
 use Rattle.pc_types_convert.specs.Needed.{AreNeeded}
+use Rattle.pc_types_convert.specs.Plain.{Layers}
 use Rattle.pc_types_lists.proofs.ErrorLemmas.{passed}
 use Rattle.pc_types_builder.proofs.AskedLemmas.{asked_none}
 use Rattle.pc_types_builder.proofs.CountLemmas.{additions_are_few, full_before}
@@ -7,8 +8,8 @@ use Rattle.pc_types_builder.proofs.steps.entry_with.Goals as goal
 
 pub convert_needed-outcome-requires-clause-needed : goal.convert_needed-outcome-requires-clause-needed
 convert_needed-outcome-requires-clause-needed c =
-    subst (AreNeeded c.args.table.now c.args.converted.now c.args.n) (sym c.as_slice.ensures.value)
-    (subst (λ done. AreNeeded c.args.table.now done c.args.n c.in_ok-order.order.items) c.done.ensures
+    subst (AreNeeded c.args.table.now c.args.converted.now.all c.args.n) (sym c.as_slice.ensures.value)
+    (subst (λ (done : Layers). AreNeeded c.args.table.now done.all c.args.n c.in_ok-order.order.items) c.done.ensures
     c.in_ok-order.ensures)
 
 pub returns-in_err-order-clause-adds : goal.returns-in_err-order-clause-adds

@@ -25,5 +25,5 @@ returns-in_ok-insert-clause-fresh c =
     (subst (λ ks. IsAmong m ks) c.in_ok-insert.ensures.keys among)) as (λ _. IsAmong m c.args.opened.now.keys) [
       | inl before ↦ before
       | inr same ↦
-          absurd (c.is_done.ensures.no c.if-not-is_done.true (subst (IsDone c.args.done.now) same done))
+          absurd (c.is_done.ensures.no c.if-not-is_done.true (subst (IsDone c.args.done.now.all) same done))
     ]

@@ -1,20 +1,26 @@
 use Rattle.std.proofs.Common.{◌∙◌, ap, arith, sym}
 use Rattle.std.specs.Prelude.{option_and_then, slice_get}
-use Rattle.std.specs.Ordering.{nat_cmp}
-use Rattle.std.specs.BTreeMap.{get}
+use Rattle.std.specs.Option.{option_copied, option_or}
 use Rattle.std.proofs.lemmas.Option.{slice_get_past}
+use Rattle.pc_types_convert.specs.Plain.{Layers}
+use Rattle.pc_types_convert.proofs.LayerLemmas.{copied_or, in_either}
 use Rattle.pc_types_convert.proofs.TabulatedLemmas.{tabulated_here, tabulated_length}
 use Rattle.pc_types_convert.proofs.done.Done.get.Goals as goal
 
 pub returns-then-n-self : goal.returns-then-n-self
 returns-then-n-self c =
-    c.copied.ensures ∙ c.get.ensures.value
-    ∙ sym (ap (option_and_then (λ d. d)) (tabulated_here (get nat_cmp c.self.inside.own) c.self.inside.room c.args.n
-    c.if-n-self.true))
-    ∙ ap (λ l. option_and_then (λ d. d) (slice_get l c.args.n)) c.self.view_is
+    c.copied.ensures ∙ ap option_copied c.or.ensures ∙ copied_or _ _
+    ∙ (λ i. option_or (c.get.ensures.value i) (c.get-then-n-self.ensures.value i))
+    ∙ sym (ap (option_and_then (λ d. d)) (tabulated_here (in_either c.self.inside.own c.self.inside.plain)
+    c.self.inside.room c.args.n c.if-n-self.true))
+    ∙ ap (λ (l : Layers). option_and_then (λ d. d) (slice_get l.all c.args.n)) c.self.view_is
 
 pub returns-else-n-self : goal.returns-else-n-self
 returns-else-n-self c =
     sym (ap (option_and_then (λ d. d)) (slice_get_past _ c.args.n
-    (omega (arith, tabulated_length (get nat_cmp c.self.inside.own) 0 c.self.inside.room, c.if-n-self.false))))
-    ∙ ap (λ l. option_and_then (λ d. d) (slice_get l c.args.n)) c.self.view_is
+    (omega (
+      arith,
+      tabulated_length (in_either c.self.inside.own c.self.inside.plain) 0 c.self.inside.room,
+      c.if-n-self.false,
+    ))))
+    ∙ ap (λ (l : Layers). option_and_then (λ d. d) (slice_get l.all c.args.n)) c.self.view_is
