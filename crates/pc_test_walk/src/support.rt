@@ -17,7 +17,7 @@ pub(crate) fn holds(rt: &impl Abort, what: &str, holds: bool)
 }
 
 /// Whether a table is sound, and short enough to ask.
-fn is_sound(alloc: Global, table: &TypeTable) -> bool
+pub(crate) fn is_sound(alloc: Global, table: &TypeTable) -> bool
     ensures { result ≡ true → table_fault table.now ≡ None }
 {
     if table.types.len() < 1_000_000 {
