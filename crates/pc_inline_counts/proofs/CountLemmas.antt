@@ -7,7 +7,8 @@ use Rattle.std.proofs.lemmas.Option.{none-some, same_Some, slice_get_within}
 use Rattle.std.proofs.lemmas.Bool.{ltb-false, ltb-true}
 use Rattle.pc_entity.specs.Lists.{Kept}
 use Rattle.pc_entity.proofs.Growing.{kept_refl, kept_trans}
-use Rattle.pc_types.specs.declared.error.Unsupported.TheVariants.{ExportedComponent}
+use Rattle.pc_types.specs.declared.error.Unsupported.TheVariants.{ExportedComponent, ReexportedIntrinsic}
+use Rattle.pc_types.specs.declared.error.Unsupported.TheVariants.{ReexportedIntrinsics}
 use Rattle.pc_types.specs.declared.module_record.ModuleRecord.{ModuleRecord}
 use Rattle.pc_types.specs.declared.types.ComponentExtern.{ComponentExtern}
 use Rattle.pc_types.specs.Table.{table_fault}
@@ -31,8 +32,8 @@ use Rattle.pc_inline_state.specs.Holds.{Holds}
 use Rattle.pc_inline_state.specs.Members.{AreEarlier, IsInstanceOf}
 use Rattle.pc_inline_state.specs.Stands.{DefinitionStands, IsType, MembersStand, Stands, and_member, no_members}
 use Rattle.pc_inline_state.specs.Stands.{stands, stands_component, stands_host, stands_host_instance}
-use Rattle.pc_inline_state.specs.Stands.{stands_host_module}
-use Rattle.pc_inline_state.specs.Stands.{stands_instance, stands_lifted, stands_static, stands_type}
+use Rattle.pc_inline_state.specs.Stands.{stands_host_module, stands_instance, stands_intrinsic, stands_intrinsics}
+use Rattle.pc_inline_state.specs.Stands.{stands_lifted, stands_static, stands_type}
 use Rattle.pc_inline_state.specs.Tables.{Keeps, Tables, tables_of}
 use Rattle.pc_inline_state.specs.Worlds.{ImportStands, WorldStands}
 use Rattle.pc_inline_state.proofs.FitsLemmas.{who_fits, who_of}
@@ -73,11 +74,13 @@ module _ (ms : List ModuleRecord) (b : Tables) (sound : table_fault b.table ≡ 
       → ((j : ExportsId) → exports_of d ≡ Some j → ListTakes (count_at instances j.0) j.0)
       → (w : World) → HasTotal w → HasHostTypes ms b w.imports
       → Takes (definition_count (entry_counts b.table) instances d) w (value_node v w)
-  unfolding value_node
+  unfolding value_node instance_value_node
   definition_takes instances d v (stands_host {path = path} {tree = tree} held given typed) lists w total types =
       subst (λ (o : Option TypeTree). Takes one_node w (host_function_node path o w)) (sym (types path tree given))
       (host_leaf_takes path _ w total)
   definition_takes instances d v (stands_lifted typed func options) lists w total types = leaf_takes _ w total
+  definition_takes instances d v stands_intrinsic lists w total types =
+      refused_takes _ (unsupported ReexportedIntrinsic) w total
   definition_takes instances d v (stands_static handed_in tabled i typed) lists w total types = leaf_takes _ w total
   definition_takes instances d v (stands_host_module {path = path} held tabled typed) lists w total types =
       host_leaf_takes path _ w total
@@ -89,6 +92,8 @@ module _ (ms : List ModuleRecord) (b : Tables) (sound : table_fault b.table ≡ 
   definition_takes instances d v (stands_instance {n = n} {es = es} {vs = vs} {tree = tree} held members typed) lists w
       total types =
       lists n refl es vs tree held members w total types
+  definition_takes instances d v stands_intrinsics lists w total types =
+      refused_takes _ (unsupported ReexportedIntrinsics) w total
   definition_takes instances d v (stands_type typed) lists w total types = leaf_takes _ w total
 
   module _ (ds : List Definition) (lists : List (List (List ℕ × Member))) (kept : Kept ds b.definitions)
@@ -269,6 +274,7 @@ counted_since ms old b counts made same d v is j exported =
         → k.0 < length b.instances
     by e x (stands_host held given typed) k found = absurd (none-some k found)
     by e x (stands_lifted typed func options) k found = absurd (none-some k found)
+    by e x stands_intrinsic k found = absurd (none-some k found)
     by e x (stands_static handed_in tabled i typed) k found = absurd (none-some k found)
     by e x (stands_host_module held tabled typed) k found = absurd (none-some k found)
     by e x (stands_component there body leaving held modules components) k found = absurd (none-some k found)
@@ -276,6 +282,7 @@ counted_since ms old b counts made same d v is j exported =
     by e x (stands_instance {n = n} {es = es} held stand typed) k found =
         subst (λ (i : ExportsId). i.0 < length b.instances) (same_Some n k found)
         (slice_get_within b.instances n.0 es held)
+    by e x stands_intrinsics k found = absurd (none-some k found)
     by e x (stands_type typed) k found = absurd (none-some k found)
 
 module _ (ms : List ModuleRecord) (st : State) where

@@ -72,6 +72,8 @@ abbrev pub definition_count : (entries instances : List NodeCount) → Definitio
 definition_count entries instances (definition.HostInstance p ty n) = count_at entries n
 definition_count entries instances (definition.Instance n ty) = count_at instances n.0
 definition_count entries instances (definition.Component s k) = refused_node
+definition_count entries instances (definition.IntrinsicFunc i) = refused_node
+definition_count entries instances definition.Intrinsics = refused_node
 definition_count entries instances _ = one_node
 
 -- the same of one that may be there

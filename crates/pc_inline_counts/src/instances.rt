@@ -23,7 +23,8 @@ fn definition_count(
     match definition {
         Definition::Instance { exports, .. } => count_at(instances, exports.0),
         Definition::HostInstance { entry, .. } => count_at(entries, *entry),
-        Definition::Component { .. } => NodeCount::refused(),
+        Definition::Component { .. } | Definition::IntrinsicFunc { .. } | Definition::Intrinsics =>
+            NodeCount::refused(),
         Definition::HostFunc { .. }
         | Definition::LiftedFunc { .. }
         | Definition::StaticModule { .. }

@@ -3,6 +3,7 @@ use Rattle.std.proofs.Common.{◌≡◌, ℕ, ◌+◌, ◌*◌, ◌<◌, ◌≤�
 use Rattle.std.proofs.Math.Nat.{add-mul}
 use Rattle.pc_types.specs.declared.parsed.TypeTable.{TypeTable}
 use Rattle.pc_types_lists.specs.Adds.{AddsTypes, most_types}
+use Rattle.pc_types_lists.specs.Interned.{IsPut}
 use Rattle.pc_types_lists.specs.Types.{Grows, KeepsTypes, Types}
 use Rattle.pc_types_lists.proofs.FewLemmas.{few_both, few_more, few_none}
 use Rattle.pc_types_lists.proofs.KeptTypes.{grows_keeps, keeps_same, keeps_trans}
@@ -14,7 +15,8 @@ use Rattle.pc_inline_state.specs.AddsEach.{AddsEach, everywhere, in_imports, in_
 use Rattle.pc_inline_state.specs.Gained.{AddsTables}
 use Rattle.pc_inline_state.specs.Tables.{Tables}
 use Rattle.pc_inline_state.proofs.AddsPushLemmas.{one_option}
-use Rattle.pc_inline_state.proofs.GainedLemmas.{asked_tables, no_tables, tables_both, tables_none}
+use Rattle.pc_inline_state.proofs.GainedLemmas.{asked_tables, context_tables, few_contexts, no_tables, tables_both}
+use Rattle.pc_inline_state.proofs.GainedLemmas.{tables_none}
 
 -- one sum of bounds
 two_bounds : (a b c n m : ℕ) → b ≤ a + n → c ≤ b + m → c ≤ a + (n + m)
@@ -196,6 +198,15 @@ module _ (t : TypeTable) where
         (no_tables t b.graph.num_runtime_component_instances b.types types
         (ap (λ (x : Types). x.future_tables) rest) (ap (λ (x : Types). x.stream_tables) rest)
         (ap (λ (x : Types). x.error_context_tables) rest))
+
+    -- the error contexts of a component instance that has begun were asked for
+    pub contexts_adds : b.types.resources.current.0 < b.graph.num_runtime_component_instances
+        → types ≡ record b.types { error_context_tables = types.error_context_tables }
+        → IsPut b.types.error_context_tables types.error_context_tables (record { instance = b.types.resources.current })
+        → Adds t 1 b (record b { types = types })
+    contexts_adds begun rest put =
+        types_adds 1 (few_contexts t b.types types rest put)
+        (context_tables t b.types types rest put b.graph.num_runtime_component_instances begun)
 
   -- the type and the signature of a function were converted
   pub adds_function : (a b x : Tables) → Adds t (most_types t) a b → Adds t 0 b x → Adds t (most_types t) a x

@@ -1,5 +1,8 @@
 -- Which tables are new, call after call.
-use Rattle.std.proofs.Common.{◌≡◌, ◌<◌, ◌≤◌, inl, inr, ℕ, List, Some, length, ap, refl, sym, subst, ◌∙◌, arith}
+use Rattle.std.proofs.Common.{◌≡◌, ◌<◌, ◌≤◌, ◌+◌, ◌++◌, ◌∷◌, [], inl, inr, ℕ, List, Some, length, ap, refl, sym}
+use Rattle.std.proofs.Common.{subst, ◌∙◌, arith}
+use Rattle.std.specs.Prelude.{slice_get}
+use Rattle.std.proofs.lemmas.List.{length-append}
 use Rattle.std.proofs.lemmas.Option.{none-some, same_Some}
 use Rattle.pc_types.specs.declared.module_record.ModuleRecord.{ModuleRecord}
 use Rattle.pc_types.specs.declared.parsed.TypeTable.{TypeTable}
@@ -8,9 +11,13 @@ use Rattle.pc_types.specs.declared.types.TypeDef.{TypeDef}
 use Rattle.pc_types.specs.declared.types.TypeDef.TheVariants as def
 use Rattle.pc_types.specs.declared.types.TypeKind.{TypeKind}
 use Rattle.pc_types.specs.declared.types.TypeKind.TheVariants as kind
+use Rattle.pc_entity.proofs.Growing.{slice_get-append_seam}
 use Rattle.pc_types_lists.specs.Added.{numbered_type}
-use Rattle.pc_types_lists.specs.Types.{KeepsTypes, Resources, Types}
+use Rattle.pc_types_lists.specs.Adds.{AddsTypes}
+use Rattle.pc_types_lists.specs.Interned.{IsPut}
+use Rattle.pc_types_lists.specs.Types.{HasNumber, KeepsTypes, Resources, Types, held}
 use Rattle.pc_types_lists.proofs.AddedLemmas.{below_or}
+use Rattle.pc_types_lists.proofs.FewLemmas.{put_length}
 use Rattle.pc_types_lists.proofs.KeptTypes.{keeps_same, keeps_whatever}
 use Rattle.pc_types_builder.specs.Adds.{IsOneOf, one_context, one_signature, one_tuple, one_type}
 use Rattle.pc_types_builder.specs.Asked.{AddsAsked, AsksContexts, IsReachedSignature, IsReachedTuple, IsReachedType}
@@ -18,7 +25,7 @@ use Rattle.pc_types_builder.proofs.TreeLemmas.{tree_keeps}
 use Rattle.pc_spec_reading.specs.Scope.{Moment}
 use Rattle.pc_inline_state.specs.declared.frame.Frame.{Frame}
 use Rattle.pc_inline_state.specs.declared.state.State.{State}
-use Rattle.pc_inline_state.specs.Gained.{AddsTables, IsOfContexts, IsOfEntry, NamesContexts}
+use Rattle.pc_inline_state.specs.Gained.{AddsTables, IsOfContexts, IsOfEntry}
 use Rattle.pc_inline_state.specs.Points.{PointStands}
 
 -- which kinds have new numbers of their own sort
@@ -91,9 +98,8 @@ module _ (t : TypeTable) where
             | inr late ↦ second.streams i late below
           ];
       error_contexts = λ i above below. elim (below_or i (length b.error_context_tables)) as
-          (λ _. IsOfContexts m c i × NamesContexts t) [
-            | inl early ↦ (
-                let one = first.error_contexts i above early in (contexts_still i one.0, one.1))
+          (λ _. IsOfContexts m c i) [
+            | inl early ↦ contexts_still i (first.error_contexts i above early)
             | inr late ↦ second.error_contexts i late below
           ];
     }
@@ -122,12 +128,11 @@ module _ (t : TypeTable) where
       of_entry : (d : TypeDef) → IsReachedType b t n d → IsOfEntry t begun b d
       of_entry d is = (b.resources, below, is.0, is.2)
 
-      contexts_at : (i : ℕ) → IsAsked kind.ErrorContextTable i → IsOfContexts begun b i × NamesContexts t
+      contexts_at : (i : ℕ) → IsAsked kind.ErrorContextTable i → IsOfContexts begun b i
       contexts_at i (one_type d named is_reached) = absurd (none-some d named)
       contexts_at i (one_tuple same has) = absurd (omega (arith, ap sort_of same))
       contexts_at i (one_signature same has) = absurd (omega (arith, ap sort_of same))
-      contexts_at i (one_context same how has) =
-          ((b.resources.current, below, has), (how.0, how.1, how.3, how.4))
+      contexts_at i (one_context same how has) = (b.resources.current, below, has)
 
       -- the tables that an entry asks for are of entries
       pub asked_tables : AddsTables t begun a b
@@ -143,6 +148,40 @@ module _ (t : TypeTable) where
         error_contexts = λ i above under.
             contexts_at i (adds.only.each kind.ErrorContextTable i above under);
       }
+
+module _ (t : TypeTable) (a b : Types) (rest : b ≡ record a { error_context_tables = b.error_context_tables })
+    (put : IsPut a.error_context_tables b.error_context_tables (record { instance = a.resources.current })) where
+  -- error contexts are one type at the most
+  pub few_contexts : AddsTypes t 1 a b
+  few_contexts = record {
+    few = λ k counted. subst (λ (x : Types). held x k ≤ held a k + 1) (sym rest) (by k);
+    signatures = λ s has. inl (subst (λ (x : Types). HasNumber x.signatures s) rest has);
+  }
+    where
+      by : (k : TypeKind) → held (record a { error_context_tables = b.error_context_tables }) k ≤ held a k + 1
+      by kind.ErrorContextTable =
+          put_length a.error_context_tables b.error_context_tables (record { instance = a.resources.current }) put
+      by k = omega arith
+
+  -- and the new table is that of the component instance that asked
+  pub context_tables : (n : ℕ) → a.resources.current.0 < n → AddsTables t n a b
+  context_tables n begun = record {
+    futures = λ i above below. absurd (omega (arith, above, below, ap (λ (x : Types). length x.future_tables) rest));
+    streams = λ i above below. absurd (omega (arith, above, below, ap (λ (x : Types). length x.stream_tables) rest));
+    error_contexts = λ i above below. (a.resources.current, begun, found i above below put);
+  }
+    where
+      found : (i : ℕ) → length a.error_context_tables ≤ i → i < length b.error_context_tables
+          → IsPut a.error_context_tables b.error_context_tables (record { instance = a.resources.current })
+          → slice_get b.error_context_tables i ≡ Some (record { instance = a.resources.current })
+      found i above below (inl same) = absurd (omega (arith, above, below, ap length same))
+      found i above below (inr more) =
+          let long = ap length more.0
+          ∙ length-append a.error_context_tables (record { instance = a.resources.current } ∷ []) in
+          let at : i ≡ length a.error_context_tables = omega (arith, above, below, long) in
+          ap (λ xs. slice_get xs i) more.0
+          ∙ ap (slice_get (a.error_context_tables ++ record { instance = a.resources.current } ∷ [])) at
+          ∙ slice_get-append_seam a.error_context_tables (record { instance = a.resources.current }) []
 
 -- the component instance that types are converted for at a point has begun
 pub current_begun : (t : TypeTable) (ms : List ModuleRecord) (st : State) (f : Frame) (now : Moment)

@@ -11,6 +11,7 @@ use Rattle.pc_types.specs.TypeTree.{Identity, TypeTree, identity_of, tree_of}
 use Rattle.pc_types_lists.specs.Known.{resource_of}
 use Rattle.pc_types_lists.specs.Types.{KeepsTypes, Resources, Types}
 use Rattle.pc_types_lists.specs.Trees.{HasTree}
+use Rattle.pc_types_builder.specs.Plain.{Layers}
 use Rattle.pc_types_builder.specs.Converted.{AreConverted}
 use Rattle.pc_types_builder.specs.Trees.{IsEntry, identities}
 use Rattle.pc_types_builder.proofs.KnownLemmas.{converted_keeps, identity_same}
@@ -26,7 +27,7 @@ use Rattle.pc_inline_state.proofs.ZipLemmas.{both_more}
 
 -- types that are kept are those of the entries that were converted, where the same resources are known
 pub converted_kept : (old new : Types) → KeepsTypes old new → new.resources ≡ old.resources → (t : TypeTable)
-    (done : List (Option TypeDef)) → AreConverted old t done → AreConverted new t done
+    (done : Layers) → AreConverted old t done → AreConverted new t done
 converted_kept old new keeps same t done are =
     converted_keeps old new keeps (ap (λ (r : Resources). r.current) same)
     (λ n. ap (λ (r : Resources). resource_of r.known n) (sym same)) t done are

@@ -15,4 +15,6 @@ pub mod KnowsLemmas
 pub mod AddsPushLemmas
 pub mod GainedLemmas
 pub mod AddsLemmas
+pub mod PushedLemmas
+pub mod IntrinsicLemmas
 mod FoundLemmas

@@ -6,6 +6,10 @@ use Rattle.std.proofs.lemmas.Option.{none-some, same_Some}
 use Rattle.pc_numbers.specs.declared.module_entity.ModuleInternedTypeIndex.{ModuleInternedTypeIndex}
 use Rattle.pc_types.specs.declared.parsed.TypeTable.{TypeTable}
 use Rattle.pc_types_lists.specs.Types.{Types, Grows}
+use Rattle.pc_types_builder.specs.Plain.{Layers}
+use Rattle.pc_types_builder.proofs.TreeLemmas.{converted_grows}
+use Rattle.pc_inline_state.specs.declared.state.State.{State}
+use Rattle.pc_inline_state.specs.Prepares.{Converts}
 use Rattle.pc_inline_state.specs.Typed.{AreSignatures, IsSignature}
 
 -- an item is the one that was written at its place, or an old one
@@ -41,6 +45,18 @@ signatures_noted types t ns core i is are n j found =
           (subst (IsSignature types t core) (same_Some i j here.1) is)
       | inr old ↦ are n j old
     ]
+
+-- types were added while no number was noted
+pub types_convert : (t : TypeTable) (st : State) (types : Types) → Grows st.types types → (done : Layers)
+    → Converts t st done (record st { types = types }) done
+types_convert t st types grows done = record {
+  grows = grows;
+  converted = converted_grows st.types types grows t done;
+  numbers = λ n. record {
+    signatures = signatures_grow st.types types grows t st.numbers.signatures.items n.signatures;
+  };
+  rest = refl;
+}
 
 -- where nothing has a number yet, all of them are right
 none_of_none : {A : Type 0} (k n : ℕ) (x : A) → slice_get (replicate k None) n ≡ Some (Some x) → ⊥

@@ -54,7 +54,20 @@ free_lacks_at k P st (item_error.Fault j) free h = free h.1
 free_lacks_at k P st item_error.TooMany free h = h
 free_lacks_at k P st item_error.NoMemory free h = h
 
+typed_lacks_at : (st : State) (x : TypeError) (e : ItemError) → e ≡ of_type_error x → (x ≡ type_error.BadNumber → ⊥)
+    → (x ≡ type_error.TooMany → IsFull st.types) → LacksRoom st e
+unfolding LacksRoom
+typed_lacks_at st type_error.BadNumber e is bad full = absurd (bad refl)
+typed_lacks_at st type_error.TooMany e is bad full = subst (LacksRoom st) (sym is) (full_types (full refl))
+typed_lacks_at st type_error.NoMemory e is bad full = subst (LacksRoom st) (sym is) tt
+
 module _ {T : Type 0} (r : Result T ItemError) (st : State) where
+  -- an error of the types builder that is never for want of a number
+  pub typed_lacks : (x : TypeError) → IsErrAnd r (λ e. e ≡ of_type_error x) → (x ≡ type_error.BadNumber → ⊥)
+      → (x ≡ type_error.TooMany → IsFull st.types) → IfErr r (LacksRoom st)
+  typed_lacks x is bad full =
+      if_err r (λ e. e ≡ of_type_error x) (LacksRoom st) is (λ e same. typed_lacks_at st x e same bad full)
+
   -- an error of the types builder
   pub type_lacks : (cause : Type 0) (x : TypeError) → IsErrAnd r (λ e. e ≡ of_type_error x)
       → (x ≡ type_error.BadNumber → cause) → (x ≡ type_error.TooMany → IsFull st.types)

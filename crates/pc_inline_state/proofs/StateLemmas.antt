@@ -5,12 +5,12 @@ use Rattle.pc_entity.proofs.Growing.{append_kept, kept_refl, kept_trans}
 use Rattle.pc_entity.proofs.LookupLemmas.{kept_within}
 use Rattle.pc_types.specs.declared.module_record.ModuleRecord.{ModuleRecord}
 use Rattle.pc_types.specs.declared.parsed.TypeTable.{TypeTable}
-use Rattle.pc_types.specs.declared.types.TypeDef.{TypeDef}
 use Rattle.pc_types.specs.declared.types.TypeDef.TheVariants as type
 use Rattle.pc_types_lists.specs.Types.{Types}
 use Rattle.pc_types_lists.specs.Types as builder
 use Rattle.pc_types_lists.proofs.Growth as builder_growth
 use Rattle.pc_types_lists.proofs.KeptTypes as kept_types
+use Rattle.pc_types_builder.specs.Plain.{Layers}
 use Rattle.pc_types_builder.proofs.TreeLemmas.{tree_keeps}
 use Rattle.pc_dfg.specs.declared.core_def.CoreDef.{CoreDef}
 use Rattle.pc_dfg.specs.declared.dfg.ComponentDfg.{ComponentDfg}
@@ -85,7 +85,7 @@ holds_grow old new grows t g holds = record {
 }
 
 -- no type was converted
-pub converts_refl : (t : TypeTable) (a : State) (done : List (Option TypeDef)) → Converts t a done a done
+pub converts_refl : (t : TypeTable) (a : State) (done : Layers) → Converts t a done a done
 converts_refl t a done = record {
   grows = builder_growth.grows_same a.types;
   converted = λ are. are;
@@ -94,8 +94,8 @@ converts_refl t a done = record {
 }
 
 -- types were converted twice
-pub converts_trans : (t : TypeTable) (a : State) (x : List (Option TypeDef)) (b : State) (y : List (Option TypeDef))
-    (c : State) (z : List (Option TypeDef)) → Converts t a x b y → Converts t b y c z → Converts t a x c z
+pub converts_trans : (t : TypeTable) (a : State) (x : Layers) (b : State) (y : Layers)
+    (c : State) (z : Layers) → Converts t a x b y → Converts t b y c z → Converts t a x c z
 converts_trans t a x b y c z p q = record {
   grows = builder_growth.grows_trans a.types b.types c.types p.grows q.grows;
   converted = λ are. q.converted (p.converted are);
@@ -117,6 +117,7 @@ module _ (t : TypeTable) (ms : List ModuleRecord) where
     imported_resources = q.imported_resources ∙ p.imported_resources;
     declared_resources = q.declared_resources ∙ p.declared_resources;
     import_types = q.import_types ∙ p.import_types;
+    unsafe_intrinsics = q.unsafe_intrinsics ∙ p.unsafe_intrinsics;
     begun = q.begun ∙ p.begun;
     exports = q.exports ∙ p.exports;
     export_items = q.export_items ∙ p.export_items;
@@ -158,6 +159,7 @@ module _ (t : TypeTable) (ms : List ModuleRecord) where
     imported_resources = refl;
     declared_resources = refl;
     import_types = refl;
+    unsafe_intrinsics = refl;
     begun = refl;
     exports = refl;
     export_items = refl;
@@ -201,6 +203,7 @@ module _ (t : TypeTable) (ms : List ModuleRecord) where
     imported_resources = refl;
     declared_resources = refl;
     import_types = refl;
+    unsafe_intrinsics = refl;
     begun = refl;
     exports = refl;
     export_items = refl;
@@ -244,6 +247,7 @@ module _ (t : TypeTable) (ms : List ModuleRecord) where
     imported_resources = refl;
     declared_resources = refl;
     import_types = refl;
+    unsafe_intrinsics = refl;
     begun = refl;
     exports = refl;
     export_items = refl;
@@ -286,6 +290,7 @@ module _ (t : TypeTable) (ms : List ModuleRecord) where
     imported_resources = refl;
     declared_resources = refl;
     import_types = refl;
+    unsafe_intrinsics = refl;
     begun = refl;
     exports = refl;
     export_items = refl;
@@ -294,7 +299,7 @@ module _ (t : TypeTable) (ms : List ModuleRecord) where
   }
 
   -- types were converted
-  pub converts_prepares : (old : State) (before : List (Option TypeDef)) (new : State) (after : List (Option TypeDef))
+  pub converts_prepares : (old : State) (before : Layers) (new : State) (after : Layers)
       → Converts t old before new after → Prepares t ms old new
   converts_prepares old before new after c = subst (λ st. Prepares t ms old st) (sym c.rest) (record {
     keeps = record {
@@ -328,6 +333,7 @@ module _ (t : TypeTable) (ms : List ModuleRecord) where
     imported_resources = refl;
     declared_resources = refl;
     import_types = refl;
+    unsafe_intrinsics = refl;
     begun = refl;
     exports = refl;
     export_items = refl;
@@ -348,6 +354,7 @@ module _ (t : TypeTable) (ms : List ModuleRecord) where
     imported_resources = refl;
     declared_resources = refl;
     import_types = refl;
+    unsafe_intrinsics = refl;
     begun = refl;
     exports = refl;
     export_items = refl;

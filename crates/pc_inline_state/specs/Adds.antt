@@ -1,10 +1,14 @@
 -- How much a call adds: to the types builder, to the graph and to the tables.
-use Rattle.std.specs.Prelude.{◌≤◌, ◌+◌, ◌*◌, ℕ, Bool, true, false, List, count_by, length, sum_by}
+use Rattle.std.specs.Prelude.{◌≤◌, ◌+◌, ◌*◌, ℕ, Bool, true, false, List, Option, Some, count_by, length, sum_by}
 use Rattle.pc_types.specs.declared.parsed.TypeTable.{TypeTable}
+use Rattle.pc_types.specs.declared.parsed.ValType.{ValType}
+use Rattle.pc_types.specs.declared.parsed.ValType.TheVariants as val
 use Rattle.pc_types_lists.specs.Adds.{AddsTypes, most_types}
 use Rattle.pc_types_lists.specs.Types.{KeepsTypes}
 use Rattle.pc_parsed.specs.declared.payload.ItemKind.{ItemKind}
 use Rattle.pc_parsed.specs.declared.payload.ItemKind.TheVariants as kind
+use Rattle.pc_spec_reading.specs.Canonical.{canonical_item}
+use Rattle.pc_spec_reading.specs.Item
 use Rattle.pc_local.specs.declared.item.LocalInitializer.{LocalInitializer}
 use Rattle.pc_local.specs.declared.item.LocalInitializer.TheVariants as local
 use Rattle.pc_dfg.specs.Lists.{ListName, entries_of}
@@ -46,10 +50,31 @@ types_among {N} xs = count_by (λ (x : N × ItemKind × ℕ). is_type_kind x.1) 
 abbrev pub most_converted : TypeTable → ℕ → ℕ
 most_converted t n = 4 + n * (1 + most_types t)
 
+-- what an operand of a builtin adds at the most: the types of the type number that it may be
+abbrev pub most_operand : TypeTable → Item.Operand → ℕ
+most_operand t (Item.a_resource n) = 1 + most_types t
+most_operand t (Item.a_stream n) = 1 + most_types t
+most_operand t (Item.a_future n) = 1 + most_types t
+most_operand t _ = 0
+
+-- what a builtin adds at the most: four entries, two types of its own, and what its operands add
+abbrev pub most_builtin : TypeTable → Option Item.Item → ℕ
+most_builtin t (Some (Item.builtin_item k signature operands)) = 6 + sum_by (most_operand t) operands
+most_builtin t _ = 6
+
+-- what the end of a task with this result adds at the most: a tuple besides, and the types of the result
+abbrev pub most_returned : TypeTable → Option ValType → ℕ
+most_returned t (Some (val.Type_ n)) = 6 + (1 + most_types t)
+most_returned t _ = 6
+
 -- how much an item adds at the most where it is read: four entries, and the types of the type numbers that it converts
 abbrev pub most_added : TypeTable → LocalInitializer → ℕ
 most_added t (local.Lift func ty core opts) = most_converted t 1
 most_added t (local.Lower func ty core opts) = most_converted t 1
+most_added t (local.Builtin c) = most_builtin t (canonical_item c)
+most_added t (local.WaitableSet c) = most_builtin t (canonical_item c)
+most_added t (local.TaskReturn signature result opts) = most_returned t result
+most_added t (local.ErrorContext c) = most_builtin t (canonical_item c)
 most_added t (local.ModuleStatic index ty) = most_converted t 1
 most_added t (local.ComponentSynthetic exports ty) = most_converted t (1 + types_among exports)
 most_added t (local.ComponentInstantiate component args ty) = most_converted t (1 + types_among args)

@@ -1,7 +1,6 @@
 -- What a definition is.
 use Rattle.std.specs.Prelude.{Bool, true, false, Option, None, Some}
 use Rattle.pc_numbers.specs.declared.component_entity.StaticComponentIndex.{StaticComponentIndex}
-use Rattle.pc_inline_paths.specs.declared.path_id.PathId.{PathId}
 use Rattle.pc_parsed.specs.declared.payload.ItemKind.{ItemKind}
 use Rattle.pc_parsed.specs.declared.payload.ItemKind.TheVariants as kind
 use Rattle.pc_inline_state.specs.declared.definition.ClosureId.{ClosureId}
@@ -13,18 +12,15 @@ use Rattle.pc_inline_state.specs.declared.definition.ExportsId.{ExportsId}
 abbrev pub is_of_kind : ItemKind → Definition → Bool
 is_of_kind kind.Func (definition.HostFunc p ty) = true
 is_of_kind kind.Func (definition.LiftedFunc ty func o) = true
+is_of_kind kind.Func (definition.IntrinsicFunc i) = true
 is_of_kind kind.Module (definition.StaticModule m ty) = true
 is_of_kind kind.Module (definition.HostModule p ty entry) = true
 is_of_kind kind.Instance (definition.HostInstance p ty entry) = true
 is_of_kind kind.Instance (definition.Instance n ty) = true
+is_of_kind kind.Instance definition.Intrinsics = true
 is_of_kind kind.Component (definition.Component s k) = true
 is_of_kind kind.Type_ (definition.Type_ d) = true
 is_of_kind k d = false
-
--- the path of a function of the host
-abbrev pub host_func : Definition → Option PathId
-host_func (definition.HostFunc p ty) = Some p
-host_func d = None
 
 -- the number of what a component instance exports
 abbrev pub exports_of : Definition → Option ExportsId

@@ -3,6 +3,7 @@ use Rattle.std.specs.Prelude.{◌≡◌, ◌<◌, ℕ, Bool, true, [], ◌∷◌
 use Rattle.pc_numbers.specs.declared.component_entity.StaticComponentIndex.{StaticComponentIndex}
 use Rattle.pc_numbers.specs.declared.component_entity.StaticModuleIndex.{StaticModuleIndex}
 use Rattle.pc_numbers.specs.declared.runtime.ResourceIndex.{ResourceIndex}
+use Rattle.pc_types.specs.declared.intrinsic.UnsafeIntrinsic.{UnsafeIntrinsic}
 use Rattle.pc_types.specs.declared.module_record.ModuleRecord.{ModuleRecord}
 use Rattle.pc_types.specs.declared.parsed.CoreFuncSig.{CoreFuncSig}
 use Rattle.pc_types.specs.declared.parsed.CoreKind.{CoreKind}
@@ -14,6 +15,7 @@ use Rattle.pc_types.specs.declared.type_index.TypeModuleIndex.{TypeModuleIndex}
 use Rattle.pc_types.specs.declared.types.ComponentExtern.{ComponentExtern}
 use Rattle.pc_types.specs.declared.types.TypeDef.{TypeDef}
 use Rattle.pc_types.specs.declared.types.TypeDef.TheVariants as type
+use Rattle.pc_types.specs.IntrinsicType.{intrinsic_place}
 use Rattle.pc_types.specs.Table.{is_instance, is_module}
 use Rattle.pc_types.specs.TypeTree.{Identity, Path, TypeTree, tree_of}
 use Rattle.pc_types_lists.specs.Types.{Types}
@@ -31,9 +33,9 @@ use Rattle.pc_spec_reading.specs.Value.{Chain, NamedValues, Value, and_value, cl
 use Rattle.pc_spec_reading.specs.HostTypes.{tree_along}
 use Rattle.pc_spec_reading.specs.Nodes.{extern_data}
 use Rattle.pc_spec_reading.specs.Types.{has_entry}
-use Rattle.pc_spec_reading.specs.Value.{host_function, host_instance, host_module, instance_value, lent_in}
-use Rattle.pc_spec_reading.specs.Value.{lifted_function, made_instance, module_value, no_values, static_module}
-use Rattle.pc_spec_reading.specs.Value.{type_value}
+use Rattle.pc_spec_reading.specs.Value.{host_function, host_instance, host_module, instance_value, intrinsic_function}
+use Rattle.pc_spec_reading.specs.Value.{lent_in, lifted_function, made_instance, module_value, no_values, static_module}
+use Rattle.pc_spec_reading.specs.Value.{the_intrinsics, type_value}
 use Rattle.pc_local.specs.declared.item.Translation.{Translation}
 use Rattle.pc_local.specs.Standing.{BodyStands, Names, OnlyLeaving}
 use Rattle.pc_inline_state.specs.declared.closure.Closure.{Closure}
@@ -124,6 +126,8 @@ module _ (ms : List ModuleRecord) (b : Tables) where
       stands_lifted : {ty : TypeFuncIndex} {func : CoreId} {o : Options} {tree : TypeTree} {v : CoreValue Mark}
           {os : value.Options Mark} → IsFunc ty tree → ItemStands core.Func func v → OptionsStand o os
           → DefinitionStands (definition.LiftedFunc ty func o) (func_value (lifted_function tree v os))
+      stands_intrinsic : {i : UnsafeIntrinsic}
+          → DefinitionStands (definition.IntrinsicFunc i) (func_value (intrinsic_function (intrinsic_place i)))
       stands_static : {m : StaticModuleIndex} {ty : ℕ} {tree : TypeTree} → m.0 < length ms
           → IsTableTree is_module ty tree → (i : TypeModuleIndex) → IsType (type.Module i) tree
           → DefinitionStands (definition.StaticModule m ty) (module_value (static_module m.0 tree))
@@ -144,6 +148,7 @@ module _ (ms : List ModuleRecord) (b : Tables) where
           {vs : NamedValues} {tree : TypeTree} → slice_get b.instances n.0 ≡ Some es → MembersStand es vs
           → IsType (type.ComponentInstance ty) tree
           → DefinitionStands (definition.Instance n ty) (instance_value (made_instance vs tree))
+      stands_intrinsics : DefinitionStands definition.Intrinsics (instance_value the_intrinsics)
       stands_type : {d : TypeDef} {tree : TypeTree} → IsType d tree
           → DefinitionStands (definition.Type_ d) (type_value tree)
 

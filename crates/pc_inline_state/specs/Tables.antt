@@ -6,11 +6,14 @@ use Rattle.pc_types_lists.specs.Types.{Types}
 use Rattle.pc_types_lists.specs.Types as builder
 use Rattle.pc_numbers.specs.declared.component_entity.StaticModuleIndex.{StaticModuleIndex}
 use Rattle.pc_numbers.specs.declared.entity_index.EntityIndex.{EntityIndex}
+use Rattle.pc_numbers.specs.declared.module_entity.ModuleInternedTypeIndex.{ModuleInternedTypeIndex}
 use Rattle.pc_numbers.specs.declared.runtime.RuntimeImportIndex.{RuntimeImportIndex}
 use Rattle.pc_numbers.specs.declared.runtime.TrampolineIndex.{TrampolineIndex}
+use Rattle.pc_types.specs.declared.intrinsic.UnsafeIntrinsic.{UnsafeIntrinsic}
 use Rattle.pc_types.specs.declared.module_record.ModuleRecord.{ModuleRecord}
 use Rattle.pc_types.specs.declared.parsed.CoreKind.{CoreKind}
 use Rattle.pc_types.specs.declared.parsed.TypeTable.{TypeTable}
+use Rattle.pc_types.specs.IntrinsicType.{intrinsic_place}
 use Rattle.pc_types.specs.TypeTree.{Path}
 use Rattle.pc_types.specs.declared.parsed.CoreKind.TheVariants as core
 use Rattle.pc_types.specs.Record.{has_entity, index_kind}
@@ -20,6 +23,7 @@ use Rattle.pc_dfg.specs.declared.core_def.CoreDef.TheVariants as def
 use Rattle.pc_dfg.specs.declared.dfg.ComponentDfg.{ComponentDfg}
 use Rattle.pc_dfg.specs.declared.instance.Instance.TheVariants as source
 use Rattle.pc_dfg.specs.Grows as graph
+use Rattle.pc_dfg.specs.Grows.{HasIntrinsic}
 use Rattle.pc_local.specs.declared.item.Translation.{Translation}
 use Rattle.pc_inline_state.specs.declared.closure.Closure.{Closure}
 use Rattle.pc_inline_state.specs.declared.definition.Definition.{Definition}
@@ -91,3 +95,6 @@ module _ (ms : List ModuleRecord) where
     is_named : {k : CoreKind} {i : InstanceId} {name : List ℕ} → IsHostInstance g i
         → IsItem g k (def.Export (record { instance = i; item = item.Name name }))
     is_trampoline : {t : TrampolineIndex} → t.0 < length g.trampolines → IsItem g core.Func (def.Trampoline t)
+    -- an intrinsic has the signature that the graph has for it, so one signature wherever it is used
+    is_intrinsic : {s : ModuleInternedTypeIndex} {i : UnsafeIntrinsic} → HasIntrinsic g (intrinsic_place i) s
+        → IsItem g core.Func (def.UnsafeIntrinsic s i)

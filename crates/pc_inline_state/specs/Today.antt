@@ -1,5 +1,5 @@
--- The reading as far as it is built: the nested reading under a guard. An item of a kind that isn't built yet is
--- refused where it is read, and so is the first item that makes an adapter.
+-- The reading as far as it is built: the nested reading under a guard, which refuses the first item that makes an
+-- adapter.
 use Rattle.std.specs.Prelude.{ℕ, Bool, true, false, List, Option, None, Result}
 use Rattle.std.specs.Prelude.{not}
 use Rattle.std.specs.List.{list_any}
@@ -11,9 +11,7 @@ use Rattle.pc_parsed.specs.declared.payload.ExternName.{ExternName}
 use Rattle.pc_parsed.specs.Mark.{Mark}
 use Rattle.pc_spec_reading.specs.Components.{Call}
 use Rattle.pc_spec_reading.specs.Guard.{Guard}
-use Rattle.pc_spec_reading.specs.Item.{ArgumentOf, ExportOf, Item, Items, builtin_item, context_item}
-use Rattle.pc_spec_reading.specs.Item.{error_context_item, intrinsics_import, new_thread_item, task_return_item}
-use Rattle.pc_spec_reading.specs.Item.{waitable_item}
+use Rattle.pc_spec_reading.specs.Item.{ArgumentOf, ExportOf, Item, Items}
 use Rattle.pc_spec_reading.specs.Nodes.{Finish}
 use Rattle.pc_spec_reading.specs.Outcome.{Fault, Outcome}
 use Rattle.pc_spec_reading.specs.Reading.{Enter, Reading, called, enter_at, finishing, prepare_all, prepared, read_item}
@@ -26,23 +24,12 @@ abbrev pub is_made : Entry Mark → Bool
 is_made (made v) = true
 is_made _ = false
 
--- an item of a kind that is built, but the instantiation of a component
-abbrev pub is_built : Item → Bool
-is_built intrinsics_import = false
-is_built (builtin_item k signature operands) = false
-is_built (waitable_item k signature memory) = false
-is_built (task_return_item signature result opts) = false
-is_built (error_context_item k signature opts) = false
-is_built (context_item access signature slot) = false
-is_built (new_thread_item signature start table) = false
-is_built _ = true
-
--- what is built
+-- what is built: every item but one that makes an adapter
 unfoldable pub today : Guard
 today = record {
   imports = λ e. true;
   calls = λ args. true;
-  items = is_built;
+  items = λ i. true;
   moments = λ (now : Moment). not (list_any is_made now.world.log);
   exports = λ s e. true;
 }

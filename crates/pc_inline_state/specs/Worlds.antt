@@ -1,13 +1,13 @@
 -- What all component instances share, against the world of the reading.
 use Rattle.std.specs.Prelude.{◌≡◌, ◌<◌, ◌≤◌, ℕ, true, false, count_by, [], length, List, Option, None}
-use Rattle.std.specs.Prelude.{Some, map, slice_get, replicate, All, Contains}
+use Rattle.std.specs.Prelude.{Some, map, slice_get, All, Contains}
 use Rattle.std.specs.List.{AllZip, list_any}
-use Rattle.pc_entity.specs.declared.packed_option.PackedOption.TheVariants as packed
 use Rattle.pc_entity.specs.Lists.{AreDistinct}
 use Rattle.pc_types_lists.specs.Trees.{HasTree}
 use Rattle.pc_types_lists.specs.Types.{Types}
 use Rattle.pc_dfg.specs.declared.ids.OptionsId.{OptionsId}
 use Rattle.pc_numbers.specs.declared.component_entity.StaticModuleIndex.{StaticModuleIndex}
+use Rattle.pc_numbers.specs.declared.module_entity.ModuleInternedTypeIndex.{ModuleInternedTypeIndex}
 use Rattle.pc_numbers.specs.declared.runtime.ImportIndex.{ImportIndex}
 use Rattle.pc_numbers.specs.declared.runtime.ResourceIndex.{ResourceIndex}
 use Rattle.pc_numbers.specs.declared.runtime.RuntimeImportIndex.{RuntimeImportIndex}
@@ -32,7 +32,7 @@ use Rattle.pc_spec_reading.specs.Asked.{is_declared, paths_needed, signature_of}
 use Rattle.pc_spec_reading.specs.Nodes.{extern_data}
 use Rattle.pc_spec_reading.specs.SameTypes.{same_path}
 use Rattle.pc_spec_reading.specs.Types.{has_entry}
-use Rattle.pc_spec_reading.specs.World.{HostImport, World, resources_declared}
+use Rattle.pc_spec_reading.specs.World.{AddedIntrinsic, HostImport, World, resources_declared}
 use Rattle.pc_dfg.specs.declared.core_def.CoreDef.{CoreDef}
 use Rattle.pc_dfg.specs.declared.core_def.CoreDef.TheVariants as def
 use Rattle.pc_dfg.specs.declared.dfg.ComponentDfg.{ComponentDfg}
@@ -42,6 +42,7 @@ use Rattle.pc_dfg.specs.declared.options.CanonicalOptions.{CanonicalOptions}
 use Rattle.pc_dfg.specs.declared.instance.Instance.TheVariants as source
 use Rattle.pc_dfg.specs.declared.instance.SideEffect.{SideEffect}
 use Rattle.pc_dfg.specs.Effects.{Argument, MeansEffect, host_arguments}
+use Rattle.pc_dfg.specs.Grows.{HasIntrinsic}
 use Rattle.pc_dfg.specs.Means.{HasPath}
 use Rattle.pc_dfg.specs.Numbers.{SignedTrampoline, slots_of}
 pub use Rattle.pc_inline_state.specs.Fits.{path_of}
@@ -84,12 +85,12 @@ pub record HasItems (ms : List ModuleRecord) (g : ComponentDfg) : Type 0 where
   pub statics : (n ty : ℕ) (m : StaticModuleIndex) → slice_get g.export_items n ≡ Some (export.ModuleStatic ty m)
       → m.0 < length ms
 
--- a graph without what isn't built: adapters and unsafe intrinsics
+-- a graph without what isn't built, which is adapters; it has a place for each unsafe intrinsic
 pub record IsPlain (g : ComponentDfg) : Type 0 where
   pub adapters : g.adapters ≡ []
   pub adapter_modules : g.adapter_modules ≡ []
   pub adapter_partitionings : g.adapter_partitionings ≡ []
-  pub unsafe_intrinsics : g.unsafe_intrinsics ≡ replicate 21 packed.None
+  pub unsafe_intrinsics : length g.unsafe_intrinsics ≡ 21
 
 -- a module type of the table is held under a number
 pub record HoldsModule (types : Types) (t : TypeTable) (g : ComponentDfg) (ty : ℕ) : Type 0 where
@@ -152,6 +153,17 @@ module _ (types : Types) (g : ComponentDfg) where
     pub trampoline : TrampolineIndex
     pub stands : CoreStands types g (def.Trampoline trampoline) v
 
+  -- the graph has a core signature for an intrinsic, which the builder holds: this one
+  pub record IsIntrinsic (i : AddedIntrinsic) (s : ModuleInternedTypeIndex) : Type 0 where
+    pub signed : HasIntrinsic g i.place s
+    pub holds : slice_get types.signatures s.0 ≡ Some i.signature
+
+  -- the graph has a core signature for each intrinsic that was added, and for no other
+  pub record IntrinsicsStand (added : List AddedIntrinsic) : Type 0 where
+    pub each : (i : AddedIntrinsic) → Contains added i → (s : ModuleInternedTypeIndex) × IsIntrinsic i s
+    pub only : (place : ℕ) (s : ModuleInternedTypeIndex) → HasIntrinsic g place s
+        → (i : AddedIntrinsic) × Contains added i × (i.place ≡ place) × IsIntrinsic i s
+
   -- the graph so far does what the log says
   pub record WorldStands (w : World) : Type 0 where
     pub effects : AllZip EffectStands g.side_effects (trace w.log)
@@ -163,6 +175,6 @@ module _ (types : Types) (g : ComponentDfg) where
     pub imports : map path_of g.imports ≡ paths_needed w.log
     pub imported_resources : AllZip (λ (r : RuntimeImportIndex). HasPath g r.0) g.imported_resources w.imported_resources
     pub resources : length g.resources ≡ resources_declared w
-    pub intrinsics : w.intrinsics ≡ []
+    pub intrinsics : IntrinsicsStand w.intrinsics
     pub no_adapters : list_any is_made w.log ≡ false
     pub begun : w.begun ≡ g.num_runtime_component_instances

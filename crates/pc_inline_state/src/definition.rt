@@ -12,6 +12,7 @@ use pc_inline_paths::PathId;
 use pc_parsed::ItemKind;
 use pc_types::{
     StringEncoding, TypeComponentInstanceIndex, TypeDef, TypeFuncIndex, TypeModuleIndex,
+    UnsafeIntrinsic,
 };
 
 /// The number of a core item in the table of core items.
@@ -125,6 +126,10 @@ pub enum Definition {
         func: CoreId,
         options: Options,
     },
+    /// An unsafe intrinsic. It has no type of its own: it is used under that of the item that lowers it.
+    IntrinsicFunc {
+        intrinsic: UnsafeIntrinsic,
+    },
     /// A core module that was handed in, with its type as a number of the type table.
     StaticModule {
         index: StaticModuleIndex,
@@ -152,6 +157,8 @@ pub enum Definition {
         exports: ExportsId,
         ty: TypeComponentInstanceIndex,
     },
+    /// The unsafe intrinsics, by their names.
+    Intrinsics,
     /// A type.
     Type_(TypeDef),
 }
@@ -165,7 +172,9 @@ impl Definition {
             ItemKind::Func => {
                 matches!(
                     self,
-                    Definition::HostFunc { .. } | Definition::LiftedFunc { .. }
+                    Definition::HostFunc { .. }
+                        | Definition::LiftedFunc { .. }
+                        | Definition::IntrinsicFunc { .. }
                 )
             }
             ItemKind::Module => {
@@ -177,7 +186,9 @@ impl Definition {
             ItemKind::Instance => {
                 matches!(
                     self,
-                    Definition::HostInstance { .. } | Definition::Instance { .. }
+                    Definition::HostInstance { .. }
+                        | Definition::Instance { .. }
+                        | Definition::Intrinsics
                 )
             }
             ItemKind::Component => matches!(self, Definition::Component { .. }),

@@ -17,6 +17,8 @@ pub enum ItemFault {
     BadType,
     /// What stands there isn't supported.
     Unsupported(Unsupported),
+    /// A name is none of the unsafe intrinsics.
+    UnknownIntrinsic,
 }
 
 /// Why an item wasn't read. Its place is added where all items are read.
@@ -72,6 +74,7 @@ pub fn error_at(error: ItemError, place: Place) -> Error
         ItemError::Fault(ItemFault::Invalid) => Error::Invalid(place),
         ItemError::Fault(ItemFault::BadType) => Error::BadType(place),
         ItemError::Fault(ItemFault::Unsupported(what)) => Error::Unsupported(what, place),
+        ItemError::Fault(ItemFault::UnknownIntrinsic) => Error::UnknownIntrinsic(place),
         ItemError::TooMany => Error::TooMany,
         ItemError::NoMemory => Error::NoMemory,
     }

@@ -4,12 +4,21 @@ ghost use Rattle.std.specs.Prelude.{◌≡◌, ◌<◌, ◌++◌, ◌∷◌, [],
 ghost use Rattle.std.specs.Prelude.{option_map, IfOk, IfErr};
 ghost use Rattle.std.specs.Prelude.{OnOk, OnErr};
 ghost use Rattle.pc_entity.specs.Lists.{value_of};
+ghost use Rattle.pc_numbers.specs.declared.module_entity.ModuleInternedTypeIndex.{ModuleInternedTypeIndex};
+ghost use Rattle.pc_numbers.specs.declared.runtime.TrampolineIndex.{TrampolineIndex};
+ghost use Rattle.pc_types.specs.IntrinsicType.{intrinsic_place};
 ghost use Rattle.pc_types.specs.TypeTree.{Path};
+ghost use Rattle.pc_dfg.specs.declared.core_def.CoreDef.TheVariants as def;
+ghost use Rattle.pc_dfg.specs.Grows.{HasIntrinsic};
+ghost use Rattle.pc_dfg.specs.Held.{HeldTrampoline};
+ghost use Rattle.pc_dfg.specs.Numbers.{trampoline_entry};
+ghost use Rattle.pc_dfg.specs.Ordered.{IsOrdered};
+ghost use Rattle.pc_dfg.specs.Pushed.{IsPut, with_intrinsic};
 ghost use Rattle.pc_inline_paths.specs.Paths.{at_import, further};
 ghost use Rattle.pc_types.specs.Table.{is_some_and};
-ghost use Rattle.pc_inline_state.specs.AddsEach.{AddsEach, nowhere};
+ghost use Rattle.pc_inline_state.specs.AddsEach.{AddsEach, in_trampolines, nowhere};
 ghost use Rattle.pc_inline_state.specs.Fresh.{IsFresh, counted_tables};
-ghost use Rattle.pc_inline_state.specs.Definitions.{host_func, is_of_kind};
+ghost use Rattle.pc_inline_state.specs.Definitions.{is_of_kind};
 ghost use Rattle.pc_inline_state.specs.Members.{item_of};
 ghost use Rattle.pc_inline_state.specs.TakesPath.{NotesPath, SoundWithPaths, TakesPath};
 ghost use Rattle.pc_inline_state.specs.Refused.{LacksEntry, LacksRoom};
@@ -20,15 +29,15 @@ use crate::closure::Closure;
 use crate::definition::{ClosureId, CoreId, Definition, DefinitionId, ExportsId};
 use crate::error::ItemError;
 use crate::numbers::Numbers;
-use pc_dfg::{ComponentDfg, CoreDef};
+use pc_dfg::{ComponentDfg, CoreDef, Trampoline};
 use pc_entity::{
-    EntityRef, ImportIndex, NoMemory, PrimaryMap, RuntimeImportIndex, StaticComponentIndex, Text,
-    TextMap,
+    EntityRef, ImportIndex, ModuleInternedTypeIndex, NoMemory, PrimaryMap, RuntimeImportIndex,
+    StaticComponentIndex, Text, TextMap,
 };
 use pc_inline_paths::{PathId, Paths};
 use pc_local::Translation;
 use pc_parsed::ItemKind;
-use pc_types::{ComponentExternData, TypeKind, TypeTable};
+use pc_types::{ComponentExternData, TypeKind, TypeTable, UnsafeIntrinsic};
 use pc_types_builder::ComponentTypesBuilder;
 use std::alloc::Global;
 use std::mem;
@@ -116,6 +125,55 @@ impl<'a> State<'a> {
         append(&mut self.cores, def)
     }
 
+    /// Adds a trampoline with its core signature, unless it is held, as a core item, and answers its number.
+    pub fn push_trampoline(
+        &mut self,
+        signature: ModuleInternedTypeIndex,
+        trampoline: Trampoline,
+    ) -> Result<CoreId, ItemError>
+        ensures keeps { Keeps (tables_of self.old) (tables_of self.new) }
+        ensures adds { AddsEach in_trampolines 1 0 (tables_of self.old) (tables_of self.new) }
+        ensures is { IfOk result (λ id. (k : TrampolineIndex)
+            × (slice_get self.new.cores id.0 ≡ Some (def.Trampoline k))
+            × (slice_get self.new.graph.trampolines k.0 ≡ Some (signature, trampoline))) }
+        ensures put { IsPut self.old.graph.trampolines self.new.graph.trampolines (signature, trampoline) }
+        ensures ordered { HeldTrampoline self.old.graph (trampoline_entry (signature, trampoline))
+            → IsOrdered self.old.graph → IsOrdered self.new.graph }
+        ensures rest { self.new ≡ record self.old {
+          graph = record self.old.graph { trampolines = self.new.graph.trampolines };
+          cores = self.new.cores;
+        } }
+        ensures lacks { IfErr result (LacksRoom self.new) }
+    {
+        let number = self.graph.push_trampoline(signature, trampoline)?;
+        self.push_core(CoreDef::Trampoline(number))
+    }
+
+    /// Adds an unsafe intrinsic as a core item, and answers its number. It has the core signature that it has in the
+    /// graph, or else this one, which it has there from then on.
+    pub fn push_intrinsic(
+        &mut self,
+        intrinsic: UnsafeIntrinsic,
+        signature: ModuleInternedTypeIndex,
+    ) -> Result<CoreId, ItemError>
+        requires places { length self.old.graph.unsafe_intrinsics ≡ 21 }
+        ensures keeps { Keeps (tables_of self.old) (tables_of self.new) }
+        ensures adds { AddsEach nowhere 1 0 (tables_of self.old) (tables_of self.new) }
+        ensures is { IfOk result (λ id. (s : ModuleInternedTypeIndex)
+            × (slice_get self.new.cores id.0 ≡ Some (def.UnsafeIntrinsic s intrinsic))
+            × HasIntrinsic self.new.graph (intrinsic_place intrinsic) s) }
+        ensures places { length self.new.graph.unsafe_intrinsics ≡ 21 }
+        ensures ordered { IsOrdered self.old.graph → IsOrdered self.new.graph }
+        ensures rest { self.new ≡ record self.old {
+          graph = with_intrinsic self.old.graph (intrinsic_place intrinsic) signature;
+          cores = self.new.cores;
+        } }
+        ensures lacks { IfErr result (LacksRoom self.new) }
+    {
+        let first = self.graph.push_intrinsic(intrinsic, signature);
+        self.push_core(CoreDef::UnsafeIntrinsic(first, intrinsic))
+    }
+
     /// Adds a definition, and answers its number.
     pub fn push_definition(&mut self, definition: Definition) -> Result<DefinitionId, ItemError>
         ensures key { IfOk result (λ id. id.0 ≡ length self.old.definitions) }
@@ -199,16 +257,6 @@ impl<'a> State<'a> {
             self.used.push(None)?;
         }
         Ok(())
-    }
-
-    /// The path of a function of the host, or nothing where a function was lifted.
-    pub fn host_func(&self, func: DefinitionId) -> Option<PathId>
-        ensures { result ≡ option_and_then host_func (slice_get self.now.definitions func.0) }
-    {
-        match self.definitions.get(func) {
-            Some(Definition::HostFunc { path, .. }) => Some(*path),
-            _ => None,
-        }
     }
 
     /// Whether a definition is of a kind.

@@ -9,6 +9,7 @@ ghost use Rattle.pc_types.specs.Record.{has_signature};
 ghost use Rattle.pc_types.specs.Table.{is_func, is_instance, is_module, table_fault};
 ghost use Rattle.pc_types_lists.specs.Types as builder;
 ghost use Rattle.pc_types_lists.specs.Adds.{most_types};
+ghost use Rattle.pc_types_builder.specs.Plain.{Layers};
 ghost use Rattle.pc_types_builder.specs.Converted.{AreConverted};
 ghost use Rattle.pc_types_builder.specs.Trees.{IsEntry};
 ghost use Rattle.pc_spec_reading.specs.Types.{has_entry};
@@ -24,7 +25,8 @@ use crate::error::{ItemError, ItemFault};
 use crate::state::State;
 use pc_entity::ModuleInternedTypeIndex;
 use pc_types::{
-    TypeComponentInstanceIndex, TypeDef, TypeError, TypeFuncIndex, TypeModuleIndex, TypeTable,
+    TypeComponentInstanceIndex, TypeComponentLocalErrorContextTableIndex, TypeDef, TypeError,
+    TypeFuncIndex, TypeModuleIndex, TypeTable,
 };
 use pc_types_builder::{ComponentTypesBuilder, Converted};
 
@@ -176,6 +178,22 @@ impl<'a> Context<'a> {
         }
     }
 
+    /// The builder's number of the error contexts of a component instance that has begun.
+    pub fn error_contexts(
+        &self,
+        state: &mut State<'_>,
+    ) -> Result<TypeComponentLocalErrorContextTableIndex, ItemError>
+        requires begun { state.old.types.resources.current.0 < state.old.graph.num_runtime_component_instances }
+        ensures converts { (done : Layers)
+            → Converts self.now.table.now state.old done state.new done }
+        ensures adds { Adds self.now.table.now 1 (tables_of state.old) (tables_of state.new) }
+        ensures is { IfOk result (λ i. slice_get state.new.types.error_context_tables i.0
+            ≡ Some (record { instance = state.old.types.resources.current })) }
+        ensures err { IfErr result (LacksRoom state.new) }
+    {
+        Ok(state.types.error_context_table_type()?)
+    }
+
     /// The builder's number of a core signature, by its table number.
     pub fn signature(
         &self,
@@ -183,7 +201,7 @@ impl<'a> Context<'a> {
         core: u32,
     ) -> Result<ModuleInternedTypeIndex, ItemError>
         requires numbers { AreNumbers state.old.types self.now.table.now state.old.numbers }
-        ensures converts { (done : List (Option TypeDef))
+        ensures converts { (done : Layers)
             → Converts self.now.table.now state.old done state.new done }
         ensures adds { Adds self.now.table.now 0 (tables_of state.old) (tables_of state.new) }
         ensures is { IfOk result (λ i. IsSignature state.new.types self.now.table.now core i) }

@@ -27,7 +27,7 @@ pub returns-clause-are : goal.returns-clause-are
 returns-clause-are c = record {
   there = c.in_ok-ty.ensures.is.0;
   entry = entry_grows c.func_type.new.state.types c.signature.new.state.types
-      (c.in_ok-core_type.ensures.converts []).grows
+      (c.in_ok-core_type.ensures.converts (record { all = []; plain = [] })).grows
       c.args.self.now.table.now c.args.ty (def.ComponentFunc c.in_ok-ty.ty) c.in_ok-ty.ensures.is.1;
   signature = c.in_ok-core_type.ensures.is;
 }
