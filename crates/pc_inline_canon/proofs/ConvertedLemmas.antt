@@ -1,7 +1,7 @@
 -- What a step keeps and adds after a function's types were converted.
-use Rattle.std.proofs.Common.{◌≡◌, List, [], Option, arith, refl, ◌∙◌}
+use Rattle.std.proofs.Common.{◌≡◌, List, [], arith, refl, ◌∙◌}
+use Rattle.pc_types_builder.specs.Plain.{Layers}
 use Rattle.pc_types.specs.declared.parsed.TypeTable.{TypeTable}
-use Rattle.pc_types.specs.declared.types.TypeDef.{TypeDef}
 use Rattle.pc_types_lists.specs.Adds.{most_types}
 use Rattle.pc_inline_state.specs.declared.frame.Change.{Change}
 use Rattle.pc_inline_state.specs.declared.state.State.{State}
@@ -28,13 +28,13 @@ module _ (t : TypeTable) (a b : Tables) where
   lift_adds x h k = lower_adds x h (definition_few t b x k)
 
 -- what is kept after that is kept from the start
-pub lower_keeps : (t : TypeTable) (st mid : State) (before after : List (Option TypeDef)) (x : Tables)
+pub lower_keeps : (t : TypeTable) (st mid : State) (before after : Layers) (x : Tables)
     → Converts t st before mid after → Keeps (tables_of mid) x → Keeps (tables_of st) x
 lower_keeps t st mid before after x converts kept =
     keeps_trans (tables_of st) (tables_of mid) x (converts_prepares t [] st before mid after converts).keeps kept
 
 -- and nothing that is known changed
-pub lower_trail : (t : TypeTable) (st mid new : State) (before after : List (Option TypeDef)) (cs : List Change)
+pub lower_trail : (t : TypeTable) (st mid new : State) (before after : Layers) (cs : List Change)
     → Converts t st before mid after → new.types.resources ≡ mid.types.resources
     → Trails cs st.types.resources cs new.types.resources
 lower_trail t st mid new before after cs converts same =

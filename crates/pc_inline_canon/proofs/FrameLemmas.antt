@@ -1,11 +1,11 @@
 -- A component instance with one item more.
-use Rattle.std.proofs.Common.{◌≡◌, List, [], ◌∷◌, ◌++◌, Option, sym, ap, subst, ◌∙◌}
+use Rattle.std.proofs.Common.{◌≡◌, List, [], ◌∷◌, ◌++◌, sym, ap, subst, ◌∙◌}
 use Rattle.std.specs.List.{AllZip}
 use Rattle.pc_types.specs.declared.module_record.ModuleRecord.{ModuleRecord}
 use Rattle.pc_types.specs.declared.parsed.CoreKind.{CoreKind}
 use Rattle.pc_types.specs.declared.parsed.CoreKind.TheVariants as core
 use Rattle.pc_types.specs.declared.parsed.TypeTable.{TypeTable}
-use Rattle.pc_types.specs.declared.types.TypeDef.{TypeDef}
+use Rattle.pc_types_builder.specs.Plain.{Layers}
 use Rattle.pc_types_builder.specs.Converted.{AreConverted}
 use Rattle.pc_spec_plan.specs.CoreValue.{CoreValue}
 use Rattle.pc_parsed.specs.Mark.{Mark}
@@ -135,7 +135,7 @@ module _ (ms : List ModuleRecord) (b : Tables) (f : Frame) (s : Scope) (h : Fram
   }
 
   -- with other types converted
-  pub converted_framed : (done : List (Option TypeDef)) → FrameStands ms b (record f { converted = done }) s
+  pub converted_framed : (done : Layers) → FrameStands ms b (record f { converted = done }) s
   converted_framed done = record {
     core_funcs = h.core_funcs;
     memories = h.memories;
@@ -179,7 +179,7 @@ framed_point t ms st f g now u at same done known frame = record {
 
 -- a point is where it was when types were converted
 pub converted_point : (t : TypeTable) (ms : List ModuleRecord) (old : State) (f : Frame) (new : State)
-    (done : List (Option TypeDef)) → Converts t old f.converted new done → (now : Moment) → PointStands t ms old f now
+    (done : Layers) → Converts t old f.converted new done → (now : Moment) → PointStands t ms old f now
     → PointStands t ms new (record f { converted = done }) now
 converted_point t ms old f new done converts now at =
     let kept = point_kept t ms old new (converts_prepares t ms old f.converted new done converts) f now at in

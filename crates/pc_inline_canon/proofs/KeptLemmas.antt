@@ -9,6 +9,7 @@ use Rattle.pc_types.specs.declared.parsed.DeclType.{DeclType}
 use Rattle.pc_types.specs.declared.parsed.TypeTable.{TypeTable as Table}
 use Rattle.pc_types.specs.declared.types.TypeDef.{TypeDef}
 use Rattle.pc_types.specs.declared.types.TypeDef.TheVariants as type
+use Rattle.pc_types.specs.IntrinsicType.{intrinsic_place}
 use Rattle.pc_types.specs.Table.{is_instance, is_module}
 use Rattle.pc_types.specs.TypeTree.{Path, TypeTree, tree_of}
 use Rattle.pc_types_lists.specs.Types.{Types}
@@ -49,10 +50,10 @@ use Rattle.pc_inline_state.specs.Stands.{Captured, CoreStands, DefinitionStands,
 use Rattle.pc_inline_state.specs.Stands.{ItemStands, MaybeStands, MembersStand, ModelStands, OptionsStand, Stands}
 use Rattle.pc_inline_state.specs.Stands.{and_member, captures_more, captures_none, gc_stands, linear_stands, no_members}
 use Rattle.pc_inline_state.specs.Stands.{none_stands, options_stand, some_stands, stands, stands_component, stands_host}
-use Rattle.pc_inline_state.specs.Stands.{stands_host_instance, stands_host_module, stands_instance, stands_lifted}
-use Rattle.pc_inline_state.specs.Stands.{stands_static, stands_type}
-use Rattle.pc_inline_state.specs.Tables.{HasEntity, IsHostInstance, IsItem, Keeps, Tables, is_entity, is_named}
-use Rattle.pc_inline_state.specs.Tables.{is_trampoline}
+use Rattle.pc_inline_state.specs.Stands.{stands_host_instance, stands_host_module, stands_instance, stands_intrinsic}
+use Rattle.pc_inline_state.specs.Stands.{stands_intrinsics, stands_lifted, stands_static, stands_type}
+use Rattle.pc_inline_state.specs.Tables.{HasEntity, IsHostInstance, IsItem, Keeps, Tables, is_entity, is_intrinsic}
+use Rattle.pc_inline_state.specs.Tables.{is_named, is_trampoline}
 use Rattle.pc_inline_state.specs.Fits.{Fits, FitsBefore}
 use Rattle.pc_inline_state.specs.Holds.{Numbered, number_of, whole_of}
 use Rattle.pc_inline_state.specs.Slots.{EntryStands}
@@ -112,6 +113,8 @@ module _ (ms : List ModuleRecord) (g h : ComponentDfg) (grows : graph.Grows g h)
   is_item_kept k d (is_entity {i = i} {e = e} kind x) = is_entity kind (entity_kept i e x)
   is_item_kept k d (is_named {i = i} {name = name} x) = is_named (host_made_kept g h grows i x)
   is_item_kept k d (is_trampoline {t = t} below) = is_trampoline (within g h grows list.trampolines t.0 below)
+  is_item_kept k d (is_intrinsic {s = s} {i = i} signed) =
+      is_intrinsic (grows.signatures (intrinsic_place i) s signed)
 
 module _ (ms : List ModuleRecord) (b c : Tables) (keeps : Keeps b c) where
   -- a core item by number
@@ -177,6 +180,7 @@ module _ (ms : List ModuleRecord) (b c : Tables) (keeps : Keeps b c) where
         options) =
         stands_lifted (type_kept (type.ComponentFunc ty) tree is_func) (item_kept core.Func f w func)
         (options_kept o os options)
+    definition_kept d v stands_intrinsic = stands_intrinsic
     definition_kept d v (stands_static {ty = ty} {tree = tree} handed_in tabled i typed) =
         stands_static handed_in (table_tree_kept is_module ty tree tabled) i (type_kept (type.Module i) tree typed)
     definition_kept d v (stands_host_module {p = p} {ty = ty} {entry = entry} {path = path} {tree = tree} held tabled
@@ -196,6 +200,7 @@ module _ (ms : List ModuleRecord) (b c : Tables) (keeps : Keeps b c) where
     definition_kept d v (stands_instance {n = n} {ty = ty} {es = es} {vs = vs} {tree = tree} held members typed) =
         stands_instance (keeps.instances n.0 es held) (members_kept es vs members)
         (type_kept (type.ComponentInstance ty) tree typed)
+    definition_kept d v stands_intrinsics = stands_intrinsics
     definition_kept d v (stands_type {d = e} {tree = tree} typed) = stands_type (type_kept e tree typed)
 
     -- a definition by number

@@ -8,19 +8,19 @@ pub mod StepLemmas
 pub mod PassedLemmas
 pub mod FrameLemmas
 pub mod TypeLemmas
-mod OptionLemmas
+pub mod OptionLemmas
 pub mod DefinitionLemmas
 mod LiftLemmas
 mod LowerLemmas
 pub mod TreeLemmas
 pub mod LogLemmas
 pub mod SlotLemmas
-mod MemoryLemmas
-mod OptionsEntryLemmas
+pub mod MemoryLemmas
+pub mod OptionsEntryLemmas
 mod EntryLemmas
 pub mod UsedLemmas
 pub mod UsesLemmas
-mod LoweredLemmas
+pub mod LoweredLemmas
 mod LowerHostLemmas
 pub mod ItemLemmas
 pub mod ResourceLemmas
@@ -28,4 +28,6 @@ pub mod CoreInstanceLemmas
 pub mod HoldsLemmas
 pub mod ThereLemmas
 pub mod GotLemmas
-mod ConvertedLemmas
+pub mod ConvertedLemmas
+mod CalleeLemmas
+mod IntrinsicLemmas

@@ -1,15 +1,15 @@
 -- The step of a lift.
-use Rattle.std.proofs.Common.{◌≡◌, ℕ, List, [], ◌∷◌, ◌++◌, length, Option, None, Some, Result, Ok, Err}
+use Rattle.std.proofs.Common.{◌≡◌, ℕ, List, [], ◌∷◌, ◌++◌, length, None, Some, Result, Ok, Err}
 use Rattle.std.proofs.Common.{refl, subst, sym}
 use Rattle.std.specs.Prelude.{⊤, slice_get}
 use Rattle.std.specs.Result.{IsErrAnd}
 use Rattle.pc_numbers.specs.declared.module_entity.ModuleInternedTypeIndex.{ModuleInternedTypeIndex}
+use Rattle.pc_types_builder.specs.Plain.{Layers}
 use Rattle.pc_types.specs.declared.module_record.ModuleRecord.{ModuleRecord}
 use Rattle.pc_types.specs.declared.parsed.CoreFuncSig.{CoreFuncSig}
 use Rattle.pc_types.specs.declared.parsed.CoreKind.TheVariants as kind
 use Rattle.pc_types.specs.declared.parsed.TypeTable.{TypeTable}
 use Rattle.pc_types.specs.declared.type_index.TypeFuncIndex.{TypeFuncIndex}
-use Rattle.pc_types.specs.declared.types.TypeDef.{TypeDef}
 use Rattle.pc_types.specs.Table.{is_func}
 use Rattle.pc_types.specs.TypeTree.{TypeTree}
 use Rattle.pc_spec_plan.specs.CoreValue as value
@@ -64,7 +64,7 @@ module _ (t : TypeTable) (ms : List ModuleRecord) (func ty core : ℕ) (opts : L
   -- there is no such type or signature
   lift_untyped : (now : Moment) → HasNoFunction t ty core → reads now ≡ Err bad_type
   unfolding read_row read_lift
-  lift_untyped now none = row_stuck t ms now lift bad_type refl
+  lift_untyped now none = row_stuck t ms now lift bad_type
       (no_function t now.scope ty core (λ tree s. found invalid (slice_get now.scope.core_funcs func)
       (λ (v : CoreValue Mark). found invalid (options_of now.scope s opts)
       (λ (o : value.Options Mark). Ok (add_value now (func_value (lifted_function tree v o)))))) none)
@@ -91,7 +91,7 @@ module _ (t : TypeTable) (ms : List ModuleRecord) (func ty core : ℕ) (opts : L
       steps_passed t ms reads st f st' f' r e is (lift_lacks_types st f st' f' e lacks)
 
   -- types were converted, and a point stands where it did
-  module _ (st : State) (f : Frame) (st' : State) (done : List (Option TypeDef))
+  module _ (st : State) (f : Frame) (st' : State) (done : Layers)
       (converts : Converts t st f.converted st' done) (n : TypeFuncIndex) (i : ModuleInternedTypeIndex)
       (are : AreOfFunction st'.types t ty core n i) where
     -- the component instance, for which these were converted
@@ -114,7 +114,7 @@ module _ (t : TypeTable) (ms : List ModuleRecord) (func ty core : ℕ) (opts : L
           (zip_at (ItemStands ms (tables_of st') kind.Func) f.core_funcs now.scope.core_funcs func
           still.frame.core_funcs)
           none in
-          row_stuck t ms now lift invalid refl (rw (there.is_tree, there.is_signature, missing) refl)
+          row_stuck t ms now lift invalid (rw (there.is_tree, there.is_signature, missing) refl)
 
       module _ (id : CoreId) (found_it : slice_get f.core_funcs func ≡ Some id) where
         function : (v : CoreValue Mark) × (slice_get now.scope.core_funcs func ≡ Some v)
@@ -135,7 +135,7 @@ module _ (t : TypeTable) (ms : List ModuleRecord) (func ty core : ℕ) (opts : L
         lift_unsound none =
             let missing = both_missing (OptionsStand ms (tables_of st')) (options_in g i opts)
             (options_of now.scope there.signature opts) options_stand none in
-            row_stuck t ms now lift invalid refl (rw (there.is_tree, there.is_signature, function.1, missing) refl)
+            row_stuck t ms now lift invalid (rw (there.is_tree, there.is_signature, function.1, missing) refl)
 
         -- the function was lifted
         lift_goes : (o : Options) → options_in g i opts ≡ Some o → (key : DefinitionId)
@@ -160,7 +160,7 @@ module _ (t : TypeTable) (ms : List ModuleRecord) (func ty core : ℕ) (opts : L
               stands = framed_point t ms end g (record g { funcs = f.funcs ++ key ∷ [] }) now
                   (with_value now.scope (func_value x)) at_end refl refl refl
                   (func_framed ms (tables_of end) g now.scope at_end.frame key x is);
-              done = row_goes t ms now next lift refl
+              done = row_goes t ms now next lift
                   (lift_read now there.tree there.signature function.0 os.0 there.is_tree there.is_signature function.1
                   os.1) at.world.no_adapters;
             }

@@ -19,6 +19,7 @@ use Rattle.pc_inline_state.specs.Fits.{FitsBefore}
 use Rattle.pc_inline_state.specs.Today.{is_made}
 use Rattle.pc_inline_state.specs.Worlds.{EffectStands, HasTrampoline, ImportStands, IsDeclared, WorldStands}
 use Rattle.pc_inline_state.specs.Worlds.{path_of}
+use Rattle.pc_inline_state.proofs.IntrinsicLemmas.{intrinsics_kept}
 use Rattle.pc_inline_state.proofs.StateLemmas.{types_refl}
 use Rattle.pc_inline_canon.proofs.WorldLemmas.{declared_still, import_still, imported_same, trampoline_still}
 use Rattle.pc_inline_state.proofs.ZipLemmas.{zip_more}
@@ -92,9 +93,10 @@ module _ (types : Types) (g h : ComponentDfg) (grows : graph.Grows g h) (fits : 
       → length h.trampolines ≤ length g.trampolines + count_by is_declared (e ∷ [])
       → map path_of h.imports ≡ paths_needed (w.log ++ e ∷ []) → h.imported_resources ≡ g.imported_resources
       → length h.resources ≡ length g.resources + count_by is_declaration (e ∷ []) → h.import_types ≡ g.import_types
-      → h.num_runtime_component_instances ≡ g.num_runtime_component_instances → is_made e ≡ false
+      → h.num_runtime_component_instances ≡ g.num_runtime_component_instances
+      → h.unsafe_intrinsics ≡ g.unsafe_intrinsics → is_made e ≡ false
       → WorldStands types h (logging w e)
-  world_on effects order declared_so has few imports imported resources types_same begun made = record {
+  world_on effects order declared_so has few imports imported resources types_same begun same_intrinsics made = record {
     effects = effects;
     order = order;
     are_declared = declared_so;
@@ -107,7 +109,8 @@ module _ (types : Types) (g h : ComponentDfg) (grows : graph.Grows g h) (fits : 
     imports = imports;
     imported_resources = imported_same g h grows imported w.imported_resources stands.imported_resources;
     resources = resources-push w e (length g.resources) (length h.resources) stands.resources resources;
-    intrinsics = stands.intrinsics;
+    intrinsics = intrinsics_kept types g w.intrinsics stands.intrinsics types h (types_refl types).signatures
+        same_intrinsics;
     no_adapters = no_adapters-push w.log e stands.no_adapters made;
     begun = stands.begun ∙ sym begun;
   }

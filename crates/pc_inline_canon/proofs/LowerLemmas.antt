@@ -1,24 +1,24 @@
--- The step of a lower: of a host function, or of a lifted one, which isn't built yet.
-use Rattle.std.proofs.Common.{◌≡◌, ◌<◌, ◌||◌, ℕ, Bool, true, false, true≢false, List, [], ◌∷◌, length, Option, None, Some}
+-- The step of a lower: of a host function or of an intrinsic, or of a lifted function, which isn't built yet.
+use Rattle.std.proofs.Common.{◌≡◌, ◌||◌, ℕ, Bool, true, false, true≢false, List, [], ◌∷◌, None, Some}
 use Rattle.std.proofs.Common.{Result, Ok, Err, if◌then◌else◌, refl, sym, ap, subst, ◌∙◌}
 use Rattle.std.specs.Prelude.{⊤, slice_get, option_and_then}
-use Rattle.std.specs.List.{list_any}
+use Rattle.std.specs.List.{list_all, list_any}
 use Rattle.std.specs.Result.{IsErrAnd}
 use Rattle.std.proofs.lemmas.List.Folds.{list_any-append}
 use Rattle.std.proofs.lemmas.Option.{none-some, same_Some, slice_get_within}
 use Rattle.pc_numbers.specs.declared.module_entity.ModuleInternedTypeIndex.{ModuleInternedTypeIndex}
-use Rattle.pc_inline_paths.specs.declared.path_id.PathId.{PathId}
+use Rattle.pc_types_builder.specs.Plain.{Layers}
 use Rattle.pc_types.specs.declared.error.Unsupported.TheVariants.{NotBuilt}
 use Rattle.pc_types.specs.declared.module_record.ModuleRecord.{ModuleRecord}
 use Rattle.pc_types.specs.declared.parsed.CoreFuncSig.{CoreFuncSig}
 use Rattle.pc_types.specs.declared.parsed.CoreKind.TheVariants as kind
 use Rattle.pc_types.specs.declared.parsed.TypeTable.{TypeTable}
 use Rattle.pc_types.specs.declared.type_index.TypeFuncIndex.{TypeFuncIndex}
-use Rattle.pc_types.specs.declared.types.TypeDef.{TypeDef}
 use Rattle.pc_types.specs.Table.{is_func}
-use Rattle.pc_types.specs.TypeTree.{Path, TypeTree}
+use Rattle.pc_types.specs.IntrinsicType.{intrinsic_place}
+use Rattle.pc_types.specs.TypeTree.{TypeTree}
 use Rattle.pc_spec_plan.specs.CoreValue as value
-use Rattle.pc_spec_plan.specs.CoreValue.{CoreValue, adapter, lowered}
+use Rattle.pc_spec_plan.specs.CoreValue.{CoreValue, adapter}
 use Rattle.pc_spec_plan.specs.Log as log
 use Rattle.pc_spec_plan.specs.Log.{Entry, made}
 use Rattle.pc_parsed.specs.declared.canon.CanonOption.{CanonOption}
@@ -29,9 +29,10 @@ use Rattle.pc_spec_reading.specs.Options.{options_of}
 use Rattle.pc_spec_reading.specs.Outcome.{Fault, bad_type, found, invalid, unsupported}
 use Rattle.pc_spec_reading.specs.Rows.{read_row}
 use Rattle.pc_spec_reading.specs.SameValues.{makes, was_made}
-use Rattle.pc_spec_reading.specs.Scope.{Moment, add_core, add_entry, with_core}
+use Rattle.pc_spec_reading.specs.Scope.{Moment, add_core, add_entry}
 use Rattle.pc_spec_reading.specs.Types.{signature_at, tree_if}
-use Rattle.pc_spec_reading.specs.Value.{Function, Value, func_value, host_function, lifted_function}
+use Rattle.pc_spec_reading.specs.Value.{Function, Value, func_value, host_function, intrinsic_function}
+use Rattle.pc_spec_reading.specs.Value.{lifted_function}
 use Rattle.pc_inline_state.specs.declared.definition.CoreId.{CoreId}
 use Rattle.pc_inline_state.specs.declared.definition.Definition.{Definition}
 use Rattle.pc_inline_state.specs.declared.definition.DefinitionId.{DefinitionId}
@@ -45,18 +46,19 @@ use Rattle.pc_inline_state.specs.Frames.{Both, FuncStands}
 use Rattle.pc_inline_state.specs.Points.{Goes, IsSoundState, PointStands, StepsItem}
 use Rattle.pc_inline_state.specs.Prepares.{Converts}
 use Rattle.pc_inline_state.specs.Refused.{LacksRoomOr}
-use Rattle.pc_inline_state.specs.Definitions.{host_func}
-use Rattle.pc_inline_canon.specs.Hosts.{Lowers}
 use Rattle.pc_inline_state.specs.Lists.{with_core_id}
 use Rattle.pc_inline_state.specs.Slots.{OptionsThere}
 use Rattle.pc_inline_state.specs.Stands.{DefinitionStands, OptionsStand, Stands, stands, stands_component, stands_host}
-use Rattle.pc_inline_state.specs.Stands.{stands_host_instance, stands_host_module, stands_instance, stands_lifted}
-use Rattle.pc_inline_state.specs.Stands.{stands_static, stands_type}
+use Rattle.pc_inline_state.specs.Stands.{stands_host_instance, stands_host_module, stands_instance, stands_intrinsic}
+use Rattle.pc_inline_state.specs.Stands.{stands_intrinsics, stands_lifted, stands_static, stands_type}
 use Rattle.pc_inline_state.specs.Tables.{Tables, tables_of}
-use Rattle.pc_inline_state.specs.Today.{built_row, is_built, is_made, today}
+use Rattle.pc_inline_state.specs.Today.{built_row, is_made, today}
 use Rattle.pc_inline_state.specs.Typed.{AreOfFunction, HasNoFunction}
-use Rattle.pc_inline_canon.specs.Written.{options_in}
-use Rattle.pc_inline_canon.proofs.FrameLemmas.{converted_point, core_framed, framed_point}
+use Rattle.pc_inline_canon.specs.declared.callee.Callee.{Callee}
+use Rattle.pc_inline_canon.specs.declared.callee.Callee.TheVariants as callee
+use Rattle.pc_inline_canon.specs.Callees.{HeldCallee, IsCallee, LowersTo, callee_of}
+use Rattle.pc_inline_canon.specs.Written.{is_sound_in, options_in, picked_options, written}
+use Rattle.pc_inline_canon.proofs.FrameLemmas.{converted_point}
 use Rattle.pc_inline_canon.proofs.OptionLemmas.{options_in_stand}
 use Rattle.pc_inline_canon.proofs.PassedLemmas.{steps_lacking, steps_passed}
 use Rattle.pc_inline_canon.proofs.StepLemmas.{row_goes, row_stuck, steps_on, steps_stuck}
@@ -66,11 +68,10 @@ use Rattle.pc_inline_state.proofs.ZipLemmas.{both_missing, both_there, zip_at}
 use Rattle.pc_spec_reading.specs.Reading.{row}
 
 -- a lower that makes an adapter isn't built
-row_adapts : (t : TypeTable) (ms : List ModuleRecord) (now next : Moment) (i : Item) → is_built i ≡ true
-    → read_row t ms now i ≡ Ok next → list_any is_made next.world.log ≡ true
-    → built_row t ms now i ≡ Err (unsupported NotBuilt)
+row_adapts : (t : TypeTable) (ms : List ModuleRecord) (now next : Moment) (i : Item) → read_row t ms now i ≡ Ok next
+    → list_any is_made next.world.log ≡ true → built_row t ms now i ≡ Err (unsupported NotBuilt)
 unfolding row today
-row_adapts t ms now next i built goes some = rw (built, goes, some) refl
+row_adapts t ms now next i goes some = rw (goes, some) refl
 
 -- a test that follows from another
 any_more : {A : Type 0} (p q : A → Bool) → ((x : A) → p x ≡ true → q x ≡ true) → (xs : List A)
@@ -107,42 +108,38 @@ making_some now v none = by (list_any (makes v) now.world.log) refl
     by false is = list_any-append is_made now.world.log (made v ∷ []) ∙ rw none refl
 
 module _ (ms : List ModuleRecord) (b : Tables) where
-  -- a function is that of the host at a path
-  record IsHosted (id : PathId) (x : Function) : Type 0 where
-    pub path : Path
-    pub held : slice_get b.paths id.0 ≡ Some path
-    pub is : x ≡ host_function path
+  -- a function of the host is the callee by its path, and an intrinsic the one that it is
+  callee_entry : (d : Definition) (v : Value) (x : Function) → DefinitionStands ms b d v → v ≡ func_value x
+      → (c : Callee) → callee_of d ≡ Some c → IsCallee b c x × HeldCallee b c
+  unfolding IsCallee HeldCallee
+  callee_entry d v x (stands_host {p = p} {path = path} held given typed) is c here =
+      let same : host_function path ≡ x = cc in
+      subst (λ (k : Callee). IsCallee b k x × HeldCallee b k) (same_Some (callee.Host p) c here)
+      ((path, held, sym same), slice_get_within b.paths p.0 path held)
+  callee_entry d v x (stands_intrinsic {i = i}) is c here =
+      let same : intrinsic_function (intrinsic_place i) ≡ x = cc in
+      subst (λ (k : Callee). IsCallee b k x × HeldCallee b k) (same_Some (callee.Intrinsic i) c here) (sym same, tt)
+  callee_entry d v x (stands_lifted ty func options) is c here = absurd (none-some c here)
+  callee_entry d v x (stands_static handed_in tabled j typed) is c here = absurd (none-some c here)
+  callee_entry d v x (stands_host_module held tabled typed) is c here = absurd (none-some c here)
+  callee_entry d v x (stands_component tr body leaving closure modules components) is c here =
+      absurd (none-some c here)
+  callee_entry d v x (stands_host_instance held given tabled typed) is c here = absurd (none-some c here)
+  callee_entry d v x (stands_instance held among typed) is c here = absurd (none-some c here)
+  callee_entry d v x stands_intrinsics is c here = absurd (none-some c here)
+  callee_entry d v x (stands_type typed) is c here = absurd (none-some c here)
 
-  -- a function is one of the host, or was lifted
-  host_entry : (d : Definition) (v : Value) (x : Function) → DefinitionStands ms b d v → v ≡ func_value x
-      → (i : PathId) → host_func d ≡ Some i → IsHosted i x
-  host_entry d v x (stands_host {p = j} {path = path} held given typed) is i host =
-      let same : j ≡ i = same_Some j i host in
-      let value : host_function path ≡ x = cc in
-      record {
-        path = path;
-        held = subst (λ (k : PathId). slice_get b.paths k.0 ≡ Some path) same held;
-        is = sym value;
-      }
-  host_entry d v x (stands_lifted ty func options) is i host = absurd (none-some i host)
-  host_entry d v x (stands_static handed_in tabled j typed) is i host = absurd (none-some i host)
-  host_entry d v x (stands_host_module held tabled typed) is i host = absurd (none-some i host)
-  host_entry d v x (stands_component tr body leaving closure modules components) is i host =
-      absurd (none-some i host)
-  host_entry d v x (stands_host_instance held given tabled typed) is i host = absurd (none-some i host)
-  host_entry d v x (stands_instance held among typed) is i host = absurd (none-some i host)
-  host_entry d v x (stands_type typed) is i host = absurd (none-some i host)
+  callee_is : (n : DefinitionId) (x : Function) → Stands ms b n (func_value x) → (c : Callee)
+      → option_and_then callee_of (slice_get b.definitions n.0) ≡ Some c → IsCallee b c x × HeldCallee b c
+  callee_is n x (stands {d = d} held entry) c here =
+      callee_entry d (func_value x) x entry refl c (sym (ap (option_and_then callee_of) held) ∙ here)
 
-  host_is : (n : DefinitionId) (x : Function) → Stands ms b n (func_value x) → (i : PathId)
-      → option_and_then host_func (slice_get b.definitions n.0) ≡ Some i → IsHosted i x
-  host_is n x (stands {d = d} held entry) i host =
-      host_entry d (func_value x) x entry refl i (sym (ap (option_and_then host_func) held) ∙ host)
-
-  -- one that is none of the host was lifted
+  -- a function that is no callee was lifted
   lifted_entry : (d : Definition) (v : Value) (x : Function) → DefinitionStands ms b d v → v ≡ func_value x
-      → host_func d ≡ None
+      → callee_of d ≡ None
       → (tree : TypeTree) × (callee : CoreValue Mark) × (o : value.Options Mark) × (x ≡ lifted_function tree callee o)
   lifted_entry d v x (stands_host held given typed) is none = absurd (none-some _ (sym none))
+  lifted_entry d v x stands_intrinsic is none = absurd (none-some _ (sym none))
   lifted_entry d v x (stands_lifted {tree = tree} {v = w} {os = os} ty func options) is none = (tree, w, os, cc)
   lifted_entry d v x (stands_static handed_in tabled j typed) is none = absurd (let k : ⊥ = cc in k)
   lifted_entry d v x (stands_host_module held tabled typed) is none = absurd (let k : ⊥ = cc in k)
@@ -150,13 +147,24 @@ module _ (ms : List ModuleRecord) (b : Tables) where
       absurd (let k : ⊥ = cc in k)
   lifted_entry d v x (stands_host_instance held given tabled typed) is none = absurd (let k : ⊥ = cc in k)
   lifted_entry d v x (stands_instance held among typed) is none = absurd (let k : ⊥ = cc in k)
+  lifted_entry d v x stands_intrinsics is none = absurd (let k : ⊥ = cc in k)
   lifted_entry d v x (stands_type typed) is none = absurd (let k : ⊥ = cc in k)
 
   lifted_is : (n : DefinitionId) (x : Function) → Stands ms b n (func_value x)
-      → option_and_then host_func (slice_get b.definitions n.0) ≡ None
+      → option_and_then callee_of (slice_get b.definitions n.0) ≡ None
       → (tree : TypeTree) × (callee : CoreValue Mark) × (o : value.Options Mark) × (x ≡ lifted_function tree callee o)
   lifted_is n x (stands {d = d} held entry) none =
-      lifted_entry d (func_value x) x entry refl (sym (ap (option_and_then host_func) held) ∙ none)
+      lifted_entry d (func_value x) x entry refl (sym (ap (option_and_then callee_of) held) ∙ none)
+
+-- options are under the signature for which they are
+core_type_in : (f : Frame) (i : ModuleInternedTypeIndex) (os : List CanonOption) (o : Options)
+    → options_in f i os ≡ Some o → o.core_type ≡ i
+unfolding options_in
+core_type_in f i os o h = by (list_all (is_sound_in f) os) h
+  where
+    by : (b : Bool) → (if b then Some (picked_options f i (written os)) else None) ≡ Some o → o.core_type ≡ i
+    by true h = sym (ap (λ (x : Options). x.core_type) (same_Some (picked_options f i (written os)) o h))
+    by false h = absurd (none-some o h)
 
 module _ (t : TypeTable) (ms : List ModuleRecord) (func ty core : ℕ) (opts : List CanonOption) where
   abbrev lower : Item
@@ -168,7 +176,7 @@ module _ (t : TypeTable) (ms : List ModuleRecord) (func ty core : ℕ) (opts : L
   -- there is no such type or signature
   lower_untyped : (now : Moment) → HasNoFunction t ty core → reads now ≡ Err bad_type
   unfolding read_row read_lower
-  lower_untyped now none = row_stuck t ms now lower bad_type refl
+  lower_untyped now none = row_stuck t ms now lower bad_type
       (no_function t now.scope ty core (λ tree s. found invalid (slice_get now.scope.funcs func)
       (λ (x : Function). found invalid (options_of now.scope s opts)
       (λ (o : value.Options Mark). Ok (lower_to now x tree s o)))) none)
@@ -195,7 +203,7 @@ module _ (t : TypeTable) (ms : List ModuleRecord) (func ty core : ℕ) (opts : L
       steps_passed t ms reads st f st' f' r e is (lower_lacks_types st f st' f' e lacks)
 
   -- types were converted, and a point stands where it did
-  module _ (st : State) (f : Frame) (st' : State) (done : List (Option TypeDef))
+  module _ (st : State) (f : Frame) (st' : State) (done : Layers)
       (converts : Converts t st f.converted st' done) (n : TypeFuncIndex) (i : ModuleInternedTypeIndex)
       (are : AreOfFunction st'.types t ty core n i) where
     -- the component instance, for which these were converted
@@ -216,7 +224,7 @@ module _ (t : TypeTable) (ms : List ModuleRecord) (func ty core : ℕ) (opts : L
           let missing = both_missing (FuncStands ms (tables_of st')) (slice_get f.funcs func)
           (slice_get now.scope.funcs func)
           (zip_at (FuncStands ms (tables_of st')) f.funcs now.scope.funcs func still.frame.funcs) none in
-          row_stuck t ms now lower invalid refl (rw (there.is_tree, there.is_signature, missing) refl)
+          row_stuck t ms now lower invalid (rw (there.is_tree, there.is_signature, missing) refl)
 
       module _ (id : DefinitionId) (found_it : slice_get f.funcs func ≡ Some id) where
         function : (x : Function) × (slice_get now.scope.funcs func ≡ Some x) × FuncStands ms (tables_of st') id x
@@ -234,7 +242,7 @@ module _ (t : TypeTable) (ms : List ModuleRecord) (func ty core : ℕ) (opts : L
         lower_unsound none =
             let missing = both_missing (OptionsStand ms (tables_of st')) (options_in g i opts)
             (options_of now.scope there.signature opts) options_stand none in
-            row_stuck t ms now lower invalid refl (rw (there.is_tree, there.is_signature, function.1, missing) refl)
+            row_stuck t ms now lower invalid (rw (there.is_tree, there.is_signature, function.1, missing) refl)
 
         module _ (o : Options) (sound : options_in g i opts ≡ Some o) where
           options : (os : value.Options Mark) × (options_of now.scope there.signature opts ≡ Some os)
@@ -243,53 +251,49 @@ module _ (t : TypeTable) (ms : List ModuleRecord) (func ty core : ℕ) (opts : L
               (options_of now.scope there.signature opts) o options_stand sound
 
           -- what is lowered was lifted, which isn't built
-          lower_unbuilt : option_and_then host_func (slice_get st'.definitions id.0) ≡ None
+          lower_unbuilt : option_and_then callee_of (slice_get st'.definitions id.0) ≡ None
               → reads now ≡ Err (unsupported NotBuilt)
           unfolding lower_to
           lower_unbuilt none =
               let x = lifted_is ms (tables_of st') id function.0 function.2 none in
               let a = adapter (of_type x.0) x.2 (of_type there.tree) options.0 x.1 in
-              row_adapts t ms now (add_core (making now a) kind.Func a) lower refl
+              row_adapts t ms now (add_core (making now a) kind.Func a) lower
               (lower_read now there.tree there.signature function.0 options.0 there.is_tree there.is_signature
               function.1
               options.1 ∙ ap (λ y. Ok (lower_to now y there.tree there.signature options.0)) x.3)
               (making_some now a at.world.no_adapters)
 
-          -- a host function was lowered
-          lower_goes : (j : PathId) → option_and_then host_func (slice_get st'.definitions id.0) ≡ Some j
-              → (end : State) (key : CoreId)
-              → ((p : Path) → slice_get st'.paths j.0 ≡ Some p → Lowers t ms st' end p n o key)
+          -- it was lowered
+          lower_goes : (c : Callee) → option_and_then callee_of (slice_get st'.definitions id.0) ≡ Some c
+              → (end : State) (key : CoreId) → LowersTo t ms st' end c n o key
               → Goes t ms end (with_core_id g kind.Func key) (reads now)
-          unfolding lower_to Lowers
-          lower_goes j host end key lowers =
-              let x = host_is ms (tables_of st') id function.0 function.2 j host in
-              let v = lowered x.path (of_type there.tree) options.0 in
-              let went = lowers x.path x.held g now there.tree options.0 still there.has options.2 in
-              let next = lower_to now (host_function x.path) there.tree there.signature options.0 in
+          unfolding LowersTo
+          lower_goes c is end key lowers =
+              let by_number = ap (λ (j : ModuleInternedTypeIndex). slice_get st'.types.signatures j.0)
+              (core_type_in g i opts o sound) ∙ there.signed in
+              let went = lowers g now function.0 there.tree there.signature options.0 still
+              (callee_is ms (tables_of st') id function.0 function.2 c is).0 there.has by_number options.2 in
+              let next = lower_to now function.0 there.tree there.signature options.0 in
               record {
                 now = next;
-                stands = framed_point t ms end g (with_core_id g kind.Func key) _ (with_core now.scope kind.Func v)
-                    went.0
-                    refl refl refl (core_framed ms (tables_of end) g now.scope went.0.frame kind.Func key v went.1);
-                done = row_goes t ms now next lower refl
+                stands = went;
+                done = row_goes t ms now next lower
                     (lower_read now there.tree there.signature function.0 options.0 there.is_tree there.is_signature
-                    function.1 options.1 ∙ ap (λ y. Ok (lower_to now y there.tree there.signature options.0)) x.is)
-                    went.0.world.no_adapters;
+                    function.1 options.1) went.world.no_adapters;
               }
 
     -- what the call that lowers asks for
     pub lower_ready : ((now : Moment) × PointStands t ms st f now) → (id : DefinitionId)
-        → slice_get f.funcs func ≡ Some id → (o : Options) → options_in g i opts ≡ Some o → (j : PathId)
-        → option_and_then host_func (slice_get st'.definitions id.0) ≡ Some j
-        → IsSoundState t ms st' × (j.0 < length st'.paths) × OptionsThere ms (tables_of st') o
-    lower_ready point id found_it o sound j host =
+        → slice_get f.funcs func ≡ Some id → (o : Options) → options_in g i opts ≡ Some o → (c : Callee)
+        → option_and_then callee_of (slice_get st'.definitions id.0) ≡ Some c
+        → IsSoundState t ms st' × HeldCallee (tables_of st') c × OptionsThere ms (tables_of st') o
+    lower_ready point id found_it o sound c is =
         let now = point.0 in
         let at = point.1 in
         let x = function now at id found_it in
-        let host_at = host_is ms (tables_of st') id x.0 x.2 j host in
         let os = options now at id found_it o sound in (
           (still now at).sound,
-          slice_get_within st'.paths j.0 host_at.path host_at.held,
+          (callee_is ms (tables_of st') id x.0 x.2 c is).1,
           options_there ms (tables_of st') o os.0 os.2,
         )
 
@@ -305,17 +309,16 @@ module _ (t : TypeTable) (ms : List ModuleRecord) (func ty core : ℕ) (opts : L
           steps_stuck t ms reads st f st' g item_fault.Invalid (λ now at. lower_unsound now at id found_it none)
 
       module _ (o : Options) (sound : options_in g i opts ≡ Some o) where
-        pub lower_adapts : option_and_then host_func (slice_get st'.definitions id.0) ≡ None
+        pub lower_adapts : option_and_then callee_of (slice_get st'.definitions id.0) ≡ None
             → StepsItem t ms lower st f st' g (Err (item_error.Fault (item_fault.Unsupported NotBuilt)))
         lower_adapts none =
             steps_stuck t ms reads st f st' g (item_fault.Unsupported NotBuilt)
             (λ now at. lower_unbuilt now at id found_it o sound none)
 
-        pub lower_steps : (j : PathId) → option_and_then host_func (slice_get st'.definitions id.0) ≡ Some j
-            → (end : State) (key : CoreId)
-            → ((p : Path) → slice_get st'.paths j.0 ≡ Some p → Lowers t ms st' end p n o key) → (f' : Frame)
+        pub lower_steps : (c : Callee) → option_and_then callee_of (slice_get st'.definitions id.0) ≡ Some c
+            → (end : State) (key : CoreId) → LowersTo t ms st' end c n o key → (f' : Frame)
             → f' ≡ with_core_id g kind.Func key → (r : ⊤) → StepsItem t ms lower st f end f' (Ok r)
-        lower_steps j host end key lowers f' is r =
+        lower_steps c called end key lowers f' is r =
             subst (λ x. StepsItem t ms lower st f end x (Ok r)) (sym is)
             (steps_on t ms reads st f end (with_core_id g kind.Func key) r
-            (λ now at. lower_goes now at id found_it o sound j host end key lowers))
+            (λ now at. lower_goes now at id found_it o sound c called end key lowers))

@@ -106,7 +106,7 @@ lowering_signed ms b o p ty os x same (options_stand {signature = s} begun signe
     (s, ap (λ (n : ModuleInternedTypeIndex). slice_get b.types.signatures n.0) same ∙ signed, refl)
 
 -- the slots of a graph with other trampolines
-lowered_slots : (g : ComponentDfg) (ts : List SignedTrampoline) (k : plan.SlotKind)
+pub lowered_slots : (g : ComponentDfg) (ts : List SignedTrampoline) (k : plan.SlotKind)
     → slots_of (record g { trampolines = ts }) k ≡ slots_of g k
 unfolding slots_of
 lowered_slots g ts plan.memory = refl
@@ -199,7 +199,7 @@ module _ (t : TypeTable) (ms : List ModuleRecord) (st : State) (ts : List Signed
         (λ w' is. subst (λ x. HasTrampoline st.types lowered_in x) (same v w' is)
         (record { trampoline = n; stands = lowered_stands n.0 at }))
         (changes_few st.graph.trampolines ts lowering_of put.0)
-        (stands.imports ∙ sym (paths-push w.log e)) refl (none_more refl) refl refl refl
+        (stands.imports ∙ sym (paths-push w.log e)) refl (none_more refl) refl refl refl refl
       where
         same : (a b : CoreValue Mark) → declared a ≡ declared b → a ≡ b
         same a b is = cc

@@ -38,14 +38,14 @@ use Rattle.pc_inline_state.proofs.GrowthLemmas.{graph_crowded}
 use Rattle.pc_inline_canon.proofs.SlotLemmas.{found_in_put, slot_held, slot_keeps, slot_some, slots_prepare}
 
 -- a look-up in images finds the image
-map_at : {A B : Type 0} (f : A → B) (xs : List A) (n : ℕ) (x : A) → slice_get xs n ≡ Some x
+pub map_at : {A B : Type 0} (f : A → B) (xs : List A) (n : ℕ) (x : A) → slice_get xs n ≡ Some x
     → slice_get (map f xs) n ≡ Some (f x)
 map_at f [] n x at = absurd (none-some x at)
 map_at f (y ∷ xs) zero x at = ap (λ z. Some (f z)) (same_Some y x at)
 map_at f (y ∷ xs) (suc n) x at = map_at f xs n x at
 
 -- and what it finds is the image of an item
-map_from : {A B : Type 0} (f : A → B) (xs : List A) (n : ℕ) (y : B) → slice_get (map f xs) n ≡ Some y
+pub map_from : {A B : Type 0} (f : A → B) (xs : List A) (n : ℕ) (y : B) → slice_get (map f xs) n ≡ Some y
     → (x : A) × (slice_get xs n ≡ Some x) × (f x ≡ y)
 map_from f [] n y at = absurd (none-some y at)
 map_from f (x ∷ xs) zero y at = (x, refl, same_Some (f x) y at)

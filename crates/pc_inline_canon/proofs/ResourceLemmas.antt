@@ -212,7 +212,7 @@ module _ (t : TypeTable) (ms : List ModuleRecord) (st : State) (x : Resource)
           (declared_on st.types st.graph after grows resource_fits w e stands)
           (λ d is. absurd (let k : ⊥ = cc in k))
           (omega arith)
-          (stands.imports ∙ sym (paths-push w.log e)) refl (length-append st.graph.resources (x ∷ [])) refl refl refl
+          (stands.imports ∙ sym (paths-push w.log e)) refl (length-append st.graph.resources (x ∷ [])) refl refl refl refl
 
       -- so it is where the reading is then, but for what is known
       pub resource_point : (f : Frame) (now : Moment) → f.component_instance ≡ x.instance → PointStands t ms st f now

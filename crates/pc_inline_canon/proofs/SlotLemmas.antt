@@ -130,6 +130,7 @@ module _ (t : TypeTable) (ms : List ModuleRecord) (st : State) (memories : List 
     declared_resources = refl;
     import_types = refl;
     begun = refl;
+    unsafe_intrinsics = refl;
     exports = refl;
     export_items = refl;
     paths = refl;

@@ -1,5 +1,5 @@
 -- How the step of an item ends: where its row is stuck, where there is no room, and where it goes on.
-use Rattle.std.proofs.Common.{◌≡◌, true, false, List, Result, Ok, Err, refl, sym, subst}
+use Rattle.std.proofs.Common.{◌≡◌, false, List, Result, Ok, Err, refl, sym, subst}
 use Rattle.std.specs.Prelude.{⊤}
 use Rattle.std.specs.List.{list_any}
 use Rattle.std.specs.Result.{IsErrAnd}
@@ -20,22 +20,21 @@ use Rattle.pc_inline_state.specs.Faults.{fault_of, of_push_error}
 use Rattle.pc_inline_state.specs.Points.{Follows, Goes, IsFullSomewhere, PointStands, Steps}
 use Rattle.pc_inline_state.specs.Refused.{LacksRoom}
 use Rattle.pc_inline_state.specs.Tables.{tables_of}
-use Rattle.pc_inline_state.specs.Today.{built_row, is_built, is_made, today}
+use Rattle.pc_inline_state.specs.Today.{built_row, is_made, today}
 use Rattle.pc_inline_state.proofs.RefusedLemmas.{push_lacks}
 use Rattle.pc_spec_reading.specs.Reading.{row}
 
 module _ (t : TypeTable) (ms : List ModuleRecord) where
   -- a row that is stuck
-  pub row_stuck : (now : Moment) (i : Item) (k : Fault) → is_built i ≡ true → read_row t ms now i ≡ Err k
-      → built_row t ms now i ≡ Err k
+  pub row_stuck : (now : Moment) (i : Item) (k : Fault) → read_row t ms now i ≡ Err k → built_row t ms now i ≡ Err k
   unfolding row today
-  row_stuck now i k built stuck = rw (built, stuck) refl
+  row_stuck now i k stuck = rw (stuck) refl
 
   -- a row that goes on to a moment in which no adapter was made
-  pub row_goes : (now next : Moment) (i : Item) → is_built i ≡ true → read_row t ms now i ≡ Ok next
+  pub row_goes : (now next : Moment) (i : Item) → read_row t ms now i ≡ Ok next
       → list_any is_made next.world.log ≡ false → built_row t ms now i ≡ Ok next
   unfolding row today
-  row_goes now next i built goes none = rw (built, goes, none) refl
+  row_goes now next i goes none = rw (goes, none) refl
 
   module _ (reads : Moment → Result Moment Fault) (st : State) (f : Frame) (st' : State) (f' : Frame) where
     -- the step ends with the fault of the reading

@@ -22,7 +22,7 @@ use Rattle.pc_inline_state.specs.Slots.{IsThere, MaybeThere, ModelThere, Options
 use Rattle.pc_inline_state.specs.Stands.{DefinitionStands, IsFunc, ItemStands, MaybeStands, ModelStands, OptionsStand}
 use Rattle.pc_inline_state.specs.Stands.{gc_stands, linear_stands, none_stands, options_stand, some_stands, stands}
 use Rattle.pc_inline_state.specs.Stands.{stands_component, stands_host, stands_host_instance, stands_host_module}
-use Rattle.pc_inline_state.specs.Stands.{stands_instance, stands_lifted, stands_static, stands_type}
+use Rattle.pc_inline_state.specs.Stands.{stands_instance, stands_intrinsic, stands_intrinsics, stands_lifted, stands_static, stands_type}
 use Rattle.pc_inline_state.specs.Tables.{Tables}
 
 module _ (ms : List ModuleRecord) (b : Tables) where
@@ -64,12 +64,14 @@ module _ (ms : List ModuleRecord) (b : Tables) where
   lifted_as : (d : Definition) (v : Value) (ty : TypeFuncIndex) (fn : CoreId) (o : Options) (x : Function)
       → DefinitionStands ms b d v → d ≡ definition.LiftedFunc ty fn o → v ≡ func_value x → LiftedAs ty fn o x
   lifted_as d v ty fn o x (stands_host held given typed) is value = absurd (let x : ⊥ = cc in x)
+  lifted_as d v ty fn o x stands_intrinsic is value = absurd (let x : ⊥ = cc in x)
   lifted_as d v ty fn o x (stands_static handed_in tabled i typed) is value = absurd (let x : ⊥ = cc in x)
   lifted_as d v ty fn o x (stands_host_module held tabled typed) is value = absurd (let x : ⊥ = cc in x)
   lifted_as d v ty fn o x (stands_component tr body leaving closure modules components) is value =
       absurd (let x : ⊥ = cc in x)
   lifted_as d v ty fn o x (stands_host_instance held given tabled typed) is value = absurd (let x : ⊥ = cc in x)
   lifted_as d v ty fn o x (stands_instance held among typed) is value = absurd (let x : ⊥ = cc in x)
+  lifted_as d v ty fn o x stands_intrinsics is value = absurd (let x : ⊥ = cc in x)
   lifted_as d v ty fn o x (stands_type typed) is value = absurd (let x : ⊥ = cc in x)
   lifted_as d v ty fn o x (stands_lifted {ty = ty'} {func = fn'} {o = o'} {tree = tree} {v = w} {os = os} f i s) is
       value =

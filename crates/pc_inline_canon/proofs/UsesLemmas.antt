@@ -48,7 +48,7 @@ module _ (t : TypeTable) (ms : List ModuleRecord) (st : State) (n : ℕ) (r : Ru
       let there = sound.used.numbers n p r held at in
       let world : (w : World) → WorldStands st.types st.graph w → WorldStands st.types st.graph (logging w (needed p)) =
       needed_world st.types st.graph st.graph (grows_refl st.graph) (fits_refl st.graph) p refl refl refl refl refl refl
-      refl (path_known st.graph.imports r.0 p there) in
+      refl refl (path_known st.graph.imports r.0 p there) in
       record {
         path = there;
         paths = path_known st.graph.imports r.0 p there;
@@ -87,7 +87,7 @@ module _ (t : TypeTable) (ms : List ModuleRecord) (st : State) (n : ℕ) (r : Ru
       used_first ordered number set same sound held unused below =
           let world : (w : World) → WorldStands st.types st.graph w
           → WorldStands st.types imported (logging w (needed (path_of i))) =
-          needed_world st.types st.graph imported grows fits (path_of i) refl refl refl refl refl refl refl
+          needed_world st.types st.graph imported grows fits (path_of i) refl refl refl refl refl refl refl refl
           (path_new st.graph.imports i (sound.used.others n (path_of i) held unused)) in
           let sound_then : IsSoundState t ms st → IsSoundState t ms using_it = λ s. record {
             ordered = ordered s.ordered;

@@ -15,7 +15,7 @@ use Rattle.pc_trampoline.specs.declared.part.Mark.TheVariants as mark
 use Rattle.pc_parsed.specs.Mark.{Mark, of_type}
 use Rattle.pc_spec_reading.specs.Asked.{is_declared}
 use Rattle.pc_spec_reading.specs.Scope.{Moment}
-use Rattle.pc_spec_reading.specs.World.{HostImport, World}
+use Rattle.pc_spec_reading.specs.World.{AddedIntrinsic, HostImport, World}
 use Rattle.pc_dfg.specs.declared.core_def.CoreDef.TheVariants as def
 use Rattle.pc_dfg.specs.declared.dfg.ComponentDfg.{ComponentDfg}
 use Rattle.pc_dfg.specs.declared.instance.SideEffect.{SideEffect}
@@ -34,10 +34,11 @@ use Rattle.pc_inline_state.specs.Tables.{tables_of}
 use Rattle.pc_inline_state.specs.Fits.{Fits, FitsBefore}
 use Rattle.pc_inline_state.specs.Holds.{Numbered, number_of, whole_of}
 use Rattle.pc_inline_state.specs.KnowsSame.{KnowsSame}
-use Rattle.pc_inline_state.specs.Worlds.{EffectStands, HasTrampoline, ImportStands, IsDeclared, WorldStands}
-use Rattle.pc_inline_state.specs.Worlds.{path_of}
+use Rattle.pc_inline_state.specs.Worlds.{EffectStands, HasTrampoline, ImportStands, IntrinsicsStand, IsDeclared}
+use Rattle.pc_inline_state.specs.Worlds.{WorldStands, path_of}
 use Rattle.pc_inline_canon.proofs.KeptLemmas.{core_kept, frame_kept}
 use Rattle.pc_inline_canon.proofs.MarkLemmas.{entry_twice, holds_still, still}
+use Rattle.pc_inline_state.proofs.IntrinsicLemmas.{intrinsics_kept}
 use Rattle.pc_inline_state.proofs.KnowsLemmas.{converted_kept, knows_grown}
 use Rattle.pc_inline_state.proofs.ZipLemmas.{zip_more}
 
@@ -97,12 +98,13 @@ module _ (old new : Types) (g h : ComponentDfg) (types : builder.KeepsTypes old 
     stands = core_kept old new g h types grows fits (def.Trampoline t.trampoline) v t.stands;
   }
 
-  -- a graph that does no more than before
-  pub world_still : h.side_effects ≡ g.side_effects → h.instances ≡ g.instances → h.trampolines ≡ g.trampolines
+  -- a graph that does no more than before, with these intrinsics
+  pub world_moved : h.side_effects ≡ g.side_effects → h.instances ≡ g.instances → h.trampolines ≡ g.trampolines
       → h.imports ≡ g.imports → h.imported_resources ≡ g.imported_resources → h.resources ≡ g.resources
       → h.import_types ≡ g.import_types → h.num_runtime_component_instances ≡ g.num_runtime_component_instances
-      → (w : World) → WorldStands old g w → WorldStands new h w
-  world_still effects instances trampolines imports imported resources import_types begun w s = record {
+      → (w : World) → WorldStands old g w → (added : List AddedIntrinsic) → IntrinsicsStand new h added
+      → WorldStands new h (record w { intrinsics = added })
+  world_moved effects instances trampolines imports imported resources import_types begun w s added stand = record {
     effects = subst (λ es. AllZip (EffectStands new h) es (trace w.log)) (sym effects)
         (zip_more (EffectStands old g) (EffectStands new h) effect_still g.side_effects (trace w.log) s.effects);
     order = s.order ∙ ap length (sym instances);
@@ -115,10 +117,19 @@ module _ (old new : Types) (g h : ComponentDfg) (types : builder.KeepsTypes old 
     imports = ap (map path_of) imports ∙ s.imports;
     imported_resources = imported_same g h grows imported w.imported_resources s.imported_resources;
     resources = ap length resources ∙ s.resources;
-    intrinsics = s.intrinsics;
+    intrinsics = stand;
     no_adapters = s.no_adapters;
     begun = s.begun ∙ sym begun;
   }
+
+  -- the same where it has signatures for no more intrinsics
+  pub world_still : h.side_effects ≡ g.side_effects → h.instances ≡ g.instances → h.trampolines ≡ g.trampolines
+      → h.imports ≡ g.imports → h.imported_resources ≡ g.imported_resources → h.resources ≡ g.resources
+      → h.import_types ≡ g.import_types → h.num_runtime_component_instances ≡ g.num_runtime_component_instances
+      → h.unsafe_intrinsics ≡ g.unsafe_intrinsics → (w : World) → WorldStands old g w → WorldStands new h w
+  world_still effects instances trampolines imports imported resources import_types begun same w s =
+      world_moved effects instances trampolines imports imported resources import_types begun w s w.intrinsics
+      (intrinsics_kept old g w.intrinsics s.intrinsics new h types.signatures same)
 
 -- a point is where it was while nothing is done
 pub point_kept : (t : TypeTable) (ms : List ModuleRecord) (old new : State) → Prepares t ms old new
@@ -130,8 +141,8 @@ point_kept t ms old new p f now at = record {
   converted = converted_kept old.types new.types p.keeps.types p.resources t f.converted at.converted;
   frame = frame_kept ms (tables_of old) (tables_of new) p.keeps f now.scope at.frame;
   world = world_still old.types new.types old.graph new.graph p.keeps.types p.keeps.graph p.keeps.fits p.side_effects
-      p.instances p.trampolines p.imports p.imported_resources p.declared_resources p.import_types p.begun now.world
-      at.world;
+      p.instances p.trampolines p.imports p.imported_resources p.declared_resources p.import_types p.begun
+      p.unsafe_intrinsics now.world at.world;
   unexported = record {
     exports = p.exports ∙ at.unexported.exports;
     items = p.export_items ∙ at.unexported.items;

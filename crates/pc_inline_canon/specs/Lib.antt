@@ -1,3 +1,4 @@
 -- What the contracts of this crate say.
-pub mod Written
+pub mod Callees
 pub mod Hosts
+pub mod Written

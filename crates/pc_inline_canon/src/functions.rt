@@ -7,7 +7,8 @@ ghost use Rattle.pc_inline_state.specs.Points.{IsInput, IsPoint, StepsItem};
 ghost use Rattle.pc_inline_state.specs.Tables.{Keeps, tables_of};
 ghost use Rattle.pc_inline_state.specs.Trails.{Trails};
 
-use crate::lower::lower_host;
+use crate::callee::callee_of;
+use crate::lower::lower;
 use crate::options::options_in;
 use pc_inline_state::{Context, Definition, Frame, ItemError, ItemFault, State, at};
 use pc_parsed::CanonOption;
@@ -74,10 +75,10 @@ pub fn step_lower(
     let Some(options) = options_in(frame, core_type, opts) else {
         return Err(ItemError::Fault(ItemFault::Invalid));
     };
-    let Some(path) = state.host_func(func) else {
+    let Some(callee) = callee_of(state, func) else {
         return Err(ItemError::Fault(ItemFault::Unsupported(Unsupported::NotBuilt)));
     };
-    let id = lower_host(context, state, path, ty, options)?;
+    let id = lower(context, state, callee, ty, options)?;
     frame.core_funcs.push(id)?;
     Ok(())
 }

@@ -1,14 +1,19 @@
 //! Canonical functions: lifts and lowers, with their options.
 //!
 //! An option names a core item of the component instance, and an entry of options in the graph holds the slots of those
-//! that are written. A lift is kept until something exports it; a lowering is a trampoline at once.
+//! that are written. A lift is kept until something exports it; a lowering is a trampoline at once, and that of an unsafe
+//! intrinsic is the intrinsic itself.
 #![tactic(auto)]
 
+mod callee;
 mod functions;
+mod intrinsics;
 mod lower;
 mod options;
 mod slots;
 
 pub use functions::{step_lift, step_lower};
+pub use intrinsics::add_intrinsic;
 pub use lower::use_host;
+pub use options::options_in;
 pub use slots::options_entry;

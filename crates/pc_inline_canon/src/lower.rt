@@ -1,15 +1,18 @@
-//! Host items that are used, and host functions, lowered.
+//! Host items that are used, and functions, lowered.
 
 ghost use Rattle.std.specs.Prelude.{◌≡◌, ◌<◌, Some, length, slice_get, IfErr, IfOk};
 ghost use Rattle.pc_types.specs.TypeTree.{Path};
 ghost use Rattle.pc_inline_state.specs.Adds.{Adds};
 ghost use Rattle.pc_inline_state.specs.AddsEach.{AddsEach, in_imports};
+ghost use Rattle.pc_inline_canon.specs.Callees.{HeldCallee, LowersTo};
 ghost use Rattle.pc_inline_canon.specs.Hosts.{Lowers, Uses};
 ghost use Rattle.pc_inline_state.specs.Points.{IsSoundState};
 ghost use Rattle.pc_inline_state.specs.Refused.{LacksRoom};
 ghost use Rattle.pc_inline_state.specs.Slots.{OptionsThere};
 ghost use Rattle.pc_inline_state.specs.Tables.{Keeps, tables_of};
 
+use crate::callee::Callee;
+use crate::intrinsics::add_intrinsic;
 use crate::slots::options_entry;
 use pc_dfg::{CoreDef, Trampoline};
 use pc_entity::RuntimeImportIndex;
@@ -45,7 +48,7 @@ pub fn use_host(
 }
 
 /// The core function that a host function is lowered to.
-pub(crate) fn lower_host(
+fn lower_host(
     context: &Context<'_>,
     state: &mut State<'_>,
     path: PathId,
@@ -71,4 +74,28 @@ pub(crate) fn lower_host(
     };
     let number = state.graph.push_trampoline(options.core_type, lowering)?;
     state.push_core(CoreDef::Trampoline(number))
+}
+
+/// The core function that a function is lowered to. An intrinsic is one itself, whatever the options.
+pub(crate) fn lower(
+    context: &Context<'_>,
+    state: &mut State<'_>,
+    callee: Callee,
+    ty: TypeFuncIndex,
+    options: Options,
+) -> Result<CoreId, ItemError>
+    requires sound { IsSoundState context.now.table.now context.now.modules state.old }
+    requires there { HeldCallee (tables_of state.old) callee }
+    requires options { OptionsThere context.now.modules (tables_of state.old) options }
+    ensures keeps { Keeps (tables_of state.old) (tables_of state.new) }
+    ensures adds { Adds context.now.table.now 4 (tables_of state.old) (tables_of state.new) }
+    ensures resources { state.new.types.resources ≡ state.old.types.resources }
+    ensures lowers { IfOk result (LowersTo context.now.table.now context.now.modules state.old state.new
+        callee ty options) }
+    ensures err { IfErr result (LacksRoom state.new) }
+{
+    match callee {
+        Callee::Host(path) => lower_host(context, state, path, ty, options),
+        Callee::Intrinsic(intrinsic) => add_intrinsic(state, intrinsic, options.core_type),
+    }
 }

@@ -116,7 +116,7 @@ fn picked_model(frame: &Frame, written: Written) -> DataModel
 
 /// The options of an item under a core signature, or nothing where an index is unsound.
 #[tactic(auto, unfolding(crate::specs::Written::options_in))]
-pub(crate) fn options_in(
+pub fn options_in(
     frame: &Frame,
     core_type: ModuleInternedTypeIndex,
     opts: &[CanonOption],

@@ -15,7 +15,6 @@ use Rattle.pc_types.specs.declared.types.TypeDef.TheVariants as type
 use Rattle.pc_types.specs.TypeTree.{TypeTree}
 use Rattle.pc_spec_plan.specs.ExportNode as node
 use Rattle.pc_spec_plan.specs.ExportNode.{ExportNode, ExportNodes, NamedNode}
-use Rattle.pc_parsed.specs.declared.payload.ItemKind.TheVariants as kind
 use Rattle.pc_parsed.specs.Mark.{Mark, of_type}
 use Rattle.pc_spec_reading.specs.Nodes.{Reached, then_reach, within_total}
 use Rattle.pc_spec_reading.specs.World.{World, grown}
@@ -24,7 +23,7 @@ use Rattle.pc_dfg.specs.declared.export.Export.TheVariants as export
 use Rattle.pc_dfg.specs.Held.{HeldExport, NamesBelow}
 use Rattle.pc_dfg.specs.Lists.{NamedExport}
 use Rattle.pc_inline_state.specs.declared.state.State.{State}
-use Rattle.pc_inline_state.specs.Definitions.{is_of_kind}
+use Rattle.pc_inline_exports.specs.Found.{nests}
 use Rattle.pc_inline_state.specs.Stands.{IsType}
 use Rattle.pc_inline_state.specs.Tables.{Keeps, tables_of}
 use Rattle.pc_inline_state.proofs.ZipLemmas.{zip_push}
@@ -223,7 +222,7 @@ module _ (t : TypeTable) (ms : List ModuleRecord) (old : State) (x : Subject) (w
         }
 
     -- a part that is an instance is reached next
-    pub climb_in : (f : Found) → PartFound t ms st p f → is_of_kind kind.Instance f.definition ≡ true
+    pub climb_in : (f : Found) → PartFound t ms st p f → nests f.definition ≡ true
         → IsApart t ms st f.definition → (s' : Stack)
         → reverse s'.callers.items ≡ s.top ∷ reverse s.callers.items → s'.top ≡ opened f → s'.nodes ≡ s.nodes + 1
         → Climbs t ms old x w st s'

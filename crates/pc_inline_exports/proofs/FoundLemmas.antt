@@ -9,6 +9,7 @@ use Rattle.pc_types.specs.declared.module_record.ModuleRecord.{ModuleRecord}
 use Rattle.pc_types.specs.declared.parsed.TypeTable.{TypeTable}
 use Rattle.pc_types.specs.declared.types.TypeDef.{TypeDef}
 use Rattle.pc_types_lists.specs.Adds.{most_types}
+use Rattle.pc_types_builder.specs.Plain.{Layers}
 use Rattle.pc_types_builder.specs.Trees.{IsEntry}
 use Rattle.pc_spec_plan.specs.ExportNode.{NamedNode}
 use Rattle.pc_parsed.specs.declared.payload.ItemKind.{ItemKind}
@@ -127,7 +128,7 @@ module _ (t : TypeTable) (ms : List ModuleRecord) where
         (ap (option_map type_value) (sym (no_tree_past s.known s.component_instance t n none))) neither;
   }
 
-  module _ (n : ℕ) (old : State) (f : Frame) (new : State) (done : List (Option TypeDef))
+  module _ (n : ℕ) (old : State) (f : Frame) (new : State) (done : Layers)
       (converts : Converts t old f.converted new done) (few : Adds t (most_types t) (tables_of old) (tables_of new)) where
     -- what is found of a type that was to be converted
     abbrev pub IsTypeFound : Result (Option Definition) ItemError → Type 0

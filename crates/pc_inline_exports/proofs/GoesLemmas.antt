@@ -11,12 +11,11 @@ use Rattle.pc_numbers.specs.declared.runtime.ExportIndex.{ExportIndex}
 use Rattle.pc_types.specs.declared.module_record.ModuleRecord.{ModuleRecord}
 use Rattle.pc_types.specs.declared.parsed.TypeTable.{TypeTable}
 use Rattle.pc_types.specs.declared.types.ComponentExternData.{ComponentExternData}
-use Rattle.pc_parsed.specs.declared.payload.ItemKind.TheVariants as kind
 use Rattle.pc_inline_state.specs.declared.definition.Definition.{Definition}
 use Rattle.pc_inline_state.specs.declared.error.ItemError.{ItemError}
 use Rattle.pc_inline_state.specs.declared.error.ItemError.TheVariants as item_error
 use Rattle.pc_inline_state.specs.declared.state.State.{State}
-use Rattle.pc_inline_state.specs.Definitions.{is_of_kind}
+use Rattle.pc_inline_exports.specs.Found.{nests}
 use Rattle.pc_inline_exports.specs.declared.build.Open.{Open}
 use Rattle.pc_inline_exports.specs.declared.build.Stack.{Stack}
 use Rattle.pc_inline_exports.specs.declared.part.Found.{Found}
@@ -78,7 +77,7 @@ leaves_as old new s s' caller child now made r is was closes puts callers nodes 
 
 -- there is no memory for an instance to wait
 pub enters_unfed : (t : TypeTable) (ms : List ModuleRecord) (st : State) (s s' : Stack) (f : Found)
-    → is_of_kind kind.Instance f.definition ≡ true → IsApart t ms st f.definition → (r : Result ⊤ ItemError) → IsErr r
+    → nests f.definition ≡ true → IsApart t ms st f.definition → (r : Result ⊤ ItemError) → IsErr r
     → IsErrAnd r (λ x. x ≡ item_error.NoMemory) → AdvancesTo t ms st s f st s' r
 enters_unfed t ms st s s' f is apart (Ok x) err same = absurd (let no : ⊥ = cc in no)
 enters_unfed t ms st s s' f is apart (Err x) err same = enters is apart refl tt same

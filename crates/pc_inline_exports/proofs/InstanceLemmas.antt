@@ -16,21 +16,21 @@ use Rattle.pc_inline_state.specs.declared.definition.Definition.TheVariants as d
 use Rattle.pc_inline_state.specs.declared.state.State.{State}
 use Rattle.pc_inline_state.specs.Stands.{DefinitionStands, IsType}
 use Rattle.pc_inline_state.specs.Stands.{stands_component, stands_host, stands_host_instance, stands_host_module}
-use Rattle.pc_inline_state.specs.Stands.{stands_instance, stands_lifted, stands_static, stands_type}
+use Rattle.pc_inline_state.specs.Stands.{stands_instance, stands_intrinsic, stands_intrinsics, stands_lifted}
+use Rattle.pc_inline_state.specs.Stands.{stands_static, stands_type}
 use Rattle.pc_inline_state.specs.Tables.{tables_of}
 use Rattle.pc_inline_state.proofs.FitsLemmas.{who_fits, who_of}
 use Rattle.pc_inline_hosts.specs.declared.member.HostMember.{HostMember}
 use Rattle.pc_inline_hosts.specs.HostMembers.{definition_at}
 use Rattle.pc_inline_hosts.specs.HostStands.{HostMemberStands, component_member, func_member, instance_member}
 use Rattle.pc_inline_hosts.specs.HostStands.{module_member, type_member}
-use Rattle.pc_parsed.specs.declared.payload.ItemKind.TheVariants as kind
 use Rattle.std.proofs.lemmas.Option.{same_Some}
 use Rattle.pc_types_lists.specs.Trees.{HasTree}
 use Rattle.pc_spec_reading.specs.Member.{further}
 use Rattle.pc_spec_reading.specs.Nodes.{host_nodes, more, no_data}
 use Rattle.pc_spec_reading.specs.Types.{instance_fields}
 use Rattle.pc_types.specs.TypeTree.{and_field, no_fields}
-use Rattle.pc_inline_state.specs.Definitions.{is_of_kind}
+use Rattle.pc_inline_exports.specs.Found.{nests}
 use Rattle.pc_inline_hosts.specs.HostStands.{IsInstanceType, fields_list}
 use Rattle.pc_inline_exports.specs.Building.{instance_type}
 use Rattle.pc_inline_exports.specs.Reaching.{HasParts, SubjectStands, host_has, made_has, stands_at, stands_value}
@@ -100,10 +100,12 @@ module _ (ms : List ModuleRecord) (st : State) where
       }
 
   value_view : (d : Definition) (v : Value) → DefinitionStands ms (tables_of st) d v
-      → is_of_kind kind.Instance d ≡ true → InstanceView d (a_value v)
+      → nests d ≡ true → InstanceView d (a_value v)
   unfolding value_node instance_value_node
   value_view d v (stands_host held given typed) is = absurd (let no : ⊥ = cc in no)
   value_view d v (stands_lifted typed func options) is = absurd (let no : ⊥ = cc in no)
+  value_view d v stands_intrinsic is = absurd (let no : ⊥ = cc in no)
+  value_view d v stands_intrinsics is = absurd (let no : ⊥ = cc in no)
   value_view d v (stands_static handed_in tabled i typed) is = absurd (let no : ⊥ = cc in no)
   value_view d v (stands_host_module held tabled typed) is = absurd (let no : ⊥ = cc in no)
   value_view d v (stands_component there body leaving held modules components) is = absurd (let no : ⊥ = cc in no)
@@ -120,7 +122,7 @@ module _ (ms : List ModuleRecord) (st : State) where
 
   there_view : (d : Definition) (p : PathId) (path : Path) (m : HostMember) (tree : TypeTree)
       → slice_get st.paths p.0 ≡ Some path → HostMemberStands ms (tables_of st) m tree → definition_at p m ≡ Some d
-      → is_of_kind kind.Instance d ≡ true → InstanceView d (of_host path tree)
+      → nests d ≡ true → InstanceView d (of_host path tree)
   there_view d p path m tree held (func_member typed) at is =
       absurd (let same = sym (same_Some _ d at) in let no : ⊥ = cc in no)
   there_view d p path m tree held (module_member typed tabled) at is =
@@ -134,14 +136,14 @@ module _ (ms : List ModuleRecord) (st : State) where
 
   -- an instance
   pub instance_view : (d : Definition) (x : Subject) → SubjectStands ms (tables_of st) d x
-      → is_of_kind kind.Instance d ≡ true → InstanceView d x
+      → nests d ≡ true → InstanceView d x
   instance_view d x (stands_value {v = v} stands) is = value_view d v stands is
   instance_view d x (stands_at {path = path} {tree = tree} p m held stands at) is =
       there_view d p path m tree held stands at is
 
   -- what has parts is an instance
   pub parts_kind : (d : Definition) (ps : List Part) (tree : TypeTree) → HasParts ms (tables_of st) d ps tree
-      → is_of_kind kind.Instance d ≡ true
+      → nests d ≡ true
   parts_kind d ps tree (made_has held parts typed) = refl
   parts_kind d ps tree (host_has held both) = refl
 

@@ -1,12 +1,11 @@
 -- The calls for one node: what it needs, and its item.
-use Rattle.std.proofs.Common.{◌≡◌, ◌<◌, ◌≤◌, ◌+◌, ◌∙◌, ℕ, List, length, Result, Ok, Err, refl, sym}
+use Rattle.std.proofs.Common.{◌≡◌, ◌<◌, ◌≤◌, ◌+◌, ◌∙◌, ℕ, List, length, Result, Ok, Err, Some, refl, sym}
 use Rattle.std.proofs.Common.{ap, subst, arith}
 use Rattle.std.specs.Result.{IsErr, IsErrAnd}
 use Rattle.std.proofs.lemmas.Option.{slice_get_within}
-use Rattle.pc_numbers.specs.declared.component_entity.StaticComponentIndex.{StaticComponentIndex}
 use Rattle.pc_numbers.specs.declared.component_entity.StaticModuleIndex.{StaticModuleIndex}
 use Rattle.pc_numbers.specs.declared.runtime.ExportIndex.{ExportIndex}
-use Rattle.pc_types.specs.declared.error.Unsupported.TheVariants.{ExportedComponent}
+use Rattle.pc_types.specs.declared.error.Unsupported.{Unsupported}
 use Rattle.pc_types.specs.declared.module_record.ModuleRecord.{ModuleRecord}
 use Rattle.pc_types.specs.declared.parsed.TypeTable.{TypeTable}
 use Rattle.pc_types.specs.declared.type_index.TypeFuncIndex.{TypeFuncIndex}
@@ -19,7 +18,6 @@ use Rattle.pc_dfg.specs.declared.export.Export.TheVariants as export
 use Rattle.pc_dfg.specs.Lists as list
 use Rattle.pc_dfg.specs.Lists.{ListName}
 use Rattle.pc_inline_paths.specs.declared.path_id.PathId.{PathId}
-use Rattle.pc_inline_state.specs.declared.definition.ClosureId.{ClosureId}
 use Rattle.pc_inline_state.specs.declared.definition.CoreId.{CoreId}
 use Rattle.pc_inline_state.specs.declared.definition.Definition.{Definition}
 use Rattle.pc_inline_state.specs.declared.definition.Definition.TheVariants as definition
@@ -47,7 +45,7 @@ use Rattle.pc_inline_exports.proofs.LeafLemmas.{static_leaf, type_leaf}
 use Rattle.pc_inline_exports.proofs.PushLemmas.{push_adds, push_exports, push_keeps, push_last, push_more, push_node}
 use Rattle.pc_inline_exports.proofs.PushLemmas.{push_types}
 use Rattle.pc_inline_exports.proofs.PushLemmas.{push_work}
-use Rattle.pc_inline_exports.proofs.ViewLemmas.{component_view, func_view, lifted_view, module_view}
+use Rattle.pc_inline_exports.proofs.ViewLemmas.{func_view, lifted_view, module_view, refusal_of, refused_view}
 
 -- options alone
 options_few : (a b : Tables) → AddsEach in_options 0 0 a b → AddsEach in_leaf 0 0 a b
@@ -112,16 +110,16 @@ module _ (t : TypeTable) (ms : List ModuleRecord) (st : State) where
       subst (λ f. MakesItem t ms st f st (Ok (export.Type_ e))) (sym is)
       (nothing_made (definition.Type_ e) _ (type_leaf t ms st e))
 
-  component_leaf : (s : StaticComponentIndex) (k : ClosureId)
-      → IsLeaf t ms st (definition.Component s k) st (Err (item_error.Fault (item_fault.Unsupported ExportedComponent)))
+  -- what can't be exported is refused
+  pub refused_made : (d f : Definition) (u : Unsupported) → d ≡ f → refusal_of f ≡ Some u → (e : ItemError)
+      → e ≡ item_error.Fault (item_fault.Unsupported u) → MakesItem t ms st d st (Err e)
   unfolding LeafEnds
-  component_leaf s k w x stands is = (ExportedComponent, refl, component_view ms st s k x is w, refl)
-
-  pub component_made : (d : Definition) (s : StaticComponentIndex) (k : ClosureId) → d ≡ definition.Component s k
-      → MakesItem t ms st d st (Err (item_error.Fault (item_fault.Unsupported ExportedComponent)))
-  component_made d s k is =
-      subst (λ e. MakesItem t ms st e st (Err (item_error.Fault (item_fault.Unsupported ExportedComponent)))) (sym is)
-      (nothing_made (definition.Component s k) _ (component_leaf s k))
+  refused_made d f u is refused e says =
+      subst (λ g. MakesItem t ms st g st (Err e)) (sym is)
+      (subst (λ x. MakesItem t ms st f st (Err x)) (sym says) (nothing_made f _ leaf))
+    where
+      leaf : IsLeaf t ms st f st (Err (item_error.Fault (item_fault.Unsupported u)))
+      leaf w x stands at = (u, refl, refused_view ms st f x at u refused w, refl)
 
   module _ (new : State) where
     -- options are needed

@@ -83,7 +83,7 @@ module _ (t : TypeTable) (ms : List ModuleRecord) where
     sound = p.sound s.sound;
     world = world_still old.types new.types old.graph new.graph p.keeps.types p.keeps.graph p.keeps.fits
         p.side_effects p.instances p.trampolines p.imports p.imported_resources p.declared_resources p.import_types
-        p.begun w s.world;
+        p.begun p.unsafe_intrinsics w s.world;
   }
 
   -- whatever total is counted

@@ -109,6 +109,9 @@ module _ (t : TypeTable) (ms : List ModuleRecord) (name : ExternName) (number : 
   refused_ends f s w exported o (item_error.Fault item_fault.BadType) h =
       let same : item_fault.BadType ≡ item_fault.Unsupported h.0 = h.1 in
       absurd (let no : ⊥ = cc in no)
+  refused_ends f s w exported o (item_error.Fault item_fault.UnknownIntrinsic) h =
+      let same : item_fault.UnknownIntrinsic ≡ item_fault.Unsupported h.0 = h.1 in
+      absurd (let no : ⊥ = cc in no)
   refused_ends f s w exported o item_error.TooMany h = h
   refused_ends f s w exported o item_error.NoMemory h = tt
 

@@ -122,7 +122,7 @@ module _ (t : TypeTable) (ms : List ModuleRecord) (st : State) (e : Export) wher
         };
         world =
             world_still st.types st.types st.graph exported (types_refl st.types) grows fits refl refl refl refl refl
-            refl refl refl w s.world;
+            refl refl refl refl w s.world;
       }
 
       -- the item is its node

@@ -7,9 +7,9 @@ use Rattle.std.specs.Prelude.{slice_get}
 use Rattle.std.specs.List.{AllZip}
 use Rattle.std.proofs.lemmas.List.{length-append}
 use Rattle.std.proofs.lemmas.Option.{none-some, same_Some, slice_get_within}
+use Rattle.pc_types_builder.specs.Plain.{Layers}
 use Rattle.pc_types.specs.declared.module_record.ModuleRecord.{ModuleRecord}
 use Rattle.pc_types.specs.declared.parsed.TypeTable.{TypeTable}
-use Rattle.pc_types.specs.declared.types.TypeDef.{TypeDef}
 use Rattle.pc_types_lists.specs.Types.{Resources}
 use Rattle.pc_spec_plan.specs.ExportNode.{NamedNode}
 use Rattle.pc_spec_plan.specs.PlanView as plan
@@ -79,7 +79,7 @@ module _ (t : TypeTable) (ms : List ModuleRecord) where
     }
 
   -- where a type is converted
-  pub root_converted : (old new : State) (f : Frame) (done : List (Option TypeDef))
+  pub root_converted : (old new : State) (f : Frame) (done : Layers)
       → Converts t old f.converted new done
       → (s : Scope) (w : World) (nodes : List (NamedNode Mark)) → RootStands t ms old f s w nodes
       → RootStands t ms new (record f { converted = done }) s w nodes
@@ -146,7 +146,7 @@ module _ (t : TypeTable) (ms : List ModuleRecord) (st : State) (e : NamedExport)
       frame = frame_kept ms (tables_of st) (tables_of after_name) name_keeps f s root.frame;
       world =
           world_still st.types st.types st.graph named (types_refl st.types) grows name_fits refl refl refl refl refl
-          refl refl refl w root.world;
+          refl refl refl refl w root.world;
       exports = zip_push (NameStands t st.types named) st.graph.exports nodes e x
           (names_still t st.types st.types st.graph named (types_refl st.types) grows name_fits st.graph.exports nodes
           root.exports)

@@ -9,7 +9,6 @@ use Rattle.pc_numbers.specs.declared.runtime.ExportIndex.{ExportIndex}
 use Rattle.pc_types.specs.declared.module_record.ModuleRecord.{ModuleRecord}
 use Rattle.pc_types.specs.declared.parsed.TypeTable.{TypeTable}
 use Rattle.pc_spec_plan.specs.ExportNode.{ExportNode}
-use Rattle.pc_parsed.specs.declared.payload.ItemKind.TheVariants as kind
 use Rattle.pc_parsed.specs.Mark.{Mark}
 use Rattle.pc_spec_reading.specs.Nodes.{Reached, refused, then_reach, within_total}
 use Rattle.pc_spec_reading.specs.Outcome.{unsupported}
@@ -23,7 +22,7 @@ use Rattle.pc_inline_state.specs.declared.error.ItemFault.{ItemFault}
 use Rattle.pc_inline_state.specs.declared.state.State.{State}
 use Rattle.pc_inline_state.specs.Adds.{Adds}
 use Rattle.pc_inline_state.specs.AddsEach.{AddsEach, in_export_items}
-use Rattle.pc_inline_state.specs.Definitions.{is_of_kind}
+use Rattle.pc_inline_exports.specs.Found.{nests}
 use Rattle.pc_inline_state.specs.Points.{IsFullSomewhere}
 use Rattle.pc_inline_state.specs.Tables.{Keeps, tables_of}
 use Rattle.pc_inline_state.proofs.AddsLemmas.{adds_both, adds_each, adds_refl, adds_weaken}
@@ -86,7 +85,7 @@ module _ (t : TypeTable) (ms : List ModuleRecord) (old : State) (d : Definition)
   }
 
   -- it begins with the parts of an instance
-  pub working_first : IsReachable t ms old d → is_of_kind kind.Instance d ≡ true → IsApart t ms old d → (f : Found)
+  pub working_first : IsReachable t ms old d → nests d ≡ true → IsApart t ms old d → (f : Found)
       → f.definition ≡ d
       → (s : Stack) → s.callers.items ≡ [] → s.top ≡ opened f → s.nodes ≡ 1 → Working t ms old d old s
   unfolding resume
@@ -137,7 +136,7 @@ module _ (t : TypeTable) (ms : List ModuleRecord) (old : State) (d : Definition)
     pub top_parts : HasSomeParts ms (tables_of st) s.top.instance
     top_parts = let c = climbs.2 in (c.reader.parts, c.reader.tree, c.top.parts)
 
-    pub top_kind : is_of_kind kind.Instance s.top.instance ≡ true
+    pub top_kind : nests s.top.instance ≡ true
     top_kind = let c = climbs.2 in parts_kind ms st s.top.instance c.reader.parts c.reader.tree c.top.parts
 
     few_nodes : 4 * k.made ≤ 4 * s.nodes
@@ -264,7 +263,7 @@ module _ (t : TypeTable) (ms : List ModuleRecord) (old : State) (d : Definition)
         next_items t ms st s.top c.0.reader c.0.top
 
     -- it is an instance, which is reached next
-    pub goes_in : is_of_kind kind.Instance f.definition ≡ true → IsApart t ms st f.definition → (s' : Stack)
+    pub goes_in : nests f.definition ≡ true → IsApart t ms st f.definition → (s' : Stack)
         → Enters (record s { nodes = s.nodes + 1 }) f s' → Working t ms old d st s'
     goes_in is apart s' enters =
         let callers : reverse s'.callers.items ≡ s.top ∷ reverse s.callers.items =

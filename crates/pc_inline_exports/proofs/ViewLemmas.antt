@@ -1,9 +1,11 @@
 -- What is exported, by the definition that it is: its node in the reading.
-use Rattle.std.proofs.Common.{◌≡◌, ◌<◌, ℕ, true, List, length, Option, Some, refl, ap, subst, ◌∙◌}
+use Rattle.std.proofs.Common.{◌≡◌, ◌<◌, ℕ, true, List, length, Option, None, Some, refl, ap, subst, ◌∙◌}
 use Rattle.std.specs.Prelude.{slice_get, option_and_then}
-use Rattle.pc_numbers.specs.declared.component_entity.StaticComponentIndex.{StaticComponentIndex}
+use Rattle.std.proofs.lemmas.Option.{none-some, same_Some}
 use Rattle.pc_numbers.specs.declared.component_entity.StaticModuleIndex.{StaticModuleIndex}
-use Rattle.pc_types.specs.declared.error.Unsupported.TheVariants.{ExportedComponent}
+use Rattle.pc_types.specs.declared.error.Unsupported.{Unsupported}
+use Rattle.pc_types.specs.declared.error.Unsupported.TheVariants.{ExportedComponent, ReexportedIntrinsic}
+use Rattle.pc_types.specs.declared.error.Unsupported.TheVariants.{ReexportedIntrinsics}
 use Rattle.pc_types.specs.declared.module_record.ModuleRecord.{ModuleRecord}
 use Rattle.pc_types.specs.declared.parsed.CoreKind.TheVariants as core
 use Rattle.pc_types.specs.declared.type_index.TypeFuncIndex.{TypeFuncIndex}
@@ -21,12 +23,11 @@ use Rattle.pc_spec_plan.specs.ExportNode as node
 use Rattle.pc_parsed.specs.Mark.{Mark, of_type}
 use Rattle.pc_spec_reading.specs.HostTypes.{tree_along, type_at}
 use Rattle.pc_spec_reading.specs.Nodes.{host_function_node, host_module_node, host_node, leaf, refused}
-use Rattle.pc_spec_reading.specs.Nodes.{value_node}
+use Rattle.pc_spec_reading.specs.Nodes.{instance_value_node, value_node}
 use Rattle.pc_spec_reading.specs.Outcome.{unsupported}
 use Rattle.pc_spec_reading.specs.Value.{Value}
 use Rattle.pc_spec_reading.specs.World.{HostImport, World}
 use Rattle.pc_inline_paths.specs.declared.path_id.PathId.{PathId}
-use Rattle.pc_inline_state.specs.declared.definition.ClosureId.{ClosureId}
 use Rattle.pc_inline_state.specs.declared.definition.CoreId.{CoreId}
 use Rattle.pc_inline_state.specs.declared.definition.Definition.{Definition}
 use Rattle.pc_inline_state.specs.declared.definition.Definition.TheVariants as definition
@@ -36,7 +37,8 @@ use Rattle.pc_inline_state.specs.Holds.{Holds}
 use Rattle.pc_inline_state.specs.Stands.{DefinitionStands, IsFunc, IsHostType, IsTableTree, IsType, ItemStands}
 use Rattle.pc_inline_state.specs.Stands.{OptionsStand}
 use Rattle.pc_inline_state.specs.Stands.{stands_component, stands_host, stands_host_instance, stands_host_module}
-use Rattle.pc_inline_state.specs.Stands.{stands_instance, stands_lifted, stands_static, stands_type}
+use Rattle.pc_inline_state.specs.Stands.{stands_instance, stands_intrinsic, stands_intrinsics, stands_lifted}
+use Rattle.pc_inline_state.specs.Stands.{stands_static, stands_type}
 use Rattle.pc_inline_state.specs.Tables.{tables_of}
 use Rattle.pc_inline_state.specs.Worlds.{ImportStands, WorldStands}
 use Rattle.pc_inline_state.proofs.FitsLemmas.{who_fits, who_of}
@@ -48,6 +50,13 @@ use Rattle.pc_inline_hosts.specs.HostStands.{is_type_tree}
 use Rattle.pc_inline_hosts.specs.HostStands.{module_member, type_member}
 use Rattle.pc_inline_exports.specs.Reaching.{SubjectStands, stands_at, stands_value}
 use Rattle.pc_inline_exports.specs.Subjects.{Subject, a_value, of_host, subject_node}
+
+-- why a definition can't be exported, if it can't
+abbrev pub refusal_of : Definition → Option Unsupported
+refusal_of (definition.Component s k) = Some ExportedComponent
+refusal_of (definition.IntrinsicFunc i) = Some ReexportedIntrinsic
+refusal_of definition.Intrinsics = Some ReexportedIntrinsics
+refusal_of d = None
 
 -- what the host has at a path, where its type is none of a function, an instance, a component or a module
 host_type : (p : Path) (t : TypeTree) → is_type_tree t ≡ true → (w : World)
@@ -136,10 +145,6 @@ module _ (ms : List ModuleRecord) (st : State) where
     pub typed : IsType ms (tables_of st) d tree
     pub reads : (w : World) → subject_node x w ≡ leaf (node.type_node (of_type tree)) w
 
-  -- a component
-  abbrev pub ComponentView : StaticComponentIndex → ClosureId → Subject → Type 0
-  ComponentView s k x = (w : World) → subject_node x w ≡ refused (unsupported ExportedComponent)
-
   -- a function of the host
   func_value : (p : PathId) (ty : TypeFuncIndex) (d : Definition) (v : Value)
       → DefinitionStands ms (tables_of st) d v → d ≡ definition.HostFunc p ty
@@ -158,6 +163,8 @@ module _ (ms : List ModuleRecord) (st : State) where
   func_value p ty d v (stands_lifted typed func options) same = absurd (let no : ⊥ = cc in no)
   func_value p ty d v (stands_static handed_in tabled i typed) same = absurd (let no : ⊥ = cc in no)
   func_value p ty d v (stands_host_module held tabled typed) same = absurd (let no : ⊥ = cc in no)
+  func_value p ty d v stands_intrinsic same = absurd (let no : ⊥ = cc in no)
+  func_value p ty d v stands_intrinsics same = absurd (let no : ⊥ = cc in no)
   func_value p ty d v (stands_component there body leaving held modules components) same =
       absurd (let no : ⊥ = cc in no)
   func_value p ty d v (stands_host_instance held given tabled typed) same = absurd (let no : ⊥ = cc in no)
@@ -208,6 +215,8 @@ module _ (ms : List ModuleRecord) (st : State) where
         typed = subst (λ k. IsType ms (tables_of st) (type.Module k) tree) two typed;
         reads = λ w. refl;
       }
+  module_value p ty entry d v stands_intrinsic same = absurd (let no : ⊥ = cc in no)
+  module_value p ty entry d v stands_intrinsics same = absurd (let no : ⊥ = cc in no)
   module_value p ty entry d v (stands_component there body leaving held modules components) same =
       absurd (let no : ⊥ = cc in no)
   module_value p ty entry d v (stands_host_instance held given tabled typed) same = absurd (let no : ⊥ = cc in no)
@@ -261,6 +270,8 @@ module _ (ms : List ModuleRecord) (st : State) where
         reads = λ w. ap (λ (k : StaticModuleIndex). leaf (node.static_module k.0 (of_type tree)) w) one;
       }
   static_value m ty d v (stands_host_module held tabled typed) same = absurd (let no : ⊥ = cc in no)
+  static_value m ty d v stands_intrinsic same = absurd (let no : ⊥ = cc in no)
+  static_value m ty d v stands_intrinsics same = absurd (let no : ⊥ = cc in no)
   static_value m ty d v (stands_component there body leaving held modules components) same =
       absurd (let no : ⊥ = cc in no)
   static_value m ty d v (stands_host_instance held given tabled typed) same = absurd (let no : ⊥ = cc in no)
@@ -305,6 +316,8 @@ module _ (ms : List ModuleRecord) (st : State) where
       }
   lifted_value ty func opts d v (stands_static handed_in tabled i typed) same = absurd (let no : ⊥ = cc in no)
   lifted_value ty func opts d v (stands_host_module held tabled typed) same = absurd (let no : ⊥ = cc in no)
+  lifted_value ty func opts d v stands_intrinsic same = absurd (let no : ⊥ = cc in no)
+  lifted_value ty func opts d v stands_intrinsics same = absurd (let no : ⊥ = cc in no)
   lifted_value ty func opts d v (stands_component there body leaving held modules components) same =
       absurd (let no : ⊥ = cc in no)
   lifted_value ty func opts d v (stands_host_instance held given tabled typed) same = absurd (let no : ⊥ = cc in no)
@@ -337,6 +350,8 @@ module _ (ms : List ModuleRecord) (st : State) where
   type_is d f v (stands_lifted typed func options) same = absurd (let no : ⊥ = cc in no)
   type_is d f v (stands_static handed_in tabled i typed) same = absurd (let no : ⊥ = cc in no)
   type_is d f v (stands_host_module held tabled typed) same = absurd (let no : ⊥ = cc in no)
+  type_is d f v stands_intrinsic same = absurd (let no : ⊥ = cc in no)
+  type_is d f v stands_intrinsics same = absurd (let no : ⊥ = cc in no)
   type_is d f v (stands_component there body leaving held modules components) same = absurd (let no : ⊥ = cc in no)
   type_is d f v (stands_host_instance held given tabled typed) same = absurd (let no : ⊥ = cc in no)
   type_is d f v (stands_instance held members typed) same = absurd (let no : ⊥ = cc in no)
@@ -369,34 +384,38 @@ module _ (ms : List ModuleRecord) (st : State) where
   type_view d x (stands_at {path = path} {tree = tree} q m held is at) =
       type_there d q path m tree held is at
 
-  -- a component
-  component_is : (s : StaticComponentIndex) (k : ClosureId) (d : Definition) (v : Value)
-      → DefinitionStands ms (tables_of st) d v → d ≡ definition.Component s k
-      → ComponentView s k (a_value v)
-  unfolding value_node
-  component_is s k d v (stands_host held given typed) same = absurd (let no : ⊥ = cc in no)
-  component_is s k d v (stands_lifted typed func options) same = absurd (let no : ⊥ = cc in no)
-  component_is s k d v (stands_static handed_in tabled i typed) same = absurd (let no : ⊥ = cc in no)
-  component_is s k d v (stands_host_module held tabled typed) same = absurd (let no : ⊥ = cc in no)
-  component_is s k d v (stands_component there body leaving held modules components) same =
-      λ w. refl
-  component_is s k d v (stands_host_instance held given tabled typed) same = absurd (let no : ⊥ = cc in no)
-  component_is s k d v (stands_instance held members typed) same = absurd (let no : ⊥ = cc in no)
-  component_is s k d v (stands_type typed) same = absurd (let no : ⊥ = cc in no)
+  -- what is refused
+  refused_is : (d : Definition) (v : Value) → DefinitionStands ms (tables_of st) d v → (u : Unsupported)
+      → refusal_of d ≡ Some u → (w : World) → value_node v w ≡ refused (unsupported u)
+  unfolding value_node instance_value_node
+  refused_is d v (stands_host held given typed) u same w = absurd (none-some u same)
+  refused_is d v (stands_lifted typed func options) u same w = absurd (none-some u same)
+  refused_is d v stands_intrinsic u same w = ap (λ x. refused (unsupported x)) (same_Some _ u same)
+  refused_is d v (stands_static handed_in tabled i typed) u same w = absurd (none-some u same)
+  refused_is d v (stands_host_module held tabled typed) u same w = absurd (none-some u same)
+  refused_is d v (stands_component there body leaving held modules components) u same w =
+      ap (λ x. refused (unsupported x)) (same_Some _ u same)
+  refused_is d v (stands_host_instance held given tabled typed) u same w = absurd (none-some u same)
+  refused_is d v (stands_instance held members typed) u same w = absurd (none-some u same)
+  refused_is d v stands_intrinsics u same w = ap (λ x. refused (unsupported x)) (same_Some _ u same)
+  refused_is d v (stands_type typed) u same w = absurd (none-some u same)
 
-  component_there : (s : StaticComponentIndex) (k : ClosureId) (p : PathId) (path : Path) (m : HostMember)
-      (tree : TypeTree)
-      → slice_get st.paths p.0 ≡ Some path → HostMemberStands ms (tables_of st) m tree
-      → definition_at p m ≡ Some (definition.Component s k) → ComponentView s k (of_host path tree)
-  unfolding value_node
-  component_there s k p path m tree held (func_member typed) at = absurd (let no : ⊥ = cc in no)
-  component_there s k p path m tree held (instance_member both) at = absurd (let no : ⊥ = cc in no)
-  component_there s k p path m tree held (module_member typed tabled) at = absurd (let no : ⊥ = cc in no)
-  component_there s k p path m tree held (component_member) at = absurd (let no : ⊥ = cc in no)
-  component_there s k p path m tree held (type_member kind typed) at = absurd (let no : ⊥ = cc in no)
+  -- the host has nothing that is refused as a definition
+  none_there : (d : Definition) (p : PathId) (m : HostMember) (tree : TypeTree)
+      → HostMemberStands ms (tables_of st) m tree → definition_at p m ≡ Some d → (u : Unsupported)
+      → refusal_of d ≡ Some u → ⊥
+  none_there d p m tree (func_member typed) at u same =
+      none-some u (ap refusal_of (same_Some _ d at) ∙ same)
+  none_there d p m tree (instance_member both) at u same =
+      none-some u (ap refusal_of (same_Some _ d at) ∙ same)
+  none_there d p m tree (module_member typed tabled) at u same =
+      none-some u (ap refusal_of (same_Some _ d at) ∙ same)
+  none_there d p m tree component_member at u same = none-some d at
+  none_there d p m tree (type_member sort typed) at u same =
+      none-some u (ap refusal_of (same_Some _ d at) ∙ same)
 
-  pub component_view : (s : StaticComponentIndex) (k : ClosureId) (x : Subject)
-      → SubjectStands ms (tables_of st) (definition.Component s k) x → ComponentView s k x
-  component_view s k x (stands_value {v = v} is) = component_is s k (definition.Component s k) v is refl
-  component_view s k x (stands_at {path = path} {tree = tree} q m held is at) =
-      component_there s k q path m tree held is at
+  pub refused_view : (d : Definition) (x : Subject) → SubjectStands ms (tables_of st) d x → (u : Unsupported)
+      → refusal_of d ≡ Some u → (w : World) → subject_node x w ≡ refused (unsupported u)
+  refused_view d x (stands_value {v = v} is) u same w = refused_is d v is u same w
+  refused_view d x (stands_at {path = path} {tree = tree} q m held is at) u same w =
+      absurd (none_there d q m tree is at u same)

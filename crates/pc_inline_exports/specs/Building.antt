@@ -11,7 +11,6 @@ use Rattle.pc_types.specs.declared.parsed.TypeTable.{TypeTable}
 use Rattle.pc_types.specs.declared.type_index.TypeComponentInstanceIndex.{TypeComponentInstanceIndex}
 use Rattle.pc_types.specs.declared.types.ComponentExternData.{ComponentExternData}
 use Rattle.pc_types.specs.TypeTree.{TypeTree}
-use Rattle.pc_parsed.specs.declared.payload.ItemKind.TheVariants as kind
 use Rattle.pc_spec_reading.specs.Nodes.{refused, within_total}
 use Rattle.pc_spec_reading.specs.Outcome.{unsupported}
 use Rattle.pc_spec_reading.specs.World.{World, grown}
@@ -24,7 +23,7 @@ use Rattle.pc_inline_state.specs.declared.error.ItemError.TheVariants as item_er
 use Rattle.pc_inline_state.specs.declared.error.ItemFault.TheVariants as item_fault
 use Rattle.pc_inline_state.specs.declared.state.State.{State}
 use Rattle.pc_inline_state.specs.Adds.{Adds}
-use Rattle.pc_inline_state.specs.Definitions.{is_of_kind}
+use Rattle.pc_inline_exports.specs.Found.{nests}
 use Rattle.pc_inline_state.specs.Tables.{Keeps, tables_of}
 use Rattle.pc_inline_exports.specs.declared.build.Open.{Open}
 use Rattle.pc_inline_exports.specs.declared.build.Stack.{Stack}
@@ -189,10 +188,10 @@ module _ (t : TypeTable) (ms : List ModuleRecord) where
 
   -- the part is an instance, whose parts are reached next; or it has its item
   pub data AdvancesTo (old : State) (s : Stack) (f : Found) : State → Stack → Result ⊤ ItemError → Type 0 where
-    enters : {new : State} {s' : Stack} {r : Result ⊤ ItemError} → is_of_kind kind.Instance f.definition ≡ true
+    enters : {new : State} {s' : Stack} {r : Result ⊤ ItemError} → nests f.definition ≡ true
         → IsApart t ms old f.definition → new ≡ old → OnOk r (Enters (record s { nodes = s.nodes + 1 }) f s')
         → IfErr r (λ e. e ≡ item_error.NoMemory) → AdvancesTo old s f new s' r
-    adds : {new : State} {s' : Stack} {r : Result ⊤ ItemError} → is_of_kind kind.Instance f.definition ≡ false
+    adds : {new : State} {s' : Stack} {r : Result ⊤ ItemError} → nests f.definition ≡ false
         → AddsLeaf old s.top f new s'.top r → s'.callers ≡ s.callers → s'.nodes ≡ s.nodes + 1
         → AdvancesTo old s f new s' r
 

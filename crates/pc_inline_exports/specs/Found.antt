@@ -1,14 +1,21 @@
 -- What an instance has at a place, as the code finds it.
-use Rattle.std.specs.Prelude.{ℕ, List, Option, option_and_then, option_map, slice_get}
+use Rattle.std.specs.Prelude.{ℕ, Bool, true, false, List, Option, option_and_then, option_map, slice_get}
 use Rattle.pc_types.specs.declared.type_index.TypeComponentInstanceIndex.{TypeComponentInstanceIndex}
 use Rattle.pc_types.specs.declared.types.TypeComponentInstance.{TypeComponentInstance}
 use Rattle.pc_types.specs.declared.types.TypeDef.{TypeDef}
 use Rattle.pc_types_lists.specs.Types.{Types}
 use Rattle.pc_inline_state.specs.declared.definition.Definition.{Definition}
+use Rattle.pc_inline_state.specs.declared.definition.Definition.TheVariants as definition
 use Rattle.pc_inline_state.specs.declared.definition.ExportsId.{ExportsId}
 use Rattle.pc_inline_state.specs.declared.state.Member.{Member}
 use Rattle.pc_inline_state.specs.declared.state.State.{State}
 use Rattle.pc_inline_exports.specs.declared.part.Found.{Found}
+
+-- whether it is an instance that is exported with what it exports itself
+abbrev pub nests : Definition → Bool
+nests (definition.Instance n ty) = true
+nests (definition.HostInstance p ty entry) = true
+nests d = false
 
 -- a member with the definition that it is
 abbrev pub found_member : List Definition → List ℕ × Member → Option Found

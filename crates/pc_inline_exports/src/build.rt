@@ -3,23 +3,21 @@
 
 ghost use Rattle.std.specs.Prelude.{◌≡◌, ◌++◌, ◌∷◌, [], None, false, length, true, OnOk, IfOk};
 ghost use Rattle.pc_entity.specs.Lists.{value_of};
-ghost use Rattle.pc_parsed.specs.declared.payload.ItemKind.TheVariants as kind;
 ghost use Rattle.pc_inline_state.specs.declared.definition.Definition.{Definition};
 ghost use Rattle.pc_inline_state.specs.declared.state.State.{State};
-ghost use Rattle.pc_inline_state.specs.Definitions.{is_of_kind};
 ghost use Rattle.pc_inline_state.specs.Points.{IsInput};
 ghost use Rattle.pc_inline_exports.specs.Building.{AddsLeaf, Advances, Closes, Enters, GoesOn, IsApart, IsWorking};
 ghost use Rattle.pc_inline_exports.specs.Building.{Leaves, Turned};
 ghost use Rattle.pc_inline_exports.specs.Building.{Working};
 ghost use Rattle.pc_inline_exports.specs.Building.{opened, with_item};
+ghost use Rattle.pc_inline_exports.specs.Found.{nests};
 ghost use Rattle.pc_inline_exports.specs.Reaching.{IsReachable, Reaches};
 
 use crate::item::{push_item, reach_leaf};
-use crate::part::{Found, part_at};
+use crate::part::{Found, nests, part_at};
 use pc_dfg::Export;
 use pc_entity::{ExportIndex, NoMemory, Text, TextMap};
 use pc_inline_state::{Context, Definition, ItemError, State};
-use pc_parsed::ItemKind;
 use pc_types::{ComponentExternData, TypeComponentInstanceIndex};
 use std::mem;
 
@@ -102,7 +100,7 @@ fn close(
     instance: Definition,
     items: TextMap<(ExportIndex, ComponentExternData)>,
 ) -> Result<ExportIndex, ItemError>
-    requires is { is_of_kind kind.Instance instance ≡ true }
+    requires is { nests instance ≡ true }
     ensures { Closes state.old instance items state.new result }
 {
     let ty = match instance {
@@ -120,7 +118,7 @@ fn add_leaf(
     part: Found,
 ) -> Result<(), ItemError>
     requires is { IsReachable context.now.table.now context.now.modules state.old part.definition }
-    requires leaf { is_of_kind kind.Instance part.definition ≡ false }
+    requires leaf { nests part.definition ≡ false }
     requires absent { value_of part.name open.old.items ≡ None }
     requires next { open.old.next ≡ length open.old.items }
     ensures { AddsLeaf context.now.table.now context.now.modules state.old open.old part state.new open.new result }
@@ -140,7 +138,7 @@ fn enter(context: &Context<'_>, stack: &mut Stack, part: Found) -> Result<(), No
 
 /// All parts of an instance have items: it gets its own, and the instance around it goes on.
 fn leave(state: &mut State<'_>, stack: &mut Stack, caller: Open) -> Result<(), ItemError>
-    requires is { is_of_kind kind.Instance stack.old.top.instance ≡ true }
+    requires is { nests stack.old.top.instance ≡ true }
     requires absent { value_of stack.old.top.name caller.items ≡ None }
     requires next { caller.next ≡ length caller.items }
     ensures { Leaves state.old stack.old caller state.new stack.new result }
@@ -168,7 +166,7 @@ fn advance(
         return Err(ItemError::TooMany);
     }
     stack.nodes += 1;
-    if part.definition.is_of_kind(ItemKind::Instance) {
+    if nests(part.definition) {
         names_are_apart(context, state, part.definition);
         enter(context, stack, part)?;
         return Ok(());
@@ -206,7 +204,7 @@ pub(crate) fn reach_node(
     requires is { IsReachable context.now.table.now context.now.modules state.old found.definition }
     ensures { Reaches context.now.table.now context.now.modules state.old found.definition state.new result }
 {
-    if !found.definition.is_of_kind(ItemKind::Instance) {
+    if !nests(found.definition) {
         return reach_leaf(context, state, found.definition);
     }
     names_are_apart(context, state, found.definition);

@@ -1,9 +1,10 @@
 //! One item of the graph that something is exported by.
 
 ghost use Rattle.std.specs.Prelude.{◌≡◌, false, true};
-ghost use Rattle.pc_parsed.specs.declared.payload.ItemKind.TheVariants as kind;
 ghost use Rattle.pc_inline_state.specs.declared.definition.Definition.TheVariants as definition;
-ghost use Rattle.pc_inline_state.specs.Definitions.{is_of_kind};
+ghost use Rattle.pc_inline_state.specs.declared.error.ItemError.TheVariants as item_error;
+ghost use Rattle.pc_inline_state.specs.declared.error.ItemFault.TheVariants as item_fault;
+ghost use Rattle.pc_inline_exports.specs.Found.{nests};
 ghost use Rattle.pc_inline_exports.specs.Reaching.{IsReachable, MakesItem, Pushes, ReachesOne};
 
 use pc_dfg::Export;
@@ -63,14 +64,21 @@ fn host_module_item(
     Ok(Export::ModuleImport { ty, import })
 }
 
-/// The export item of what is no instance. A component is refused.
+/// Why this can't be exported.
+fn refuse(what: Unsupported) -> ItemError
+    ensures { result ≡ item_error.Fault (item_fault.Unsupported what) }
+{
+    ItemError::Fault(ItemFault::Unsupported(what))
+}
+
+/// The export item of what is no instance with exports. A component and the unsafe intrinsics are refused.
 fn leaf_item(
     context: &Context<'_>,
     state: &mut State<'_>,
     leaf: Definition,
 ) -> Result<Export, ItemError>
     requires is { IsReachable context.now.table.now context.now.modules state.old leaf }
-    requires leaf { is_of_kind kind.Instance leaf ≡ false }
+    requires leaf { nests leaf ≡ false }
     ensures { MakesItem context.now.table.now context.now.modules state.old leaf state.new result }
 {
     match leaf {
@@ -83,9 +91,9 @@ fn leaf_item(
             host_module_item(context, state, path, ty, entry)
         }
         Definition::Type_(ty) => Ok(Export::Type_(ty)),
-        Definition::Component { .. } => Err(ItemError::Fault(ItemFault::Unsupported(
-            Unsupported::ExportedComponent,
-        ))),
+        Definition::Component { .. } => Err(refuse(Unsupported::ExportedComponent)),
+        Definition::IntrinsicFunc { .. } => Err(refuse(Unsupported::ReexportedIntrinsic)),
+        Definition::Intrinsics => Err(refuse(Unsupported::ReexportedIntrinsics)),
         Definition::HostInstance { .. } | Definition::Instance { .. } => unreachable!(),
     }
 }
@@ -104,7 +112,7 @@ pub(crate) fn reach_leaf(
     leaf: Definition,
 ) -> Result<ExportIndex, ItemError>
     requires is { IsReachable context.now.table.now context.now.modules state.old leaf }
-    requires leaf { is_of_kind kind.Instance leaf ≡ false }
+    requires leaf { nests leaf ≡ false }
     ensures { ReachesOne context.now.table.now context.now.modules state.old leaf state.new result }
 {
     let item = leaf_item(context, state, leaf)?;

@@ -3,7 +3,7 @@
 ghost use Rattle.std.specs.Prelude.{◌≡◌, ◌<◌, length, IfOk, OnOk, option_map};
 ghost use Rattle.pc_inline_state.specs.declared.definition.Definition.TheVariants as definition;
 ghost use Rattle.pc_inline_exports.specs.Building.{AddsPath, Finds, StillStands};
-ghost use Rattle.pc_inline_exports.specs.Found.{export_label, made_part};
+ghost use Rattle.pc_inline_exports.specs.Found.{export_label, made_part, nests};
 ghost use Rattle.pc_inline_exports.specs.Reaching.{HasSomeParts};
 ghost use Rattle.pc_inline_state.specs.Points.{IsInput, IsSoundState};
 ghost use Rattle.pc_inline_state.specs.Tables.{tables_of};
@@ -21,6 +21,16 @@ pub struct Found {
     pub name: Text,
     pub data_: ComponentExternData,
     pub definition: Definition,
+}
+
+/// Whether this is an instance that is exported with what it exports itself. The unsafe intrinsics are refused whole.
+pub(crate) fn nests(definition: Definition) -> bool
+    ensures { result ≡ nests definition }
+{
+    matches!(
+        definition,
+        Definition::Instance { .. } | Definition::HostInstance { .. }
+    )
 }
 
 /// What an instance that was made has at a place.

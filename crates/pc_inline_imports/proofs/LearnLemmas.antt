@@ -17,6 +17,7 @@ use Rattle.pc_types_lists.specs.Known.{resource_of}
 use Rattle.pc_types_lists.specs.Types.{Resources}
 use Rattle.pc_types_lists.proofs.FewLemmas.{few_aside, few_none}
 use Rattle.pc_types_lists.proofs.KeptTypes.{keeps_same, keeps_whatever}
+use Rattle.pc_types_builder.specs.Plain.{Layers}
 use Rattle.pc_types_builder.specs.Converted.{AreConverted}
 use Rattle.pc_types_walk.specs.declared.walk.Found.{Found}
 use Rattle.pc_types_walk.specs.declared.walk.Place.{Place}
@@ -293,7 +294,7 @@ found_few t e w walked st found is =
     omega (arith, one, two, three, four)
 
 module _ (t : TypeTable) (ms : List ModuleRecord) (e : Entity) (a : State) (f : Frame) (b : State) (g : Frame)
-    (r : Registers t a f b g) (c : State) (done : List (Option TypeDef)) (converts : Converts t b g.converted c done)
+    (r : Registers t a f b g) (c : State) (done : Layers) (converts : Converts t b g.converted c done)
   where
     abbrev framed : Frame
     framed = record g { converted = done }

@@ -17,7 +17,6 @@ use Rattle.pc_types.specs.declared.parsed.Entity.{Entity}
 use Rattle.pc_types.specs.declared.parsed.Entity.TheVariants as entity
 use Rattle.pc_types.specs.declared.parsed.TypeTable.{TypeTable}
 use Rattle.pc_types.specs.declared.types.ComponentExtern.{ComponentExtern}
-use Rattle.pc_types.specs.declared.types.TypeDef.{TypeDef}
 use Rattle.pc_types.specs.Table.{is_instance, is_module}
 use Rattle.pc_types.specs.TypeTree.{Identity, TypeTree, identity_of, imported, tree_of}
 use Rattle.pc_types_lists.specs.Adds.{AddsTypes, most_types}
@@ -25,6 +24,7 @@ use Rattle.pc_types_lists.specs.Known.{resource_of}
 use Rattle.pc_types_lists.specs.Types.{Resources, Types}
 use Rattle.pc_types_lists.specs.Types as builder
 use Rattle.pc_types_lists.proofs.FewLemmas.{few_more}
+use Rattle.pc_types_builder.specs.Plain.{Layers}
 use Rattle.pc_types_builder.specs.Converted.{AreConverted}
 use Rattle.pc_types_walk.specs.declared.walk.Found.{Found}
 use Rattle.pc_types_walk.specs.Walks.{AreNamed, IsFound}
@@ -68,6 +68,7 @@ use Rattle.pc_inline_state.specs.Worlds.{EffectStands, ImportStands, WorldStands
 use Rattle.pc_inline_state.proofs.FitsLemmas.{fits_refl}
 use Rattle.pc_inline_state.proofs.KnowsLemmas.{entry_here, knows_in}
 use Rattle.pc_inline_state.proofs.ZipLemmas.{both_more, zip_length, zip_more, zip_push}
+use Rattle.pc_inline_state.proofs.IntrinsicLemmas.{intrinsics_kept}
 use Rattle.pc_inline_canon.proofs.FrameLemmas.{converted_point}
 use Rattle.pc_inline_canon.proofs.KeptLemmas.{frame_kept}
 use Rattle.pc_inline_canon.proofs.WorldLemmas.{declared_still, effect_still, import_still, trampoline_still}
@@ -182,12 +183,13 @@ module _ (old new : Types) (g h : ComponentDfg) (types : builder.KeepsTypes old 
 
   world_given : h.side_effects ≡ g.side_effects → h.instances ≡ g.instances → h.trampolines ≡ g.trampolines
       → h.resources ≡ g.resources → h.num_runtime_component_instances ≡ g.num_runtime_component_instances
-      → h.import_types ≡ g.import_types ++ x ∷ [] → ImportStands new h x import
-      → map path_of h.imports ≡ fold with_path (map path_of g.imports) (map (resource_path i) ps)
+      → h.unsafe_intrinsics ≡ g.unsafe_intrinsics → h.import_types ≡ g.import_types ++ x ∷ []
+      → ImportStands new h x import → map path_of h.imports ≡ fold with_path (map path_of g.imports) (map (resource_path i) ps)
       → (more : List RuntimeImportIndex) → h.imported_resources ≡ g.imported_resources ++ more
       → AllZip (λ (r : RuntimeImportIndex). HasPath h r.0) more (map (resource_path i) ps)
       → WorldStands new h given_world
-  world_given effects instances trampolines resources begun import_types stands_import imports more came beside =
+  world_given effects instances trampolines resources begun intrinsics import_types stands_import imports more came
+      beside =
       record {
         effects = subst (λ es. AllZip (EffectStands new h) es (trace (w.log ++ map (needs i) ps))) (sym effects)
             (subst (AllZip (EffectStands new h) g.side_effects) (sym (same_effects i w.log ps))
@@ -221,7 +223,7 @@ module _ (old new : Types) (g h : ComponentDfg) (types : builder.KeepsTypes old 
             (λ r p there. kept g h grows list.imports r.0 (record { 0 = p.import }, p.names) there)
             g.imported_resources w.imported_resources stands_so.imported_resources) beside);
         resources = ap length resources ∙ stands_so.resources ∙ sym (same_declarations i w.log ps);
-        intrinsics = stands_so.intrinsics;
+        intrinsics = intrinsics_kept old g w.intrinsics stands_so.intrinsics new h types.signatures intrinsics;
         no_adapters = same_made i w.log ps stands_so.no_adapters;
         begun = stands_so.begun ∙ sym begun;
       }
@@ -463,6 +465,8 @@ module _ (t : TypeTable) (ms : List ModuleRecord) (e : Entity) (st : State) (f :
         (ap (λ (s : State). s.graph.resources) gives.rest ∙ ap (λ (g : ComponentDfg). g.resources) graph_same)
         (ap (λ (s : State). s.graph.num_runtime_component_instances) gives.rest
         ∙ ap (λ (g : ComponentDfg). g.num_runtime_component_instances) graph_same)
+        (ap (λ (s : State). s.graph.unsafe_intrinsics) gives.rest
+        ∙ ap (λ (g : ComponentDfg). g.unsafe_intrinsics) graph_same)
         imports_more import_stands imports_are gives.more came beside
 
     abbrev framed : Frame
@@ -587,7 +591,7 @@ prepare_defined t name e now named defined = rw (named, defined) refl
 
 -- and converted
 pub defined_goes : (t : TypeTable) (ms : List ModuleRecord) (st : State) (f : Frame) (st' : State)
-    (done : List (Option TypeDef)) → Converts t st f.converted st' done → (name : ExternName) (e : Entity)
+    (done : Layers) → Converts t st f.converted st' done → (name : ExternName) (e : Entity)
     → names_entry t e ≡ true → is_defined_entity t e ≡ true → (now : Moment) → PointStands t ms st f now
     → Goes t ms st' (record f { converted = done }) (built_prepare t name e now)
 defined_goes t ms st f st' done converts name e named defined now at = record {

@@ -141,7 +141,7 @@ module _ (t : TypeTable) (ms : List ModuleRecord) (st : State) (x : Instance) (o
       (declared_on st.types st.graph after grows added_fits w e world)
       (λ y is. absurd (let k : ⊥ = cc in k))
       (omega arith)
-      (world.imports ∙ sym (paths-push w.log e)) refl (omega arith) refl refl refl
+      (world.imports ∙ sym (paths-push w.log e)) refl (omega arith) refl refl refl refl
 
   -- so it is where the reading is then
   pub added_point : (f : Frame) (now : Moment) (v : Instantiation Mark) → IsUsable ms st.graph x

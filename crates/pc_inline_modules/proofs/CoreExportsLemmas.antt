@@ -36,7 +36,7 @@ module _ (t : TypeTable) (ms : List ModuleRecord) (st : State) (f : Frame) (item
       (Err (item_error.Fault item_fault.Invalid))
   unfolding read_row read_core_exports
   bag_missing made = steps_stuck t ms _ st f st f item_fault.Invalid (λ now at.
-      row_stuck t ms now (core_exports_item items) invalid refl
+      row_stuck t ms now (core_exports_item items) invalid
       (ap (λ o. found invalid o (λ (es : List (List ℕ × CoreItem)). Ok (add_core_instance now (bag es))))
       (both_missing _ None _ (made ms (tables_of st) now.scope at.frame) refl)))
 
@@ -54,7 +54,7 @@ module _ (t : TypeTable) (ms : List ModuleRecord) (st : State) (f : Frame) (item
         now = next;
         stands = subst (λ g. PointStands t ms st g next) (sym is)
             (framed_point t ms st f _ now (with_core_instance now.scope (bag es.0)) at refl refl refl stands);
-        done = row_goes t ms now next (core_exports_item items) refl
+        done = row_goes t ms now next (core_exports_item items)
             (ap (λ o. found invalid o (λ (es : List (List ℕ × CoreItem)). Ok (add_core_instance now (bag es)))) es.1)
             at.world.no_adapters;
       })

@@ -216,7 +216,7 @@ module _ (t : TypeTable) (ms : List ModuleRecord) (st : State) (f : Frame) (n : 
       → StepsItem t ms (instantiate_module_item n args) st f st' f' (Err (item_error.Fault item_fault.Invalid))
   host_stuck st' f' o none given = steps_stuck t ms _ st f st' f' item_fault.Invalid (λ now at.
       let x = host_there now at in
-      row_stuck t ms now (instantiate_module_item n args) invalid refl
+      row_stuck t ms now (instantiate_module_item n args) invalid
       (x.row ∙ ap (λ o. found invalid o (λ (vs : List (NamedArgument Mark)). Ok (add_host now x.path x.tree vs)))
       (both_missing (HostArgumentsStand ms (tables_of st)) o _ (given now.scope x.tree at.frame x.tabled) none)))
 
@@ -279,7 +279,7 @@ module _ (t : TypeTable) (ms : List ModuleRecord) (st : State) (f : Frame) (n : 
               })) order
               (framed_point t ms st' f (record f { core_instances = f.core_instances ++ instance.Host i entry ∷ [] }) _
               (with_core_instance now.scope (of_host_module i.0 x.tree)) entered refl refl refl frame));
-          done = row_goes t ms now (add_host now x.path x.tree vs.0) (instantiate_module_item n args) refl
+          done = row_goes t ms now (add_host now x.path x.tree vs.0) (instantiate_module_item n args)
               (x.row
               ∙ ap (λ o. found invalid o (λ (vs : List (NamedArgument Mark)). Ok (add_host now x.path x.tree vs))) vs.1)
               entered.world.no_adapters;

@@ -208,7 +208,7 @@ module _ (t : TypeTable) (ms : List ModuleRecord) (st : State) (f : Frame) (n : 
       → StepsItem t ms (instantiate_module_item n args) st f st' f' (Err (item_error.Fault item_fault.Invalid))
   unfolding read_row read_core_instance
   module_missing st' f' none = steps_stuck t ms _ st f st' f' item_fault.Invalid (λ now at.
-      row_stuck t ms now (instantiate_module_item n args) invalid refl
+      row_stuck t ms now (instantiate_module_item n args) invalid
       (ap (λ o. found invalid o (instantiate_module t ms now args))
       (both_missing (ModuleStands ms (tables_of st)) _ _ (module_found now at) none)))
 
@@ -247,7 +247,7 @@ module _ (t : TypeTable) (ms : List ModuleRecord) (st : State) (f : Frame) (n : 
       pub module_stuck : (st' : State) (f' : Frame) (o : Option (List CoreDef)) → o ≡ None → IsGiven ms st f args m o
           → StepsItem t ms (instantiate_module_item n args) st f st' f' (Err (item_error.Fault item_fault.Invalid))
       module_stuck st' f' o none given = steps_stuck t ms _ st f st' f' item_fault.Invalid (λ now at.
-          row_stuck t ms now (instantiate_module_item n args) invalid refl
+          row_stuck t ms now (instantiate_module_item n args) invalid
           (module_row now at
           ∙ ap (λ o. found invalid o (λ (vs : List (CoreValue Mark)). Ok (add_static now m.0 vs)))
           (both_missing (ArgumentsStand ms (tables_of st)) o _ (given now.scope at.frame) none)))
@@ -291,7 +291,7 @@ module _ (t : TypeTable) (ms : List ModuleRecord) (st : State) (f : Frame) (n : 
                 })) order
                 (framed_point t ms st' f (record f { core_instances = f.core_instances ++ instance.Made i m ∷ [] }) _
                 (with_core_instance now.scope (of_module i.0 m.0)) entered refl refl refl frame));
-            done = row_goes t ms now (add_static now m.0 vs.0) (instantiate_module_item n args) refl
+            done = row_goes t ms now (add_static now m.0 vs.0) (instantiate_module_item n args)
                 (module_row now at
                 ∙ ap (λ o. found invalid o (λ (vs : List (CoreValue Mark)). Ok (add_static now m.0 vs))) vs.1)
                 entered.world.no_adapters;

@@ -1,15 +1,15 @@
 -- The step of a core module that was handed in.
-use Rattle.std.proofs.Common.{◌≡◌, ◌<◌, ℕ, List, [], ◌∷◌, ◌++◌, length, true, false, Some, Option, Result, Ok, Err}
+use Rattle.std.proofs.Common.{◌≡◌, ◌<◌, ℕ, List, [], ◌∷◌, ◌++◌, length, true, false, Some, Result, Ok, Err}
 use Rattle.std.proofs.Common.{refl, subst, sym, arith}
 use Rattle.std.specs.Prelude.{⊤}
 use Rattle.pc_numbers.specs.declared.component_entity.StaticModuleIndex.{StaticModuleIndex}
 use Rattle.pc_types.specs.declared.module_record.ModuleRecord.{ModuleRecord}
 use Rattle.pc_types.specs.declared.parsed.TypeTable.{TypeTable}
 use Rattle.pc_types.specs.declared.type_index.TypeModuleIndex.{TypeModuleIndex}
-use Rattle.pc_types.specs.declared.types.TypeDef.{TypeDef}
 use Rattle.pc_types.specs.declared.types.TypeDef.TheVariants as type
 use Rattle.pc_types.specs.Table.{is_module}
 use Rattle.pc_types.specs.TypeTree.{TypeTree, tree_of}
+use Rattle.pc_types_builder.specs.Plain.{Layers}
 use Rattle.pc_types_builder.specs.Trees.{IsEntry}
 use Rattle.pc_types_lists.specs.Adds.{most_types}
 use Rattle.pc_spec_reading.specs.Item.{Item, module_item}
@@ -52,7 +52,7 @@ module _ (t : TypeTable) (a b : Tables) where
   module_few x h k = adds_then t 4 a b x (omega arith) h (definition_few t b x k)
 
 -- what is kept after the type was converted is kept from the start
-pub module_keeps : (t : TypeTable) (st mid : State) (before after : List (Option TypeDef)) (x : Tables)
+pub module_keeps : (t : TypeTable) (st mid : State) (before after : Layers) (x : Tables)
     → Converts t st before mid after → Keeps (tables_of mid) x → Keeps (tables_of st) x
 module_keeps t st mid before after x converts kept =
     keeps_trans (tables_of st) (tables_of mid) x (converts_prepares t [] st before mid after converts).keeps kept
@@ -75,7 +75,7 @@ module _ (t : TypeTable) (ms : List ModuleRecord) (m : StaticModuleIndex) (ty : 
   -- its type is none
   module_untyped : (now : Moment) → has_entry t is_module ty ≡ false → reads now ≡ Err bad_type
   unfolding read_row read_module tree_if
-  module_untyped now none = row_stuck t ms now module_ bad_type refl (rw (none) refl)
+  module_untyped now none = row_stuck t ms now module_ bad_type (rw (none) refl)
 
   -- its type is no module type
   pub module_misses : (st : State) (f : Frame) (st' : State) (f' : Frame) → has_entry t is_module ty ≡ false
@@ -85,7 +85,7 @@ module _ (t : TypeTable) (ms : List ModuleRecord) (m : StaticModuleIndex) (ty : 
 
   -- its type was converted
   module _ (st : State) (f : Frame) (has : has_entry t is_module ty ≡ true) (handed_in : m.0 < length ms)
-      (st' : State) (done : List (Option TypeDef)) (converts : Converts t st f.converted st' done)
+      (st' : State) (done : Layers) (converts : Converts t st f.converted st' done)
       (i : TypeModuleIndex) (entry : IsEntry st'.types t ty (type.Module i))
       (key : DefinitionId) (last : key.0 ≡ length st'.definitions) where
     -- the component instance, for which it was
@@ -124,7 +124,7 @@ module _ (t : TypeTable) (ms : List ModuleRecord) (m : StaticModuleIndex) (ty : 
           now = next;
           stands = framed_point t ms end g with_it now (with_value now.scope v) at_end refl refl refl
               (module_framed ms (tables_of end) g now.scope at_end.frame key (static_module m.0 x.0) is);
-          done = row_goes t ms now next module_ refl (module_read now x.0 there) at.world.no_adapters;
+          done = row_goes t ms now next module_ (module_read now x.0 there) at.world.no_adapters;
         }
 
     -- it is a module of the component instance

@@ -12,8 +12,8 @@ use Rattle.pc_inline_state.specs.declared.definition.Definition.{Definition}
 use Rattle.pc_inline_state.specs.declared.definition.DefinitionId.{DefinitionId}
 use Rattle.pc_inline_state.specs.Frames.{ModuleStands}
 use Rattle.pc_inline_state.specs.Stands.{DefinitionStands, IsTableTree, stands, stands_component, stands_host}
-use Rattle.pc_inline_state.specs.Stands.{stands_host_instance, stands_host_module, stands_instance, stands_lifted}
-use Rattle.pc_inline_state.specs.Stands.{stands_static, stands_type}
+use Rattle.pc_inline_state.specs.Stands.{stands_host_instance, stands_host_module, stands_instance, stands_intrinsic}
+use Rattle.pc_inline_state.specs.Stands.{stands_intrinsics, stands_lifted, stands_static, stands_type}
 use Rattle.pc_inline_state.specs.Tables.{Tables}
 use Rattle.pc_inline_modules.specs.declared.modules.ModuleSource.{ModuleSource}
 use Rattle.pc_inline_modules.specs.declared.modules.ModuleSource.TheVariants as source
@@ -34,6 +34,8 @@ module _ (ms : List ModuleRecord) (b : Tables) where
   entry_source d v x (stands_component tr body leaving closure modules components) is = absurd (let k : ⊥ = cc in k)
   entry_source d v x (stands_host_instance held given tabled typed) is = absurd (let k : ⊥ = cc in k)
   entry_source d v x (stands_instance held exported typed) is = absurd (let k : ⊥ = cc in k)
+  entry_source d v x stands_intrinsic is = absurd (let k : ⊥ = cc in k)
+  entry_source d v x stands_intrinsics is = absurd (let k : ⊥ = cc in k)
   entry_source d v x (stands_type typed) is = absurd (let k : ⊥ = cc in k)
   entry_source d v x (stands_static {m = m} {tree = tree} handed_in tabled i typed) is =
       let same : static_module m.0 tree ≡ x = cc in

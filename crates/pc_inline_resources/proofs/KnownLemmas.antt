@@ -6,12 +6,12 @@ use Rattle.std.proofs.lemmas.Bool.{eqb-true}
 use Rattle.pc_numbers.specs.declared.runtime.ResourceIndex.{ResourceIndex}
 use Rattle.pc_types.specs.declared.module_record.ModuleRecord.{ModuleRecord}
 use Rattle.pc_types.specs.declared.parsed.TypeTable.{TypeTable}
-use Rattle.pc_types.specs.declared.types.TypeDef.{TypeDef}
 use Rattle.pc_types.specs.TypeTree.{Identity, identity_of}
 use Rattle.pc_types_lists.specs.Known.{resource_of}
 use Rattle.pc_types_lists.specs.Types.{Resources}
 use Rattle.pc_types_lists.proofs.FewLemmas.{few_aside}
 use Rattle.pc_types_lists.proofs.KeptTypes.{keeps_same, keeps_whatever}
+use Rattle.pc_types_builder.specs.Plain.{Layers}
 use Rattle.pc_types_builder.specs.Converted.{AreConverted}
 use Rattle.pc_dfg.specs.declared.dfg.ComponentDfg.{ComponentDfg}
 use Rattle.pc_dfg.proofs.GrowLemmas.{grows_refl}
@@ -159,7 +159,7 @@ module _ (st : State) (k : Resources) where
       (ks : List (ℕ × Identity)) → PointStands t ms st f now
       → ((n : ℕ) → Both (IsResource st.graph) (resource_of k.known n) (identity_of ks n))
       → k.current ≡ st.types.resources.current
-      → (done : List (Option TypeDef)) → AreConverted (knowing_in st k).types t done → (cs : List Change)
+      → (done : Layers) → AreConverted (knowing_in st k).types t done → (cs : List Change)
       → PointStands t ms (knowing_in st k) (record f { converted = done; changes = cs }) (with_known now ks)
   known_point t ms f now ks at known current done converted cs =
       let frame = frame_kept ms (tables_of st) (tables_of (knowing_in st k)) known_keeps f now.scope at.frame in
@@ -183,7 +183,7 @@ module _ (st : State) (k : Resources) where
           begun = frame.begun;
         };
         world = world_still st.types (knowing_in st k).types st.graph st.graph (keeps_same st.types)
-            (grows_refl st.graph) (λ who fits. fits) refl refl refl refl refl refl refl refl now.world at.world;
+            (grows_refl st.graph) (λ who fits. fits) refl refl refl refl refl refl refl refl refl now.world at.world;
         unexported = at.unexported;
       }
 

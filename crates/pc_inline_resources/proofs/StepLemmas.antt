@@ -73,7 +73,7 @@ module _ (t : TypeTable) (ms : List ModuleRecord) (id : ℕ) (rep : WasmValType)
   unfolding read_row read_resource
   resource_untyped st' f' none =
       steps_stuck t ms reads st f st' f' item_fault.BadType
-      (λ now at. row_stuck t ms now this bad_type refl (stuck now))
+      (λ now at. row_stuck t ms now this bad_type (stuck now))
     where
       stuck : (now : Moment) → read_row t ms now this ≡ Err bad_type
       stuck now = rw none refl
@@ -82,7 +82,7 @@ module _ (t : TypeTable) (ms : List ModuleRecord) (id : ℕ) (rep : WasmValType)
   undone : has_entry t is_resource id ≡ true → (now : Moment) → chosen now.scope.core_funcs index ≡ None
       → reads now ≡ Err invalid
   unfolding read_row read_resource
-  undone there now none = row_stuck t ms now this invalid refl stuck
+  undone there now none = row_stuck t ms now this invalid stuck
     where
       stuck : read_row t ms now this ≡ Err invalid
       stuck = rw (there, none) refl
@@ -148,7 +148,7 @@ module _ (t : TypeTable) (ms : List ModuleRecord) (id : ℕ) (rep : WasmValType)
       goes : has_entry t is_resource id ≡ true → (now : Moment) (at : PointStands t ms st f now)
           → reads now ≡ Ok (add_resource now id rep (found_at now at).v)
       goes there now at =
-          row_goes t ms now (add_resource now id rep (found_at now at).v) this refl (read there now at)
+          row_goes t ms now (add_resource now id rep (found_at now at).v) this (read there now at)
           (stands_logged now at).world.no_adapters
 
       -- and so does the code, where the number is known then

@@ -1,5 +1,5 @@
 -- What stands at the places of a walk.
-use Rattle.std.proofs.Common.{◌≡◌, ◌-◌, ℕ, zero, suc, Bool, true, false, List, Option, None, Some, refl, sym}
+use Rattle.std.proofs.Common.{◌≡◌, ◌-◌, ℕ, zero, suc, Bool, true, false, List, [], ◌∷◌, Option, None, Some, refl, sym}
 use Rattle.std.proofs.Common.{subst, ◌∙◌, arith, if◌then◌else◌, true≢false}
 use Rattle.std.specs.Prelude.{slice_get, option_and_then}
 use Rattle.std.specs.Borrow.{Bor}
@@ -9,13 +9,14 @@ use Rattle.std.proofs.lemmas.Option.{none-some, same_Some}
 use Rattle.pc_entity.specs.Lists.{value_of}
 use Rattle.pc_types.specs.declared.module_record.ModuleRecord.{ModuleRecord}
 use Rattle.pc_types.specs.declared.type_index.TypeComponentInstanceIndex.{TypeComponentInstanceIndex}
+use Rattle.pc_types.specs.Intrinsic.{intrinsic_names}
 use Rattle.pc_types.specs.TypeTree.{Path, TypeTree, component_of, func_of}
 use Rattle.pc_types.specs.TypeTree.{instance_of, module_of}
 use Rattle.pc_spec_reading.specs.Member.{a_value, field_under, further, host_member, member, type_identity, value_in}
-use Rattle.pc_spec_reading.specs.Member.{value_of_member}
+use Rattle.pc_spec_reading.specs.Member.{place_from, resource_at, value_of_member}
 use Rattle.pc_spec_reading.specs.Types.{instance_fields}
-use Rattle.pc_spec_reading.specs.Value.{NamedValues, Value, host_instance, instance_value, made_instance, type_value}
-use Rattle.pc_spec_reading.specs.Value.{value_named}
+use Rattle.pc_spec_reading.specs.Value.{NamedValues, Value, func_value, host_instance, instance_value}
+use Rattle.pc_spec_reading.specs.Value.{intrinsic_function, made_instance, the_intrinsics, type_value, value_named}
 use Rattle.pc_inline_state.specs.declared.definition.Definition.{Definition}
 use Rattle.pc_inline_state.specs.declared.definition.DefinitionId.{DefinitionId}
 use Rattle.pc_inline_state.specs.declared.definition.ExportsId.{ExportsId}
@@ -25,7 +26,8 @@ use Rattle.pc_inline_state.specs.KnowsSame.{IsResource}
 use Rattle.pc_inline_state.specs.Members.{item_of}
 use Rattle.pc_inline_state.specs.Stands.{DefinitionStands, MembersStand, Stands, and_member, no_members, stands}
 use Rattle.pc_inline_state.specs.Stands.{stands_component, stands_host, stands_host_instance, stands_host_module}
-use Rattle.pc_inline_state.specs.Stands.{stands_instance, stands_lifted, stands_static, stands_type}
+use Rattle.pc_inline_state.specs.Stands.{stands_instance, stands_intrinsic, stands_intrinsics, stands_lifted}
+use Rattle.pc_inline_state.specs.Stands.{stands_static, stands_type}
 use Rattle.pc_inline_state.specs.Tables.{Tables}
 use Rattle.pc_inline_state.proofs.ZipLemmas.{both_missing, both_there}
 use Rattle.pc_inline_hosts.specs.declared.member.HostMember.{HostMember}
@@ -39,7 +41,7 @@ use Rattle.pc_inline_resources.specs.declared.walked.Item.TheVariants as item
 use Rattle.pc_inline_resources.specs.declared.walked.Start.{Start}
 use Rattle.pc_inline_resources.specs.declared.walked.Start.TheVariants as start
 use Rattle.pc_inline_resources.specs.Walked as walked
-use Rattle.pc_inline_resources.specs.Walked.{InstanceIs, ItemIs, ParentIs, StartIs, definition_resource}
+use Rattle.pc_inline_resources.specs.Walked.{HasNoResource, InstanceIs, ItemIs, ParentIs, StartIs, definition_resource}
 use Rattle.pc_inline_resources.specs.Walked.{exported_item, found_item}
 use Rattle.pc_inline_resources.specs.Walked.{has_exports, instance_in, is_defined, is_exports, is_host, is_none}
 use Rattle.pc_inline_resources.specs.Walked.{is_nothing, is_of_host, is_value, item_resource}
@@ -55,6 +57,36 @@ type_there path (instance_of exports) is = absurd (true≢false (sym is))
 type_there path (component_of imports exports) is = absurd (true≢false (sym is))
 type_there path (module_of imports exports) is = absurd (true≢false (sym is))
 type_there path tree is = refl
+
+-- where nothing is no resource is
+no_value : HasNoResource None
+unfolding HasNoResource
+no_value names = refl
+
+-- under the name of an intrinsic is a function, which leads to no resource
+the_functions : (o : Option ℕ)
+    → HasNoResource (option_and_then value_of_member (option_map (λ f. a_value (func_value f))
+    (option_map intrinsic_function o)))
+unfolding HasNoResource resource_at
+the_functions None names = refl
+the_functions (Some n) [] = refl
+the_functions (Some n) (name ∷ names) = refl
+
+intrinsics_named : (name : List ℕ) → HasNoResource (value_in name (instance_value the_intrinsics))
+unfolding member
+intrinsics_named name = the_functions (place_from 0 name intrinsic_names)
+
+-- what leads to no resource has nothing under a name that does
+none_under : (v : Option Value) → HasNoResource v → (name : List ℕ) → HasNoResource (option_and_then (value_in name) v)
+unfolding HasNoResource resource_at
+none_under None none name names = refl
+none_under (Some x) none name names = none (name ∷ names)
+
+-- nor is it a resource
+none_here : (v : Option Value) → HasNoResource v → option_and_then type_identity v ≡ None
+unfolding HasNoResource resource_at
+none_here None none = refl
+none_here (Some x) none = none []
 
 module _ (ms : List ModuleRecord) (b : Tables) where
   -- what a host instance has under a name
@@ -76,12 +108,12 @@ module _ (ms : List ModuleRecord) (b : Tables) where
   host_none path tree name o found is =
       let none = both_missing (HostMemberStands ms b) o (field_under name (instance_fields tree)) found is in
       subst (λ w. ItemIs ms b item.Nothing
-      (option_and_then value_of_member (option_map (host_member (further path name)) w))) (sym none) is_nothing
+      (option_and_then value_of_member (option_map (host_member (further path name)) w))) (sym none) (is_nothing no_value)
 
   -- what an instance exports under a name
   exported_named : (es : List (List ℕ × Member)) (vs : NamedValues) → MembersStand ms b es vs → (name : List ℕ)
       → ItemIs ms b (exported_item es name) (value_named name vs)
-  exported_named es vs no_members name = is_nothing
+  exported_named es vs no_members name = is_nothing no_value
   exported_named es vs (and_member {name = n} {m = m} {v = v} {es = rest} {vs = others} data_ is more) name =
       by (bytes_eq name n.name) (exported_named rest others more name)
     where
@@ -117,7 +149,7 @@ module _ (ms : List ModuleRecord) (b : Tables) where
     where
       by : (w : Option Value) → InstanceIs ms b instance.Nothing w
           → ItemIs ms b item.Nothing (option_and_then (value_in name) w)
-      by w (is_none none) = subst (ItemIs ms b item.Nothing) (sym (none name)) is_nothing
+      by w (is_none none) = is_nothing (none name)
 
   -- an instance of the host
   pub record OfHost (ty : TypeComponentInstanceIndex) (entry : ℕ) (v : Option Value) : Type 0 where
@@ -137,15 +169,17 @@ module _ (ms : List ModuleRecord) (b : Tables) where
   -- the instance that a definition is
   definition_is : (d : Definition) (v : Value) → DefinitionStands ms b d v
       → InstanceIs ms b (instance_in (Some d)) (Some v)
-  definition_is d v (stands_host held typed is) = is_none (λ name. refl)
-  definition_is d v (stands_lifted is func options) = is_none (λ name. refl)
-  definition_is d v (stands_static handed_in tabled i is) = is_none (λ name. refl)
-  definition_is d v (stands_host_module held tabled is) = is_none (λ name. refl)
-  definition_is d v (stands_component there body leaving held modules components) = is_none (λ name. refl)
+  definition_is d v (stands_host held typed is) = is_none (λ name. no_value)
+  definition_is d v (stands_lifted is func options) = is_none (λ name. no_value)
+  definition_is d v stands_intrinsic = is_none (λ name. no_value)
+  definition_is d v stands_intrinsics = is_none intrinsics_named
+  definition_is d v (stands_static handed_in tabled i is) = is_none (λ name. no_value)
+  definition_is d v (stands_host_module held tabled is) = is_none (λ name. no_value)
+  definition_is d v (stands_component there body leaving held modules components) = is_none (λ name. no_value)
   definition_is d v (stands_host_instance held host tabled is) =
       is_of_host (record { typed = is; declared = tabled })
   definition_is d v (stands_instance held members is) = has_exports held members
-  definition_is d v (stands_type is) = is_none (λ name. refl)
+  definition_is d v (stands_type is) = is_none (λ name. no_value)
 
   instance_is : (id : DefinitionId) (v : Value) → Stands ms b id v
       → InstanceIs ms b (instance_in (slice_get b.definitions id.0)) (Some v)
@@ -155,18 +189,18 @@ module _ (ms : List ModuleRecord) (b : Tables) where
   -- the instance that an item of the host is
   member_is : (m : HostMember) (tree : TypeTree) (path : Path) → HostMemberStands ms b m tree
       → InstanceIs ms b (walked.instance_of b.definitions (item.Host m)) (value_of_member (host_member path tree))
-  member_is m tree path (func_member is) = is_none (λ name. refl)
+  member_is m tree path (func_member is) = is_none (λ name. no_value)
   member_is m tree path (instance_member is) = is_of_host is
-  member_is m tree path (module_member is tabled) = is_none (λ name. refl)
-  member_is m tree path component_member = is_none (λ name. refl)
+  member_is m tree path (module_member is tabled) = is_none (λ name. no_value)
+  member_is m tree path component_member = is_none (λ name. no_value)
   member_is m tree path (type_member {d = d} kind is) =
       subst (λ x. InstanceIs ms b (walked.instance_of b.definitions (item.Host (host.Type_ d))) (value_of_member x))
-      (sym (type_there path tree kind)) (is_none (λ name. refl))
+      (sym (type_there path tree kind)) (is_none (λ name. no_value))
 
   -- the instance that an item is
   item_is : (i : Item) (v : Option Value) → ItemIs ms b i v
       → InstanceIs ms b (walked.instance_of b.definitions i) v
-  item_is i v is_nothing = is_none (λ name. refl)
+  item_is i v (is_nothing none) = is_none (none_under v none)
   item_is i v (is_defined {id = id} {v = w} is) = instance_is id w is
   item_is i v (is_host {m = m} {tree = tree} path is) = member_is m tree path is
 
@@ -179,6 +213,8 @@ module _ (ms : List ModuleRecord) (b : Tables) where
       → Both (IsResource b.graph) (definition_resource b.types (Some d)) (type_identity v)
   definition_knows d v (stands_host held typed is) = neither
   definition_knows d v (stands_lifted is func options) = neither
+  definition_knows d v stands_intrinsic = neither
+  definition_knows d v stands_intrinsics = neither
   definition_knows d v (stands_static handed_in tabled i is) = neither
   definition_knows d v (stands_host_module held tabled is) = neither
   definition_knows d v (stands_component there body leaving held modules components) = neither
@@ -208,7 +244,8 @@ module _ (ms : List ModuleRecord) (b : Tables) where
   -- that an item is
   item_known : (i : Item) (v : Option Value) → ItemIs ms b i v
       → Both (IsResource b.graph) (item_resource b.types b.definitions (Some i)) (option_and_then type_identity v)
-  item_known i v is_nothing = neither
+  item_known i v (is_nothing none) =
+      subst (λ o. Both (IsResource b.graph) None o) (sym (none_here v none)) neither
   item_known i v (is_defined {id = id} {v = w} is) = definition_known id w is
   item_known i v (is_host {m = m} {tree = tree} path is) = member_known m tree path is
 

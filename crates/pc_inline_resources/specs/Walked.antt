@@ -20,7 +20,7 @@ use Rattle.pc_types_walk.specs.declared.walk.Found.{Found}
 use Rattle.pc_spec_plan.specs.CoreValue.{CoreValue, MaybeValue}
 use Rattle.pc_spec_plan.specs.CoreValue as value
 use Rattle.pc_parsed.specs.Mark.{Mark}
-use Rattle.pc_spec_reading.specs.Member.{host_member, value_in, value_of_member}
+use Rattle.pc_spec_reading.specs.Member.{host_member, resource_at, value_in, value_of_member}
 use Rattle.pc_spec_reading.specs.Resource.{ResourcePath}
 use Rattle.pc_spec_reading.specs.Value.{NamedValues, Value, host_instance, instance_value, made_instance}
 use Rattle.pc_dfg.specs.declared.core_def.CoreDef.{CoreDef}
@@ -54,17 +54,21 @@ abbrev pub value_along : List (List ℕ) → Value → Option Value
 value_along [] v = Some v
 value_along (name ∷ names) v = option_and_then (value_along names) (value_in name v)
 
+-- no resource stands along any names from it
+unfoldable pub HasNoResource : Option Value → Type 0
+HasNoResource v = (names : List (List ℕ)) → option_and_then (resource_at names) v ≡ None
+
 module _ (ms : List ModuleRecord) (b : Tables) where
-  -- what stands at a place
+  -- what stands at a place: nothing that leads to a resource, a definition, or an item of the host
   pub data ItemIs : Item → Option Value → Type 0 where
-    is_nothing : ItemIs item.Nothing None
+    is_nothing : {v : Option Value} → HasNoResource v → ItemIs item.Nothing v
     is_defined : {id : DefinitionId} {v : Value} → Stands ms b id v → ItemIs (item.Defined id) (Some v)
     is_host : {m : HostMember} {tree : TypeTree} (path : Path) → HostMemberStands ms b m tree
         → ItemIs (item.Host m) (value_of_member (host_member path tree))
 
-  -- an instance that exports so much, or one of the host; or what has nothing under any name
+  -- an instance that exports so much, or one of the host; or what has nothing that leads to a resource under any name
   pub data InstanceIs : InstanceOf → Option Value → Type 0 where
-    is_none : {v : Option Value} → ((name : List ℕ) → option_and_then (value_in name) v ≡ None)
+    is_none : {v : Option Value} → ((name : List ℕ) → HasNoResource (option_and_then (value_in name) v))
         → InstanceIs instance.Nothing v
     has_exports : {n : ExportsId} {es : List (List ℕ × Member)} {vs : NamedValues} {tree : TypeTree}
         → slice_get b.instances n.0 ≡ Some es → MembersStand ms b es vs

@@ -15,12 +15,12 @@ ghost use Rattle.pc_inline_resources.specs.Registers.{known_as};
 
 use pc_entity::ResourceIndex;
 use pc_inline_state::{Change, Context, Frame, ItemError, State};
-use pc_types_builder::Converted;
 
 /// A table number stands for a resource from now on, in the component instance of a frame. Want of memory is the one
 /// refusal.
 ///
-/// A type that leads to the number is another type now. So what was converted is forgotten.
+/// A type that leads to the number is another type now. So of what was converted only the types stay that are the same
+/// in each component instance.
 pub fn make_known(
     context: &Context<'_>,
     state: &mut State<'_>,
@@ -46,7 +46,7 @@ pub fn make_known(
 {
     let was = state.types.resources().lookup(n);
     frame.changes.push(Change { number: n, was })?;
-    frame.converted = Converted::new(context.alloc, context.table);
+    frame.converted.keep_plain();
     state.types.resources_mut().register_resource(n, r)?;
     Ok(())
 }

@@ -22,19 +22,19 @@ returns-in_default-options_in-clause-steps c =
     (got_by _ _ _ c.as_slice.ensures _ _ c.at.ensures c.in-Some.is)
     (sym c.options_in.ensures ∙ c.in_default-options_in.is)
 
-pub returns-in_default-host_func-clause-steps : goal.returns-in_default-host_func-clause-steps
-returns-in_default-host_func-clause-steps c =
+pub returns-in_default-callee_of-clause-steps : goal.returns-in_default-callee_of-clause-steps
+returns-in_default-callee_of-clause-steps c =
     lower_adapts _ _ _ _ _ _ _ _ _ _ c.in_ok-ty.ensures.converts _ _ c.in_ok-ty.ensures.are _
     (got_by _ _ _ c.as_slice.ensures _ _ c.at.ensures c.in-Some.is) _
-    (sym c.options_in.ensures ∙ c.in-Some-options_in.is) (sym c.host_func.ensures ∙ c.in_default-host_func.is)
+    (sym c.options_in.ensures ∙ c.in-Some-options_in.is) (sym c.callee_of.ensures ∙ c.in_default-callee_of.is)
 
-pub lower_host-requires : goal.lower_host-requires
-lower_host-requires c =
+pub lower-requires : goal.lower-requires
+lower-requires c =
     let ready = lower_ready _ _ c.args.func c.args.ty c.args.core c.args.opts.now _ c.args.frame.now _ _
     c.in_ok-ty.ensures.converts _ _ c.in_ok-ty.ensures.are c.requires.here c.in-Some.func
     (got_by _ _ _ c.as_slice.ensures _ _ c.at.ensures c.in-Some.is) c.in-Some-options_in.options
-    (sym c.options_in.ensures ∙ c.in-Some-options_in.is) c.in-Some-host_func.path
-    (sym c.host_func.ensures ∙ c.in-Some-host_func.is) in
+    (sym c.options_in.ensures ∙ c.in-Some-options_in.is) c.in-Some-callee_of.callee
+    (sym c.callee_of.ensures ∙ c.in-Some-callee_of.is) in
     record { sound = ready.0; there = ready.1; options = ready.2 }
 
 pub returns-in_err-id-clause-steps : goal.returns-in_err-id-clause-steps
@@ -48,8 +48,8 @@ pub returns-clause-steps : goal.returns-clause-steps
 returns-clause-steps c =
     lower_steps _ _ _ _ _ _ _ _ _ _ c.in_ok-ty.ensures.converts _ _ c.in_ok-ty.ensures.are _
     (got_by _ _ _ c.as_slice.ensures _ _ c.at.ensures c.in-Some.is) _
-    (sym c.options_in.ensures ∙ c.in-Some-options_in.is) c.in-Some-host_func.path
-    (sym c.host_func.ensures ∙ c.in-Some-host_func.is) c.lower_host.new.state c.in_ok-id.id c.in_ok-id.ensures.lowers _
+    (sym c.options_in.ensures ∙ c.in-Some-options_in.is) c.in-Some-callee_of.callee
+    (sym c.callee_of.ensures ∙ c.in-Some-callee_of.is) c.lower.new.state c.in_ok-id.id c.in_ok-id.ensures.lowers _
     (λ i. record c.args.frame.now {
       core_funcs = c.in_ok-push.ensures.ok i;
       converted = c.function_types.new.converted;
@@ -57,34 +57,34 @@ returns-clause-steps c =
     tt
 
 pub returns-in_err-id-clause-keeps : goal.returns-in_err-id-clause-keeps
-returns-in_err-id-clause-keeps c = lower_keeps _ _ _ _ _ _ c.in_ok-ty.ensures.converts c.lower_host.ensures.keeps
+returns-in_err-id-clause-keeps c = lower_keeps _ _ _ _ _ _ c.in_ok-ty.ensures.converts c.lower.ensures.keeps
 
 pub returns-in_err-push-clause-keeps : goal.returns-in_err-push-clause-keeps
-returns-in_err-push-clause-keeps c = lower_keeps _ _ _ _ _ _ c.in_ok-ty.ensures.converts c.lower_host.ensures.keeps
+returns-in_err-push-clause-keeps c = lower_keeps _ _ _ _ _ _ c.in_ok-ty.ensures.converts c.lower.ensures.keeps
 
 pub returns-clause-keeps : goal.returns-clause-keeps
-returns-clause-keeps c = lower_keeps _ _ _ _ _ _ c.in_ok-ty.ensures.converts c.lower_host.ensures.keeps
+returns-clause-keeps c = lower_keeps _ _ _ _ _ _ c.in_ok-ty.ensures.converts c.lower.ensures.keeps
 
 pub returns-in_err-id-clause-adds : goal.returns-in_err-id-clause-adds
-returns-in_err-id-clause-adds c = lower_adds _ _ _ _ c.function_types.ensures.adds c.lower_host.ensures.adds
+returns-in_err-id-clause-adds c = lower_adds _ _ _ _ c.function_types.ensures.adds c.lower.ensures.adds
 
 pub returns-in_err-push-clause-adds : goal.returns-in_err-push-clause-adds
-returns-in_err-push-clause-adds c = lower_adds _ _ _ _ c.function_types.ensures.adds c.lower_host.ensures.adds
+returns-in_err-push-clause-adds c = lower_adds _ _ _ _ c.function_types.ensures.adds c.lower.ensures.adds
 
 pub returns-clause-adds : goal.returns-clause-adds
-returns-clause-adds c = lower_adds _ _ _ _ c.function_types.ensures.adds c.lower_host.ensures.adds
+returns-clause-adds c = lower_adds _ _ _ _ c.function_types.ensures.adds c.lower.ensures.adds
 
 pub returns-in_err-id-clause-trail : goal.returns-in_err-id-clause-trail
 returns-in_err-id-clause-trail c =
-    lower_trail _ c.args.state.now c.function_types.new.state c.lower_host.new.state _ _ _ c.in_ok-ty.ensures.converts c.lower_host.ensures.resources
+    lower_trail _ c.args.state.now c.function_types.new.state c.lower.new.state _ _ _ c.in_ok-ty.ensures.converts c.lower.ensures.resources
 
 pub returns-in_err-push-clause-trail : goal.returns-in_err-push-clause-trail
 returns-in_err-push-clause-trail c =
-    lower_trail _ c.args.state.now c.function_types.new.state c.lower_host.new.state _ _ _ c.in_ok-ty.ensures.converts c.lower_host.ensures.resources
+    lower_trail _ c.args.state.now c.function_types.new.state c.lower.new.state _ _ _ c.in_ok-ty.ensures.converts c.lower.ensures.resources
 
 pub returns-clause-trail : goal.returns-clause-trail
 returns-clause-trail c =
-    lower_trail _ c.args.state.now c.function_types.new.state c.lower_host.new.state _ _ _ c.in_ok-ty.ensures.converts c.lower_host.ensures.resources
+    lower_trail _ c.args.state.now c.function_types.new.state c.lower.new.state _ _ _ c.in_ok-ty.ensures.converts c.lower.ensures.resources
 
 -- what a step asks for is there at a point
 pub function_types-requires : goal.function_types-requires

@@ -13,19 +13,19 @@ returns-in_err-enter c =
     advances_to _ _ c.args.state.now c.args.state.now c.args.stack.now c.enter.new.stack c.args.part _
     c.if-stack-ge-MAX_NODES.false
     (enters_unfed _ _ c.args.state.now c.args.stack.now c.enter.new.stack c.args.part
-    (sym c.is_of_kind.ensures ∙ c.if-is_of_kind.true) c.names_are_apart.ensures _ c.from_residual.ensures.0 c.from_residual.ensures.1)
+    (sym c.nests.ensures ∙ c.if-nests.true) c.names_are_apart.ensures _ c.from_residual.ensures.0 c.from_residual.ensures.1)
 
-pub returns-then-is_of_kind : goal.returns-then-is_of_kind
-returns-then-is_of_kind c =
+pub returns-then-nests : goal.returns-then-nests
+returns-then-nests c =
     advances_to _ _ c.args.state.now c.args.state.now c.args.stack.now c.enter.new.stack c.args.part _
     c.if-stack-ge-MAX_NODES.false
-    (enters (sym c.is_of_kind.ensures ∙ c.if-is_of_kind.true) c.names_are_apart.ensures refl c.in_ok-enter.ensures tt)
+    (enters (sym c.nests.ensures ∙ c.if-nests.true) c.names_are_apart.ensures refl c.in_ok-enter.ensures tt)
 
 pub returns : goal.returns
 returns c =
     advances_to _ _ c.args.state.now c.add_leaf.new.state c.args.stack.now _ c.args.part _
     c.if-stack-ge-MAX_NODES.false
-    (adds (sym c.is_of_kind.ensures ∙ c.if-is_of_kind.false) c.add_leaf.ensures refl refl)
+    (adds (sym c.nests.ensures ∙ c.if-nests.false) c.add_leaf.ensures refl refl)
 
 pub names_are_apart-requires-clause-table : goal.names_are_apart-requires-clause-table
 names_are_apart-requires-clause-table c = c.requires.is.stands.sound.table

@@ -3,14 +3,14 @@ use Rattle.pc_inline_exports.proofs.GoesLemmas.{last_closes, less_turned, reache
 use Rattle.pc_inline_exports.proofs.TurnLemmas.{top_kind, working_first}
 use Rattle.pc_inline_exports.proofs.build.reach_node.Goals as goal
 
-pub returns-then-not-is_of_kind : goal.returns-then-not-is_of_kind
-returns-then-not-is_of_kind c =
+pub returns-then-not-nests : goal.returns-then-not-nests
+returns-then-not-nests c =
     reaches_one _ _ c.args.state.now c.args.found.definition c.reach_leaf.new.state c.requires.is _ c.reach_leaf.ensures
 
 pub parts-init : goal.parts-init
 parts-init c =
     working_first _ _ c.args.state.now c.args.found.definition c.requires.is
-    (sym c.is_of_kind.ensures ∙ c.if-not-is_of_kind.false) c.names_are_apart.ensures c.args.found refl _ c.new.ensures.items c.opened.ensures refl
+    (sym c.nests.ensures ∙ c.if-not-nests.false) c.names_are_apart.ensures c.args.found refl _ c.new.ensures.items c.opened.ensures refl
 
 pub returns-in_err-turn : goal.returns-in_err-turn
 returns-in_err-turn c =

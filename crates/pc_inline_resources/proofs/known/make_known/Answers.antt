@@ -1,6 +1,7 @@
 use Rattle.std.proofs.Common.{Some, ap, ◌∙◌}
 use Rattle.pc_types_lists.specs.Known.{resource_of}
 use Rattle.pc_types_lists.specs.Types.{Resources}
+use Rattle.pc_types_lists.proofs.KeptTypes.{keeps_same, keeps_whatever}
 use Rattle.pc_inline_state.proofs.RefusedLemmas.{memory_lacks}
 use Rattle.pc_inline_resources.proofs.KnownLemmas.{noted_trail, put_trail}
 use Rattle.pc_inline_resources.proofs.known.make_known.Goals as goal
@@ -15,7 +16,12 @@ returns-in_err-register_resource-clause-trail c =
     (c.in_err-register_resource.ensures.err ∙ c.resources_mut.ensures.value) _ c.in_ok-push.ensures.ok
 
 pub returns-in_err-register_resource-clause-converted : goal.returns-in_err-register_resource-clause-converted
-returns-in_err-register_resource-clause-converted c = c.new.ensures.converted _
+returns-in_err-register_resource-clause-converted c =
+    c.keep_plain.ensures _ c.args.state.now.types _ c.requires.sound
+    (keeps_whatever c.args.state.now.types c.args.state.now.types c.args.state.now.types.resources
+    c.register_resource.new.self
+    (keeps_same c.args.state.now.types))
+    c.requires.converted
 
 pub returns-in_err-register_resource-clause-err : goal.returns-in_err-register_resource-clause-err
 returns-in_err-register_resource-clause-err c = memory_lacks _ _ c.from_residual-in_err-register_resource.ensures.1
@@ -28,4 +34,9 @@ returns-clause-trail c =
     c.in_ok-push.ensures.ok
 
 pub returns-clause-converted : goal.returns-clause-converted
-returns-clause-converted c = c.new.ensures.converted _
+returns-clause-converted c =
+    c.keep_plain.ensures _ c.args.state.now.types _ c.requires.sound
+    (keeps_whatever c.args.state.now.types c.args.state.now.types c.args.state.now.types.resources
+    c.register_resource.new.self
+    (keeps_same c.args.state.now.types))
+    c.requires.converted
