@@ -57,6 +57,7 @@ module _ (g : ComponentDfg) (futures streams errors : ℕ) where
   counted_grows = record {
     lists = λ l. (nothing_added (λ l n x. Unit {0}) l).extends;
     component_instances = omega arith;
+    signatures = λ place s at. at;
   }
 
   counted_fits : FitsBefore g counted
@@ -67,6 +68,7 @@ module _ (g : ComponentDfg) (futures streams errors : ℕ) where
       let added : Added g counted = record {
         lists = nothing_added (NewHeld g counted);
         component_instances = omega arith;
+        signatures = λ place s at. at;
       } in
       quiet g counted added o refl refl refl
 
@@ -96,7 +98,7 @@ module _ (g : ComponentDfg) (futures streams errors : ℕ) where
     pub counted_world : (w : World) → WorldStands types g w → WorldStands types counted w
     counted_world w s =
         world_still types types g counted (types_refl types) counted_grows counted_fits refl refl refl refl refl refl
-        refl refl w s
+        refl refl refl w s
 
     pub counted_exports : (t : TypeTable) (nodes : List (NamedNode Mark)) → ExportsStand t types g nodes
         → ExportsStand t types counted nodes

@@ -8,7 +8,8 @@ use Rattle.pc_types.specs.declared.module_record.ModuleRecord.{ModuleRecord}
 use Rattle.pc_types.specs.declared.parsed.TypeTable.{TypeTable}
 use Rattle.pc_spec_reading.specs.Answer.{IsPast}
 use Rattle.pc_spec_reading.specs.Item.{Items}
-use Rattle.pc_spec_reading.specs.Outcome.{Outcome, bad_type, done, fault, invalid, over, past, unsupported}
+use Rattle.pc_spec_reading.specs.Outcome.{Outcome, bad_type, done, fault, invalid, over, past, unknown_intrinsic}
+use Rattle.pc_spec_reading.specs.Outcome.{unsupported}
 use Rattle.pc_spec_reading.specs.Reading.{Reading, reading_of}
 use Rattle.pc_inline_state.specs.declared.state.State.{State}
 use Rattle.pc_inline.specs.Roots.{EndsWith, IsBuiltEnd, IsCrowded, IsLong}
@@ -63,6 +64,8 @@ module _ (t : TypeTable) (ms : List ModuleRecord) (limit : ℕ) (body : Items) w
       → IsBuiltEnd t ms limit body st e → IsFault t ms limit body n e
   end_today st n room (error.Invalid p) h = both_end (fault invalid p) (λ q is. let x : ⊥ = cc in x) h
   end_today st n room (error.BadType p) h = both_end (fault bad_type p) (λ q is. let x : ⊥ = cc in x) h
+  end_today st n room (error.UnknownIntrinsic p) h =
+      both_end (fault unknown_intrinsic p) (λ q is. let x : ⊥ = cc in x) h
   end_today st n room error.TooManyInstances h = both_end over (λ q is. let x : ⊥ = cc in x) h
   end_today st n room error.TooMany h = room h
   end_today st n room error.NoMemory h = tt
@@ -85,6 +88,5 @@ module _ (t : TypeTable) (ms : List ModuleRecord) (limit : ℕ) (body : Items) w
   end_today st n room (error.Malformed p) h = absurd h
   end_today st n room (error.BadTable p) h = absurd h
   end_today st n room (error.BadIntrinsics p) h = absurd h
-  end_today st n room (error.UnknownIntrinsic p) h = absurd h
   end_today st n room (error.DefinedTwice p) h = absurd h
   end_today st n room (error.BadOptions p) h = absurd h

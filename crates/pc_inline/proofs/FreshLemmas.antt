@@ -3,11 +3,11 @@ use Rattle.std.proofs.Common.{◌≡◌, ◌<◌, ℕ, List, [], Option, Some, l
 use Rattle.std.specs.Prelude.{slice_get}
 use Rattle.std.proofs.lemmas.Option.{none-some}
 use Rattle.pc_types_lists.specs.Types.{Resources, Types}
+use Rattle.pc_types_builder.specs.Plain.{Layers}
 use Rattle.pc_types_builder.specs.Converted.{AreConverted}
 use Rattle.pc_numbers.specs.declared.runtime.RuntimeComponentInstanceIndex.{RuntimeComponentInstanceIndex}
 use Rattle.pc_types.specs.declared.module_record.ModuleRecord.{ModuleRecord}
 use Rattle.pc_types.specs.declared.parsed.TypeTable.{TypeTable}
-use Rattle.pc_types.specs.declared.types.TypeDef.{TypeDef}
 use Rattle.pc_spec_plan.specs.PlanView as plan
 use Rattle.pc_dfg.specs.declared.core_def.CoreDef.{CoreDef}
 use Rattle.pc_dfg.specs.declared.dfg.ComponentDfg.{ComponentDfg}
@@ -27,7 +27,9 @@ use Rattle.pc_inline_state.specs.Points.{IsSoundState, PointStands}
 use Rattle.pc_inline_state.specs.Typed.{no_resources}
 use Rattle.pc_inline_state.specs.Worlds.{AreUsed, HasItems, HoldsTypes, IsPlain, WorldStands}
 use Rattle.pc_spec_reading.specs.Asked.{paths_needed}
+use Rattle.pc_inline_state.proofs.IntrinsicLemmas.{intrinsics_kept, no_intrinsics}
 use Rattle.pc_inline_state.proofs.MembersLemmas.{none_earlier}
+use Rattle.pc_inline_state.proofs.StateLemmas.{types_refl}
 use Rattle.pc_inline.proofs.RootLemmas.{first_moment, first_world}
 
 -- the graph of a root that has begun
@@ -84,13 +86,14 @@ first_done types = record {
   imports = refl;
   imported_resources = tt;
   resources = refl;
-  intrinsics = refl;
+  intrinsics = intrinsics_kept types empty_graph [] (no_intrinsics types) types first_graph (types_refl types).signatures
+      refl;
   no_adapters = refl;
   begun = refl;
 }
 
 -- the component instance in which nothing was read, with what was converted for it
-abbrev pub first_frame : RuntimeComponentInstanceIndex → List (Option TypeDef) → Frame
+abbrev pub first_frame : RuntimeComponentInstanceIndex → Layers → Frame
 first_frame c done = record {
   core_funcs = [];
   memories = [];
@@ -136,7 +139,7 @@ first_sound t ms old fresh bodies g graph ordered = record {
 -- and is where the reading begins
 pub first_point : (t : TypeTable) (ms : List ModuleRecord) (old : State) → IsFresh t old
     → AreSoundBodies (length ms) old.bodies.now → (g : ComponentDfg) → g ≡ first_graph → IsOrdered g
-    → (c : RuntimeComponentInstanceIndex) → c.0 ≡ 0 → (done : List (Option TypeDef)) → AreConverted old.types t done
+    → (c : RuntimeComponentInstanceIndex) → c.0 ≡ 0 → (done : Layers) → AreConverted old.types t done
     → PointStands t ms (record old { graph = g }) (first_frame c done) first_moment
 first_point t ms old fresh bodies g graph ordered c zero done none = record {
   sound = first_sound t ms old fresh bodies g graph ordered;

@@ -10,8 +10,8 @@ use Rattle.pc_types.specs.declared.error.Error.{Error}
 use Rattle.pc_types.specs.declared.error.Error.TheVariants as error
 use Rattle.pc_types.specs.declared.module_record.ModuleRecord.{ModuleRecord}
 use Rattle.pc_types.specs.declared.parsed.TypeTable.{TypeTable}
-use Rattle.pc_types.specs.declared.types.TypeDef.{TypeDef}
 use Rattle.pc_types_lists.specs.Types.{Types}
+use Rattle.pc_types_builder.specs.Plain.{Layers}
 use Rattle.pc_types_builder.specs.Converted.{AreConverted}
 use Rattle.pc_parsed.specs.declared.payload.ExternName.{ExternName}
 use Rattle.pc_parsed.specs.declared.payload.ItemKind.{ItemKind}
@@ -64,7 +64,7 @@ module _ (t : TypeTable) (ms : List ModuleRecord) (limit : ℕ) where
     -- and nothing was read
     pub begun_point : AreSoundBodies (length ms) old.bodies.now → (c : RuntimeComponentInstanceIndex)
         → Begins limit old.graph g (Ok c) → (f : Frame) → (args : List (List ℕ × DefinitionId)) → args ≡ []
-        → (converted : List (Option TypeDef)) → ((b : Types) → AreConverted b t converted)
+        → (converted : Layers) → ((b : Types) → AreConverted b t converted)
         → f ≡ record (first_frame c converted) { arguments = args }
         → PointStands t ms (record old { graph = g }) f first_moment
     unfolding Begins

@@ -7,8 +7,8 @@ use Rattle.pc_numbers.specs.declared.runtime.RuntimeComponentInstanceIndex.{Runt
 use Rattle.pc_types.specs.declared.error.Error.{Error}
 use Rattle.pc_types.specs.declared.module_record.ModuleRecord.{ModuleRecord}
 use Rattle.pc_types.specs.declared.parsed.TypeTable.{TypeTable}
-use Rattle.pc_types.specs.declared.types.TypeDef.{TypeDef}
 use Rattle.pc_types_lists.specs.Types.{Types}
+use Rattle.pc_types_builder.specs.Plain.{Layers}
 use Rattle.pc_types_builder.specs.Converted.{AreConverted}
 use Rattle.pc_types.specs.Names.{distinct_names}
 use Rattle.pc_parsed.specs.declared.payload.ExternName.{ExternName}
@@ -70,7 +70,7 @@ module _ (t : TypeTable) (ms : List ModuleRecord) (limit : ℕ) (root : Translat
         }
 
     module _ (c : RuntimeComponentInstanceIndex) (begins : Begins limit old.graph g (Ok c)) (f : Frame)
-        (args : List (List ℕ × DefinitionId)) (none : args ≡ []) (done : List (Option TypeDef))
+        (args : List (List ℕ × DefinitionId)) (none : args ≡ []) (done : Layers)
         (unconverted : (b : Types) → AreConverted b t done) (is : f ≡ record (first_frame c done) { arguments = args })
         (bodies : AreSoundBodies (length ms) old.bodies.now) where
       at : PointStands t ms there f first_moment

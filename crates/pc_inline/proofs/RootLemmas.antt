@@ -138,6 +138,7 @@ module _ (t : TypeTable) (ms : List ModuleRecord) (limit : ℕ) (body : Items) w
   unfolding Ends
   ends_then st f o go (error.Invalid p) ends = ap (λ x. and_then x go) ends
   ends_then st f o go (error.BadType p) ends = ap (λ x. and_then x go) ends
+  ends_then st f o go (error.UnknownIntrinsic p) ends = ap (λ x. and_then x go) ends
   ends_then st f o go (error.Unsupported u p) ends = ap (λ x. and_then x go) ends
   ends_then st f o go error.TooManyInstances ends = ap (λ x. and_then x go) ends
   ends_then st f o go error.TooMany ends = ends
@@ -145,7 +146,6 @@ module _ (t : TypeTable) (ms : List ModuleRecord) (limit : ℕ) (body : Items) w
   ends_then st f o go (error.Malformed p) ends = absurd ends
   ends_then st f o go (error.BadTable p) ends = absurd ends
   ends_then st f o go (error.BadIntrinsics p) ends = absurd ends
-  ends_then st f o go (error.UnknownIntrinsic p) ends = absurd ends
   ends_then st f o go (error.DefinedTwice p) ends = absurd ends
   ends_then st f o go (error.BadOptions p) ends = absurd ends
 
@@ -155,6 +155,7 @@ module _ (t : TypeTable) (ms : List ModuleRecord) (limit : ℕ) (body : Items) w
   unfolding Ends
   root_fails below st f o (error.Invalid p) is ends = reading_is _ (is ∙ ends)
   root_fails below st f o (error.BadType p) is ends = reading_is _ (is ∙ ends)
+  root_fails below st f o (error.UnknownIntrinsic p) is ends = reading_is _ (is ∙ ends)
   root_fails below st f o (error.Unsupported u p) is ends = reading_is _ (is ∙ ends)
   root_fails below st f o error.TooManyInstances is ends = reading_is _ (is ∙ ends)
   root_fails below st f o error.TooMany is ends = (inl ends, below)
@@ -162,7 +163,6 @@ module _ (t : TypeTable) (ms : List ModuleRecord) (limit : ℕ) (body : Items) w
   root_fails below st f o (error.Malformed p) is ends = absurd ends
   root_fails below st f o (error.BadTable p) is ends = absurd ends
   root_fails below st f o (error.BadIntrinsics p) is ends = absurd ends
-  root_fails below st f o (error.UnknownIntrinsic p) is ends = absurd ends
   root_fails below st f o (error.DefinedTwice p) is ends = absurd ends
   root_fails below st f o (error.BadOptions p) is ends = absurd ends
 

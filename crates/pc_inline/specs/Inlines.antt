@@ -8,7 +8,7 @@ use Rattle.pc_types.specs.declared.module_record.ModuleRecord.{ModuleRecord}
 use Rattle.pc_types.specs.declared.parsed.TypeTable.{TypeTable}
 use Rattle.pc_spec_reading.specs.Answer.{IsPast}
 use Rattle.pc_spec_reading.specs.Item.{Items}
-use Rattle.pc_spec_reading.specs.Outcome.{Outcome, bad_type, done, fault, invalid, over, unsupported}
+use Rattle.pc_spec_reading.specs.Outcome.{Outcome, bad_type, done, fault, invalid, over, unknown_intrinsic, unsupported}
 use Rattle.pc_spec_reading.specs.Reading.{Reading, reading_of}
 use Rattle.pc_spec_reading.specs.World.{World}
 use Rattle.pc_dfg.specs.declared.dfg.ComponentDfg.{ComponentDfg}
@@ -72,6 +72,7 @@ EndsAs t ms limit body o = (built_reading t ms limit body ≡ o) × (reading_of 
 abbrev pub IsFault : TypeTable → List ModuleRecord → (limit : ℕ) → Items → (held : ℕ) → Error → Type 0
 IsFault t ms limit body held (error.Invalid p) = EndsAs t ms limit body (fault invalid p)
 IsFault t ms limit body held (error.BadType p) = EndsAs t ms limit body (fault bad_type p)
+IsFault t ms limit body held (error.UnknownIntrinsic p) = EndsAs t ms limit body (fault unknown_intrinsic p)
 IsFault t ms limit body held (error.Unsupported NotBuilt p) =
     built_reading t ms limit body ≡ fault (unsupported NotBuilt) p
 IsFault t ms limit body held (error.Unsupported u p) = EndsAs t ms limit body (fault (unsupported u) p)

@@ -8,7 +8,7 @@ use Rattle.pc_types.specs.declared.error.Error.TheVariants as error
 use Rattle.pc_types.specs.declared.module_record.ModuleRecord.{ModuleRecord}
 use Rattle.pc_types.specs.declared.parsed.TypeTable.{TypeTable}
 use Rattle.pc_spec_reading.specs.Item.{Items}
-use Rattle.pc_spec_reading.specs.Outcome.{bad_type, done, fault, invalid, over, past, unsupported}
+use Rattle.pc_spec_reading.specs.Outcome.{bad_type, done, fault, invalid, over, past, unknown_intrinsic, unsupported}
 use Rattle.pc_spec_reading.specs.Reading.{Reading, reading_of}
 use Rattle.pc_spec_reading.specs.Scope.{Moment}
 use Rattle.pc_spec_reading.specs.Total.{body_weight, prepared_weight}
@@ -50,6 +50,7 @@ IsCrowded t ms limit body st =
 abbrev pub IsBuiltEnd : TypeTable → List ModuleRecord → (limit : ℕ) → Items → State → Error → Type 0
 IsBuiltEnd t ms limit body st (error.Invalid p) = built_reading t ms limit body ≡ fault invalid p
 IsBuiltEnd t ms limit body st (error.BadType p) = built_reading t ms limit body ≡ fault bad_type p
+IsBuiltEnd t ms limit body st (error.UnknownIntrinsic p) = built_reading t ms limit body ≡ fault unknown_intrinsic p
 IsBuiltEnd t ms limit body st (error.Unsupported u p) = built_reading t ms limit body ≡ fault (unsupported u) p
 IsBuiltEnd t ms limit body st error.TooManyInstances = built_reading t ms limit body ≡ over
 IsBuiltEnd t ms limit body st error.TooMany = IsCrowded t ms limit body st

@@ -16,7 +16,8 @@ use Rattle.pc_spec_reading.specs.Member.{a_value, member}
 use Rattle.pc_spec_reading.specs.Outcome.{Fault, found, held, invalid}
 use Rattle.pc_spec_reading.specs.Rows.{read_row}
 use Rattle.pc_spec_reading.specs.Scope.{Moment, add_value}
-use Rattle.pc_spec_reading.specs.Value.{Instance, NamedValues, Value, instance_value, made_instance, value_named}
+use Rattle.pc_spec_reading.specs.Value.{Instance, NamedValues, Value, instance_value, made_instance, the_intrinsics}
+use Rattle.pc_spec_reading.specs.Value.{value_named}
 use Rattle.pc_inline_paths.specs.declared.path_id.PathId.{PathId}
 use Rattle.pc_inline_state.specs.declared.definition.Definition.{Definition}
 use Rattle.pc_inline_state.specs.declared.definition.Definition.TheVariants as definition
@@ -34,7 +35,7 @@ use Rattle.pc_inline_state.specs.Lists.{with_item_id}
 use Rattle.pc_inline_state.specs.Members.{item_of}
 use Rattle.pc_inline_state.specs.Points.{Follows, PointStands, Steps, StepsItem}
 use Rattle.pc_inline_state.specs.Stands.{DefinitionStands, MembersStand, Stands, stands, stands_host_instance}
-use Rattle.pc_inline_state.specs.Stands.{stands_instance}
+use Rattle.pc_inline_state.specs.Stands.{stands_instance, stands_intrinsics}
 use Rattle.pc_inline_state.specs.Tables.{tables_of}
 use Rattle.pc_inline_state.specs.Today.{built_row}
 use Rattle.pc_inline_state.proofs.ZipLemmas.{both_missing, both_there, zip_at}
@@ -64,26 +65,31 @@ alias_made_is k now name vs tree = same_taken k now (value_named name vs)
 abbrev is_made_source : InstanceSource → Bool
 is_made_source (source.Made n) = true
 is_made_source (source.Host p ty entry) = false
+is_made_source source.Intrinsics = false
 
 -- the number of what an instance exports that was made
 abbrev made_number : InstanceSource → ℕ
 made_number (source.Made n) = n.0
 made_number (source.Host p ty entry) = 0
+made_number source.Intrinsics = 0
 
 -- the path of one of the host
 abbrev host_path : InstanceSource → PathId
 host_path (source.Made n) = record { 0 = 0 }
 host_path (source.Host p ty entry) = p
+host_path source.Intrinsics = record { 0 = 0 }
 
 -- its type
 abbrev host_type : InstanceSource → TypeComponentInstanceIndex
 host_type (source.Made n) = record { 0 = 0 }
 host_type (source.Host p ty entry) = ty
+host_type source.Intrinsics = record { 0 = 0 }
 
 -- and its entry
 abbrev host_entry : InstanceSource → ℕ
 host_entry (source.Made n) = 0
 host_entry (source.Host p ty entry) = entry
+host_entry source.Intrinsics = 0
 
 -- the definition of an instance that was made
 made_source : (o : Option Definition) (e : ExportsId) → option_and_then instance_source o ≡ Some (source.Made e)
@@ -94,6 +100,8 @@ made_source (Some (definition.Instance n ty)) e h =
     (ty, λ i. Some (definition.Instance (record { 0 = number i }) ty))
 made_source (Some (definition.HostInstance p ty entry)) e h =
     absurd (true≢false (sym (ap is_made_source (same_Some (source.Host p ty entry) (source.Made e) h))))
+made_source (Some definition.Intrinsics) e h =
+    absurd (true≢false (sym (ap is_made_source (same_Some source.Intrinsics (source.Made e) h))))
 made_source (Some _) e h = absurd (none-some _ h)
 
 -- the definition of one of the host
@@ -105,7 +113,18 @@ host_source (Some (definition.Instance n t)) p ty entry h =
 host_source (Some (definition.HostInstance q t n)) p ty entry h =
     let same = same_Some (source.Host q t n) (source.Host p ty entry) h in
     λ i. Some (definition.HostInstance (host_path (same i)) (host_type (same i)) (host_entry (same i)))
+host_source (Some definition.Intrinsics) p ty entry h = absurd (let k : ⊥ = cc in k)
 host_source (Some _) p ty entry h = absurd (none-some _ h)
+
+-- the definition of the intrinsics
+intrinsics_source : (o : Option Definition) → option_and_then instance_source o ≡ Some source.Intrinsics
+    → o ≡ Some definition.Intrinsics
+intrinsics_source None h = absurd (none-some _ h)
+intrinsics_source (Some definition.Intrinsics) h = refl
+intrinsics_source (Some (definition.Instance n t)) h =
+    absurd (true≢false (ap is_made_source (same_Some (source.Made n) source.Intrinsics h)))
+intrinsics_source (Some (definition.HostInstance q t n)) h = absurd (let k : ⊥ = cc in k)
+intrinsics_source (Some _) h = absurd (none-some _ h)
 
 -- Of an instance that was made.
 module _ (t : TypeTable) (ms : List ModuleRecord) (st : State) (f : Frame) (k : ItemKind) (n : ExportsId)
@@ -172,7 +191,7 @@ module _ (t : TypeTable) (ms : List ModuleRecord) (st : State) (f : Frame) (k : 
   pub instance_misses : (st' : State) (f' : Frame) → slice_get f.instances n ≡ None
       → StepsItem t ms alias st f st' f' (Err (item_error.Fault item_fault.Invalid))
   instance_misses st' f' none = steps_stuck t ms reads st f st' f' item_fault.Invalid (λ now at.
-      row_stuck t ms now alias invalid refl
+      row_stuck t ms now alias invalid
       (alias_none now (both_missing (InstanceStands ms (tables_of st)) _ _
       (zip_at (InstanceStands ms (tables_of st)) f.instances now.scope.instances n at.frame.instances) none)))
 
@@ -202,7 +221,7 @@ module _ (t : TypeTable) (ms : List ModuleRecord) (st : State) (f : Frame) (k : 
     alias_of_made e from st' f' r follows now at =
         let i = its_instance now at in
         let d = made_source (slice_get st.definitions id.0) e from in
-        follows_row t ms st' f' now alias refl (alias_in now k name i.0) (alias_row now i.0 i.1) r
+        follows_row t ms st' f' now alias (alias_in now k name i.0) (alias_row now i.0 i.1) r
         (by d.0 i.0 (defined_as (definition.Instance e d.0) d.1 (instance_value i.0) i.2))
       where
         by : (ty : TypeComponentInstanceIndex) (i : Instance) → DefinitionStands ms (tables_of st)
@@ -220,7 +239,7 @@ module _ (t : TypeTable) (ms : List ModuleRecord) (st : State) (f : Frame) (k : 
     alias_of_host p ty entry from st' f' r follows now at =
         let i = its_instance now at in
         let is = host_source (slice_get st.definitions id.0) p ty entry from in
-        follows_row t ms st' f' now alias refl (alias_in now k name i.0) (alias_row now i.0 i.1) r
+        follows_row t ms st' f' now alias (alias_in now k name i.0) (alias_row now i.0 i.1) r
         (follows now i.0 at (defined_as (definition.HostInstance p ty entry) is (instance_value i.0) i.2))
 
     -- what one of the host is
@@ -235,7 +254,23 @@ module _ (t : TypeTable) (ms : List ModuleRecord) (st : State) (f : Frame) (k : 
               (host_source (slice_get st.definitions id.0) p ty entry from) (instance_value i.0) i.2,
         )
 
-    -- it is neither: that isn't so
+    -- it is that of the unsafe intrinsics
+    pub alias_of_intrinsics : option_and_then instance_source (slice_get st.definitions id.0) ≡ Some source.Intrinsics
+        → (st' : State) (f' : Frame) (r : Result ⊤ ItemError)
+        → ((now : Moment) → PointStands t ms st f now → Follows t ms st' f' (alias_in now k name the_intrinsics) r)
+        → StepsItem t ms alias st f st' f' r
+    unfolding Steps
+    alias_of_intrinsics from st' f' r follows now at =
+        let i = its_instance now at in
+        follows_row t ms st' f' now alias (alias_in now k name i.0) (alias_row now i.0 i.1) r
+        (by i.0 (defined_as definition.Intrinsics (intrinsics_source (slice_get st.definitions id.0) from)
+        (instance_value i.0) i.2))
+      where
+        by : (i : Instance) → DefinitionStands ms (tables_of st) definition.Intrinsics (instance_value i)
+            → Follows t ms st' f' (alias_in now k name i) r
+        by i stands_intrinsics = follows now at
+
+    -- it is none of these: that isn't so
     pub alias_of_none : option_and_then instance_source (slice_get st.definitions id.0) ≡ None → (st' : State)
         (f' : Frame) (r : Result ⊤ ItemError) → StepsItem t ms alias st f st' f' r
     unfolding Steps
@@ -246,4 +281,6 @@ module _ (t : TypeTable) (ms : List ModuleRecord) (st : State) (f : Frame) (k : 
         neither_is i (stands held (stands_instance there exported typed)) =
             none-some _ (sym none ∙ ap (option_and_then instance_source) held)
         neither_is i (stands held (stands_host_instance there host declared typed)) =
+            none-some _ (sym none ∙ ap (option_and_then instance_source) held)
+        neither_is i (stands held stands_intrinsics) =
             none-some _ (sym none ∙ ap (option_and_then instance_source) held)

@@ -185,7 +185,7 @@ module _ (t : TypeTable) (ms : List ModuleRecord) (body : Items) where
   -- one that can't
   undefined_read : (now : Moment) → is_definable (chain_of now.scope) zero body ≡ false → reads now ≡ Err invalid
   unfolding read_row read_component
-  undefined_read now none = row_stuck t ms now (component_item body) invalid refl (rw (none) refl)
+  undefined_read now none = row_stuck t ms now (component_item body) invalid (rw (none) refl)
 
 module _ (t : TypeTable) (ms : List ModuleRecord) (k : Option ClosureId) (s : StaticComponentIndex)
     (vars : ClosedOverVars) (st : State) (f : Frame) where
@@ -294,7 +294,7 @@ module _ (t : TypeTable) (ms : List ModuleRecord) (k : Option ClosureId) (s : St
           now = next;
           stands = framed_point t ms end f with_it now (with_value now.scope v) at_end refl refl refl
               (component_framed ms c f now.scope at_end.frame key (closed body chain) is);
-          done = row_goes t ms now next (component_item body) refl (defined_read t ms body now definable)
+          done = row_goes t ms now next (component_item body) (defined_read t ms body now definable)
               at.world.no_adapters;
         }
 

@@ -45,7 +45,7 @@ module _ (t : TypeTable) (ms : List ModuleRecord) (st : State) (f : Frame) (name
       → StepsItem t ms export st f st f' (Err (item_error.Fault item_fault.BadType))
   unfolding read_row read_export
   export_untyped f' none = steps_stuck t ms reads st f st f' item_fault.BadType (λ now at.
-      row_stuck t ms now export bad_type refl (rw (typed_same t k n ∙ none) refl))
+      row_stuck t ms now export bad_type (rw (typed_same t k n ∙ none) refl))
 
   module _ (typed : is_typed t k n ≡ true) where
     export_none : (now : Moment) → value_at t now.scope k n ≡ None → read_row t ms now export ≡ Err invalid
@@ -64,7 +64,7 @@ module _ (t : TypeTable) (ms : List ModuleRecord) (st : State) (f : Frame) (name
         record {
           now = now;
           stands = at;
-          done = row_goes t ms now now export refl
+          done = row_goes t ms now now export
               (export_some now (type_value x.0) (ap (λ j. value_at t now.scope j n) is ∙ x.1)) at.world.no_adapters;
         })
 
@@ -77,14 +77,14 @@ module _ (t : TypeTable) (ms : List ModuleRecord) (st : State) (f : Frame) (name
       pub export_misses : (f' : Frame) → slice_get (item_ids f k) n ≡ None
           → StepsItem t ms export st f st f' (Err (item_error.Fault item_fault.Invalid))
       export_misses f' none = steps_stuck t ms reads st f st f' item_fault.Invalid (λ now at.
-          row_stuck t ms now export invalid refl
+          row_stuck t ms now export invalid
           (export_none now (both_missing (Stands ms (tables_of st)) _ _ (there now at) none)))
 
       export_goes : (id : DefinitionId) → slice_get (item_ids f k) n ≡ Some id → (now : Moment)
           → PointStands t ms st f now → Goes t ms st (with_item_id f k id) (reads now)
       export_goes id some now at =
           let v = both_there (Stands ms (tables_of st)) _ _ id (there now at) some in
-          item_goes t ms st f now at k id v.0 v.2 (item_kind t now.scope k n v.0 v.1) export refl
+          item_goes t ms st f now at k id v.0 v.2 (item_kind t now.scope k n v.0 v.1) export
           (export_some now v.0 v.1)
 
       -- the item stands at the end once more

@@ -1,5 +1,5 @@
 -- What follows a row that does what a part of it does, and what component instances hold.
-use Rattle.std.proofs.Common.{◌≡◌, ◌<◌, ℕ, true, List, length, Some, Result, Ok, Err, sym}
+use Rattle.std.proofs.Common.{◌≡◌, ◌<◌, ℕ, List, length, Some, Result, Ok, Err, sym}
 use Rattle.std.proofs.Common.{subst, ◌∙◌, zero, suc}
 use Rattle.std.specs.Prelude.{⊤, slice_get}
 use Rattle.std.specs.Result.{IsErrAnd}
@@ -25,26 +25,26 @@ use Rattle.pc_inline_state.specs.Refused.{LacksRoom}
 use Rattle.pc_inline_state.specs.Stands.{MembersStand, Stands, and_member, no_members, stands}
 use Rattle.pc_inline_state.specs.TakesPath.{SoundWithPaths}
 use Rattle.pc_inline_state.specs.Tables.{Keeps, Tables, tables_of}
-use Rattle.pc_inline_state.specs.Today.{built_row, is_built}
+use Rattle.pc_inline_state.specs.Today.{built_row}
 use Rattle.pc_inline_state.specs.Worlds.{HasNoExports, WorldStands}
 use Rattle.pc_inline_canon.proofs.KeptLemmas.{frame_kept}
 use Rattle.pc_inline_canon.proofs.StepLemmas.{row_goes, row_stuck}
 
 module _ (t : TypeTable) (ms : List ModuleRecord) (st : State) (f : Frame) where
-  -- a row of a built kind does what a part of it does that it comes to
-  pub follows_row : (now : Moment) (i : Item) → is_built i ≡ true → (reads : Result Moment Fault)
+  -- a row does what a part of it does that it comes to
+  pub follows_row : (now : Moment) (i : Item) (reads : Result Moment Fault)
       → read_row t ms now i ≡ reads → (r : Result ⊤ ItemError) → Follows t ms st f reads r
       → Follows t ms st f (built_row t ms now i) r
   unfolding Follows
-  follows_row now i built reads row (Ok x) h = record {
+  follows_row now i reads row (Ok x) h = record {
     now = h.now;
     stands = h.stands;
-    done = row_goes t ms now h.now i built (row ∙ h.done) h.stands.world.no_adapters;
+    done = row_goes t ms now h.now i (row ∙ h.done) h.stands.world.no_adapters;
   }
-  follows_row now i built reads row (Err (item_error.Fault k)) h =
-      row_stuck t ms now i (fault_of k) built (row ∙ h)
-  follows_row now i built reads row (Err item_error.TooMany) h = h
-  follows_row now i built reads row (Err item_error.NoMemory) h = h
+  follows_row now i reads row (Err (item_error.Fault k)) h =
+      row_stuck t ms now i (fault_of k) (row ∙ h)
+  follows_row now i reads row (Err item_error.TooMany) h = h
+  follows_row now i reads row (Err item_error.NoMemory) h = h
 
   -- a reading that is equal to another
   pub follows_as : (reads others : Result Moment Fault) → others ≡ reads → (r : Result ⊤ ItemError)

@@ -1,5 +1,5 @@
 -- The step of a local item from that of its kind.
-use Rattle.std.proofs.Common.{◌≡◌, ◌+◌, ◌<◌, true, ℕ, List, Option, Result, map, refl, ap, sym, subst}
+use Rattle.std.proofs.Common.{◌≡◌, ◌+◌, ◌<◌, true, ℕ, List, Option, Result, map, refl, ap, sym, subst, ◌∙◌}
 use Rattle.std.specs.Prelude.{⊤}
 use Rattle.pc_numbers.specs.declared.component_entity.StaticModuleIndex.{StaticModuleIndex}
 use Rattle.pc_numbers.specs.declared.entity_index.EntityIndex.{EntityIndex}
@@ -15,8 +15,8 @@ use Rattle.pc_parsed.specs.declared.payload.ExternName.{ExternName}
 use Rattle.pc_parsed.specs.declared.payload.ItemKind.{ItemKind}
 use Rattle.pc_spec_reading.specs.Item.{alias_item, component_exports_item, core_alias_item, core_exports_item}
 use Rattle.pc_spec_reading.specs.Item.{export_item}
-use Rattle.pc_spec_reading.specs.Item.{import_item, instantiate_module_item, lift_item, lower_item, module_item}
-use Rattle.pc_spec_reading.specs.Item.{resource_item}
+use Rattle.pc_spec_reading.specs.Item.{import_item, instantiate_module_item, intrinsics_import, lift_item, lower_item}
+use Rattle.pc_spec_reading.specs.Item.{module_item, resource_item}
 use Rattle.pc_spec_reading.specs.Section.{named_item}
 use Rattle.pc_local.specs.declared.item.LocalInitializer.{LocalInitializer}
 use Rattle.pc_local.specs.declared.item.LocalInitializer.TheVariants as local
@@ -93,6 +93,32 @@ module _ {t : TypeTable} {a : Tables} {cs ds : List Change} {x y : RuntimeCompon
     steps = steps h.steps;
   }
 
+  -- from one that promises it whatever the table, and may add to the tables, but no resource
+  pub added : {b : Tables} {l m : LocalInitializer} → l ≡ m → most_added t m ≡ 4
+      → record {
+        keeps : Keeps a b;
+        adds : (u : TypeTable) → Adds u 4 a b;
+        resources : b.types.resources ≡ a.types.resources;
+        changes : ds ≡ cs;
+        same : x ≡ y;
+        steps : S;
+      }
+      → (S → T)
+      → record {
+        keeps : Keeps a b;
+        adds : Adds t (most_added t l) a b;
+        trail : Trails cs a.types.resources ds b.types.resources;
+        same : x ≡ y;
+        steps : T;
+      }
+  added {b = b} is four h steps = record {
+    keeps = h.keeps;
+    adds = subst (λ n. Adds t n a b) (sym (ap (most_added t) is ∙ four)) (h.adds t);
+    trail = trails_same cs a.types.resources ds b.types.resources h.changes h.resources;
+    same = h.same;
+    steps = steps h.steps;
+  }
+
   -- from one that may
   pub moved : {b : Tables} {l m : LocalInitializer} → l ≡ m
       → record {
@@ -132,6 +158,12 @@ module _ (t : TypeTable) (ms : List ModuleRecord) (c : Option ClosureId) (st : S
   unfolding plain_item
   import_local {name = name} {ty = ty} is =
       local_plain t ms c st f st' f' r l (import_item name ty) (ap plain_item is)
+
+  -- import of the intrinsics
+  pub intrinsics_local : l ≡ local.IntrinsicsImport → StepsItem t ms intrinsics_import st f st' f' r
+      → StepsLocal t ms c l st f st' f' r
+  unfolding plain_item
+  intrinsics_local is = local_plain t ms c st f st' f' r l intrinsics_import (ap plain_item is)
 
   -- resource
   pub resource_local : {id : ℕ} {representation : WasmValType} {destructor : Option ℕ}

@@ -10,9 +10,10 @@ mod OuterLemmas
 mod ExportStepLemmas
 mod AliasLemmas
 mod HostAliasLemmas
+mod IntrinsicLemmas
 mod MadeLemmas
 mod TakenLemmas
-mod UnbuiltLemmas
 pub mod LocalLemmas
 mod KindLemmas
+mod BuiltinLemmas
 mod WholeLemmas

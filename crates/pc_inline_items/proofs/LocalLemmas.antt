@@ -1,9 +1,8 @@
 -- The step of a local item from the step of the item that it stands for.
-use Rattle.std.proofs.Common.{◌≡◌, ℕ, List, ap, map, false, Option, Some, Result, Err, subst, refl, sym, ◌∙◌}
+use Rattle.std.proofs.Common.{◌≡◌, ℕ, List, ap, map, Option, Some, Result, Err, subst, refl}
 use Rattle.std.specs.Prelude.{⊤}
 use Rattle.std.specs.Result.{IsErrAnd}
 use Rattle.std.proofs.lemmas.Option.{none-some}
-use Rattle.pc_types.specs.declared.error.Unsupported.TheVariants.{NotBuilt}
 use Rattle.pc_types.specs.declared.module_record.ModuleRecord.{ModuleRecord}
 use Rattle.pc_types.specs.declared.parsed.TypeTable.{TypeTable}
 use Rattle.pc_parsed.specs.declared.payload.ItemKind.{ItemKind}
@@ -25,11 +24,9 @@ use Rattle.pc_inline_state.specs.declared.error.ItemFault.TheVariants as item_fa
 use Rattle.pc_inline_state.specs.Points.{Follows, Steps, StepsItem}
 use Rattle.pc_inline_state.specs.Refused.{LacksRoom}
 use Rattle.pc_inline_items.specs.StepsLocal.{StepsLocal}
-use Rattle.pc_inline_state.specs.Today.{built_row, today}
+use Rattle.pc_inline_state.specs.Today.{built_row}
 use Rattle.pc_inline_canon.proofs.PassedLemmas.{passed_lacking, passed_unfed}
 use Rattle.pc_inline_canon.proofs.StepLemmas.{row_stuck, steps_stuck}
-use Rattle.pc_inline_items.proofs.UnbuiltLemmas.{is_built_local, item_same}
-use Rattle.pc_spec_reading.specs.Reading.{row}
 
 -- one of two that are Some
 one_item : (x : Option Item) (i j : Item) → x ≡ Some i → x ≡ Some j → i ≡ j
@@ -68,14 +65,6 @@ module _ (t : TypeTable) (ms : List ModuleRecord) (k : Option ClosureId) (st : S
   local_crowded l e is lacks names i stands now at enclosed =
       passed_lacking t ms (λ now. built_row t ms now i) st f st' f' r e is lacks now at
 
--- a local item of a kind that isn't built
-pub local_unbuilt : (t : TypeTable) (ms : List ModuleRecord) (k : Option ClosureId) (st : State) (f : Frame)
-    (l : LocalInitializer) → is_built_local l ≡ false
-    → StepsLocal t ms k l st f st f (Err (item_error.Fault (item_fault.Unsupported NotBuilt)))
-unfolding StepsLocal Follows row today
-local_unbuilt t ms k st f l no_kind names i stands now at enclosed =
-    rw (sym (item_same stands) ∙ no_kind) refl
-
 -- the instantiation of a component has no row
 pub local_instantiated : (t : TypeTable) (ms : List ModuleRecord) (k : Option ClosureId) (st : State) (f : Frame)
     (st' : State) (f' : Frame) (l : LocalInitializer) (component : ℕ) (args : List (List ℕ × ItemKind × ℕ)) (ty : ℕ)
@@ -87,4 +76,4 @@ local_instantiated t ms k st f st' f' l component args ty is =
     (instantiate_component_item component (map argument_of args) ty) (ap plain_item is)
     (steps_stuck t ms (λ now. built_row t ms now (instantiate_component_item component (map argument_of args) ty))
     st f st' f' item_fault.Invalid
-    (λ now at. row_stuck t ms now (instantiate_component_item component (map argument_of args) ty) invalid refl refl))
+    (λ now at. row_stuck t ms now (instantiate_component_item component (map argument_of args) ty) invalid refl))

@@ -1,5 +1,5 @@
 -- Component instances from what they export: `add_instance`, and the step of an instance from items.
-use Rattle.std.proofs.Common.{◌≡◌, ◌∙◌, ◌<◌, ◌+◌, ◌*◌, ℕ, List, [], ◌∷◌, ◌++◌, length, true, false, Option, None, Some}
+use Rattle.std.proofs.Common.{◌≡◌, ◌∙◌, ◌<◌, ◌+◌, ◌*◌, ℕ, List, [], ◌∷◌, ◌++◌, length, true, false, None, Some}
 use Rattle.std.proofs.Common.{Result, Ok, Err, refl, sym, subst, ap, map, arith}
 use Rattle.std.specs.Prelude.{⊤, Contains, slice_get}
 use Rattle.std.proofs.lemmas.List.{length-append}
@@ -10,11 +10,11 @@ use Rattle.pc_entity.proofs.Growing.{slice_get-append_seam}
 use Rattle.pc_types.specs.declared.module_record.ModuleRecord.{ModuleRecord}
 use Rattle.pc_types.specs.declared.parsed.TypeTable.{TypeTable}
 use Rattle.pc_types.specs.declared.type_index.TypeComponentInstanceIndex.{TypeComponentInstanceIndex}
-use Rattle.pc_types.specs.declared.types.TypeDef.{TypeDef}
 use Rattle.pc_types.specs.declared.types.TypeDef.TheVariants as type
 use Rattle.pc_types.specs.Table.{is_instance, table_fault}
 use Rattle.pc_types.specs.TypeTree.{TypeTree}
 use Rattle.pc_types_lists.specs.Adds.{most_types}
+use Rattle.pc_types_builder.specs.Plain.{Layers}
 use Rattle.pc_types_builder.specs.Trees.{IsEntry}
 use Rattle.pc_parsed.specs.declared.payload.ExternName.{ExternName}
 use Rattle.pc_parsed.specs.declared.payload.ItemKind.{ItemKind}
@@ -62,7 +62,7 @@ contains_place : {A : Type 0} (xs : List A) (x : A) → Contains xs x → (k : �
 contains_place xs x c = (c.0, slice_get-get_or xs c.0 x c.1 ∙ ap Some c.2)
 
 -- An instance that was added, after its type was converted.
-module _ (t : TypeTable) (ms : List ModuleRecord) (st : State) (f : Frame) (mid : State) (done : List (Option TypeDef))
+module _ (t : TypeTable) (ms : List ModuleRecord) (st : State) (f : Frame) (mid : State) (done : Layers)
     (converts : Converts t st f.converted mid done) (ty : ℕ) (has : has_entry t is_instance ty ≡ true)
     (i : TypeComponentInstanceIndex) (entry : IsEntry mid.types t ty (type.ComponentInstance i))
     (es : List (List ℕ × Member)) (n : ExportsId) (number : n.0 ≡ length mid.instances) (key : DefinitionId)
@@ -114,7 +114,7 @@ module _ (t : TypeTable) (ms : List ModuleRecord) (st : State) (f : Frame) (mid 
 
 -- the same of states and of a frame that are equal to these
 pub instance_done : (t : TypeTable) (ms : List ModuleRecord) (st : State) (f : Frame) (mid : State)
-    (done : List (Option TypeDef)) → Converts t st f.converted mid done → (ty : ℕ) → has_entry t is_instance ty ≡ true
+    (done : Layers) → Converts t st f.converted mid done → (ty : ℕ) → has_entry t is_instance ty ≡ true
     → (i : TypeComponentInstanceIndex) → IsEntry mid.types t ty (type.ComponentInstance i)
     → (es : List (List ℕ × Member)) (n : ExportsId) → n.0 ≡ length mid.instances → (key : DefinitionId)
     (st1 st2 : State) (is : List DefinitionId) → st1 ≡ record mid { instances = mid.instances ++ es ∷ [] }
@@ -134,7 +134,7 @@ instance_done t ms st f mid done converts ty has i entry es n number key st1 st2
     (instance_added t ms st f mid done converts ty has i entry es n number key same now vs at members r))
 
 -- what a step keeps and adds after a type was converted
-module _ (t : TypeTable) (st mid : State) (before after : List (Option TypeDef))
+module _ (t : TypeTable) (st mid : State) (before after : Layers)
     (converts : Converts t st before mid after)
     (few : Adds t (most_types t) (tables_of st) (tables_of mid)) where
   -- that alone
@@ -175,7 +175,7 @@ module _ (t : TypeTable) (ms : List ModuleRecord) (xs : List (ExternName × Item
       → StepsItem t ms from_items st f st' f' (Err (item_error.Fault item_fault.BadType))
   unfolding read_row read_component_exports tree_if
   exports_untyped st f st' f' none = steps_stuck t ms _ st f st' f' item_fault.BadType (λ now at.
-      row_stuck t ms now from_items bad_type refl (rw (none) refl))
+      row_stuck t ms now from_items bad_type (rw (none) refl))
 
   module _ (sound : table_fault t ≡ None) (has : has_entry t is_instance ty ≡ true) where
     -- the number of a type is missing
@@ -184,7 +184,7 @@ module _ (t : TypeTable) (ms : List ModuleRecord) (xs : List (ExternName × Item
     unfolding read_row read_component_exports
     exports_unheld st f st' f' none = steps_stuck t ms _ st f st' f' item_fault.BadType (λ now at.
         let tree = instance_tree t sound now.scope ty has in
-        row_stuck t ms now from_items bad_type refl (rw (tree.1, exports_typed t xs ∙ none) refl))
+        row_stuck t ms now from_items bad_type (rw (tree.1, exports_typed t xs ∙ none) refl))
 
     module _ (typed : are_typed t xs ≡ true) where
       -- an item is missing
@@ -194,7 +194,7 @@ module _ (t : TypeTable) (ms : List ModuleRecord) (xs : List (ExternName × Item
       exports_miss st f st' f' missing = steps_stuck t ms _ st f st' f' item_fault.Invalid (λ now at.
           let tree = instance_tree t sound now.scope ty has in
           let none = exports_lack t ms (tables_of st) f now.scope at.frame sound xs typed missing in
-          row_stuck t ms now from_items invalid refl (rw (tree.1, exports_typed t xs ∙ typed, none) refl))
+          row_stuck t ms now from_items invalid (rw (tree.1, exports_typed t xs ∙ typed, none) refl))
 
       -- none is
       made_row : (now : Moment) (vs : List NamedValue)
@@ -213,5 +213,5 @@ module _ (t : TypeTable) (ms : List ModuleRecord) (xs : List (ExternName × Item
       exports_follow st f there st' f' r follows now at =
           let vs = exports_at t now.scope (map named_item xs) in
           let all = exports_all t ms (tables_of st) f now.scope at.frame sound xs typed there in
-          follows_row t ms st' f' now from_items refl (made_of t ty (pack_values vs) now) (made_row now vs all) r
+          follows_row t ms st' f' now from_items (made_of t ty (pack_values vs) now) (made_row now vs all) r
           (follows now at)

@@ -82,7 +82,7 @@ module _ (t : TypeTable) (ms : List ModuleRecord) (j : Lent) (c n : ℕ) where
       → built_row t ms now (outer_item j c n) ≡ Err invalid
   unfolding read_row read_outer
   outer_unread now none =
-      row_stuck t ms now (outer_item j c n) invalid refl (rw (outer_lent now.scope j c n ∙ none) refl)
+      row_stuck t ms now (outer_item j c n) invalid (rw (outer_lent now.scope j c n ∙ none) refl)
 
 module _ (t : TypeTable) (ms : List ModuleRecord) (k : Option ClosureId) (st : State) (f : Frame) where
   abbrev b : Tables
@@ -143,7 +143,7 @@ module _ (t : TypeTable) (ms : List ModuleRecord) (k : Option ClosureId) (st : S
         now = add_value now value;
         stands = framed_point t ms st f (record f { modules = f.modules ++ id ∷ [] }) now (with_value now.scope value)
             at refl refl refl (module_framed ms b f now.scope at.frame id m.0 (subst (Stands ms b id) m.1 x.2));
-        done = row_goes t ms now (add_value now value) (outer_item a_module c n) refl
+        done = row_goes t ms now (add_value now value) (outer_item a_module c n)
             (outer_read t ms a_module c n now value lent) at.world.no_adapters;
       })
 
@@ -164,6 +164,6 @@ module _ (t : TypeTable) (ms : List ModuleRecord) (k : Option ClosureId) (st : S
         stands = framed_point t ms st f (record f { components = f.components ++ id ∷ [] }) now
             (with_value now.scope value) at refl refl refl
             (component_framed ms b f now.scope at.frame id m.0 (subst (Stands ms b id) m.1 x.2));
-        done = row_goes t ms now (add_value now value) (outer_item a_component c n) refl
+        done = row_goes t ms now (add_value now value) (outer_item a_component c n)
             (outer_read t ms a_component c n now value lent) at.world.no_adapters;
       })

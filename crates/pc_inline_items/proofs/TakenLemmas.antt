@@ -69,7 +69,7 @@ module _ (t : TypeTable) (ms : List ModuleRecord) (st : State) (f : Frame) (name
       → StepsItem t ms import st f st' f' (Err (item_error.Fault item_fault.BadType))
   unfolding read_row read_import
   import_untyped st' f' isnt = steps_stuck t ms _ st f st' f' item_fault.BadType (λ now at.
-      row_stuck t ms now import bad_type refl (rw (isnt) refl))
+      row_stuck t ms now import bad_type (rw (isnt) refl))
 
   module _ (typed : names_entry t e ≡ true) where
     -- what the row makes of an argument, or of none
@@ -87,14 +87,14 @@ module _ (t : TypeTable) (ms : List ModuleRecord) (st : State) (f : Frame) (name
       pub import_absent : (st' : State) (f' : Frame) → is_plain_type t e ≡ false
           → StepsItem t ms import st f st' f' (Err (item_error.Fault item_fault.Invalid))
       import_absent st' f' other = steps_stuck t ms _ st f st' f' item_fault.Invalid (λ now at.
-          row_stuck t ms now import invalid refl (untaken now at ∙ rw (other) refl))
+          row_stuck t ms now import invalid (untaken now at ∙ rw (other) refl))
 
       -- none is needed
       pub import_plain : is_plain_type t e ≡ true → (r : ⊤) → StepsItem t ms import st f st f (Ok r)
       import_plain plain r = steps_on t ms _ st f st f r (λ now at. record {
         now = now;
         stands = at;
-        done = row_goes t ms now now import refl (untaken now at ∙ rw (plain) refl) at.world.no_adapters;
+        done = row_goes t ms now now import (untaken now at ∙ rw (plain) refl) at.world.no_adapters;
       })
 
     module _ (id : DefinitionId) (there : value_of name.name f.arguments ≡ Some id) where
@@ -110,7 +110,7 @@ module _ (t : TypeTable) (ms : List ModuleRecord) (st : State) (f : Frame) (name
       import_other st' f' isnt = steps_stuck t ms _ st f st' f' item_fault.Invalid (λ now at.
           let v = argument now at in
           let other = kind_same e v.0 ∙ sym (stands_kind ms (tables_of st) (kind_of e) id v.0 v.2) ∙ isnt in
-          row_stuck t ms now import invalid refl (taken_row now ∙ ap (take_if t now e) v.1 ∙ rw (other) refl))
+          row_stuck t ms now import invalid (taken_row now ∙ ap (take_if t now e) v.1 ∙ rw (other) refl))
 
       module _ (does : is_some_and (definitions.is_of_kind (kind_of e)) (slice_get st.definitions id.0) ≡ true)
           (st1 : State) (f1 : Frame) where
@@ -154,7 +154,7 @@ module _ (t : TypeTable) (ms : List ModuleRecord) (st : State) (f : Frame) (name
                 → StepsItem t ms import st f st1 f1 (Err y)
             by (item_error.Fault k) steps now at =
                 let v = argument now at in
-                row_stuck t ms now import (fault_of k) refl
+                row_stuck t ms now import (fault_of k)
                 (row_is now at ∙ stays now v.0 (fault_of k) (found_for now v.0) (steps v.0 v.2 now at))
             by item_error.TooMany steps now at = let v = argument now at in steps v.0 v.2 now at
             by item_error.NoMemory steps now at = tt
@@ -172,7 +172,7 @@ module _ (t : TypeTable) (ms : List ModuleRecord) (st : State) (f : Frame) (name
               now = next;
               stands = item_point t ms st1 f1 goes.now goes.stands (kind_of e) id v.0
                   (stands_kept ms (tables_of st) (tables_of st1) keeps id v.0 v.2) (is_kind now at);
-              done = row_goes t ms now next import refl
+              done = row_goes t ms now next import
                   (row_is now at ∙ goes_on now goes.now v.0 (found_for now v.0) goes.done)
                   goes.stands.world.no_adapters;
             })

@@ -7,6 +7,7 @@ use Rattle.pc_types.specs.declared.parsed.DeclType.{DeclType}
 use Rattle.pc_types.specs.declared.parsed.TypeTable.{TypeTable}
 use Rattle.pc_types.specs.declared.types.TypeDef.{TypeDef}
 use Rattle.pc_types_lists.specs.Adds.{most_types}
+use Rattle.pc_types_builder.specs.Plain.{Layers}
 use Rattle.pc_types_builder.specs.Trees.{IsEntry}
 use Rattle.pc_parsed.specs.declared.payload.ItemKind.TheVariants as kind
 use Rattle.pc_spec_reading.specs.Items.{value_at}
@@ -73,7 +74,7 @@ module _ (t : TypeTable) (ms : List ModuleRecord) where
     stands = p.stands;
   }
 
-  module _ (a : State) (f : Frame) (b : State) (done : List (Option TypeDef))
+  module _ (a : State) (f : Frame) (b : State) (done : Layers)
       (converts : Converts t a f.converted b done) (few : Adds t (most_types t) (tables_of a) (tables_of b)) where
     abbrev with_done : Frame
     with_done = record f { converted = done }

@@ -1,16 +1,17 @@
--- What becomes of an alias of what a component instance of the host exports.
-use Rattle.std.specs.Prelude.{◌≡◌, ⊤, ℕ, List, Result, Some, slice_get}
+-- What becomes of an alias of what a component instance of the host exports, and of a definition that becomes an item.
+use Rattle.std.specs.Prelude.{◌≡◌, ⊤, ℕ, List, Result, Ok, Some, true, slice_get}
 use Rattle.pc_types.specs.declared.module_record.ModuleRecord.{ModuleRecord}
 use Rattle.pc_types.specs.declared.parsed.TypeTable.{TypeTable}
 use Rattle.pc_types.specs.declared.type_index.TypeComponentInstanceIndex.{TypeComponentInstanceIndex}
 use Rattle.pc_types.specs.TypeTree.{Path, TypeTree}
 use Rattle.pc_parsed.specs.declared.payload.ItemKind.{ItemKind}
-use Rattle.pc_spec_reading.specs.Instances.{alias_in, alias_member}
+use Rattle.pc_spec_reading.specs.Instances.{alias_in, alias_member, is_of_kind}
 use Rattle.pc_spec_reading.specs.Member.{field_under, further, host_member}
-use Rattle.pc_spec_reading.specs.Scope.{Moment}
+use Rattle.pc_spec_reading.specs.Scope.{Moment, add_value}
 use Rattle.pc_spec_reading.specs.Types.{instance_fields}
-use Rattle.pc_spec_reading.specs.Value.{Instance, instance_value}
+use Rattle.pc_spec_reading.specs.Value.{Instance, Value, instance_value}
 use Rattle.pc_inline_paths.specs.declared.path_id.PathId.{PathId}
+use Rattle.pc_inline_state.specs.declared.definition.Definition.{Definition}
 use Rattle.pc_inline_state.specs.declared.definition.Definition.TheVariants as definition
 use Rattle.pc_inline_state.specs.declared.error.ItemError.{ItemError}
 use Rattle.pc_inline_state.specs.declared.frame.Frame.{Frame}
@@ -37,3 +38,9 @@ HostAlias t ms k p ty entry name st f st' f' r =
     (now : Moment) (i : Instance) → PointStands t ms st f now
     → DefinitionStands ms (tables_of st) (definition.HostInstance p ty entry) (instance_value i)
     → Follows t ms st' f' (alias_in now k name i) r
+
+-- a definition is an item of a kind as the reading has it, whatever value of the kind it is
+unfoldable pub AddsDefined : ItemKind → Definition → State → Frame → State → Frame → Result ⊤ ItemError → Type 0
+AddsDefined k d st f st' f' r = (t : TypeTable) (ms : List ModuleRecord) (now : Moment) (v : Value)
+    → PointStands t ms st f now → DefinitionStands ms (tables_of st) d v → is_of_kind k v ≡ true
+    → Follows t ms st' f' (Ok (add_value now v)) r

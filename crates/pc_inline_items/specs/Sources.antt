@@ -9,4 +9,5 @@ use Rattle.pc_inline_items.specs.declared.source.InstanceSource.TheVariants as s
 abbrev pub instance_source : Definition → Option InstanceSource
 instance_source (definition.Instance n ty) = Some (source.Made n)
 instance_source (definition.HostInstance p ty entry) = Some (source.Host p ty entry)
+instance_source definition.Intrinsics = Some source.Intrinsics
 instance_source d = None

@@ -20,6 +20,7 @@ ghost use Rattle.pc_inline_state.specs.declared.state.Member.{Member};
 ghost use Rattle.pc_inline_state.specs.declared.state.State.{State};
 
 use crate::hosts::alias_host;
+use crate::intrinsics::alias_intrinsic;
 use crate::members::is_typed;
 use crate::source::{InstanceSource, source_of};
 use pc_entity::Text;
@@ -102,6 +103,7 @@ pub(crate) fn step_alias(
         Some(InstanceSource::Host { path, ty, entry }) => {
             alias_host(context, state, frame, kind, path, ty, entry, name)
         }
+        Some(InstanceSource::Intrinsics) => alias_intrinsic(state, frame, kind, name),
         // Never: what stands among the instances of a frame is an instance, which the contract knows.
         None => Err(ItemError::Fault(ItemFault::Invalid)),
     }

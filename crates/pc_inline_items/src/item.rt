@@ -12,13 +12,14 @@ ghost use Rattle.pc_inline_state.specs.Trails.{Trails};
 use crate::components::{step_alias_component, step_alias_module, step_component};
 use crate::imports::step_import;
 use crate::instances::{step_alias, step_export};
+use crate::intrinsics::step_intrinsics;
 use crate::made::step_component_exports;
+use pc_inline_builtins::{step_builtin, step_context, step_new_thread, step_task_return};
 use pc_inline_canon::{step_lift, step_lower};
 use pc_inline_modules::{step_core_alias, step_core_exports, step_core_instance, step_module};
 use pc_inline_resources::step_resource;
 use pc_inline_state::{ClosureId, Context, Frame, ItemError, ItemFault, State};
 use pc_local::LocalInitializer;
-use pc_types::Unsupported;
 
 /// One item of a body, but an instantiation of a component, which the driver goes into.
 pub fn step(
@@ -42,6 +43,7 @@ pub fn step(
 {
     match item {
         LocalInitializer::Import { name, ty } => step_import(context, state, frame, name, *ty),
+        LocalInitializer::IntrinsicsImport => step_intrinsics(state, frame),
         LocalInitializer::Resource { id, rep, dtor } => {
             step_resource(context, state, frame, *id, *rep, *dtor)
         }
@@ -95,6 +97,17 @@ pub fn step(
         LocalInitializer::Export { kind, index, .. } => {
             step_export(context.table, frame, *kind, *index)
         }
-        _ => Err(ItemError::Fault(ItemFault::Unsupported(Unsupported::NotBuilt))),
+        LocalInitializer::Builtin(item) => step_builtin(context, state, frame, item),
+        LocalInitializer::WaitableSet(item) => step_builtin(context, state, frame, item),
+        LocalInitializer::ErrorContext(item) => step_builtin(context, state, frame, item),
+        LocalInitializer::TaskReturn {
+            core,
+            result: returned,
+            opts,
+        } => step_task_return(context, state, frame, *core, *returned, opts),
+        LocalInitializer::ThreadNewIndirect { core, start, table } => {
+            step_new_thread(context, state, frame, *core, *start, *table)
+        }
+        LocalInitializer::Context(item) => step_context(context, state, frame, item),
     }
 }

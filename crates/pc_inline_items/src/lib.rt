@@ -7,6 +7,7 @@ mod components;
 mod hosts;
 mod imports;
 mod instances;
+mod intrinsics;
 mod item;
 mod made;
 mod members;

@@ -7,7 +7,7 @@ use pc_inline_paths::PathId;
 use pc_inline_state::{Definition, DefinitionId, ExportsId, State};
 use pc_types::TypeComponentInstanceIndex;
 
-/// What a component instance is: named items, or one of the host.
+/// What a component instance is: named items, one of the host, or the unsafe intrinsics.
 #[derive(Clone, Copy)]
 pub(crate) enum InstanceSource {
     /// What an instance from items, or of a component, exports.
@@ -18,6 +18,8 @@ pub(crate) enum InstanceSource {
         ty: TypeComponentInstanceIndex,
         entry: u32,
     },
+    /// The unsafe intrinsics.
+    Intrinsics,
 }
 
 /// What a definition is that is a component instance.
@@ -31,6 +33,7 @@ pub(crate) fn source_of(state: &State<'_>, id: DefinitionId) -> Option<InstanceS
             ty: *ty,
             entry: *entry,
         }),
+        Some(Definition::Intrinsics) => Some(InstanceSource::Intrinsics),
         _ => None,
     }
 }

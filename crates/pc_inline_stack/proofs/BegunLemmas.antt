@@ -27,6 +27,7 @@ use Rattle.pc_inline_state.proofs.AddsLemmas.{adds_refl}
 use Rattle.pc_inline_state.proofs.GainedLemmas.{tables_none}
 use Rattle.pc_inline_state.proofs.FitsLemmas.{fits_grown}
 use Rattle.pc_inline_state.proofs.GrowthLemmas.{graph_grown}
+use Rattle.pc_inline_state.proofs.IntrinsicLemmas.{intrinsics_kept}
 use Rattle.pc_inline_canon.proofs.KeptLemmas.{is_item_kept}
 use Rattle.pc_inline_state.proofs.StateLemmas.{module_grows, types_refl}
 use Rattle.pc_inline_canon.proofs.WorldLemmas.{declared_still, effect_still, import_still, imported_same}
@@ -88,7 +89,7 @@ module _ (g : ComponentDfg) (grows : graph.Grows g (begun_graph g)) where
         imports = s.imports;
         imported_resources = imported_same g (begun_graph g) grows refl w.imported_resources s.imported_resources;
         resources = s.resources;
-        intrinsics = s.intrinsics;
+        intrinsics = intrinsics_kept types g w.intrinsics s.intrinsics types (begun_graph g) still.signatures refl;
         no_adapters = s.no_adapters;
         begun = ap (λ n. n + 1) one;
       }

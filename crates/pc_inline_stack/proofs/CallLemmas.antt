@@ -8,6 +8,8 @@ use Rattle.pc_entity.specs.Lists.{map_all}
 use Rattle.pc_types.specs.declared.module_record.ModuleRecord.{ModuleRecord}
 use Rattle.pc_types.specs.declared.parsed.TypeTable.{TypeTable}
 use Rattle.pc_types.specs.Table.{is_instance, table_fault}
+use Rattle.pc_types_lists.specs.Types.{Types}
+use Rattle.pc_types_builder.specs.Converted.{AreConverted}
 use Rattle.pc_parsed.specs.declared.payload.ItemKind.{ItemKind}
 use Rattle.pc_numbers.specs.declared.component_entity.StaticComponentIndex.{StaticComponentIndex}
 use Rattle.pc_spec_reading.specs.Components.{read_call}
@@ -31,13 +33,14 @@ use Rattle.pc_inline_items.specs.Captures.{IsEnclosed}
 use Rattle.pc_inline_items.specs.Members.{are_there, are_typed}
 use Rattle.pc_inline_state.specs.Definitions.{component_parts}
 use Rattle.pc_inline_state.specs.Frames.{ComponentStands, SameNames}
-use Rattle.pc_inline_state.specs.Points.{PointStands}
+use Rattle.pc_inline_state.specs.Points.{IsPoint, PointStands}
 use Rattle.pc_inline_state.specs.Refused.{LacksRoom}
 use Rattle.pc_inline_state.specs.Stands.{Stands, stands, stands_component}
 use Rattle.pc_inline_state.specs.Tables.{Keeps, tables_of}
 use Rattle.pc_inline_state.specs.Today.{built_call, today}
 use Rattle.pc_inline_items.proofs.MemberLemmas.{arguments_all, arguments_lack, arguments_typed}
 use Rattle.pc_inline_stack.proofs.EnclosedLemmas.{child_enclosed}
+use Rattle.pc_inline_canon.proofs.FrameLemmas.{converted_framed}
 use Rattle.pc_inline_canon.proofs.KeptLemmas.{stands_kept}
 use Rattle.pc_inline_state.proofs.ZipLemmas.{both_missing, both_there, zip_at}
 use Rattle.pc_spec_reading.specs.Reading.{called}
@@ -47,6 +50,41 @@ pub stays_so : (t : TypeTable) (ms : List ModuleRecord) (st : State) (f : Frame)
     → ((now : Moment) → PointStands t ms st f now → PointStands t ms st' f' now) → Stays t ms st f st' f'
 unfolding Stays
 stays_so t ms st f st' f' stays = stays
+
+-- so it is with other types converted
+pub lent_point : (t : TypeTable) (ms : List ModuleRecord) (st : State) (f g : Frame) (now : Moment)
+    → PointStands t ms st f now → g ≡ record f { converted = g.converted } → AreConverted st.types t g.converted
+    → PointStands t ms st g now
+lent_point t ms st f g now at same converted =
+    subst (λ x. PointStands t ms st x now) (sym same)
+    (record {
+      sound = at.sound;
+      here = at.here;
+      converted = converted;
+      frame = converted_framed ms (tables_of st) f now.scope at.frame g.converted;
+      world = at.world;
+      unexported = at.unexported;
+    })
+
+-- where a call began, its caller is at a moment
+pub stays_point : (t : TypeTable) (ms : List ModuleRecord) (st : State) (f : Frame) (st' : State) (f' : Frame)
+    → Stays t ms st f st' f' → IsPoint t ms st f → IsPoint t ms st' f'
+unfolding Stays
+stays_point t ms st f st' f' stays at = (at.0, stays at.0 at.1)
+
+-- it stays where it was with other types converted
+pub lent_stays : (t : TypeTable) (ms : List ModuleRecord) (st : State) (f : Frame) (st' : State) (g h : Frame)
+    → Stays t ms st f st' g → h ≡ record g { converted = h.converted }
+    → ((b : Types) → AreConverted b t g.converted → AreConverted b t h.converted) → Stays t ms st f st' h
+unfolding Stays
+lent_stays t ms st f st' g h stays same are now at =
+    let there = stays now at in
+    lent_point t ms st' g h now there same (are st'.types there.converted)
+
+-- and nothing else has changed
+pub lent_same : (f g h : Frame) → g ≡ record f { converted = g.converted } → h ≡ record g { converted = h.converted }
+    → h ≡ record f { converted = h.converted }
+lent_same f g h first second = second ∙ ap (λ (x : Frame). record x { converted = h.converted }) first
 
 -- what a call begins with
 call_made : (t : TypeTable) (s : Scope) (n : ℕ) (as_ : List ArgumentOf) (ty : ℕ) (c : Component)

@@ -8,9 +8,9 @@ use Rattle.pc_types.specs.declared.error.Error.TheVariants as error
 use Rattle.pc_types.specs.declared.error.Place.TheVariants as place
 use Rattle.pc_types.specs.declared.module_record.ModuleRecord.{ModuleRecord}
 use Rattle.pc_types.specs.declared.parsed.TypeTable.{TypeTable}
-use Rattle.pc_types.specs.declared.types.TypeDef.{TypeDef}
+use Rattle.pc_types_builder.specs.Plain.{Layers}
 use Rattle.pc_types_builder.specs.Converted.{AreConverted}
-use Rattle.pc_types_lists.specs.Types.{Types}
+use Rattle.pc_types_lists.specs.Types.{Resources, Types}
 use Rattle.pc_parsed.specs.declared.payload.ItemKind.{ItemKind}
 use Rattle.pc_spec_reading.specs.Item.{Items}
 use Rattle.pc_spec_reading.specs.Scope.{Moment}
@@ -154,7 +154,7 @@ module _ (t : TypeTable) (ms : List ModuleRecord) (limit : ℕ) (root : Translat
               (ends_as (record st' { graph = begun_graph st'.graph }) error.NoMemory 1 (begun_keeps st' grows)
               (begun_adds t st') (omega arith) (λ is first x. tt))
 
-          child_current : (done : List (Option TypeDef)) → ((b : Types) → AreConverted b t done)
+          child_current : (done : Layers) → ((r : Resources) → AreConverted (record st'.types { resources = r }) t done)
               → Driven t ms limit root old f (record st' { graph = g2; types = converting_for st'.types c }) (o' ∷ ks)
               (child_open call c done)
           child_current done none =
@@ -201,8 +201,8 @@ module _ (t : TypeTable) (ms : List ModuleRecord) (limit : ℕ) (root : Translat
               }
 
           -- the child is read, and types are converted for it
-          pub child_driven : (ts : Types) → ts ≡ converting_for st'.types c → (done : List (Option TypeDef))
-              → ((b : Types) → AreConverted b t done)
+          pub child_driven : (ts : Types) → ts ≡ converting_for st'.types c → (done : Layers)
+              → ((r : Resources) → AreConverted (record st'.types { resources = r }) t done)
               → Driven t ms limit root old f (record st' { graph = g2; types = ts }) (o' ∷ ks) (child_open call c done)
           child_driven ts current done none =
               subst (λ b. Driven t ms limit root old f (record st' { graph = g2; types = b }) (o' ∷ ks)

@@ -2,11 +2,11 @@
 use Rattle.std.proofs.Common.{◌≡◌, ℕ, List, Option, refl, sym, ◌∙◌}
 use Rattle.pc_types.specs.declared.module_record.ModuleRecord.{ModuleRecord}
 use Rattle.pc_types.specs.declared.parsed.TypeTable.{TypeTable}
-use Rattle.pc_types.specs.declared.types.TypeDef.{TypeDef}
 use Rattle.pc_types_lists.specs.Known.{resource_of}
 use Rattle.pc_types_lists.specs.Types.{KeepsTypes, Resources, Types}
 use Rattle.pc_types_lists.proofs.FewLemmas.{few_aside}
 use Rattle.pc_types_lists.proofs.KeptTypes.{keeps_same, keeps_whatever}
+use Rattle.pc_types_builder.specs.Plain.{Layers}
 use Rattle.pc_types_builder.specs.Converted.{AreConverted}
 use Rattle.pc_types_builder.proofs.KnownLemmas.{converted_keeps}
 use Rattle.pc_spec_reading.specs.World.{World}
@@ -90,11 +90,11 @@ pub current_world : (types : Types) (g : ComponentDfg) (r : Resources) (w : Worl
     → WorldStands types g w → WorldStands (going_on_with types r) g w
 current_world types g r w s =
     world_still types (going_on_with types r) g g (keeps_same types) (graph_growth.grows_refl g) (λ who fits. fits)
-    refl refl refl refl refl refl refl refl w s
+    refl refl refl refl refl refl refl refl refl w s
 
 -- what was converted stays so as the builder grows, whichever resources it goes on with
 pub converted_still : (old new : Types) → KeepsTypes old new → (k : Resources) (t : TypeTable)
-    (done : List (Option TypeDef)) → AreConverted (record old { resources = k }) t done
+    (done : Layers) → AreConverted (record old { resources = k }) t done
     → AreConverted (record new { resources = k }) t done
 converted_still old new keeps k t done are =
     converted_keeps (record old { resources = k }) (record new { resources = k }) (keeps_whatever old new k k keeps)
@@ -113,7 +113,7 @@ waits_again k child l next trails caller j w = record {
 -- where the same resources are known
 module _ (k l : Resources) (same : (n : ℕ) → resource_of l.known n ≡ resource_of k.known n) where
   -- what was converted stays so
-  pub converted_again : l.current ≡ k.current → (b : Types) (t : TypeTable) (done : List (Option TypeDef))
+  pub converted_again : l.current ≡ k.current → (b : Types) (t : TypeTable) (done : Layers)
       → AreConverted (record b { resources = k }) t done → AreConverted (record b { resources = l }) t done
   converted_again current b t done are =
       converted_keeps (record b { resources = k }) (record b { resources = l }) (keeps_whatever b b k l (keeps_same b))

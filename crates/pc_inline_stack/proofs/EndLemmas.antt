@@ -1,12 +1,15 @@
 -- A child has ended: what it changed is taken back, and its caller goes on.
-use Rattle.std.proofs.Common.{◌≡◌, ◌+◌, ℕ, List, [], ◌∷◌, Option, Result, Ok, Err, map, sym, ap, subst, ◌∙◌}
+use Rattle.std.proofs.Common.{◌≡◌, ◌+◌, ℕ, List, [], ◌∷◌, length, None, Option, Result, Ok, Err, map, sym, ap, subst, ◌∙◌}
 use Rattle.std.proofs.Common.{IsErrAnd, if◌then◌else◌, ◌==◌, arith}
 use Rattle.std.specs.Prelude.{⊤, OnOk}
 use Rattle.pc_numbers.specs.declared.runtime.ResourceIndex.{ResourceIndex}
 use Rattle.pc_types.specs.declared.module_record.ModuleRecord.{ModuleRecord}
 use Rattle.pc_types.specs.declared.parsed.TypeTable.{TypeTable}
 use Rattle.pc_types_lists.specs.Known.{resource_of}
-use Rattle.pc_types_lists.specs.Types.{Resources, Types}
+use Rattle.pc_types.specs.Table.{table_fault}
+use Rattle.pc_types_lists.specs.Types.{KeepsTypes, Resources, Types}
+use Rattle.pc_types_lists.proofs.KeptTypes.{keeps_same, keeps_whatever}
+use Rattle.pc_types_builder.specs.Converted.{AreConverted}
 use Rattle.pc_parsed.specs.declared.payload.ExternName.{ExternName}
 use Rattle.pc_parsed.specs.declared.payload.ItemKind.{ItemKind}
 use Rattle.pc_spec_reading.specs.Items.{exports_at}
@@ -32,6 +35,7 @@ use Rattle.pc_inline_canon.proofs.KeptLemmas.{frame_kept, members_kept}
 use Rattle.pc_inline_stack.specs.Begins.{converting_for}
 use Rattle.pc_inline_stack.specs.Calls.{AddsChild, GivesBack, IsReturn, ReturnStands, TrailsBack}
 use Rattle.pc_inline_stack.specs.Stacks.{Waits}
+use Rattle.pc_inline_stack.proofs.CallLemmas.{lent_point}
 use Rattle.pc_inline_stack.proofs.CurrentLemmas.{converted_again, converted_still, current_adds, current_keeps}
 use Rattle.pc_inline_stack.proofs.CurrentLemmas.{current_sound, current_world, going_on_with}
 
@@ -52,6 +56,20 @@ on_error (Err e) P X is = tt
 pub on_ok : {A E X : Type 0} (r : Result A E) → X → OnOk r X
 on_ok (Ok x) h = h
 on_ok (Err e) h = tt
+
+-- a caller takes back what its child converted
+abbrev pub Retakes : TypeTable → (child caller : Frame) → Frame → Type 0
+Retakes t child f g =
+    (old new : Types) → table_fault t ≡ None → KeepsTypes old new → AreConverted old t child.converted
+    → AreConverted new t f.converted → AreConverted new t g.converted
+
+-- both have a place for each entry
+pub return_room : (t : TypeTable) (ms : List ModuleRecord) (st : State) (child f : Frame) (st1 : State) (child1 : Frame)
+    → ((now : Moment) → PointStands t ms st child now → PointStands t ms st1 child1 now) → IsReturn t ms st child f
+    → length f.converted.all ≡ length child1.converted.all
+unfolding IsReturn
+return_room t ms st child f st1 child1 stays ends =
+    ends.3.converted.all.room ∙ sym (stays ends.0 ends.3.ended).converted.all.room
 
 -- where a child has ended it is at a moment
 pub return_point : (t : TypeTable) (ms : List ModuleRecord) (st : State) (child f : Frame) → IsReturn t ms st child f
@@ -164,6 +182,16 @@ module _ (t : TypeTable) (ms : List ModuleRecord) (es : List (ExternName × Item
       back_point : PointStands t ms st2 f (record { scope = s; world = now.world })
       back_point = subst (λ q. PointStands t ms q f (record { scope = s; world = now.world })) state_back point_back
 
+      -- so it is when the child has given back the types that are the same in each component instance
+      taken_point : (g : Frame) → g ≡ record f { converted = g.converted } → Retakes t child1 f g
+          → table_fault t ≡ None → PointStands t ms st2 g (record { scope = s; world = now.world })
+      taken_point g framed retakes sound =
+          lent_point t ms st2 f g (record { scope = s; world = now.world }) back_point framed
+          (retakes st1.types ts sound
+          (subst (KeepsTypes st1.types) (sym types_back)
+          (keeps_whatever st1.types st1.types st1.types.resources resources (keeps_same st1.types)))
+          (stays now x.ended).converted back_point.converted)
+
     module _ (members : List (List ℕ × Member))
         (given : (now : Moment) → PointStands t ms st child now
         → MembersStand ms (tables_of st1) members (pack_values (exports_at t now.scope (map named_item es)))) where
@@ -176,17 +204,22 @@ module _ (t : TypeTable) (ms : List ModuleRecord) (es : List (ExternName × Item
           (given now at))
 
       -- what it has of the child is what the reading gives it
-      pub back_given : (st' : State) (f' : Frame) (r : Result ⊤ ItemError)
-          → AddsChild t ms members ty st2 f st' f' r → GivesBack t ms es ty st child f st' f' r
+      pub back_given : (g : Frame) → g ≡ record f { converted = g.converted } → Retakes t child1 f g
+          → table_fault t ≡ None → (st' : State) (f' : Frame) (r : Result ⊤ ItemError)
+          → AddsChild t ms members ty st2 g st' f' r → GivesBack t ms es ty st child f st' f' r
       unfolding AddsChild GivesBack
-      back_given st' f' r adds now s j x =
+      back_given g framed retakes sound st' f' r adds now s j x =
           adds (record { scope = s; world = now.world }) (exports_at t now.scope (map named_item es))
-          (back_point now s j x) (members_back now x.ended)
+          (taken_point now s j x g framed retakes sound) (members_back now x.ended)
 
       -- where a child has ended its caller is at a moment again, and there are values that the members stand for
-      pub back_here : IsReturn t ms st child f → IsPoint t ms st2 f
+      pub back_here : (g : Frame) → g ≡ record f { converted = g.converted } → Retakes t child1 f g
+          → table_fault t ≡ None → IsReturn t ms st child f → IsPoint t ms st2 g
       unfolding IsReturn
-      back_here ends = (record { scope = ends.1; world = ends.0.world }, back_point ends.0 ends.1 ends.2 ends.3)
+      back_here g framed retakes sound ends = (
+        record { scope = ends.1; world = ends.0.world },
+        taken_point ends.0 ends.1 ends.2 ends.3 g framed retakes sound,
+      )
 
       -- the same of the members
       pub back_members : IsReturn t ms st child f
@@ -198,12 +231,15 @@ module _ (t : TypeTable) (ms : List ModuleRecord) (es : List (ExternName × Item
       )
 
     -- what the caller notes from there on it notes from the resources with which it goes on
-    pub back_trails : (st' : State) (f' : Frame)
-        → Trails f.changes st2.types.resources f'.changes st'.types.resources → TrailsBack st child f st' f'
+    pub back_trails : (g : Frame) → g ≡ record f { converted = g.converted } → (st' : State) (f' : Frame)
+        → Trails g.changes st2.types.resources f'.changes st'.types.resources → TrailsBack st child f st' f'
     unfolding TrailsBack
-    back_trails st' f' trail j w = record {
-      known = λ n. trail.known n
-          ∙ ap (λ (b : Types). undone f.changes (resource_of b.resources.known) n) types_back
-          ∙ undone_same f.changes (resource_of resources.known) (resource_of j.known) (same_known j w) n;
-      current = trail.current ∙ ap (λ (b : Types). b.resources.current) types_back ∙ sym w.current;
-    }
+    back_trails g framed st' f' noted j w =
+        let trail = subst (λ (x : Frame). Trails x.changes st2.types.resources f'.changes st'.types.resources) framed
+        noted in
+        record {
+          known = λ n. trail.known n
+              ∙ ap (λ (b : Types). undone f.changes (resource_of b.resources.known) n) types_back
+              ∙ undone_same f.changes (resource_of resources.known) (resource_of j.known) (same_known j w) n;
+          current = trail.current ∙ ap (λ (b : Types). b.resources.current) types_back ∙ sym w.current;
+        }

@@ -13,7 +13,7 @@ use Rattle.pc_numbers.specs.declared.runtime.RuntimeComponentInstanceIndex.{Runt
 use Rattle.pc_types.specs.declared.error.Place.TheVariants as place
 use Rattle.pc_types.specs.declared.module_record.ModuleRecord.{ModuleRecord}
 use Rattle.pc_types.specs.declared.parsed.TypeTable.{TypeTable}
-use Rattle.pc_types.specs.declared.types.TypeDef.{TypeDef}
+use Rattle.pc_types_builder.specs.Plain.{Layers}
 use Rattle.pc_types_builder.specs.Converted.{AreConverted}
 use Rattle.pc_types_lists.specs.Types.{Resources, Types}
 use Rattle.pc_parsed.specs.declared.payload.ItemKind.{ItemKind}
@@ -67,7 +67,7 @@ use Rattle.pc_inline_state.proofs.TrailLemmas.{trails_same}
 use Rattle.pc_inline_state.proofs.ZipLemmas.{both_more}
 
 -- a child of which nothing was read, with what was converted for it
-abbrev pub child_open : Call → RuntimeComponentInstanceIndex → List (Option TypeDef) → Open
+abbrev pub child_open : Call → RuntimeComponentInstanceIndex → Layers → Open
 child_open call c done = record {
   frame = record {
     core_funcs = [];
@@ -258,8 +258,8 @@ module _ (t : TypeTable) (ms : List ModuleRecord) (limit : ℕ) (root : Translat
         reads_call.stands.body reads_call.stands.chain) 0) (le-ltb x.world.begun limit (omega (arith, begun, full)))
 
     module _ (c : RuntimeComponentInstanceIndex) (g : ComponentDfg) (begins_so : Begins limit st.graph g (Ok c))
-        (grows : graph.Grows st.graph (begun_graph st.graph)) (done : List (Option TypeDef))
-        (none : (b : Types) → AreConverted b t done) where
+        (grows : graph.Grows st.graph (begun_graph st.graph)) (done : Layers)
+        (none : (r : Resources) → AreConverted (record st.types { resources = r }) t done) where
       abbrev st_begun : State
       st_begun = record st { graph = begun_graph st.graph }
 
@@ -311,7 +311,7 @@ module _ (t : TypeTable) (ms : List ModuleRecord) (limit : ℕ) (root : Translat
               begun = omega (arith, number);
             };
             here = record { known = knows.known; current = number ∙ sym begun };
-            converted = none st_now.types;
+            converted = none known_now;
             enclosed = enclosed_kept ms (tables_of st) (tables_of st_now) keeps_now s.names (Some call.closure) s.chain
                 (s.closure, s.captured) s.enclosed;
             closed = λ k same. (

@@ -51,6 +51,7 @@ module _ (t : TypeTable) (ms : List ModuleRecord) where
   unfolding Ends
   ends_fault st f o item_fault.Invalid p is = is
   ends_fault st f o item_fault.BadType p is = is
+  ends_fault st f o item_fault.UnknownIntrinsic p is = is
   ends_fault st f o (item_fault.Unsupported u) p is = is
 
 module _ (t : TypeTable) (ms : List ModuleRecord) (limit : ℕ) (root : Translation) where

@@ -13,13 +13,13 @@ use Rattle.pc_types.specs.declared.error.Place.{Place}
 use Rattle.pc_types.specs.declared.error.Place.TheVariants as place
 use Rattle.pc_types.specs.declared.module_record.ModuleRecord.{ModuleRecord}
 use Rattle.pc_types.specs.declared.parsed.TypeTable.{TypeTable}
-use Rattle.pc_types.specs.declared.types.TypeDef.{TypeDef}
 use Rattle.pc_types.specs.Names.{distinct_names}
 use Rattle.pc_types.specs.Table.{is_instance}
 use Rattle.pc_spec_reading.specs.Types.{has_entry}
 use Rattle.pc_local.specs.Sound.{IsSoundBody, export_name}
+use Rattle.pc_types_builder.specs.Plain.{Layers}
 use Rattle.pc_types_builder.specs.Converted.{AreConverted}
-use Rattle.pc_types_lists.specs.Types.{Types}
+use Rattle.pc_types_lists.specs.Types.{Resources, Types}
 use Rattle.pc_parsed.specs.declared.payload.ExternName.{ExternName}
 use Rattle.pc_parsed.specs.declared.payload.ItemKind.{ItemKind}
 use Rattle.pc_spec_reading.specs.Section.{argument_of}
@@ -90,7 +90,7 @@ pub none_counted : (xs : List Open) → xs ≡ [] → AreCounted xs
 none_counted xs is = subst AreCounted (sym is) (All-nil (λ (k : Open). k.next < 18446744073709551615))
 
 -- a child of which nothing was read, by its frame
-pub child_is : (call : Call) (c : RuntimeComponentInstanceIndex) (f : Frame) (done : List (Option TypeDef))
+pub child_is : (call : Call) (c : RuntimeComponentInstanceIndex) (f : Frame) (done : Layers)
     → f ≡ (child_open call c done).frame
     → record { frame = f; closure = Some call.closure; body = Some call.body; next = 0 } ≡ child_open call c done
 child_is call c f done is =
@@ -159,7 +159,7 @@ module _ (t : TypeTable) (ms : List ModuleRecord) (limit : ℕ) (root : Translat
 
           -- the child is read, and types are converted for it
           pub moves_entered : {A : Type 0} (x : A) (ts : Types) → ts ≡ converting_for st'.types c
-              → (done : List (Option TypeDef)) → ((b : Types) → AreConverted b t done) → (ks' : List Open) (o' : Open)
+              → (done : Layers) → ((r : Resources) → AreConverted (record st'.types { resources = r }) t done) → (ks' : List Open) (o' : Open)
               → ks' ≡ record o { frame = g } ∷ ks → o' ≡ child_open call c done
               → Moves t ms limit root st ks o (record st' { graph = h; types = ts }) ks' o' (Ok x)
           moves_entered x ts current done none ks' o' wait is =
@@ -174,7 +174,7 @@ module _ (t : TypeTable) (ms : List ModuleRecord) (limit : ℕ) (root : Translat
 
       -- less is left to do where a child is read
       pub falls_entered : (call : Call) (c : RuntimeComponentInstanceIndex) (h : ComponentDfg)
-          → Begins limit st'.graph h (Ok c) → (ts : Types) (done : List (Option TypeDef)) (ks' : List Open) (o' : Open)
+          → Begins limit st'.graph h (Ok c) → (ts : Types) (done : Layers) (ks' : List Open) (o' : Open)
           → ks' ≡ record o { frame = g } ∷ ks → o' ≡ child_open call c done
           → Falls limit root st ks o (record st' { graph = h; types = ts }) ks' o'
       unfolding Begins work

@@ -110,6 +110,7 @@ module _ (t : TypeTable) (ms : List ModuleRecord) where
       unfolding Follows Ends
       ends_at o (item_error.Fault item_fault.Invalid) c is r follows eq = eq ∙ rw (follows) refl
       ends_at o (item_error.Fault item_fault.BadType) c is r follows eq = eq ∙ rw (follows) refl
+      ends_at o (item_error.Fault item_fault.UnknownIntrinsic) c is r follows eq = eq ∙ rw (follows) refl
       ends_at o (item_error.Fault (item_fault.Unsupported u)) c is r follows eq = eq ∙ rw (follows) refl
       ends_at o item_error.TooMany c is r follows eq = follows
       ends_at o item_error.NoMemory c is r follows eq = tt

@@ -1,4 +1,4 @@
--- What an item that is built keeps of a moment.
+-- What an item keeps of a moment.
 use Rattle.std.proofs.Common.{◌≡◌, ℕ, Bool, true, false, List, Option, None, Some, Result, Ok, Err, refl}
 use Rattle.std.proofs.Common.{subst, ◌∙◌, if◌then◌else◌}
 use Rattle.std.specs.Prelude.{IfOk, slice_get, option_and_then, not}
@@ -14,14 +14,16 @@ use Rattle.pc_types.specs.declared.parsed.TypeTable.{TypeTable}
 use Rattle.pc_types.specs.Table.{is_func, is_instance, is_module, is_resource}
 use Rattle.pc_types.specs.TypeTree.{Identity, TypeTree}
 use Rattle.pc_spec_plan.specs.CoreValue.{CoreValue, Options, adapter}
-use Rattle.pc_spec_plan.specs.Log.{Entry, made}
+use Rattle.pc_spec_plan.specs.Log.{Entry, declared, made}
 use Rattle.pc_spec_plan.specs.Machine.{chosen}
 use Rattle.pc_parsed.specs.declared.payload.ItemKind.{ItemKind}
 use Rattle.pc_parsed.specs.Mark.{Mark, of_type}
 use Rattle.pc_spec_reading.specs.Arguments.{core_export, host_arguments, static_arguments}
+use Rattle.pc_spec_reading.specs.Builtins.{declaring, optional_options, parts_from, read_builtin, read_error_context}
+use Rattle.pc_spec_reading.specs.Builtins.{read_new_thread, read_task_return, read_waitable}
 use Rattle.pc_spec_reading.specs.Components.{add_child, is_definable, outer_of, read_component, read_outer, read_return}
-use Rattle.pc_spec_reading.specs.Functions.{lower_to, making, read_lift, read_lower}
-use Rattle.pc_spec_reading.specs.Imports.{is_of_entity, read_import, take_if}
+use Rattle.pc_spec_reading.specs.Functions.{lower_to, making, read_context, read_lift, read_lower, slot_place}
+use Rattle.pc_spec_reading.specs.Imports.{is_of_entity, read_import, read_intrinsics, take_if}
 use Rattle.pc_spec_reading.specs.Instances.{alias_member, is_of_kind, missing_name, read_alias}
 use Rattle.pc_spec_reading.specs.Instances.{read_component_exports, read_export}
 use Rattle.pc_spec_reading.specs.Item
@@ -37,12 +39,12 @@ use Rattle.pc_spec_reading.specs.SameValues.{was_made}
 use Rattle.pc_spec_reading.specs.Scope.{CoreInstance, Moment, Scope, add_core, add_core_instance, add_entry}
 use Rattle.pc_spec_reading.specs.Scope.{add_intrinsic, add_value, chain_of, with_core}
 use Rattle.pc_spec_reading.specs.Scope.{with_known, with_value}
-use Rattle.pc_spec_reading.specs.Types.{has_entry, is_plain_type, names_entry, signature_at, tree_if}
+use Rattle.pc_spec_reading.specs.Types.{has_entry, is_plain_type, names_entry, results_tree, signature_at, tree_if}
 use Rattle.pc_spec_reading.specs.Value.{Function, Module, NamedValue, Value, closed, component_value}
 use Rattle.pc_spec_reading.specs.Value.{func_value, host_function, host_module, instance_value, intrinsic_function}
 use Rattle.pc_spec_reading.specs.Value.{lifted_function, made_instance, module_value, pack_values, static_module}
-use Rattle.pc_spec_reading.specs.Value.{type_value}
-use Rattle.pc_inline_state.specs.Today.{built_row, is_built, is_made, today}
+use Rattle.pc_spec_reading.specs.Value.{the_intrinsics, type_value}
+use Rattle.pc_inline_state.specs.Today.{built_row, is_made, today}
 use Rattle.pc_spec_reading.specs.Reading.{row}
 use Rattle.pc_spec_reading.specs.Guard.{let_through}
 
@@ -197,59 +199,77 @@ module _ (t : TypeTable) (ms : List ModuleRecord) (now : Moment) where
       found_keeps now invalid (host_arguments ms now.scope args tree) _
       (λ vs. instance_keeps now _ _ (entry_keeps now _ _ (entry_keeps now now _ (same_keeps now))))
 
+  -- a builtin
+  builtin_keeps : (v : CoreValue Mark) → RowKeeps now (declaring now v)
+  builtin_keeps v = core_keeps now _ core.Func v (entry_keeps now now (declared v) (same_keeps now))
+
   -- an item
-  item_keeps : (i : Item.Item) → is_built i ≡ true → Keeping now (read_row t ms now i)
+  item_keeps : (i : Item.Item) → Keeping now (read_row t ms now i)
   unfolding read_row read_import read_lift read_lower read_module read_core_instance read_core_exports read_component
-      read_component_exports read_core_alias read_alias read_outer read_export read_resource
-  item_keeps (Item.import_item name e) is =
+      read_component_exports read_core_alias read_alias read_outer read_export read_resource read_intrinsics read_builtin
+      read_waitable read_task_return read_error_context read_context read_new_thread
+  item_keeps (Item.import_item name e) =
       held_keeps now bad_type (names_entry t e) _ (import_keeps e (value_of name.name now.scope.arguments))
-  item_keeps Item.intrinsics_import is = cc
-  item_keeps (Item.resource_item id representation destructor) is =
+  item_keeps Item.intrinsics_import = value_keeps now now (instance_value the_intrinsics) (same_keeps now)
+  item_keeps (Item.resource_item id representation destructor) =
       held_keeps now bad_type (has_entry t is_resource id) _ (
       found_keeps now invalid (chosen now.scope.core_funcs destructor) _
       (λ d. entry_keeps now _ _ (known_keeps now now _ (same_keeps now))))
-  item_keeps (Item.lift_item func ty signature opts) is =
+  item_keeps (Item.lift_item func ty signature opts) =
       found_keeps now bad_type (tree_if t is_func now.scope ty) _ (λ tree.
       found_keeps now bad_type (signature_at t signature) _ (λ s.
       found_keeps now invalid (slice_get now.scope.core_funcs func) _ (λ v.
       found_keeps now invalid (options_of now.scope s opts) _ (λ o.
       value_keeps now now (func_value (lifted_function tree v o)) (same_keeps now)))))
-  item_keeps (Item.lower_item func ty signature opts) is =
+  item_keeps (Item.lower_item func ty signature opts) =
       found_keeps now bad_type (tree_if t is_func now.scope ty) _ (λ tree.
       found_keeps now bad_type (signature_at t signature) _ (λ s.
       found_keeps now invalid (slice_get now.scope.funcs func) _ (λ f.
       found_keeps now invalid (options_of now.scope s opts) _ (λ o. lower_keeps now f tree s o))))
-  item_keeps (Item.builtin_item a b d) is = cc
-  item_keeps (Item.waitable_item a b d) is = cc
-  item_keeps (Item.task_return_item a b d) is = cc
-  item_keeps (Item.error_context_item a b d) is = cc
-  item_keeps (Item.context_item a b d) is = cc
-  item_keeps (Item.new_thread_item a b d) is = cc
-  item_keeps (Item.module_item number ty) is =
+  item_keeps (Item.builtin_item k signature operands) =
+      found_keeps now bad_type (signature_at t signature) _ (λ s.
+      after_keeps now (parts_from t now.scope s operands) _ (λ parts. builtin_keeps _))
+  item_keeps (Item.waitable_item k signature memory) =
+      found_keeps now bad_type (signature_at t signature) _ (λ s.
+      found_keeps now invalid (slice_get now.scope.memories memory) _ (λ v. builtin_keeps _))
+  item_keeps (Item.task_return_item signature result_ opts) =
+      found_keeps now bad_type (signature_at t signature) _ (λ s.
+      found_keeps now bad_type (results_tree t now.scope result_) _ (λ tree.
+      found_keeps now invalid (options_of now.scope s opts) _ (λ o. builtin_keeps _)))
+  item_keeps (Item.error_context_item k signature opts) =
+      found_keeps now bad_type (signature_at t signature) _ (λ s.
+      found_keeps now invalid (optional_options now.scope s opts) _ (λ more. builtin_keeps _))
+  item_keeps (Item.context_item access signature slot) =
+      found_keeps now bad_type (signature_at t signature) _ (λ s.
+      found_keeps now invalid (slot_place access slot) _ (λ place. intrinsic_keeps now now place s (same_keeps now)))
+  item_keeps (Item.new_thread_item signature start table) =
+      found_keeps now bad_type (signature_at t signature) _ (λ s.
+      found_keeps now invalid (slice_get now.scope.tables table) _ (λ v. builtin_keeps _))
+  item_keeps (Item.module_item number ty) =
       found_keeps now bad_type (tree_if t is_module now.scope ty) _ (λ tree.
       value_keeps now now (module_value (static_module number tree)) (same_keeps now))
-  item_keeps (Item.instantiate_module_item n args) is =
+  item_keeps (Item.instantiate_module_item n args) =
       found_keeps now invalid (slice_get now.scope.modules n) _ (module_keeps args)
-  item_keeps (Item.core_exports_item items) is =
+  item_keeps (Item.core_exports_item items) =
       found_keeps now invalid (map_all (bag_entry now.scope) items) _ (λ es. instance_keeps now now _ (same_keeps now))
-  item_keeps (Item.component_item body) is =
+  item_keeps (Item.component_item body) =
       held_keeps now invalid (is_definable (chain_of now.scope) 0 body) _
       (value_keeps now now (component_value (closed body (chain_of now.scope))) (same_keeps now))
-  item_keeps (Item.instantiate_component_item a b d) is = cc
-  item_keeps (Item.component_exports_item es ty) is =
+  item_keeps (Item.instantiate_component_item a b d) = tt
+  item_keeps (Item.component_exports_item es ty) =
       found_keeps now bad_type (tree_if t is_instance now.scope ty) _ (λ tree.
       held_keeps now bad_type (list_all (is_typed_export t) es) _ (
       found_keeps now invalid (map_all (exported_value t now.scope) es) _
       (λ vs. value_keeps now now (instance_value (made_instance (pack_values vs) tree)) (same_keeps now))))
-  item_keeps (Item.core_alias_item k n name) is =
+  item_keeps (Item.core_alias_item k n name) =
       found_keeps now invalid (option_and_then (core_export ms k name) (slice_get now.scope.core_instances n)) _
       (λ v. core_keeps now now k v (same_keeps now))
-  item_keeps (Item.alias_item k n name) is =
+  item_keeps (Item.alias_item k n name) =
       found_keeps now invalid (slice_get now.scope.instances n) _ (λ i.
       found_keeps now (missing_name i) (member i name) _ (member_keeps now k))
-  item_keeps (Item.outer_item k count n) is =
+  item_keeps (Item.outer_item k count n) =
       found_keeps now invalid (outer_of now.scope k count n) _ (λ v. value_keeps now now v (same_keeps now))
-  item_keeps (Item.export_item e) is =
+  item_keeps (Item.export_item e) =
       held_keeps now bad_type (is_typed_export t e) _ (
       found_keeps now invalid (value_at t now.scope e.kind e.index) _ (λ v. value_keeps now now v (same_keeps now)))
 
@@ -257,16 +277,6 @@ module _ (t : TypeTable) (ms : List ModuleRecord) (now next : Moment) where
   -- a moment in which no adapter was made
   abbrev kept : Moment → Result Moment Fault
   kept m = let_through (not (list_any is_made m.world.log)) (Ok m)
-
-  -- an item that adds something is of a kind that is built
-  pub row_built : (i : Item.Item) → built_row t ms now i ≡ Ok next → is_built i ≡ true
-  unfolding row today
-  row_built i done = by (is_built i) refl done
-    where
-      by : (b : Bool) → is_built i ≡ b
-          → let_through b (after (read_row t ms now i) kept) ≡ Ok next → is_built i ≡ true
-      by true is done = is
-      by false is done = cc
 
   after_kept : (r : Result Moment Fault) → after r kept ≡ Ok next → r ≡ Ok next
   after_kept (Err f) is = cc
@@ -277,19 +287,14 @@ module _ (t : TypeTable) (ms : List ModuleRecord) (now next : Moment) where
       by true is = cc
       by false is = is
 
-  -- what an item that is built reads
+  -- what an item reads
   row_read : (i : Item.Item) → built_row t ms now i ≡ Ok next → read_row t ms now i ≡ Ok next
   unfolding row today
-  row_read i done = by (is_built i) done
-    where
-      by : (b : Bool) → let_through b (after (read_row t ms now i) kept) ≡ Ok next → read_row t ms now i ≡ Ok next
-      by true done = after_kept (read_row t ms now i) done
-      by false done = cc
+  row_read i done = after_kept (read_row t ms now i) done
 
   -- what an item keeps of a moment
   pub row_keeps : (i : Item.Item) → built_row t ms now i ≡ Ok next → RowKeeps now next
-  row_keeps i done =
-      subst (λ r. IfOk r (RowKeeps now)) (row_read i done) (item_keeps t ms now i (row_built i done))
+  row_keeps i done = subst (λ r. IfOk r (RowKeeps now)) (row_read i done) (item_keeps t ms now i)
 
   -- what the return of a child keeps of a moment
   pub return_keeps : (exports : List NamedValue) (ty : ℕ) → read_return t now exports ty ≡ Ok next → RowKeeps now next

@@ -1,28 +1,33 @@
 -- What bodies weigh, against what their items and exports add at the most.
-use Rattle.std.proofs.Common.{◌≡◌, ◌≤◌, ◌+◌, ◌*◌, ℕ, suc, List, [], ◌∷◌, length, map, Some, refl, sym, subst, ◌∙◌}
+use Rattle.std.proofs.Common.{◌≡◌, ◌≤◌, ◌+◌, ◌*◌, ℕ, suc, List, [], ◌∷◌, length, map, Option, None, Some, refl, sym}
+use Rattle.std.proofs.Common.{subst, ◌∙◌}
 use Rattle.std.proofs.Common.{arith, cond}
 use Rattle.std.proofs.Common.{sum_by}
 use Rattle.std.proofs.lemmas.List.Recursion.{is_count_by}
 use Rattle.std.proofs.lemmas.List.Sums.{sum_by-cons}
+use Rattle.std.proofs.lemmas.Option.{none-some, same_Some}
 use Rattle.pc_types.specs.declared.module_record.ModuleRecord.{ModuleRecord}
 use Rattle.pc_types.specs.declared.parsed.TypeTable.{TypeTable}
+use Rattle.pc_types.specs.declared.parsed.ValType.{ValType}
+use Rattle.pc_types.specs.declared.parsed.ValType.TheVariants as val
 use Rattle.pc_types_lists.specs.Adds.{most_types}
 use Rattle.pc_parsed.specs.declared.payload.ExternName.{ExternName}
 use Rattle.pc_parsed.specs.declared.payload.ItemKind.{ItemKind}
 use Rattle.pc_parsed.specs.declared.payload.ItemKind.TheVariants as kind
+use Rattle.pc_spec_reading.specs.Canonical.{canonical_item}
 use Rattle.pc_spec_reading.specs.Item
 use Rattle.pc_spec_reading.specs.Item.{ArgumentOf, ExportOf, Items, and_item, exports_in}
 use Rattle.pc_spec_reading.specs.Section.{argument_of, named_item}
 use Rattle.pc_spec_reading.specs.Total.{argument_weight, body_weight, export_weight, index_weight, item_weight}
-use Rattle.pc_spec_reading.specs.Total.{prepared_weight}
+use Rattle.pc_spec_reading.specs.Total.{operand_weight, prepared_weight, value_weight}
 use Rattle.pc_local.specs.declared.item.LocalInitializer.{LocalInitializer}
 use Rattle.pc_local.specs.declared.item.LocalInitializer.TheVariants as local
 use Rattle.pc_local.specs.declared.item.Translation.{Translation}
-use Rattle.pc_local.specs.Plain.{plain_item}
+use Rattle.pc_local.specs.Plain.{if_builtin, if_error_context, if_waitable, plain_item}
 use Rattle.pc_local.specs.Standing.{ItemStands, ItemsStand, Names, stand_more, stand_none, stands_component}
 use Rattle.pc_local.specs.Standing.{stands_module, stands_nested, stands_plain}
-use Rattle.pc_inline_state.specs.Adds.{is_type_kind, most_added, most_converted, most_of_items, most_prepared}
-use Rattle.pc_inline_state.specs.Adds.{most_prepared_of, types_among}
+use Rattle.pc_inline_state.specs.Adds.{is_type_kind, most_added, most_builtin, most_converted, most_of_items}
+use Rattle.pc_inline_state.specs.Adds.{most_operand, most_prepared, most_prepared_of, most_returned, types_among}
 use Rattle.pc_inline_stack.specs.Stacks.{type_count, types_exported}
 
 counted_more : (k : ItemKind) (n : ℕ) → type_count k + n ≡ cond (is_type_kind k) (1 + n) n
@@ -129,6 +134,55 @@ module _ (t : TypeTable) (ms : List ModuleRecord) where
   four_weigh (Item.export_item e) is = export_weighs e is
   four_weigh i is = omega arith
 
+  -- an operand adds no more than it weighs
+  operand_weighs : (o : Item.Operand) → most_operand t o ≤ operand_weight t ms o
+  operand_weighs (Item.a_resource n) = omega arith
+  operand_weighs (Item.a_stream n) = omega arith
+  operand_weighs (Item.a_future n) = omega arith
+  operand_weighs (Item.a_flag is_async) = omega arith
+  operand_weighs (Item.the_options opts) = omega arith
+
+  operands_weigh : (os : List Item.Operand) → sum_by (most_operand t) os ≤ sum_by (operand_weight t ms) os
+  operands_weigh [] = omega arith
+  operands_weigh (o ∷ os) =
+      let most = sum_by-cons (most_operand t) o os in
+      let weight = sum_by-cons (operand_weight t ms) o os in
+      let first = operand_weighs o in
+      let rest = operands_weigh os in
+      omega (arith, most, weight, first, rest)
+
+  -- so it is of a builtin
+  builtin_weighs : (o : Option Item.Item) (i : Item.Item) (is : Items) → if_builtin o ≡ Some i
+      → most_builtin t o + Exporting (and_item i is) ≤ item_weight t ms i + Exporting is
+  unfolding item_weight
+  builtin_weighs (Some (Item.builtin_item k s operands)) i is same =
+      let all = operands_weigh operands in
+      subst (λ j. 6 + sum_by (most_operand t) operands + Exporting (and_item j is)
+      ≤ item_weight t ms j + Exporting is) (same_Some (Item.builtin_item k s operands) i same) (omega (arith, all))
+  builtin_weighs o i is same = absurd (none-some i same)
+
+  waitable_weighs : (o : Option Item.Item) (i : Item.Item) (is : Items) → if_waitable o ≡ Some i
+      → most_builtin t o + Exporting (and_item i is) ≤ item_weight t ms i + Exporting is
+  unfolding item_weight
+  waitable_weighs (Some (Item.waitable_item k s memory)) i is same =
+      subst (λ j. 6 + Exporting (and_item j is) ≤ item_weight t ms j + Exporting is)
+      (same_Some (Item.waitable_item k s memory) i same) (omega arith)
+  waitable_weighs o i is same = absurd (none-some i same)
+
+  error_context_weighs : (o : Option Item.Item) (i : Item.Item) (is : Items) → if_error_context o ≡ Some i
+      → most_builtin t o + Exporting (and_item i is) ≤ item_weight t ms i + Exporting is
+  unfolding item_weight
+  error_context_weighs (Some (Item.error_context_item k s opts)) i is same =
+      subst (λ j. 6 + Exporting (and_item j is) ≤ item_weight t ms j + Exporting is)
+      (same_Some (Item.error_context_item k s opts) i same) (omega arith)
+  error_context_weighs o i is same = absurd (none-some i same)
+
+  -- a result of a task adds no more than it weighs, and six entries
+  result_weighs : (v : Option ValType) → most_returned t v ≤ 6 + value_weight t ms v
+  result_weighs None = omega arith
+  result_weighs (Some (val.Prim p)) = omega arith
+  result_weighs (Some (val.Type_ n)) = omega arith
+
   plain_weighs : (l : LocalInitializer) (i : Item.Item) (is : Items) → plain_item l ≡ Some i → Weighs l i is
   unfolding plain_item item_weight
   plain_weighs (local.Lift func ty core opts) i is same =
@@ -137,6 +191,14 @@ module _ (t : TypeTable) (ms : List ModuleRecord) where
   plain_weighs (local.Lower func ty core opts) i is same =
       let it : Item.lower_item func ty core opts ≡ i = cc in
       subst (λ j. most_converted t 1 + Exporting (and_item j is) ≤ item_weight t ms j + Exporting is) it (omega arith)
+  plain_weighs (local.Builtin c) i is same = builtin_weighs (canonical_item c) i is same
+  plain_weighs (local.WaitableSet c) i is same = waitable_weighs (canonical_item c) i is same
+  plain_weighs (local.ErrorContext c) i is same = error_context_weighs (canonical_item c) i is same
+  plain_weighs (local.TaskReturn signature result_ opts) i is same =
+      let it : Item.task_return_item signature result_ opts ≡ i = cc in
+      let one = result_weighs result_ in
+      subst (λ j. most_returned t result_ + Exporting (and_item j is) ≤ item_weight t ms j + Exporting is) it
+      (omega (arith, one))
   plain_weighs (local.ModuleStatic index ty) i is same =
       let it : Item.module_item index.0 ty ≡ i = cc in
       subst (λ j. most_converted t 1 + Exporting (and_item j is) ≤ item_weight t ms j + Exporting is) it (omega arith)

@@ -5,7 +5,8 @@ use Rattle.pc_types.specs.declared.error.Error.TheVariants as error
 use Rattle.pc_types.specs.declared.module_record.ModuleRecord.{ModuleRecord}
 use Rattle.pc_types.specs.declared.parsed.TypeTable.{TypeTable}
 use Rattle.pc_spec_reading.specs.Item.{Items, and_item, no_items}
-use Rattle.pc_spec_reading.specs.Outcome.{Outcome, bad_type, done, fault, invalid, over, unsupported}
+use Rattle.pc_spec_reading.specs.Outcome.{Outcome, bad_type, done, fault, invalid, over, unknown_intrinsic}
+use Rattle.pc_spec_reading.specs.Outcome.{unsupported}
 use Rattle.pc_spec_reading.specs.Scope.{Moment}
 use Rattle.pc_local.specs.declared.item.LocalInitializer.{LocalInitializer}
 use Rattle.pc_local.specs.declared.item.Translation.{Translation}
@@ -32,6 +33,7 @@ module _ (t : TypeTable) (ms : List ModuleRecord) where
   Ends st f o (Ok end) = (now : Moment) × (o ≡ done now) × PointStands t ms st f now
   Ends st f o (Err (error.Invalid p)) = o ≡ fault invalid p
   Ends st f o (Err (error.BadType p)) = o ≡ fault bad_type p
+  Ends st f o (Err (error.UnknownIntrinsic p)) = o ≡ fault unknown_intrinsic p
   Ends st f o (Err (error.Unsupported u p)) = o ≡ fault (unsupported u) p
   Ends st f o (Err error.TooManyInstances) = o ≡ over
   Ends st f o (Err error.TooMany) = IsFullSomewhere (tables_of st)

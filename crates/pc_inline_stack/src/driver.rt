@@ -2,11 +2,14 @@
 //! component instance that it stands in goes on when these have been read.
 
 ghost use Rattle.std.specs.Prelude.{◌≡◌, ◌<◌, ◌≤◌, ◌+◌, ◌*◌, ◌++◌, ◌∷◌, ℕ, List, [], false, true, length, map, reverse};
-ghost use Rattle.std.specs.Prelude.{Some, slice_get, option_and_then, OnOk};
+ghost use Rattle.std.specs.Prelude.{None, Some, slice_get, option_and_then, OnOk};
 ghost use Rattle.pc_types.specs.Names.{distinct_names};
-ghost use Rattle.pc_types.specs.Table.{is_instance};
+ghost use Rattle.pc_types.specs.declared.parsed.TypeTable.{TypeTable};
+ghost use Rattle.pc_types.specs.Table.{is_instance, table_fault};
 ghost use Rattle.pc_types_lists.specs.Adds.{most_types};
 ghost use Rattle.pc_types_lists.specs.Known.{resource_of};
+ghost use Rattle.pc_types_lists.specs.Types.{KeepsTypes, Resources, Types};
+ghost use Rattle.pc_types_builder.specs.Converted.{AreConverted};
 ghost use Rattle.pc_spec_reading.specs.Section.{argument_of};
 ghost use Rattle.pc_spec_reading.specs.Types.{has_entry};
 ghost use Rattle.pc_spec_reading.specs.Value.{NamedValue, pack_values};
@@ -146,6 +149,34 @@ fn call_of(
     })
 }
 
+/// What a child has converted when it begins: the types that are the same in each component instance. Its caller has none
+/// of them while it waits.
+fn child_types(context: &Context<'_>, frame: &mut Frame) -> Converted
+    requires sound { table_fault context.now.table.now ≡ None }
+    requires converted { (b : Types) × AreConverted b context.now.table.now frame.old.converted }
+    ensures same { frame.new ≡ record frame.old { converted = frame.new.converted } }
+    ensures stays { (b : Types) → AreConverted b context.now.table.now frame.old.converted
+        → AreConverted b context.now.table.now frame.new.converted }
+    ensures child { (b : Types) (k : Resources) → AreConverted b context.now.table.now frame.old.converted
+        → AreConverted (record b { resources = k }) context.now.table.now result }
+{
+    let mut converted = Converted::new(context.alloc, context.table);
+    frame.converted.exchange_plain(&mut converted);
+    converted
+}
+
+/// A child that has ended gives back the types that are the same in each component instance, with those that it
+/// converted.
+fn take_back(frame: &mut Frame, child: &mut Frame)
+    requires room { length frame.old.converted.all ≡ length child.old.converted.all }
+    ensures same { frame.new ≡ record frame.old { converted = frame.new.converted } }
+    ensures converted { (t : TypeTable) (old new : Types) → table_fault t ≡ None → KeepsTypes old new
+        → AreConverted old t child.old.converted → AreConverted new t frame.old.converted
+        → AreConverted new t frame.new.converted }
+{
+    frame.converted.exchange_plain(&mut child.converted);
+}
+
 /// Types are converted for this component instance from now on.
 fn convert_for(types: &mut ComponentTypesBuilder, instance: RuntimeComponentInstanceIndex)
     ensures { types.new ≡ converting_for types.old instance }
@@ -179,7 +210,7 @@ fn enter(
         Err(error) => return Err(error_at(error, stack.top.frame.place_of(stack.top.next))),
     };
     let instance = begin_instance(&mut state.graph, limit)?;
-    let converted = Converted::new(context.alloc, context.table);
+    let converted = child_types(context, &mut stack.top.frame);
     let child = Open {
         frame: Frame::new(context.alloc, converted, instance, call.arguments),
         closure: Some(call.closure),
@@ -297,6 +328,7 @@ fn end_child(
     let members = export_members(context, state, child, exports)?;
     undo(&mut state.types, child.changes.as_slice())?;
     convert_for(&mut state.types, frame.component_instance);
+    take_back(frame, child);
     add_child(context, state, frame, members, ty)
 }
 

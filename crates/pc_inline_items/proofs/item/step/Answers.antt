@@ -1,27 +1,24 @@
 use Rattle.std.proofs.Common.{refl}
+use Rattle.pc_inline_items.proofs.BuiltinLemmas.{builtin_local, context_local, error_context_local, new_thread_local}
+use Rattle.pc_inline_items.proofs.BuiltinLemmas.{task_return_local, waitable_local}
+use Rattle.pc_inline_items.proofs.KindLemmas.{added, intrinsics_local}
 use Rattle.pc_inline_items.proofs.KindLemmas.{alias_local, component_exports_local, core_alias_local}
 use Rattle.pc_inline_items.proofs.KindLemmas.{core_exports_local}
 use Rattle.pc_inline_items.proofs.KindLemmas.{core_instance_local, export_local, import_local, lift_local, lower_local}
 use Rattle.pc_inline_items.proofs.KindLemmas.{exported, exports_sound, module_local, module_sound, moved}
 use Rattle.pc_inline_items.proofs.KindLemmas.{resource_local}
 use Rattle.pc_inline_items.proofs.KindLemmas.{same_local, still}
-use Rattle.pc_inline_items.proofs.LocalLemmas.{local_instantiated, local_unbuilt}
-use Rattle.pc_inline_items.proofs.UnbuiltLemmas.{none_of_these}
+use Rattle.pc_inline_items.proofs.LocalLemmas.{local_instantiated}
 use Rattle.pc_inline_items.proofs.WholeLemmas.{unmoved}
 use Rattle.pc_inline_items.proofs.item.step.Goals as goal
 
-pub returns-in_default : goal.returns-in_default
-returns-in_default c =
-    unmoved (local_unbuilt c.args.context.now.table.now _ _ _ _ _ (none_of_these _
-    c.in_default.not-Import c.in_default.not-Resource c.in_default.not-Lift c.in_default.not-Lower
-    c.in_default.not-ModuleStatic
-    c.in_default.not-ModuleInstantiate c.in_default.not-ModuleSynthetic c.in_default.not-ComponentStatic
-    c.in_default.not-AliasCoreExport c.in_default.not-ComponentInstantiate c.in_default.not-ComponentSynthetic
-    c.in_default.not-AliasComponentExport
-    c.in_default.not-AliasModule c.in_default.not-AliasComponent c.in_default.not-Export))
-
 pub returns-in-Import : goal.returns-in-Import
 returns-in-Import c = moved c.in-Import.is c.step_import.ensures (import_local _ _ _ _ _ _ _ _ c.in-Import.is)
+
+pub returns-in-IntrinsicsImport : goal.returns-in-IntrinsicsImport
+returns-in-IntrinsicsImport c =
+    added c.in-IntrinsicsImport.is refl c.step_intrinsics.ensures
+    (λ h. intrinsics_local _ _ _ _ _ _ _ _ c.in-IntrinsicsImport.is (h _ _))
 
 pub returns-in-Resource : goal.returns-in-Resource
 returns-in-Resource c =
@@ -88,3 +85,28 @@ returns-in-AliasComponent c =
 
 pub returns-in-Export : goal.returns-in-Export
 returns-in-Export c = still c.step_export.ensures (λ h. export_local _ _ _ _ _ _ _ _ c.in-Export.is (h _ _ _))
+
+pub returns-in-Builtin : goal.returns-in-Builtin
+returns-in-Builtin c =
+    moved c.in-Builtin.is c.step_builtin.ensures (builtin_local _ _ _ _ _ _ _ _ c.in-Builtin.is)
+
+pub returns-in-WaitableSet : goal.returns-in-WaitableSet
+returns-in-WaitableSet c =
+    moved c.in-WaitableSet.is c.step_builtin-in-WaitableSet.ensures (waitable_local _ _ _ _ _ _ _ _ c.in-WaitableSet.is)
+
+pub returns-in-ErrorContext : goal.returns-in-ErrorContext
+returns-in-ErrorContext c =
+    moved c.in-ErrorContext.is c.step_builtin-in-ErrorContext.ensures (error_context_local _ _ _ _ _ _ _ _ c.in-ErrorContext.is)
+
+pub returns-in-TaskReturn : goal.returns-in-TaskReturn
+returns-in-TaskReturn c =
+    moved c.in-TaskReturn.is c.step_task_return.ensures (task_return_local _ _ _ _ _ _ _ _ c.in-TaskReturn.is)
+
+pub returns-in-ThreadNewIndirect : goal.returns-in-ThreadNewIndirect
+returns-in-ThreadNewIndirect c =
+    moved c.in-ThreadNewIndirect.is c.step_new_thread.ensures
+    (new_thread_local _ _ _ _ _ _ _ _ c.in-ThreadNewIndirect.is)
+
+pub returns-in-Context : goal.returns-in-Context
+returns-in-Context c =
+    moved c.in-Context.is c.step_context.ensures (context_local _ _ _ _ _ _ _ _ c.in-Context.is)
