@@ -1,7 +1,7 @@
 -- Objects that agree but for the value of one key.
 use Rattle.std.proofs.Common.{◌≡◌, ℕ, suc, ◌==◌, List, [], ◌∷◌, ◌++◌, Bool, true, false, true≢false, Option, Some, None}
 use Rattle.std.proofs.Common.{Ordering, Less, Equal, Greater, nat_cmp, is_eq, bytes_eq, Bor, Vec, Global, if◌then◌else◌}
-use Rattle.std.proofs.Common.{refl, sym, ap, ◌∙◌, subst}
+use Rattle.std.proofs.Common.{is_some, option_map, refl, sym, ap, ◌∙◌, subst}
 use Rattle.std.specs.Prelude.{codes, ⊤}
 use Rattle.std.specs.Cmp.Lexicographic.{slice_cmp}
 use Rattle.std.specs.Ordering.{match_ordering}
@@ -12,17 +12,18 @@ use Rattle.json.specs.declared.value.Value.{Value, Object}
 use Rattle.json.proofs.Trees.{view-Object}
 use Rattle.serde_json.specs.Data.{Data, Members, no_members, member, object, put}
 use Rattle.serde_json.specs.Events.{members_len}
-use Rattle.serde_json.specs.Find.{get_member}
+use Rattle.serde_json.specs.Find.{as_str, get_member}
 use Rattle.serde_json.proofs.Views.{get_member-put, get_member-put_other}
 use Rattle.pc_parsed.specs.declared.payload.Payload.{Payload}
 use Rattle.pc_input_tokens.specs.Borrowed.{data_of, data_in, members_data}
 use Rattle.pc_input_values.specs.Tree.{◌>>=◌, whole, or_null, each}
-use Rattle.pc_input_values.specs.Rules.{plain}
+use Rattle.pc_input_values.specs.Rules.{Rules, plain}
 use Rattle.pc_input_values.specs.Types.{type_table}
 use Rattle.pc_input.specs.declared.input.Input.{Input}
 use Rattle.pc_input.specs.Payload.{payload_of}
-use Rattle.pc_input.specs.Input.{input_of}
-use Rattle.pc_input.specs.Root.{AgreeBut, root_with, Keeps, Stands}
+use Rattle.pc_input.specs.declared.root.First.TheVariants as first
+use Rattle.pc_input.specs.Input.{input_from, input_one, names_of}
+use Rattle.pc_input.specs.Root.{AgreeBut, input_with, one_with, first_of, first_with, Keeps, Stands}
 
 -- ---- what they have in common
 
@@ -97,32 +98,32 @@ read-put f q k d ms before after was is = by (bytes_eq q k) refl is
         ∙ was ∙ now
 
 -- one more member is kept
-pub stands-put : (kept all : List Kept) (m : Kept) (before after : Option (List Payload)) (ms : Members) (d : Data)
-    → Stands kept before ms → Keeps m.0.now d before m.1 after → all ≡ kept ++ m ∷ []
-    → Stands all after (put m.0.now d ms)
-stands-put kept all m before after ms d h keeps is =
+pub stands-put : (r : Rules) (kept all : List Kept) (m : Kept) (before after : Option (List Payload)) (ms : Members)
+    (d : Data)
+    → Stands r kept before ms → Keeps r m.0.now d before m.1 after → all ≡ kept ++ m ∷ []
+    → Stands r all after (put m.0.now d ms)
+stands-put r kept all m before after ms d h keeps is =
     let q = codes "payloads" in
     let agree : AgreeBut q (put m.0.now d ms) (put m.0.now (data_in m.1)
     (members_data (members_view kept) no_members)) =
     agree-put q m.0.now d (data_in m.1) ms (members_data (members_view kept) no_members) keeps.0 h.0 in (
       subst (λ es. AgreeBut q (put m.0.now d ms) (members_data (members_view es) no_members)) (sym is)
           (subst (λ ns. AgreeBut q (put m.0.now d ms) ns) (sym (data_push kept m no_members)) agree),
-      read-put (each (payload_of plain)) q m.0.now d ms before after h.1 keeps.1,
+      read-put (each (payload_of r)) q m.0.now d ms before after h.1 keeps.1,
     )
 
--- ---- the input of an object, from what was kept of it
+-- ---- what an object says, from what was kept of it
 
--- goes on at four members
-abbrev four : ℕ → Option ⊤
-four n = if n == 4 then Some tt else None
+-- goes on at so many members
+abbrev at_len : ℕ → ℕ → Option ⊤
+at_len m n = if n == m then Some tt else None
 
--- the input, from the number of members and the values of the keys
-abbrev input_by : ℕ → Option Data → Option Data → Option Data → Option (List Payload) → Option Input
-input_by n limit intrinsics table payloads = do
-  _ ← four n
+-- what the members say that an input has in each form, from the values of the keys
+abbrev with_by : Rules → Option Data → Option Data → Option Data → Option (List Payload) → Option Input
+with_by r limit intrinsics table payloads = do
   l ← limit >>= whole
-  i ← intrinsics >>= or_null plain.name
-  t ← table >>= type_table plain
+  i ← intrinsics >>= or_null r.name
+  t ← table >>= type_table r
   p ← payloads
   Some (record {
     tunables = record { max_component_instances = l };
@@ -131,25 +132,65 @@ input_by n limit intrinsics table payloads = do
     payloads = p;
   })
 
-kept_input : (ms ns : Members) (payloads : Option (List Payload)) → AgreeBut (codes "payloads") ms ns
-    → (get_member (codes "payloads") ms >>= each (payload_of plain)) ≡ payloads
-    → root_with (object ns) payloads ≡ input_of plain (object ms)
-kept_input ms ns payloads a e =
-    let limit = get_member (codes "limit") in
-    let intrinsics = get_member (codes "intrinsics") in
-    let table = get_member (codes "types") in
-    ap (λ n. input_by n (limit ns) (intrinsics ns) (table ns) payloads) (sym (agree-len (codes "payloads") ms ns a))
-    ∙ ap (λ o. input_by (members_len ms) o (intrinsics ns) (table ns) payloads)
-    (sym (agree-get (codes "payloads") (codes "limit") ms ns refl a))
-    ∙ ap (λ o. input_by (members_len ms) (limit ms) o (table ns) payloads)
-    (sym (agree-get (codes "payloads") (codes "intrinsics") ms ns refl a))
-    ∙ ap (λ o. input_by (members_len ms) (limit ms) (intrinsics ms) o payloads)
-    (sym (agree-get (codes "payloads") (codes "types") ms ns refl a))
-    ∙ ap (λ o. input_by (members_len ms) (limit ms) (intrinsics ms) (table ms) o) (sym e)
+-- the table of form 2
+abbrev names_by : ℕ → Option Data → Option Data → Option (List (List ℕ))
+names_by n form names = do
+  _ ← at_len 6 n
+  f ← form >>= whole
+  t ← names >>= each as_str
+  if f == 2 then Some t else None
 
--- what was kept has the input of the object
-pub root-Object : (v : Vec Kept Global) (payloads : Option (List Payload)) (ms : Members) → Stands v.items payloads ms
-    → root_with (data_in (Object v)) payloads ≡ input_of plain (object ms)
-root-Object v payloads ms h =
-    ap (λ j. root_with (data_of j) payloads) (view-Object v)
-    ∙ kept_input ms (members_data (members_view v.items) no_members) payloads h.0 h.1
+module _ (ms ns : Members) (a : AgreeBut (codes "payloads") ms ns) where
+  len : members_len ns ≡ members_len ms
+  len = sym (agree-len (codes "payloads") ms ns a)
+
+  value : (key : List ℕ) → bytes_eq (codes "payloads") key ≡ false → get_member key ns ≡ get_member key ms
+  value key other = sym (agree-get (codes "payloads") key ms ns other a)
+
+  module _ (r : Rules) (payloads : Option (List Payload))
+      (e : (get_member (codes "payloads") ms >>= each (payload_of r)) ≡ payloads) where
+    kept_input : input_with r (object ns) payloads ≡ input_from r (object ms)
+    kept_input =
+        ap (λ o. with_by r o (get_member (codes "intrinsics") ns) (get_member (codes "types") ns) payloads)
+        (value (codes "limit") refl)
+        ∙ ap (λ o. with_by r (get_member (codes "limit") ms) o (get_member (codes "types") ns) payloads)
+        (value (codes "intrinsics") refl)
+        ∙ ap (λ o. with_by r (get_member (codes "limit") ms) (get_member (codes "intrinsics") ms) o payloads)
+        (value (codes "types") refl)
+        ∙ ap (λ o. with_by r (get_member (codes "limit") ms) (get_member (codes "intrinsics") ms)
+        (get_member (codes "types") ms) o) (sym e)
+
+  kept_names : names_of (object ns) ≡ names_of (object ms)
+  kept_names =
+      ap (λ n. names_by n (get_member (codes "form") ns) (get_member (codes "names") ns)) len
+      ∙ ap (λ o. names_by (members_len ms) o (get_member (codes "names") ns)) (value (codes "form") refl)
+      ∙ ap (λ o. names_by (members_len ms) (get_member (codes "form") ms) o) (value (codes "names") refl)
+
+  module _ (payloads : Option (List Payload))
+      (e : (get_member (codes "payloads") ms >>= each (payload_of plain)) ≡ payloads) where
+    kept_one : one_with (object ns) payloads ≡ input_one (object ms)
+    kept_one =
+        ap (λ n. at_len 4 n >>= λ _. input_with plain (object ns) payloads) len
+        ∙ ap (λ o. at_len 4 (members_len ms) >>= λ _. o) (kept_input plain payloads e)
+
+    kept_first : first_with (object ns) payloads ≡ first_of (object ms)
+    kept_first =
+        ap (λ o. if is_some o then option_map first.Names (names_of (object ns))
+        else option_map first.Input (one_with (object ns) payloads)) (value (codes "form") refl)
+        ∙ ap (λ o. if is_some (get_member (codes "form") ms) then option_map first.Names o
+        else option_map first.Input (one_with (object ns) payloads)) kept_names
+        ∙ ap (λ o. if is_some (get_member (codes "form") ms) then option_map first.Names (names_of (object ms))
+        else option_map first.Input o) kept_one
+
+-- what was kept says what the object says
+module _ (v : Vec Kept Global) (payloads : Option (List Payload)) (ms : Members) where
+  pub first-Object : Stands plain v.items payloads ms → first_with (data_in (Object v)) payloads ≡ first_of (object ms)
+  first-Object h =
+      ap (λ j. first_with (data_of j) payloads) (view-Object v)
+      ∙ kept_first ms (members_data (members_view v.items) no_members) h.0 payloads h.1
+
+  pub input-Object : (r : Rules) → Stands r v.items payloads ms
+      → input_with r (data_in (Object v)) payloads ≡ input_from r (object ms)
+  input-Object r h =
+      ap (λ j. input_with r (data_of j) payloads) (view-Object v)
+      ∙ kept_input ms (members_data (members_view v.items) no_members) h.0 r payloads h.1

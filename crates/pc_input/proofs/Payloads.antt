@@ -20,7 +20,7 @@ use Rattle.pc_input_tokens.specs.Takes.{data_at}
 use Rattle.pc_input_tokens.proofs.Keys.{several}
 use Rattle.pc_input_values.specs.declared.error.DecodeError.{DecodeError}
 use Rattle.pc_input_values.specs.declared.error.DecodeError.TheVariants.{NotJson, BadForm, NoMemory}
-use Rattle.pc_input_values.specs.Rules.{plain}
+use Rattle.pc_input_values.specs.Rules.{Rules}
 use Rattle.pc_input_values.specs.Tree.{◌>>=◌, by_row, making}
 use Rattle.pc_input.specs.Payload.{payload_words, payload_keys, payload_of}
 use Rattle.pc_input.specs.Takes.{Takes, TakesOther}
@@ -79,13 +79,14 @@ two_at Equal k l d e is other =
     absurd (true≢false (sym ((bytes_eq-Decides l k).1 (sym same)) ∙ other))
 
 -- the first key, once more or for the first time
-pub one_same : (many : Bool) (first : Option (List ℕ)) (before after : Option Payload) (key : List ℕ) (d : Data)
+pub one_same : (r : Rules) (many : Bool) (first : Option (List ℕ)) (before after : Option Payload) (key : List ℕ) (d :
+    Data)
     (ms : Members)
-    → is_first key first ≡ true → by_row (payload_keys plain) key d ≡ after → HasAny many first before ms
-    → HasAny many (Some key) after (put key d ms)
-one_same true first before after key d ms e is h = omega (arith, h, grows key d ms)
-one_same false None before after key d ms e is h = (d, ap (put key d) h.0, is)
-one_same false (Some first) before after key d ms e is h =
+    → is_first key first ≡ true → by_row (payload_keys r) key d ≡ after → HasAny r many first before ms
+    → HasAny r many (Some key) after (put key d ms)
+one_same r true first before after key d ms e is h = omega (arith, h, grows key d ms)
+one_same r false None before after key d ms e is h = (d, ap (put key d) h.0, is)
+one_same r false (Some first) before after key d ms e is h =
     let same : first ≡ key = (bytes_eq-Decides first key).0 e in (
       d,
       ap (put key d) h.1
@@ -95,46 +96,46 @@ one_same false (Some first) before after key d ms e is h =
     )
 
 -- another key
-pub one_other : (many : Bool) (first : Option (List ℕ)) (before : Option Payload) (key : List ℕ) (d : Data)
+pub one_other : (r : Rules) (many : Bool) (first : Option (List ℕ)) (before : Option Payload) (key : List ℕ) (d : Data)
     (ms : Members)
-    → is_first key first ≡ false → HasAny many first before ms → 2 ≤ members_len (put key d ms)
-one_other true first before key d ms e h = omega (arith, h, grows key d ms)
-one_other false None before key d ms e h = absurd (true≢false e)
-one_other false (Some first) before key d ms e h =
+    → is_first key first ≡ false → HasAny r many first before ms → 2 ≤ members_len (put key d ms)
+one_other r true first before key d ms e h = omega (arith, h, grows key d ms)
+one_other r false None before key d ms e h = absurd (true≢false e)
+one_other r false (Some first) before key d ms e h =
     subst (λ xs. 2 ≤ members_len (put key d xs)) (sym h.1) (two_at (slice_cmp nat_cmp key first) key first d h.0 refl e)
 
 -- the payload of the object
-pub payload_is : (many : Bool) (first : Option (List ℕ)) (payload : Option Payload) (ms : Members)
-    → HasAny many first payload ms → (if many then None else payload) ≡ payload_of plain (object ms)
+pub payload_is : (r : Rules) (many : Bool) (first : Option (List ℕ)) (payload : Option Payload) (ms : Members)
+    → HasAny r many first payload ms → (if many then None else payload) ≡ payload_of r (object ms)
 unfolding payload_of
-payload_is true first payload ms h =
-    sym (ap (λ o. o >>= λ t. by_row (payload_keys plain) t.0 t.1) (several ms (λ one. absurd (omega (arith, h, one)))))
-payload_is false None payload ms h =
-    h.1 ∙ sym (ap (λ xs. only xs >>= λ t. by_row (payload_keys plain) t.0 t.1) h.0)
-payload_is false (Some key) payload ms h =
-    sym h.2 ∙ sym (ap (λ xs. only xs >>= λ t. by_row (payload_keys plain) t.0 t.1) h.1)
+payload_is r true first payload ms h =
+    sym (ap (λ o. o >>= λ t. by_row (payload_keys r) t.0 t.1) (several ms (λ one. absurd (omega (arith, h, one)))))
+payload_is r false None payload ms h =
+    h.1 ∙ sym (ap (λ xs. only xs >>= λ t. by_row (payload_keys r) t.0 t.1) h.0)
+payload_is r false (Some key) payload ms h =
+    sym h.2 ∙ sym (ap (λ xs. only xs >>= λ t. by_row (payload_keys r) t.0 t.1) h.1)
 
 -- ---- a payload by its first token
 
 -- an array is none
-pub no_array : (ds : Items) → payload_of plain (array ds) ≡ None
+pub no_array : (r : Rules) (ds : Items) → payload_of r (array ds) ≡ None
 unfolding payload_of
-no_array ds = refl
+no_array r ds = refl
 
 -- a word, or none
-pub by_word : (s : List ℕ) → payload_of plain (string s) ≡ value_of s payload_words
+pub by_word : (r : Rules) (s : List ℕ) → payload_of r (string s) ≡ value_of s payload_words
 unfolding payload_of
-by_word s = refl
+by_word r s = refl
 
-module _ (depth : ℕ) (ts : List Token) where
+module _ (r : Rules) (depth : ℕ) (ts : List Token) where
   pub word_next : (s : List ℕ) → data_at depth (Token.string s ∷ ts) ≡ Some (string s, ts)
   word_next s = ap (converted of_json) (value_is depth (Token.string s ∷ ts))
 
-  pub boolean_next : (b : Bool) → Takes (payload_of plain) depth (Token.boolean b ∷ ts) (Err BadForm) ts
+  pub boolean_next : (b : Bool) → Takes (payload_of r) depth (Token.boolean b ∷ ts) (Err BadForm) ts
   unfolding payload_of
   boolean_next b = (boolean b, ap (converted of_json) (value_is depth (Token.boolean b ∷ ts)), refl)
 
-  pub null_next : Takes (payload_of plain) depth (Token.null ∷ ts) (Err BadForm) ts
+  pub null_next : Takes (payload_of r) depth (Token.null ∷ ts) (Err BadForm) ts
   unfolding payload_of
   null_next = (null, ap (converted of_json) (value_is depth (Token.null ∷ ts)), refl)
 
@@ -143,12 +144,12 @@ module _ (depth : ℕ) (ts : List Token) where
   number_at s = ap (converted of_json) (value_is depth (Token.number s ∷ ts))
 
   pub number_next : (s : List ℕ) → is_some (number_of s) ≡ true
-      → Takes (payload_of plain) depth (Token.number s ∷ ts) (Err BadForm) ts
+      → Takes (payload_of r) depth (Token.number s ∷ ts) (Err BadForm) ts
   unfolding payload_of
   number_next s e = by (number_of s) refl e
     where
       by : (o : Option Num) → number_of s ≡ o → is_some o ≡ true
-          → Takes (payload_of plain) depth (Token.number s ∷ ts) (Err BadForm) ts
+          → Takes (payload_of r) depth (Token.number s ∷ ts) (Err BadForm) ts
       by None is h = absurd (true≢false (sym h))
       by (Some n) is h = (
         number n,

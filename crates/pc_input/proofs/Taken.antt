@@ -1,13 +1,11 @@
 -- What is taken off the tokens, from what is read of it.
 use Rattle.std.proofs.Common.{◌≡◌, ℕ, ◌-◌, ◌<◌, Bool, true, false, List, [], ◌∷◌, ◌++◌, Option, Some, None, option_map}
-use Rattle.std.proofs.Common.{option_and_then, Result, Ok, Err, if◌then◌else◌, ◌==◌, refl, sym, ap, ◌∙◌}
+use Rattle.std.proofs.Common.{option_and_then, Result, Ok, Err, refl, sym, ap, ◌∙◌}
 use Rattle.std.specs.Bool.{MatchBool}
-use Rattle.std.specs.Option.{option_map_or}
 use Rattle.json.specs.Token.{Token}
 use Rattle.json.specs.Lex.{tokens}
 use Rattle.json.specs.Json.{value, parse_map}
 use Rattle.serde_json.specs.Data.{Data, array, object, Items, Members}
-use Rattle.serde_json.specs.Events.{members_len}
 use Rattle.serde_json.specs.Read.{read, of_json, converted}
 use Rattle.pc_entity.specs.Lists.{map_all}
 use Rattle.pc_entity.proofs.MapAll.{map_all-push}
@@ -20,9 +18,9 @@ use Rattle.pc_input_tokens.proofs.Whole.{whole_read, whole_and_more, whole_refus
 use Rattle.pc_input_values.specs.declared.error.DecodeError.{DecodeError}
 use Rattle.pc_input_values.specs.declared.error.DecodeError.TheVariants.{NotJson, BadForm, NoMemory}
 use Rattle.pc_input_values.specs.Reads.{Reads}
-use Rattle.pc_input_values.specs.Rules.{plain}
+use Rattle.pc_input_values.specs.Rules.{Rules}
 use Rattle.pc_input_values.specs.Tree.{◌>>=◌, each}
-use Rattle.pc_input.specs.Input.{input_of, input_from}
+use Rattle.pc_input.specs.Root.{Kept, TakesObject, OfObject}
 use Rattle.pc_input.specs.Takes.{TakesAs, Takes, TakesItems, TakesMembers, passed_as, OfText}
 
 -- what was taken, and then read
@@ -32,6 +30,14 @@ TakesAs-from_Reads f all a new (Ok x) is h = (a, is, h)
 TakesAs-from_Reads f all a new (Err NotJson) is h = absurd h
 TakesAs-from_Reads f all a new (Err BadForm) is h = (a, is, h)
 TakesAs-from_Reads f all a new (Err NoMemory) is h = tt
+
+-- a text that was taken whole, and then read
+pub OfText-from_Reads : {A : Type 0} (f : Data → Option A) (text : List ℕ) (d : Data) (r : Result A DecodeError)
+    → read text ≡ Some d → Reads r (f d) → OfText f text r
+OfText-from_Reads f text d (Ok x) is h = (d, is, h)
+OfText-from_Reads f text d (Err NotJson) is h = absurd h
+OfText-from_Reads f text d (Err BadForm) is h = (d, is, h)
+OfText-from_Reads f text d (Err NoMemory) is h = tt
 
 -- ---- a list that grows at its end, where one item without a value leaves none to the list
 
@@ -64,10 +70,10 @@ module _ {A : Type 0} (f : Data → Option A) where
 -- ---- an array and an object, from what stands behind the bracket and the brace
 
 module _ (depth : ℕ) (old mid : List Token) (some : 0 < depth) where
-  in_array : old ≡ Token.begin_array ∷ mid → data_at depth old ≡ parse_map array (items_at (depth - 1) mid)
+  pub in_array : old ≡ Token.begin_array ∷ mid → data_at depth old ≡ parse_map array (items_at (depth - 1) mid)
   in_array is = ap (data_at depth) is ∙ data_at-array depth mid some
 
-  in_object : old ≡ Token.begin_object ∷ mid → data_at depth old ≡ parse_map object (members_at (depth - 1) mid)
+  pub in_object : old ≡ Token.begin_object ∷ mid → data_at depth old ≡ parse_map object (members_at (depth - 1) mid)
   in_object is = ap (data_at depth) is ∙ data_at-object depth mid some
 
   module _ {A : Type 0} (f : Data → Option A) (new : List Token) where
@@ -112,12 +118,6 @@ too_deep_object old mid is = ap (data_at 0) is ∙ ap (converted of_json) (value
 pub each-scalar : {A : Type 0} (f : Data → Option A) (d : Data) → IsScalar d → each f d ≡ None
 each-scalar f d h = ap (λ o. o >>= map_all f) h.0
 
--- it is no input
-pub input_of-scalar : (d : Data) → IsScalar d → input_of plain d ≡ None
-input_of-scalar d h =
-    ap (λ o. (if option_map_or (λ ms. members_len ms == 4) o false then Some tt else None) >>= λ u. input_from plain
-    d) h.1
-
 -- ---- a whole text
 
 module _ {A : Type 0} (f : Data → Option A) (text : List ℕ) where
@@ -136,3 +136,27 @@ pub text_and_more : (text : List ℕ) (d : Data) (new : List Token) (t : Token) 
     → data_at 127 (tokens text) ≡ Some (d, new) → read text ≡ None
 text_and_more text d new t rest more e =
     whole_and_more (value 127 (tokens text)) d t rest (e ∙ ap (λ ts. Some (d, ts)) more)
+
+-- ---- the object of a whole text
+
+module _ (r : Rules) (text : List ℕ) (old new : List Token) (is : old ≡ tokens text) where
+  as_text : (p : Option (Data × List Token)) → data_at 127 old ≡ p → data_at 127 (tokens text) ≡ p
+  as_text p e = sym (ap (data_at 127) is) ∙ e
+
+  pub object_over : (p : Kept) → new ≡ [] → TakesObject r old (Ok p) new → OfObject r text (Ok p)
+  object_over p over t = (
+    t.0,
+    whole_read (value 127 (tokens text)) (object t.0) (as_text _ t.1 ∙ ap (λ ts. Some (object t.0, ts)) over),
+    t.2,
+  )
+
+  pub other_over : new ≡ [] → TakesObject r old (Err BadForm) new → OfObject r text (Err BadForm)
+  other_over over t =
+      (t.0, whole_read (value 127 (tokens text)) t.0 (as_text _ t.1 ∙ ap (λ ts. Some (t.0, ts)) over), t.2)
+
+  pub none_read : TakesObject r old (Err NotJson) new → OfObject r text (Err NotJson)
+  none_read t = whole_refused (value 127 (tokens text)) (as_text _ t)
+
+  pub not_over : (d : Data) (t : Token) (rest : List Token) → new ≡ t ∷ rest → data_at 127 old ≡ Some (d, new)
+      → OfObject r text (Err NotJson)
+  not_over d t rest more e = text_and_more text d new t rest more (as_text _ e)

@@ -3,23 +3,23 @@
 ghost use Rattle.std.specs.Prelude.{◌≡◌, List, option_map};
 ghost use Rattle.serde_json.specs.Data.{object, string};
 ghost use Rattle.pc_parsed.specs.declared.payload.Payload.{Payload as payload_};
-ghost use Rattle.pc_parsed.specs.declared.payload.Payload.TheVariants as section;
+ghost use Rattle.pc_parsed.specs.declared.payload.Payload.TheVariants as content_;
 ghost use Rattle.pc_input.specs.Module.{core_module};
 ghost use Rattle.pc_input.specs.Payload.{instance_sections, payload_keys, payload_of};
 ghost use Rattle.pc_input.specs.Takes.{Takes, TakesMembers, TakesOther};
 ghost use Rattle.pc_input.specs.Content.{TakesContent, TakesOne, is_first, payload_in};
 ghost use Rattle.pc_input_values.specs.Reads.{Reads};
-ghost use Rattle.pc_input_values.specs.Rules.{plain};
-ghost use Rattle.pc_input_values.specs.Tree.{by_row, each, making};
+ghost use Rattle.pc_input_values.specs.Rules.{Rules, section};
+ghost use Rattle.pc_input_values.specs.Tree.{by_row, making};
 
 use crate::entry::ReadEntry;
 use crate::module::core_module;
 use crate::payload::bare;
-use crate::take::{passed_as, take_list};
+use crate::take::{passed_as, take_section};
 use json::{Reader, Token};
 use pc_entity::Seq;
 use pc_input_tokens::{Refusal, is_in_range, pass_items, take_tree};
-use pc_input_values::{DecodeError, Plain};
+use pc_input_values::{DecodeError, Form};
 use pc_parsed::{
     AliasItem, CanonItem, ComponentInstanceItem, ExportEntry, ImportItem, InstanceItem, Payload,
     TypeItem,
@@ -36,95 +36,102 @@ trait SectionEntry: ReadEntry {
 }
 
 impl SectionEntry for TypeItem {
-    ghost payload = { section.ComponentTypeSection };
+    ghost payload = { content_.ComponentTypeSection };
 
     fn section(entries: Seq<TypeItem>) -> Payload
-        ensures { result ≡ section.ComponentTypeSection entries }
+        ensures { result ≡ content_.ComponentTypeSection entries }
     {
         Payload::ComponentTypeSection(entries)
     }
 }
 
 impl SectionEntry for ImportItem {
-    ghost payload = { section.ComponentImportSection };
+    ghost payload = { content_.ComponentImportSection };
 
     fn section(entries: Seq<ImportItem>) -> Payload
-        ensures { result ≡ section.ComponentImportSection entries }
+        ensures { result ≡ content_.ComponentImportSection entries }
     {
         Payload::ComponentImportSection(entries)
     }
 }
 
 impl SectionEntry for CanonItem {
-    ghost payload = { section.ComponentCanonicalSection };
+    ghost payload = { content_.ComponentCanonicalSection };
 
     fn section(entries: Seq<CanonItem>) -> Payload
-        ensures { result ≡ section.ComponentCanonicalSection entries }
+        ensures { result ≡ content_.ComponentCanonicalSection entries }
     {
         Payload::ComponentCanonicalSection(entries)
     }
 }
 
 impl SectionEntry for ExportEntry {
-    ghost payload = { section.ComponentExportSection };
+    ghost payload = { content_.ComponentExportSection };
 
     fn section(entries: Seq<ExportEntry>) -> Payload
-        ensures { result ≡ section.ComponentExportSection entries }
+        ensures { result ≡ content_.ComponentExportSection entries }
     {
         Payload::ComponentExportSection(entries)
     }
 }
 
 impl SectionEntry for InstanceItem {
-    ghost payload = { section.InstanceSection };
+    ghost payload = { content_.InstanceSection };
 
     fn section(entries: Seq<InstanceItem>) -> Payload
-        ensures { result ≡ section.InstanceSection entries }
+        ensures { result ≡ content_.InstanceSection entries }
     {
         Payload::InstanceSection(entries)
     }
 }
 
 impl SectionEntry for ComponentInstanceItem {
-    ghost payload = { section.ComponentInstanceSection };
+    ghost payload = { content_.ComponentInstanceSection };
 
     fn section(entries: Seq<ComponentInstanceItem>) -> Payload
-        ensures { result ≡ section.ComponentInstanceSection entries }
+        ensures { result ≡ content_.ComponentInstanceSection entries }
     {
         Payload::ComponentInstanceSection(entries)
     }
 }
 
 impl SectionEntry for AliasItem {
-    ghost payload = { section.ComponentAliasSection };
+    ghost payload = { content_.ComponentAliasSection };
 
     fn section(entries: Seq<AliasItem>) -> Payload
-        ensures { result ≡ section.ComponentAliasSection entries }
+        ensures { result ≡ content_.ComponentAliasSection entries }
     {
         Payload::ComponentAliasSection(entries)
     }
 }
 
 /// The next value, read as the entries of a section.
-fn take_section<T: SectionEntry + Drop>(
+fn take_entries<T: SectionEntry + Drop, F: Form>(
+    form: &F,
     alloc: Global,
     reader: &mut Reader<'_>,
     depth: usize,
 ) -> Result<Payload, DecodeError>
-    ensures { Takes (making T.payload (each (T.ReadEntry.shape plain))) depth reader.old result reader.new }
+    ensures { Takes (making T.payload (section (F.rules form.now) (T.ReadEntry.shape (F.rules form.now)))) depth
+        reader.old result reader.new }
 {
-    match take_list::<T>(alloc, reader, depth) {
+    match take_section::<T, F>(form, alloc, reader, depth) {
         Ok(entries) => Ok(T::section(entries)),
         Err(e) => Err(e),
     }
 }
 
 /// The next value, read as a core module.
-fn take_module(alloc: Global, reader: &mut Reader<'_>, depth: usize) -> Result<Payload, DecodeError>
-    ensures { Takes (core_module plain) depth reader.old result reader.new }
+fn take_module<F: Form>(
+    form: &F,
+    alloc: Global,
+    reader: &mut Reader<'_>,
+    depth: usize,
+) -> Result<Payload, DecodeError>
+    ensures { Takes (core_module (F.rules form.now)) depth reader.old result reader.new }
 {
     match take_tree(alloc, reader, depth) {
-        Ok(value) => core_module(&Plain, alloc, &value),
+        Ok(value) => core_module(form, alloc, &value),
         Err(Refusal::NotJson) => Err(DecodeError::NotJson),
         Err(Refusal::NoMemory) => Err(DecodeError::NoMemory),
     }
@@ -145,52 +152,57 @@ fn take_other(alloc: Global, reader: &mut Reader<'_>, depth: usize) -> DecodeErr
 }
 
 /// The content of a payload of core modules, instances or aliases, by its key.
-fn take_instances(
+fn take_instances<F: Form>(
+    form: &F,
     alloc: Global,
     reader: &mut Reader<'_>,
     depth: usize,
     key: &str,
 ) -> Result<Payload, DecodeError>
-    ensures { Takes (by_row (instance_sections plain) key.now) depth reader.old result reader.new }
+    ensures { Takes (by_row (instance_sections (F.rules form.now)) key.now) depth reader.old result reader.new }
 {
     match key {
-        "module" => take_module(alloc, reader, depth),
-        "instances" => take_section::<InstanceItem>(alloc, reader, depth),
-        "component-instances" => take_section::<ComponentInstanceItem>(alloc, reader, depth),
-        "aliases" => take_section::<AliasItem>(alloc, reader, depth),
+        "module" => take_module(form, alloc, reader, depth),
+        "instances" => take_entries::<InstanceItem, F>(form, alloc, reader, depth),
+        "component-instances" => take_entries::<ComponentInstanceItem, F>(
+            form, alloc, reader, depth,
+        ),
+        "aliases" => take_entries::<AliasItem, F>(form, alloc, reader, depth),
         _ => Err(take_other(alloc, reader, depth)),
     }
 }
 
 /// The content of a payload, by its key.
 #[tactic(auto, unfolding(crate::specs::Payload::payload_keys))]
-fn take_content(
+fn take_content<F: Form>(
+    form: &F,
     alloc: Global,
     reader: &mut Reader<'_>,
     depth: usize,
     key: &str,
 ) -> Result<Payload, DecodeError>
-    ensures { Takes (by_row (payload_keys plain) key.now) depth reader.old result reader.new }
+    ensures { Takes (by_row (payload_keys (F.rules form.now)) key.now) depth reader.old result reader.new }
 {
     match key {
-        "types" => take_section::<TypeItem>(alloc, reader, depth),
-        "imports" => take_section::<ImportItem>(alloc, reader, depth),
-        "canon" => take_section::<CanonItem>(alloc, reader, depth),
-        "exports" => take_section::<ExportEntry>(alloc, reader, depth),
-        _ => take_instances(alloc, reader, depth, key),
+        "types" => take_entries::<TypeItem, F>(form, alloc, reader, depth),
+        "imports" => take_entries::<ImportItem, F>(form, alloc, reader, depth),
+        "canon" => take_entries::<CanonItem, F>(form, alloc, reader, depth),
+        "exports" => take_entries::<ExportEntry, F>(form, alloc, reader, depth),
+        _ => take_instances(form, alloc, reader, depth, key),
     }
 }
 
 /// The content of a payload, by its key, or None where the form is bad.
-fn content(
+fn content<F: Form>(
+    form: &F,
     alloc: Global,
     reader: &mut Reader<'_>,
     depth: usize,
     key: &str,
 ) -> Result<Option<Payload>, Refusal>
-    ensures { TakesContent depth key.now reader.old result reader.new }
+    ensures { TakesContent (F.rules form.now) depth key.now reader.old result reader.new }
 {
-    match take_content(alloc, reader, depth, key) {
+    match take_content(form, alloc, reader, depth, key) {
         Ok(payload) => Ok(Some(payload)),
         Err(DecodeError::BadForm) => Ok(None),
         Err(DecodeError::NotJson) => Err(Refusal::NotJson),
@@ -210,17 +222,18 @@ struct Found<'a> {
 }
 
 /// One more member of the object of a payload, of which the key is taken.
-fn take_one<'a>(
+fn take_one<'a, F: Form>(
+    form: &F,
     alloc: Global,
     reader: &mut Reader<'a>,
     depth: usize,
     key: &'a str,
     found: &mut Found<'a>,
 ) -> Result<(), Refusal>
-    ensures { TakesOne depth key.now reader.old found.old result reader.new found.new }
+    ensures { TakesOne (F.rules form.now) depth key.now reader.old found.old result reader.new found.new }
 {
     if is_first(key, found.key) {
-        match content(alloc, reader, depth, key) {
+        match content(form, alloc, reader, depth, key) {
             Ok(payload) => {
                 found.key = Some(key);
                 found.payload = payload;
@@ -251,8 +264,13 @@ fn is_first(key: &str, first: Option<&str>) -> bool
 }
 
 /// The payload of an object whose brace was taken.
-fn take_tagged(alloc: Global, reader: &mut Reader<'_>, depth: usize) -> Result<Payload, DecodeError>
-    ensures { TakesMembers (λ ms. payload_of plain (object ms)) depth reader.old result reader.new }
+fn take_tagged<F: Form>(
+    form: &F,
+    alloc: Global,
+    reader: &mut Reader<'_>,
+    depth: usize,
+) -> Result<Payload, DecodeError>
+    ensures { TakesMembers (λ ms. payload_of (F.rules form.now) (object ms)) depth reader.old result reader.new }
 {
     let mut found = Found {
         key: None,
@@ -261,7 +279,7 @@ fn take_tagged(alloc: Global, reader: &mut Reader<'_>, depth: usize) -> Result<P
     };
     'members: loop {
         match reader.next_key() {
-            Ok(Some(key)) => match take_one(alloc, reader, depth, key, &mut found) {
+            Ok(Some(key)) => match take_one(form, alloc, reader, depth, key, &mut found) {
                 Ok(()) => {}
                 Err(Refusal::NotJson) => return Err(DecodeError::NotJson),
                 Err(Refusal::NoMemory) => return Err(DecodeError::NoMemory),
@@ -285,18 +303,19 @@ fn only(found: Found<'_>) -> Result<Payload, DecodeError>
 /// A payload that is a word.
 #[tactic(auto, unfolding(crate::specs::Payload::payload_of))]
 fn by_word(word: &str) -> Result<Payload, DecodeError>
-    ensures { Reads result (payload_of plain (string word.now)) }
+    ensures { (r : Rules) → Reads result (payload_of r (string word.now)) }
 {
     bare(word).ok_or(DecodeError::BadForm)
 }
 
 /// The next value, read as a payload.
-pub(crate) fn take_payload(
+pub(crate) fn take_payload<F: Form>(
+    form: &F,
     alloc: Global,
     reader: &mut Reader<'_>,
     depth: usize,
 ) -> Result<Payload, DecodeError>
-    ensures { Takes (payload_of plain) depth reader.old result reader.new }
+    ensures { Takes (payload_of (F.rules form.now)) depth reader.old result reader.new }
 {
     match reader.next() {
         Some(Token::String(word)) => by_word(word),
@@ -304,7 +323,7 @@ pub(crate) fn take_payload(
             if depth == 0 {
                 Err(DecodeError::NotJson)
             } else {
-                take_tagged(alloc, reader, depth - 1)
+                take_tagged(form, alloc, reader, depth - 1)
             }
         }
         Some(Token::BeginArray) => {

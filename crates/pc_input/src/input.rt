@@ -1,14 +1,14 @@
 //! The whole input.
 
 ghost use Rattle.std.specs.Prelude.{◌≡◌, Some, IfOk, IfErr};
-ghost use Rattle.pc_input.specs.Input.{input_of, input_in, HasCause};
+ghost use Rattle.pc_input.specs.Input.{input_of, input_from, input_in, HasCause};
+ghost use Rattle.pc_input.specs.Root.{first_of, OfTokens};
 ghost use Rattle.pc_input.specs.Takes.{IsOver, OfText};
-ghost use Rattle.pc_input_values.specs.Rules.{plain};
 
-use crate::root::take_input;
-use json::{Reader, Scratch};
+use crate::root::{First, read_kept, read_members, take_object};
+use json::{Reader, Scratch, Value};
 use pc_entity::{Seq, Text};
-use pc_input_values::DecodeError;
+use pc_input_values::{DecodeError, Form, Plain, Tabled};
 use pc_parsed::{Payload, Tunables};
 use pc_types::TypeTable;
 use std::alloc::Global;
@@ -36,24 +36,24 @@ fn is_over(reader: &mut Reader<'_>) -> bool
     }
 }
 
-/// The input that a text stands for.
-fn input_of_text(alloc: Global, text: &str) -> Result<Input, DecodeError>
-    ensures { OfText (input_of plain) text.now result }
+/// The members of the object that a whole text is, with null for the payloads, and these.
+fn object_of<'a, F: Form>(
+    form: &F,
+    alloc: Global,
+    reader: &mut Reader<'a>,
+) -> Result<(Vec<(&'a str, Value<'a>)>, Option<Seq<Payload>>), DecodeError>
+    ensures { OfTokens (F.rules form.now) reader.old result }
 {
-    let mut scratch = Scratch::new(alloc);
-    let Ok(mut reader) = Reader::new(text, &mut scratch) else {
-        return Err(DecodeError::NoMemory);
-    };
-    match take_input(alloc, &mut reader) {
-        Ok(input) => {
-            if is_over(&mut reader) {
-                Ok(input)
+    match take_object(form, alloc, reader) {
+        Ok(kept) => {
+            if is_over(reader) {
+                Ok(kept)
             } else {
                 Err(DecodeError::NotJson)
             }
         }
         Err(DecodeError::BadForm) => {
-            if is_over(&mut reader) {
+            if is_over(reader) {
                 Err(DecodeError::BadForm)
             } else {
                 Err(DecodeError::NotJson)
@@ -61,6 +61,45 @@ fn input_of_text(alloc: Global, text: &str) -> Result<Input, DecodeError>
         }
         Err(DecodeError::NotJson) => Err(DecodeError::NotJson),
         Err(DecodeError::NoMemory) => Err(DecodeError::NoMemory),
+    }
+}
+
+/// What the object of a text says by itself.
+fn first_pass(alloc: Global, text: &str) -> Result<First, DecodeError>
+    ensures { OfText first_of text.now result }
+{
+    let mut scratch = Scratch::new(alloc);
+    let Ok(mut reader) = Reader::new(text, &mut scratch) else {
+        return Err(DecodeError::NoMemory);
+    };
+    match object_of(&Plain, alloc, &mut reader) {
+        Ok((kept, payloads)) => read_kept(alloc, kept, payloads),
+        Err(e) => Err(e),
+    }
+}
+
+/// The input of a text, where the names of form 2 are known.
+fn second_pass<F: Form>(form: &F, alloc: Global, text: &str) -> Result<Input, DecodeError>
+    ensures { OfText (input_from (F.rules form.now)) text.now result }
+{
+    let mut scratch = Scratch::new(alloc);
+    let Ok(mut reader) = Reader::new(text, &mut scratch) else {
+        return Err(DecodeError::NoMemory);
+    };
+    match object_of(form, alloc, &mut reader) {
+        Ok((kept, payloads)) => read_members(form, alloc, kept, payloads),
+        Err(e) => Err(e),
+    }
+}
+
+/// The input that a text stands for.
+fn input_of_text(alloc: Global, text: &str) -> Result<Input, DecodeError>
+    ensures { OfText input_of text.now result }
+{
+    match first_pass(alloc, text) {
+        Ok(First::Input(input)) => Ok(input),
+        Ok(First::Names(names)) => second_pass(&Tabled { names }, alloc, text),
+        Err(e) => Err(e),
     }
 }
 

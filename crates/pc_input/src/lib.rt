@@ -13,6 +13,8 @@ mod payload;
 mod root;
 mod sections;
 mod take;
+mod tree;
 
 pub use input::{Input, decode_input};
 pub use pc_input_values::DecodeError;
+pub use tree::decode_tree;

@@ -89,7 +89,12 @@ impl ReadEntry for Payload {
         }
     }
 
-    fn take(alloc: Global, reader: &mut Reader<'_>, depth: usize) -> Result<Payload, DecodeError> {
-        take_payload(alloc, reader, depth)
+    fn take<F: Form>(
+        form: &F,
+        alloc: Global,
+        reader: &mut Reader<'_>,
+        depth: usize,
+    ) -> Result<Payload, DecodeError> {
+        take_payload(form, alloc, reader, depth)
     }
 }

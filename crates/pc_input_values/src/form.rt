@@ -6,7 +6,7 @@ ghost use Rattle.std.specs.Prelude.{◌≡◌, ◌∷◌, [], ℕ, List, Option,
 ghost use Rattle.serde_json.specs.Data.{Data};
 ghost use Rattle.serde_json.specs.Find.{as_bool, get};
 ghost use Rattle.pc_entity.specs.Lists.{map_all, value_of};
-ghost use Rattle.pc_input_values.specs.Rules.{Rules, plain};
+ghost use Rattle.pc_input_values.specs.Rules.{Rules, plain, tabled};
 ghost use Rattle.pc_input_values.specs.Reads.{Reads};
 ghost use Rattle.pc_input_values.specs.Tree.{whole, word, or_null, list_of, each, two, pair, three, triple, field};
 
@@ -23,12 +23,12 @@ pub trait Form {
     fn name<V: Tree>(&self, alloc: Global, value: &V) -> Result<Text, DecodeError>
         ensures { Reads result ((rules self.now).name (V.means value.now)) };
 
-    /// The entries of the value of a section's key.
-    fn entries<'a, V: Tree>(&self, value: &'a V) -> Option<&'a [V]>
-        ensures { option_map (λ vs. map V.means vs.now) result ≡ (rules self.now).entries (V.means value.now) };
+    /// Whether the value of a section's key is a list of entries. Else it is one entry.
+    fn has_lists(&self) -> bool
+        ensures { result ≡ (rules self.now).listed };
 }
 
-/// Form 1: a name is a text, and a section has an array of entries.
+/// Form 1: a name is a text, and a section has a list of entries.
 pub struct Plain;
 
 impl Form for Plain {
@@ -41,8 +41,45 @@ impl Form for Plain {
         Ok(Text::copy_of(alloc, text)?)
     }
 
-    fn entries<'a, V: Tree>(&self, value: &'a V) -> Option<&'a [V]> {
-        value.list()
+    fn has_lists(&self) -> bool {
+        true
+    }
+}
+
+/// A whole number of 32 bits.
+fn whole<V: Tree>(value: &V) -> Result<u32, DecodeError>
+    ensures { Reads result (whole (V.means value.now)) }
+{
+    let Some(n) = value.as_u64() else {
+        return Err(DecodeError::BadForm);
+    };
+    if n < 4294967296 {
+        Ok(n as u32)
+    } else {
+        Err(DecodeError::BadForm)
+    }
+}
+
+/// Form 2: a name is the number of a text in a table, and a section has one entry.
+#[derive(Drop)]
+pub struct Tabled {
+    /// The table. A text may stand there twice, or have no use.
+    pub names: Seq<Text>,
+}
+
+impl Form for Tabled {
+    ghost rules = { λ form. tabled form.names };
+
+    fn name<V: Tree>(&self, alloc: Global, value: &V) -> Result<Text, DecodeError> {
+        let n = whole(value)?;
+        match self.names.as_slice().get(n as usize) {
+            Some(name) => Ok(Text::copy_of(alloc, name.as_str())?),
+            None => Err(DecodeError::BadForm),
+        }
+    }
+
+    fn has_lists(&self) -> bool {
+        false
     }
 }
 
@@ -79,14 +116,7 @@ impl ReadForm for u32 {
     ghost shape = { λ _. whole };
 
     fn read<F: Form, V: Tree>(_form: &F, _alloc: Global, value: &V) -> Result<u32, DecodeError> {
-        let Some(n) = value.as_u64() else {
-            return Err(DecodeError::BadForm);
-        };
-        if n < 4294967296 {
-            Ok(n as u32)
-        } else {
-            Err(DecodeError::BadForm)
-        }
+        whole(value)
     }
 }
 

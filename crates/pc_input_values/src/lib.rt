@@ -12,4 +12,4 @@ mod types;
 mod words;
 
 pub use error::DecodeError;
-pub use form::{Form, Plain, ReadForm, Word, field, read};
+pub use form::{Form, Plain, ReadForm, Tabled, Word, field, read};

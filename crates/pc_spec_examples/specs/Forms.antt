@@ -262,4 +262,18 @@ input_examples = (
     payloads = payload.Version encoding.Component ∷ payload.End ∷ [];
   },
 )
+    ∷ (
+      codes "{\"form\":2,\"limit\":5,\"intrinsics\":1,\"names\":[\"f\",\"unsafe\"],\"types\":{\"core\":[],"
+          ++ codes "\"types\":[{\"flags\":[0]}]},\"payloads\":[\"version\",{\"exports\":[0,\"func\",3]},"
+          ++ codes "{\"canon\":[\"task.cancel\",4]},\"end\"]}",
+      record {
+        tunables = record { max_component_instances = 5 };
+        intrinsics = Some (codes "unsafe");
+        table = record { core_funcs = []; types = entry.Flags (codes "f" ∷ []) ∷ [] };
+        payloads = payload.Version encoding.Component
+            ∷ payload.ComponentExportSection (record { name = bare_name (codes "f"); kind = kind.Func; index = 3 } ∷ [])
+            ∷ payload.ComponentCanonicalSection (canon.TaskCancel 4 ∷ [])
+            ∷ payload.End ∷ [];
+      },
+    )
     ∷ []

@@ -10,7 +10,6 @@ use Rattle.pc_spec_plan.specs.Log.{Entry}
 use Rattle.pc_parsed.specs.Mark.{Mark}
 use Rattle.pc_input.specs.declared.input.Input.{Input}
 use Rattle.pc_input_values.specs.Tree.{◌>>=◌}
-use Rattle.pc_input_values.specs.Rules.{plain}
 use Rattle.pc_input.specs.Input.{input_of}
 use Rattle.pc_spec_reading.specs.Outcome.{Outcome, Fault, done, fault, unsupported, and_then}
 use Rattle.pc_spec_reading.specs.Reading.{Reading, reading}
@@ -25,7 +24,7 @@ of_input i =
 
 -- the reading of a text
 abbrev pub meaning : List ℕ → Option (Outcome Reading)
-meaning text = read text >>= input_of plain >>= of_input
+meaning text = read text >>= input_of >>= of_input
 
 -- a text means this outcome, whatever its total is
 abbrev pub Means : List ℕ → Outcome Reading → Type 0

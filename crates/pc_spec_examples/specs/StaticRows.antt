@@ -7,7 +7,6 @@ use Rattle.pc_types.specs.declared.error.Place.TheVariants as place
 use Rattle.pc_types.specs.declared.error.Unsupported.{Unsupported}
 use Rattle.pc_input.specs.declared.input.Input.{Input}
 use Rattle.pc_input_values.specs.Tree.{◌>>=◌}
-use Rattle.pc_input_values.specs.Rules.{plain}
 use Rattle.pc_input.specs.Input.{input_of}
 use Rattle.pc_parsed.specs.StaticFault.{static_fault}
 
@@ -17,11 +16,11 @@ with_fault i = Some (static_fault i.table i.intrinsics i.payloads)
 
 -- a text has this static fault
 abbrev pub IsFaulty : List ℕ → Error → Type 0
-IsFaulty text e = (read text >>= input_of plain >>= with_fault) ≡ Some (Some e)
+IsFaulty text e = (read text >>= input_of >>= with_fault) ≡ Some (Some e)
 
 -- a text is an input without a static fault
 abbrev pub IsFaultless : List ℕ → Type 0
-IsFaultless text = (read text >>= input_of plain >>= with_fault) ≡ Some None
+IsFaultless text = (read text >>= input_of >>= with_fault) ≡ Some None
 
 -- a malformed list, at an item of a payload
 abbrev pub malformed_at : (payload item : ℕ) → Error

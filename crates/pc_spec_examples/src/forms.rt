@@ -16,5 +16,5 @@ pub fn are_read()
     ensures names { AreRead (extern_name plain) name_examples }
     ensures canonical { AreRead canon_item canon_examples }
     ensures payloads { AreRead (payload_of plain) payload_examples }
-    ensures inputs { AreRead (input_of plain) input_examples }
+    ensures inputs { AreRead input_of input_examples }
 {}

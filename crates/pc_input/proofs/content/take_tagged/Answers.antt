@@ -5,17 +5,16 @@ use Rattle.serde_json.specs.Data.{no_members, put, object}
 use Rattle.pc_input_tokens.specs.Takes.{members_at}
 use Rattle.pc_input_tokens.proofs.Turns.{member_read, member_refused, key_refused, members_over, data_at-shorter}
 use Rattle.pc_input_values.specs.Reads.{Reads}
-use Rattle.pc_input_values.specs.Rules.{plain}
 use Rattle.pc_input.specs.Payload.{payload_of}
 use Rattle.pc_input.proofs.Taken.{TakesAs-from_Reads}
 use Rattle.pc_input.proofs.Payloads.{payload_is}
 use Rattle.pc_input.proofs.content.take_tagged.Goals as goal
 
 pub members-init : goal.members-init
-members-init c = (length c.args.reader.now, omega arith, no_members, refl, (refl, refl))
+members-init g c = (length c.args.reader.now, omega arith, no_members, refl, (refl, refl))
 
 pub members-preserved : goal.members-preserved
-members-preserved c =
+members-preserved g c =
     let l = c.members in
     let n = l.invariant.0 in
     let ms = l.invariant.2 in
@@ -36,7 +35,7 @@ members-preserved c =
     )
 
 pub members-smaller : goal.members-smaller
-members-smaller c =
+members-smaller g c =
     let l = c.members in
     let k = c.in-Ok-Some.key.now in
     let s = c.next_key.new.self in
@@ -48,7 +47,7 @@ members-smaller c =
     smaller
 
 pub returns-in-Err-NotJson : goal.returns-in-Err-NotJson
-returns-in-Err-NotJson c =
+returns-in-Err-NotJson g c =
     let l = c.members in
     let k = c.in-Ok-Some.key.now in
     let s = c.next_key.new.self in
@@ -57,18 +56,19 @@ returns-in-Err-NotJson c =
     l.invariant.3 ∙ member_refused (value c.args.depth) l.invariant.2 l.invariant.0 k l.reader s named refused
 
 pub returns-in-Ok-None : goal.returns-in-Ok-None
-returns-in-Ok-None c =
+returns-in-Ok-None g c =
     let l = c.members in
     let ms = l.invariant.2 in
     let s = c.next_key.new.self in
     let over : read_key l.reader ≡ Some (None, s) = grind arith in
-    let reads : Reads c.only.result (payload_of plain (object ms)) =
-    subst (λ o. Reads c.only.result o) (payload_is _ _ _ ms l.invariant.4) c.only.ensures in
-    TakesAs-from_Reads (λ xs. payload_of plain (object xs)) (members_at c.args.depth c.args.reader.now) ms s
+    let reads : Reads c.only.result (payload_of (g.F.Form.rules c.args.form.now) (object ms)) =
+    subst (λ o. Reads c.only.result o) (payload_is _ _ _ _ ms l.invariant.4) c.only.ensures in
+    TakesAs-from_Reads (λ xs. payload_of (g.F.Form.rules c.args.form.now) (object xs)) (members_at c.args.depth
+    c.args.reader.now) ms s
     c.only.result
     (l.invariant.3 ∙ members_over (value c.args.depth) ms l.invariant.0 l.reader s l.invariant.1 over) reads
 
 pub returns-in-Err : goal.returns-in-Err
-returns-in-Err c =
+returns-in-Err g c =
     let l = c.members in
     l.invariant.3 ∙ key_refused (value c.args.depth) l.invariant.2 l.invariant.0 l.reader c.in-Err.ensures.value

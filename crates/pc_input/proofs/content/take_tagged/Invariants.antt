@@ -7,11 +7,11 @@ use Rattle.pc_input.specs.Content.{HasFound}
 use Rattle.pc_input.proofs.content.take_tagged.Given as goal
 
 abbrev pub invariant-members : goal.invariant-members
-invariant-members l =
+invariant-members g l =
     (n : ℕ) × (length l.reader ≤ n) × (ms : Members)
     × (members_at l.depth l.initial.reader
     ≡ converted (λ js. of_members js ms) (members (value l.depth) n l.reader))
-    × HasFound l.found ms
+    × HasFound (g.F.Form.rules l.form) l.found ms
 
 abbrev pub decreases-members : goal.decreases-members
-decreases-members l = length l.reader
+decreases-members g l = length l.reader

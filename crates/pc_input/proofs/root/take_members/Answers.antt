@@ -11,7 +11,7 @@ use Rattle.pc_input.proofs.Agree.{stands-put}
 use Rattle.pc_input.proofs.root.take_members.Goals as goal
 
 pub members-init : goal.members-init
-members-init c =
+members-init g c =
     let none : AgreeBut (codes "payloads") no_members (members_data (members_view c.new-found.result.items)
     no_members) =
     subst (λ es. AgreeBut (codes "payloads") no_members (members_data (members_view es) no_members))
@@ -19,7 +19,7 @@ members-init c =
     (length c.args.reader.now, omega arith, no_members, refl, (none, refl))
 
 pub members-preserved : goal.members-preserved
-members-preserved c =
+members-preserved g c =
     let l = c.members in
     let n = l.invariant.0 in
     let ms = l.invariant.2 in
@@ -37,12 +37,12 @@ members-preserved c =
       l.invariant.3
           ∙ member_read (value c.args.depth) ms n key.now l.reader s r took.0 (omega (arith, l.invariant.1, less))
           named took.1,
-      stands-put l.found.items c.push.new.self.items (key, c.in-Ok.member) l.payloads c.take_member.new.payloads ms
+      stands-put _ l.found.items c.push.new.self.items (key, c.in-Ok.member) l.payloads c.take_member.new.payloads ms
           took.0 l.invariant.4 took.2 pushed,
     )
 
 pub members-smaller : goal.members-smaller
-members-smaller c =
+members-smaller g c =
     let l = c.members in
     let key = c.in-Ok-Some.key in
     let s = c.next_key.new.self in
@@ -54,7 +54,7 @@ members-smaller c =
     smaller
 
 pub returns-in-Err-NotJson : goal.returns-in-Err-NotJson
-returns-in-Err-NotJson c =
+returns-in-Err-NotJson g c =
     let l = c.members in
     let key = c.in-Ok-Some.key in
     let s = c.next_key.new.self in
@@ -63,7 +63,7 @@ returns-in-Err-NotJson c =
     l.invariant.3 ∙ member_refused (value c.args.depth) l.invariant.2 l.invariant.0 key.now l.reader s named refused
 
 pub returns-in-Ok-None : goal.returns-in-Ok-None
-returns-in-Ok-None c =
+returns-in-Ok-None g c =
     let l = c.members in
     let s = c.next_key.new.self in
     let over : read_key l.reader ≡ Some (None, s) = grind arith in (
@@ -73,6 +73,6 @@ returns-in-Ok-None c =
     )
 
 pub returns-in-Err : goal.returns-in-Err
-returns-in-Err c =
+returns-in-Err g c =
     let l = c.members in
     l.invariant.3 ∙ key_refused (value c.args.depth) l.invariant.2 l.invariant.0 l.reader c.in-Err.ensures.value

@@ -5,7 +5,6 @@ use Rattle.pc_entity.specs.Lists.{map_all}
 use Rattle.pc_input_tokens.specs.Takes.{data_at, items_at}
 use Rattle.pc_input_tokens.proofs.Turns.{item_read, item_refused, items_over, data_at-shorter}
 use Rattle.pc_input_tokens.proofs.Items.{items_before, elements-items_before, one_more_item, none_before}
-use Rattle.pc_input_values.specs.Rules.{plain}
 use Rattle.pc_input.proofs.Taken.{refuses, one_more}
 use Rattle.pc_input.proofs.take.take_entries.Goals as goal
 
@@ -29,7 +28,8 @@ items-preserved-else-is_err g c =
       omega (arith, l.invariant.1, less),
       ds ++ took.0 ∷ [],
       l.invariant.3 ∙ ap (parse_map (items_before ds)) turn ∙ one_more_item ds took.0 _,
-      one_more (g.T.ReadEntry.shape plain) l.bad ds took.0 l.found c.push.new.self c.in-Ok.entry l.invariant.4 took.2
+      one_more (g.T.ReadEntry.shape (g.F.Form.rules c.args.form.now)) l.bad ds took.0 l.found c.push.new.self
+          c.in-Ok.entry l.invariant.4 took.2
           pushed,
     )
 
@@ -56,7 +56,7 @@ items-preserved g c =
       omega (arith, l.invariant.1, less),
       ds ++ took.0 ∷ [],
       l.invariant.3 ∙ ap (parse_map (items_before ds)) turn ∙ one_more_item ds took.0 _,
-      refuses (g.T.ReadEntry.shape plain) ds took.0 took.2,
+      refuses (g.T.ReadEntry.shape (g.F.Form.rules c.args.form.now)) ds took.0 took.2,
     )
 
 pub items-smaller : goal.items-smaller
@@ -82,7 +82,8 @@ returns-then-bad g c =
     let l = c.items in
     let ds = l.invariant.2 in
     let r = c.take_end_array.new.self in
-    let none : map_all (g.T.ReadEntry.shape plain) ds ≡ None = rw c.if-bad.true at l.invariant.4 in (
+    let none : map_all (g.T.ReadEntry.shape (g.F.Form.rules c.args.form.now)) ds ≡ None = rw c.if-bad.true at
+    l.invariant.4 in (
       items_before ds no_items,
       l.invariant.3
           ∙ ap (parse_map (items_before ds)) (items_over (value c.args.depth) l.invariant.0 l.reader r l.invariant.1
@@ -95,7 +96,8 @@ returns-else-bad g c =
     let l = c.items in
     let ds = l.invariant.2 in
     let r = c.take_end_array.new.self in
-    let some : map_all (g.T.ReadEntry.shape plain) ds ≡ Some l.found = rw c.if-bad.false at l.invariant.4 in (
+    let some : map_all (g.T.ReadEntry.shape (g.F.Form.rules c.args.form.now)) ds ≡ Some l.found = rw c.if-bad.false at
+    l.invariant.4 in (
       items_before ds no_items,
       l.invariant.3
           ∙ ap (parse_map (items_before ds)) (items_over (value c.args.depth) l.invariant.0 l.reader r l.invariant.1

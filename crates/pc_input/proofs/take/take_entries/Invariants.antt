@@ -6,12 +6,11 @@ use Rattle.serde_json.specs.Read.{of_items, converted}
 use Rattle.pc_entity.specs.Lists.{map_all}
 use Rattle.pc_input_tokens.specs.Takes.{items_at}
 use Rattle.pc_input_tokens.proofs.Items.{items_before}
-use Rattle.pc_input_values.specs.Rules.{plain}
 use Rattle.pc_input.proofs.take.take_entries.Given as goal
 
 abbrev pub invariant-items : goal.invariant-items
 invariant-items g l =
-    let f = g.T.ReadEntry.shape plain in
+    let f = g.T.ReadEntry.shape (g.F.Form.rules l.form) in
     (n : ℕ) × (length l.reader ≤ n) × (ds : List Data)
     × (items_at l.depth l.initial.reader
     ≡ parse_map (items_before ds) (converted of_items (items (value l.depth) n l.reader)))
