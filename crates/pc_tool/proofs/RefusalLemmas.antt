@@ -7,7 +7,6 @@ use Rattle.pc_types.specs.declared.error.Error.TheVariants as error
 use Rattle.pc_types.specs.declared.error.Unsupported.TheVariants.{NotBuilt}
 use Rattle.pc_input.specs.declared.input.Input.{Input}
 use Rattle.pc_input.specs.Input.{input_of, tree_of}
-use Rattle.pc_input_values.specs.Rules.{plain}
 use Rattle.pc_input_values.specs.Tree.{◌>>=◌}
 use Rattle.pc_tool.specs.Headline.{Decodes, IsBadForm, IsErrorOf, IsFaultText, IsNotJson, IsValid}
 use Rattle.pc_translate.specs.Translation.{IsRefusalOf}
@@ -53,9 +52,9 @@ valid_has_no_fault : (bytes text : List ℕ) (input : Input) → Decodes bytes i
     → IsFaultText bytes text → ⊥
 unfolding Decodes IsNotJson IsBadForm
 valid_has_no_fault bytes text input decoded valid (inl json) =
-    no_tree (input_of plain) (tree_of bytes) input json.0 decoded
+    no_tree input_of (tree_of bytes) input json.0 decoded
 valid_has_no_fault bytes text input decoded valid (inr (inl bad)) =
-    no_input (input_of plain) (tree_of bytes) bad.0.0 input bad.0.1 bad.0.2 decoded
+    no_input input_of (tree_of bytes) bad.0.0 input bad.0.1 bad.0.2 decoded
 valid_has_no_fault bytes text input decoded valid (inr (inr at)) =
     let same : at.input ≡ input = one_input _ at.input input at.decoded decoded in
     valid_has_none input valid at.refusal at.has_text

@@ -15,7 +15,6 @@ use Rattle.pc_spec_reading.specs.Answer.{answer_of}
 use Rattle.pc_spec_reading.specs.Reading.{Reading}
 use Rattle.pc_input.specs.declared.input.Input.{Input}
 use Rattle.pc_input.specs.Input.{input_in, input_of, tree_of}
-use Rattle.pc_input_values.specs.Rules.{plain}
 use Rattle.pc_translate.specs.Causes.{built_answer}
 use Rattle.pc_translate.specs.Translation.{IsPlanOf, IsRefusalOf}
 use Rattle.pc_tool.specs.declared.words.Command.{Command}
@@ -31,7 +30,7 @@ IsNotJson bytes = tree_of bytes ≡ None
 
 -- bytes are JSON, and stand for no input
 unfoldable pub IsBadForm : (bytes : List ℕ) → Type 0
-IsBadForm bytes = (tree : Data) × (tree_of bytes ≡ Some tree) × (input_of plain tree ≡ None)
+IsBadForm bytes = (tree : Data) × (tree_of bytes ≡ Some tree) × (input_of tree ≡ None)
 
 -- a plan and its modules do what the nested reading of an input's payloads says
 abbrev pub IsPlanFor : Input → ComponentTranslation → List ModuleTranslation → Type 0

@@ -11,9 +11,10 @@ mod status;
 mod words;
 
 pub use command::run;
-pub use pc_input::{DecodeError, Input, decode_input};
+pub use pc_input::{DecodeError, Input, decode_input, decode_tree};
 pub use pc_stream::{
-    Failed, MemSink, MemSource, Sink, Source, StdSink, StdSource, SureSink, SureSource,
+    Failed, MemSink, MemSource, ReadEnd, Sink, Source, StdSink, StdSource, SureSink, SureSource,
+    read_all, write_all as write_text,
 };
 pub use pc_text::{fault_text, plan_text};
 pub use status::Status;

@@ -10,7 +10,7 @@ use Rattle.pc_types.specs.declared.error.Error.TheVariants as error
 use Rattle.pc_types.specs.declared.parsed.TypeTable.{TypeTable}
 use Rattle.pc_parsed.specs.declared.payload.Payload.{Payload}
 use Rattle.pc_parsed.specs.declared.payload.Payload.TheVariants as payload
-use Rattle.pc_parsed.specs.Program.{entity_total, is_numbered, item_count, not_built, record_entities}
+use Rattle.pc_parsed.specs.Program.{entity_total, is_numbered, item_count, record_entities}
 use Rattle.pc_spec_reading.specs.Answer.{ending, or_fault}
 use Rattle.pc_spec_reading.specs.Outcome.{Outcome, past}
 use Rattle.pc_spec_reading.specs.Reading.{Reading}
@@ -18,22 +18,15 @@ use Rattle.pc_spec_reading.specs.Section.{module_of, modules_of}
 use Rattle.pc_spec_reading.specs.Total.{counted}
 use Rattle.pc_spec_reading.specs.World.{full}
 
--- the end of a reading that is built, where nothing comes before it
-pub built_end : (n b : Bool) (f : Option Error) (o : Option (Outcome Reading)) (out : Outcome Reading) → n ≡ true
-    → f ≡ None → b ≡ true → o ≡ Some out
-    → (if n then or_fault f (if b then option_map ending o else Some (Err not_built)) else Some (Err error.TooMany))
-    ≡ Some (ending out)
-built_end n b f o out numbered sound built is = rw (numbered, sound, built, is) refl
+-- the end of a reading, where nothing comes before it
+pub built_end : (n : Bool) (f : Option Error) (o : Option (Outcome Reading)) (out : Outcome Reading) → n ≡ true
+    → f ≡ None → o ≡ Some out
+    → (if n then or_fault f (option_map ending o) else Some (Err error.TooMany)) ≡ Some (ending out)
+built_end n f o out numbered sound is = rw (numbered, sound, is) refl
 
-pub built_none : (n b : Bool) (f : Option Error) (o : Option (Outcome Reading)) → n ≡ true → f ≡ None → b ≡ false
-    → (if n then or_fault f (if b then option_map ending o else Some (Err not_built)) else Some (Err error.TooMany))
-    ≡ Some (Err not_built)
-built_none n b f o numbered sound built = rw (numbered, sound, built) refl
-
-pub built_fault : (n b : Bool) (f : Option Error) (o : Option (Outcome Reading)) (e : Error) → n ≡ true → f ≡ Some e
-    → (if n then or_fault f (if b then option_map ending o else Some (Err not_built)) else Some (Err error.TooMany))
-    ≡ Some (Err e)
-built_fault n b f o e numbered at = rw (numbered, at) refl
+pub built_fault : (n : Bool) (f : Option Error) (o : Option (Outcome Reading)) (e : Error) → n ≡ true → f ≡ Some e
+    → (if n then or_fault f (option_map ending o) else Some (Err error.TooMany)) ≡ Some (Err e)
+built_fault n f o e numbered at = rw (numbered, at) refl
 
 pub end_answer : (f : Option Error) (o : Option (Outcome Reading)) (out : Outcome Reading) → f ≡ None → o ≡ Some out
     → or_fault f (option_map ending o) ≡ Some (ending out)

@@ -1,7 +1,7 @@
 -- Why a translation is refused, from what its steps answer.
 use Rattle.std.proofs.Common.{◌≡◌, ℕ, ◌⊎◌, inl, inr, List, map, ◌∙◌, Option, None, Some, Result, Ok, Err, IfErr, true}
 use Rattle.std.proofs.Common.{false, refl, sym, ap, subst}
-use Rattle.std.specs.Prelude.{nat_lt, option_map}
+use Rattle.std.specs.Prelude.{nat_lt, option_map, OnOk}
 use Rattle.std.specs.List.{list_all}
 use Rattle.std.specs.Result.{IsErrAnd}
 use Rattle.std.proofs.lemmas.Option.{same_Some}
@@ -15,7 +15,6 @@ use Rattle.pc_types.specs.declared.error.Unsupported.TheVariants as unsupported
 use Rattle.pc_types.specs.declared.module_record.ModuleRecord.{ModuleRecord}
 use Rattle.pc_types.specs.declared.parsed.TypeTable.{TypeTable}
 use Rattle.pc_types.specs.Record.{is_sound}
-use Rattle.pc_types.specs.Table.{is_some_and}
 use Rattle.pc_info.specs.declared.component.ComponentTranslation.{ComponentTranslation}
 use Rattle.pc_info.specs.declared.module.ModuleTranslation.{ModuleTranslation}
 use Rattle.pc_parsed.specs.declared.payload.Payload.{Payload}
@@ -25,7 +24,7 @@ use Rattle.pc_parsed.proofs.KindLemmas.{IsStatic, static_kind}
 use Rattle.pc_spec_reading.specs.Answer.{answer_from, answer_of, ending, or_fault}
 use Rattle.pc_spec_reading.specs.Item.{Items}
 use Rattle.pc_spec_reading.specs.Nest.{root_of}
-use Rattle.pc_spec_reading.specs.Outcome.{Outcome, bad_type, fault, invalid, over, past}
+use Rattle.pc_spec_reading.specs.Outcome.{Outcome, bad_type, fault, invalid, over, past, unknown_intrinsic}
 use Rattle.pc_spec_reading.specs.Outcome as outcome
 use Rattle.pc_spec_reading.specs.Reading.{Reading, reading}
 use Rattle.pc_spec_reading.specs.Section.{modules_of}
@@ -43,8 +42,7 @@ use Rattle.pc_translate.proofs.AnswerLemmas.{held_counted, past_answer}
 use Rattle.pc_translate.proofs.PassingLemmas.{passed_err}
 use Rattle.pc_translate.proofs.FlawLemmas.{IsFlawError, static_flaw}
 use Rattle.pc_translate.proofs.TranslatesLemmas.{root_built, root_end, root_past, translates}
-use Rattle.pc_translate.specs.Causes.{CanBeRead, HasCause, HasOwnCause, are_built, built_answer, built_meaning}
-use Rattle.pc_translate.specs.Causes.{is_built_input, meaning}
+use Rattle.pc_translate.specs.Causes.{CanBeRead, HasCause, HasOwnCause, built_answer, built_meaning, meaning}
 use Rattle.pc_translate.specs.Planning.{IsPlanOfBody, Plans, as_handed_in}
 use Rattle.pc_translate.specs.Translation.{CountsGained, Gains, GainsCounted, Translates}
 
@@ -91,30 +89,26 @@ module _ (t : TypeTable) (exposed : Option (List ℕ)) (limit held : ℕ) (ps : 
       → built_meaning t exposed limit ps ≡ Some o
       → (built_answer t exposed limit ps ≡ Some (ending o)) × (answer_from t exposed limit None ps ≡ Some (ending o))
   unfolding built_answer answer_from meaning
-  both_answer can o means built =
-      let input : is_built_input exposed ps ≡ true =
-      ap (is_some_and are_built) can.built.1 ∙ can.built.2 in (
-        built_end (is_numbered t ps) (is_built_input exposed ps) (static_fault t exposed ps)
-            (built_meaning t exposed limit ps) o can.numbered can.sound input built,
-        end_answer (static_fault t exposed ps) (reading t exposed limit None ps) o can.sound means,
-      )
+  both_answer can o means built = (
+    built_end (is_numbered t ps) (static_fault t exposed ps) (built_meaning t exposed limit ps) o can.numbered can.sound
+        built,
+    end_answer (static_fault t exposed ps) (reading t exposed limit None ps) o can.sound means,
+  )
 
   -- where it is done as far as it is built, so does that answer
   built_alone : CanBeRead t exposed ps → (o : Outcome Reading) → built_meaning t exposed limit ps ≡ Some o
       → built_answer t exposed limit ps ≡ Some (ending o)
   unfolding built_answer
   built_alone can o built =
-      let input : is_built_input exposed ps ≡ true =
-      ap (is_some_and are_built) can.built.1 ∙ can.built.2 in
-      built_end (is_numbered t ps) (is_built_input exposed ps) (static_fault t exposed ps)
-      (built_meaning t exposed limit ps) o can.numbered can.sound input built
+      built_end (is_numbered t ps) (static_fault t exposed ps) (built_meaning t exposed limit ps) o can.numbered
+      can.sound built
 
   -- a static fault is both answers
   static_answer : (e : Error) → is_numbered t ps ≡ true → static_fault t exposed ps ≡ Some e
       → (built_answer t exposed limit ps ≡ Some (Err e)) × (answer_from t exposed limit None ps ≡ Some (Err e))
   unfolding built_answer answer_from
   static_answer e numbered at = (
-    built_fault (is_numbered t ps) (is_built_input exposed ps) (static_fault t exposed ps)
+    built_fault (is_numbered t ps) (static_fault t exposed ps)
         (built_meaning t exposed limit ps) e numbered at,
     fault_answer (static_fault t exposed ps) (option_map ending (reading t exposed limit None ps)) e at,
   )
@@ -164,6 +158,7 @@ module _ (t : TypeTable) (exposed : Option (List ℕ)) (limit held : ℕ) (ps : 
     fault_cause : (e : Error) → IsFault t (modules_of ps) limit body held e → HasCause t exposed limit held ps e
     fault_cause (error.Invalid p) h = ends_so (fault invalid p) h
     fault_cause (error.BadType p) h = ends_so (fault bad_type p) h
+    fault_cause (error.UnknownIntrinsic p) h = ends_so (fault unknown_intrinsic p) h
     fault_cause (error.Unsupported u p) h = unsupported_cause u p h
     fault_cause error.TooManyInstances h = ends_so over h
     fault_cause error.TooMany h = past_cause h
@@ -171,7 +166,6 @@ module _ (t : TypeTable) (exposed : Option (List ℕ)) (limit held : ℕ) (ps : 
     fault_cause (error.Malformed p) h = absurd h
     fault_cause (error.BadTable p) h = absurd h
     fault_cause (error.BadIntrinsics p) h = absurd h
-    fault_cause (error.UnknownIntrinsic p) h = absurd h
     fault_cause (error.DefinedTwice p) h = absurd h
     fault_cause (error.BadOptions p) h = absurd h
 
@@ -237,12 +231,19 @@ payload_cause_at t exposed ps e numbered (inl memory) limit held =
 payload_cause_at t exposed ps e numbered (inr at) limit held =
     static_cause t exposed limit held ps e numbered at (static_kind t exposed ps e at) (static_flaw t exposed ps e at)
 
--- the cause of a refusal before the reading, which is passed up
-pub payload_cause : {T : Type 0} (t : TypeTable) (exposed : Option (List ℕ)) (ps : List Payload) (r : Result T Error)
-    (e : Error) → IsErrAnd r (λ x. x ≡ e) → is_numbered t ps ≡ true
-    → (e ≡ error.NoMemory) ⊎ (static_fault t exposed ps ≡ Some e) → IfErr r (HasOwnCause t exposed ps)
-payload_cause t exposed ps r e passed numbered why =
-    passed_err r e (λ q. IfErr q (HasOwnCause t exposed ps)) passed (payload_cause_at t exposed ps e numbered why)
+-- the cause of a refusal before the reading
+pub payload_causes : {T : Type 0} (t : TypeTable) (exposed : Option (List ℕ)) (ps : List Payload)
+    → is_numbered t ps ≡ true → (r : Result T Error)
+    → IfErr r (λ e. (e ≡ error.NoMemory) ⊎ (static_fault t exposed ps ≡ Some e)) → IfErr r (HasOwnCause t exposed ps)
+payload_causes t exposed ps numbered (Ok x) why = tt
+payload_causes t exposed ps numbered (Err e) why = payload_cause_at t exposed ps e numbered why
+
+-- without one the payloads can be read
+pub payload_read : {T : Type 0} (t : TypeTable) (exposed : Option (List ℕ)) (ps : List Payload)
+    → is_numbered t ps ≡ true → (r : Result T Error) → OnOk r (static_fault t exposed ps ≡ None)
+    → OnOk r (CanBeRead t exposed ps)
+payload_read t exposed ps numbered (Ok x) sound = record { numbered = numbered; sound = sound }
+payload_read t exposed ps numbered (Err e) sound = tt
 
 -- the modules of a program are sound
 pub program_sound : (t : TypeTable) (exposed : Option (List ℕ)) (ps : List Payload) (program : LocalProgram)

@@ -1,4 +1,4 @@
--- What a plan has is what the reading declares and makes; a plain graph has no intrinsics.
+-- What a plan has is what the reading declares and makes, and intrinsics have the signatures that it gives them.
 use Rattle.std.proofs.Common.{◌≡◌, ◌<◌, ◌+◌, ℕ, zero, suc, List, [], ◌∷◌, ◌++◌, length, map, Option, None, Some, refl}
 use Rattle.std.proofs.Common.{sym, ap, subst, ◌∙◌, append_assoc, arith}
 use Rattle.std.specs.Prelude.{option_and_then, option_map, slice_get}
@@ -9,24 +9,31 @@ use Rattle.pc_entity.specs.declared.packed_option.PackedOption.{PackedOption}
 use Rattle.pc_entity.specs.declared.packed_option.PackedOption.TheVariants as packed
 use Rattle.pc_types_lists.specs.Types.{Types}
 use Rattle.pc_numbers.specs.declared.module_entity.ModuleInternedTypeIndex.{ModuleInternedTypeIndex}
+use Rattle.pc_numbers.specs.declared.runtime.ResourceIndex.{ResourceIndex}
 use Rattle.pc_numbers.specs.declared.runtime.RuntimeComponentInstanceIndex.{RuntimeComponentInstanceIndex}
 use Rattle.pc_types.specs.declared.intrinsic.UnsafeIntrinsic.{UnsafeIntrinsic}
 use Rattle.pc_types.specs.declared.module_record.ModuleRecord.{ModuleRecord}
 use Rattle.pc_types.specs.declared.parsed.TypeTable.{TypeTable}
+use Rattle.pc_types.specs.declared.parsed.CoreFuncSig.{CoreFuncSig}
 use Rattle.pc_types.specs.declared.parsed.CoreKind.{CoreKind}
+use Rattle.pc_types.specs.IntrinsicType.{intrinsic_place}
+use Rattle.pc_types.specs.TypeTree.{Identity}
 use Rattle.pc_spec_plan.specs.CoreValue.{map_value}
 use Rattle.pc_spec_plan.specs.Machine.{State}
 use Rattle.pc_spec_plan.specs.Log.{Entry, declared, declared_resource, instantiated, made, map_entry, needed, trace}
 use Rattle.pc_trampoline.specs.declared.part.Mark.{Mark}
+use Rattle.pc_trampoline.specs.declared.part.Mark.TheVariants as mark
 use Rattle.pc_info.specs.declared.component.ComponentTranslation.{ComponentTranslation}
 use Rattle.pc_info.specs.declared.module.ModuleTranslation.{ModuleTranslation}
 use Rattle.pc_info.specs.View.{intrinsic_view, view}
 use Rattle.pc_parsed.specs.Mark as reading
 use Rattle.pc_spec_reading.specs.Reading.{Reading}
+use Rattle.pc_spec_reading.specs.World.{AddedIntrinsic}
 use Rattle.pc_dfg.specs.declared.core_def.CoreDef.TheVariants as def
 use Rattle.pc_dfg.specs.declared.dfg.ComponentDfg.{ComponentDfg}
 use Rattle.pc_dfg.specs.declared.instance.Resource.{Resource}
 use Rattle.pc_dfg.specs.declared.instance.SideEffect.{SideEffect}
+use Rattle.pc_dfg.specs.Grows.{HasIntrinsic}
 use Rattle.pc_dfg.specs.Effects.{MeansEffect, means_declared, means_made}
 use Rattle.pc_dfg.specs.Ordered.{declared_by}
 use Rattle.pc_dfg.proofs.UniqueLemmas.{means_unique}
@@ -34,10 +41,10 @@ use Rattle.pc_dfg_finish.specs.Finishes.{Finishes, StandsForOne}
 use Rattle.pc_inline.specs.Inlines.{GraphStands}
 use Rattle.pc_inline_canon.proofs.MarkLemmas.{value_twice}
 use Rattle.pc_inline_state.proofs.HoldsLemmas.{reads_fit, so}
-use Rattle.pc_inline_state.specs.Tables.{IsItem}
+use Rattle.pc_inline_state.specs.Tables.{IsItem, is_intrinsic}
 use Rattle.pc_inline_state.specs.Today.{is_made}
 use Rattle.pc_inline_state.specs.Fits.{Fits}
-use Rattle.pc_inline_state.specs.Holds.{ReadsAs, number_of, whole_of}
+use Rattle.pc_inline_state.specs.Holds.{Holds, ReadsAs, number_of, whole_of}
 use Rattle.pc_inline_state.specs.Worlds.{EffectStands}
 use Rattle.pc_translate.proofs.ListLemmas.{none_counted}
 use Rattle.pc_translate.proofs.WiredLemmas.{no_adapters, occurring_item}
@@ -139,16 +146,24 @@ owners_mapped : (rs : List Resource)
 owners_mapped [] = refl
 owners_mapped (r ∷ rs) = ap (λ (ns : List ℕ). r.instance.0 ∷ ns) (owners_mapped rs)
 
--- an item of a module's instance is no intrinsic
-pub no_intrinsic : (ms : List ModuleRecord) (g : ComponentDfg) (k : CoreKind) (s : ModuleInternedTypeIndex)
-    (i : UnsafeIntrinsic) → IsItem ms g k (def.UnsafeIntrinsic s i) → ⊥
-no_intrinsic ms g k s i h = elim h [ ]
+-- an item that is an intrinsic has the signature that the graph has for it
+pub signed_item : (ms : List ModuleRecord) (g : ComponentDfg) (k : CoreKind) (s : ModuleInternedTypeIndex)
+    (i : UnsafeIntrinsic) → IsItem ms g k (def.UnsafeIntrinsic s i) → HasIntrinsic g (intrinsic_place i) s
+signed_item ms g k s i (is_intrinsic has) = has
 
 -- a packed option whose mark is there holds a number
 packed_holds : (x : PackedOption ModuleInternedTypeIndex) (m : Mark) → intrinsic_view x ≡ Some m
     → (s : ModuleInternedTypeIndex) × (x ≡ packed.Some s)
 packed_holds packed.None m h = absurd (none-some m h)
 packed_holds (packed.Some s) m h = (s, refl)
+
+-- a signature is held under the mark of its number
+held_under : (types : Types) (reads : (ResourceIndex → Identity) → Type 0) (s : ModuleInternedTypeIndex)
+    (signature : CoreFuncSig) (m : Mark) → slice_get types.signatures s.0 ≡ Some signature → mark.Signature s ≡ m
+    → Holds types reads m (reading.of_signature signature)
+unfolding Holds
+held_under types reads s signature m holds is =
+    subst (λ n. Holds types reads n (reading.of_signature signature)) is holds
 
 -- what stands in a mapped list
 behind_mapped : {A B : Type 0} (f : A → B) (xs : List A) (n : ℕ) (y : B) → slice_get (map f xs) n ≡ Some y
@@ -198,10 +213,25 @@ module _ (t : TypeTable) (types : Types) (ms : List ModuleRecord) (g : Component
         ∙ sym (none_counted is_made r.log stands.world.no_adapters);
   }
 
+  -- an intrinsic that the graph has under a signature was added with it
+  added_signed : (n : ℕ) (m : Mark) (s : ModuleInternedTypeIndex) (place : ℕ) → place ≡ n → mark.Signature s ≡ m
+      → HasIntrinsic g place s
+      → (i : AddedIntrinsic) × Contains r.intrinsics i × (i.place ≡ n)
+      × Holds types (ReadsAs r.imported_resources) m (reading.of_signature i.signature)
+  added_signed n m s place here is has =
+      let added = stands.world.intrinsics.only place s has in (
+        added.0,
+        added.1,
+        added.2 ∙ here,
+        held_under types (ReadsAs r.imported_resources) s added.0.signature m added.3.holds is,
+      )
+
   pub signs : AreSigned types (view plan (map as_handed_in ms)) r
   signs n m at =
       let x = behind_mapped intrinsic_view plan.component.unsafe_intrinsics n (Some m) at in
       let s = packed_holds x.0 m x.2 in
       let o = finished.intrinsics n s.0 (x.1 ∙ ap Some s.1) in
       let item = occurring_item g stands.plain ms stands.items o.2 in
-      absurd (no_intrinsic ms g item.0 s.0 o.0 item.1)
+      added_signed n m s.0 (intrinsic_place o.0) o.1
+      (same_Some (mark.Signature s.0) m (ap intrinsic_view (sym s.1) ∙ x.2))
+      (signed_item ms g item.0 s.0 o.0 item.1)

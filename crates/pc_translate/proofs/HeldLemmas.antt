@@ -40,6 +40,7 @@ module _ (t : TypeTable) (types : Types) (ms : List ModuleRecord) (g : Component
     lowered_once = finished.lowered_once;
     options_used = finished.used;
     trampolines_used = finished.trampolines_used;
+    intrinsics_used = finished.intrinsics_used;
   }
 
   pub numbers_items : NumbersItems plan.component r.nodes

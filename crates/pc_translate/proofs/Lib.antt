@@ -26,5 +26,4 @@ mod PlanningLemmas
 -- why payloads are refused
 mod AnswerLemmas
 mod FlawLemmas
-mod BuiltLemmas
 mod CauseLemmas

@@ -2,6 +2,8 @@
 use Rattle.std.proofs.Common.{◌≡◌, ℕ, List, Option, Some, false, refl, sym, ap, subst, ◌∙◌}
 use Rattle.std.specs.Prelude.{slice_get, option_map, unwrap_or}
 use Rattle.std.proofs.lemmas.Option.{none-some, same_Some, slice_get-map}
+use Rattle.pc_entity.specs.declared.packed_option.PackedOption.{PackedOption}
+use Rattle.pc_entity.specs.declared.packed_option.PackedOption.TheVariants as packed
 use Rattle.pc_types_lists.specs.Types.{IsBuilder, Types}
 use Rattle.pc_dfg.specs.declared.ids.OptionsId.{OptionsId}
 use Rattle.pc_numbers.specs.declared.module_entity.ModuleInternedTypeIndex.{ModuleInternedTypeIndex}
@@ -13,6 +15,7 @@ use Rattle.pc_types.specs.declared.module_record.ModuleRecord.{ModuleRecord}
 use Rattle.pc_types.specs.declared.parsed.TypeTable.{TypeTable}
 use Rattle.pc_types.specs.declared.parsed.CoreFuncSig.{CoreFuncSig}
 use Rattle.pc_types.specs.declared.types.TypeKind.TheVariants as kind
+use Rattle.pc_types.specs.IntrinsicType.{intrinsic_place}
 use Rattle.pc_types.specs.TypeTree.{Identity}
 use Rattle.pc_spec_plan.specs.CoreValue as value
 use Rattle.pc_spec_plan.specs.CoreValue.{CoreValue, map_value}
@@ -42,7 +45,7 @@ use Rattle.pc_inline_state.specs.Fits.{Fits}
 use Rattle.pc_inline_state.specs.Holds.{Holds, Numbered, number_of, whole_of}
 use Rattle.pc_inline_state.specs.Worlds.{path_of, slot_kind}
 use Rattle.pc_translate.proofs.AskedLemmas.{once_each}
-use Rattle.pc_translate.proofs.DeclaredLemmas.{no_intrinsic}
+use Rattle.pc_translate.proofs.DeclaredLemmas.{signed_item}
 use Rattle.pc_translate.proofs.WiredLemmas.{none_at}
 
 -- the core signature of an options entry of a graph, by number
@@ -55,11 +58,17 @@ abbrev of_head : ComponentDfg → Head RuntimeImportIndex OptionsId → ModuleIn
 of_head g (head.Lowering index ty o) = signature_at g o.0
 of_head g h = record { 0 = 0 }
 
--- what values leave out: a lowering has the core signature of its options, and there is no intrinsic and no adapter
+-- the signature of an intrinsic, if it has one
+abbrev signature_held : Option (PackedOption ModuleInternedTypeIndex) → ModuleInternedTypeIndex
+signature_held (Some (packed.Some s)) = s
+signature_held o = record { 0 = 0 }
+
+-- what values leave out: a lowering has the core signature of its options, an intrinsic the one that the graph has for
+-- it, and there is no adapter
 pub unsaid : ComponentDfg → Unsaid
 unsaid g = record {
   lowering = λ t. of_head g (parts_of t).head;
-  intrinsic = λ i. record { 0 = 0 };
+  intrinsic = λ i. signature_held (slice_get g.unsafe_intrinsics (intrinsic_place i));
   is_wide = λ m. false;
 }
 
@@ -167,10 +176,10 @@ module _ (t : TypeTable) (types : Types) (ms : List ModuleRecord) (g : Component
       ap (λ ps. slice_get ps n) (sym stands.world.imports) ∙ slice_get-map path_of g.imports n
       ∙ ap (option_map path_of) at
 
-  -- no slot holds an intrinsic
+  -- an intrinsic in a slot has its signature
   slot_told : (d : CoreDef) (k : plan.SlotKind) → IsItem ms g (slot_kind k) d → IsSigned (unsaid g) d
-  unfolding IsSigned
-  slot_told (def.UnsafeIntrinsic s i) k item = absurd (no_intrinsic ms g (slot_kind k) s i item)
+  unfolding IsSigned unsaid
+  slot_told (def.UnsafeIntrinsic s i) k item = ap signature_held (sym (signed_item ms g (slot_kind k) s i item))
   slot_told d k item = tt
 
   pub is_told : IsTold (unsaid g) g

@@ -35,7 +35,7 @@ use Rattle.pc_dfg_linearize.specs.Grouped.{IsGrouped}
 use Rattle.pc_translate.specs.ModuleTypes.{HasModuleType}
 use Rattle.pc_dfg_linearize.specs.Wired.{IsWired, Occurs, OfFunctions, callbacks, in_a_module, in_a_slot, in_an_adapter}
 use Rattle.pc_dfg_linearize.specs.Wired.{in_an_effect, in_an_export, is_function, post_returns, reallocs}
-use Rattle.pc_inline_state.specs.Tables.{IsItem, is_entity, is_named, is_trampoline}
+use Rattle.pc_inline_state.specs.Tables.{IsItem, is_entity, is_intrinsic, is_named, is_trampoline}
 use Rattle.pc_inline_state.specs.Worlds.{HasItems, HoldsModule, HoldsTypes, IsPlain, slot_kind}
 use Rattle.pc_types_lists.specs.Types.{Types}
 use Rattle.pc_translate.specs.Planning.{as_handed_in}
@@ -170,6 +170,7 @@ module _ (g : ComponentDfg) (plain : IsPlain g) where
     function_item (is_entity of_kind entity) = ap (λ k. same_kind k kind.Func) of_kind
     function_item (is_named host) = refl
     function_item (is_trampoline below) = refl
+    function_item (is_intrinsic has) = refl
 
     function_slot : (k : plan.SlotKind) (n : ℕ) (d : CoreDef) → OfFunctions k → slice_get (slots_of g k) n ≡ Some d
         → is_function d ≡ true

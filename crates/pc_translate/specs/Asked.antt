@@ -81,7 +81,8 @@ pub record Declares (types : Types) (plan : ComponentTranslation) (modules : Lis
   -- each adapter that is made has its record
   pub adapters : length (adapters_view 0 modules) ≡ count_by is_made r.log
 
--- an intrinsic that has a signature in a plan is one that was added as a core function with this signature
+-- an intrinsic that has a signature in a plan is one that was added as a core function, and the first item that added
+-- it has this signature. One that a run resolves has a signature
 abbrev pub AreSigned : Types → PlanView Mark → Reading → Type 0
 AreSigned types p r =
     (n : ℕ) (m : Mark) → slice_get p.intrinsics n ≡ Some (Some m)

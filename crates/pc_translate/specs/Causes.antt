@@ -1,27 +1,26 @@
 -- Why a translation is refused.
-use Rattle.std.specs.Prelude.{◌≡◌, ◌⊎◌, ◌&&◌, ℕ, Bool, true, false, List, Option, None, Some, Result, Err}
+use Rattle.std.specs.Prelude.{◌≡◌, ◌⊎◌, ℕ, true, false, List, Option, None, Some, Result, Err}
 use Rattle.std.specs.Prelude.{option_map, if◌then◌else◌}
 use Rattle.pc_types.specs.declared.error.Error.{Error}
 use Rattle.pc_types.specs.declared.error.Error.TheVariants as error
 use Rattle.pc_types.specs.declared.error.Unsupported.TheVariants.{NotBuilt}
 use Rattle.pc_types.specs.declared.parsed.TypeTable.{TypeTable}
-use Rattle.pc_types.specs.Table.{is_some_and}
 use Rattle.pc_parsed.specs.declared.payload.Payload.{Payload}
-use Rattle.pc_parsed.specs.Program.{is_numbered, not_built}
+use Rattle.pc_parsed.specs.Program.{is_numbered}
 use Rattle.pc_parsed.specs.StaticFault.{static_fault}
 use Rattle.pc_spec_reading.specs.Answer.{answer_from, answer_of, ending, or_fault}
-use Rattle.pc_spec_reading.specs.Item.{Items, no_items, and_item}
+use Rattle.pc_spec_reading.specs.Item.{Items}
 use Rattle.pc_spec_reading.specs.Nest.{root_of}
 use Rattle.pc_spec_reading.specs.Outcome.{Outcome}
 use Rattle.pc_spec_reading.specs.Reading.{Reading, reading}
 use Rattle.pc_spec_reading.specs.Section.{modules_of}
-use Rattle.pc_inline_state.specs.Today.{built_reading, is_built}
+use Rattle.pc_inline_state.specs.Today.{built_reading}
 
 -- what payloads mean; no total is counted yet
 unfoldable pub meaning : TypeTable → (exposed : Option (List ℕ)) → (limit : ℕ) → List Payload → Option (Outcome Reading)
 meaning t exposed limit ps = reading t exposed limit None ps
 
--- the same as far as it is built: the reading, or a refusal at the first item of a kind that isn't
+-- the same as far as it is built: the reading, or a refusal at the first item that makes an adapter
 unfoldable pub built_meaning : TypeTable → (exposed : Option (List ℕ)) → (limit : ℕ) → List Payload
     → Option (Outcome Reading)
 built_meaning t exposed limit ps = option_map (built_reading t (modules_of ps) limit) (root_of exposed ps)
@@ -30,31 +29,18 @@ built_meaning t exposed limit ps = option_map (built_reading t (modules_of ps) l
 abbrev pub HasRoot : (exposed : Option (List ℕ)) → List Payload → (Items → Type 0) → Type 0
 HasRoot exposed ps P = (body : Items) × (root_of exposed ps ≡ Some body) × P body
 
--- items that are all of kinds that are built; those of a nested body are looked at where it is instantiated
-abbrev pub are_built : Items → Bool
-are_built no_items = true
-are_built (and_item i is) = is_built i && are_built is
-
--- the items of the root are of kinds that are built
-abbrev pub is_built_input : (exposed : Option (List ℕ)) → List Payload → Bool
-is_built_input exposed ps = is_some_and are_built (root_of exposed ps)
-
--- an input can be numbered, has no static fault, and its root's items are of kinds that are built
+-- an input can be numbered and has no static fault
 pub record CanBeRead (t : TypeTable) (exposed : Option (List ℕ)) (ps : List Payload) : Type 0 where
   pub numbered : is_numbered t ps ≡ true
   pub sound : static_fault t exposed ps ≡ None
-  pub built : HasRoot exposed ps (λ body. are_built body ≡ true)
 
 -- the answer as far as it is built, in the order of answers. Of the total nothing is counted but whether each list can
--- be numbered; and what isn't built in the root is told at the first payload, before the reading
+-- be numbered
 unfoldable pub built_answer : TypeTable → (exposed : Option (List ℕ)) → (limit : ℕ) → List Payload
     → Option (Result Reading Error)
 built_answer t exposed limit ps =
     if is_numbered t ps
-    then or_fault (static_fault t exposed ps)
-    (if is_built_input exposed ps
-    then option_map ending (built_meaning t exposed limit ps)
-    else Some (Err not_built))
+    then or_fault (static_fault t exposed ps) (option_map ending (built_meaning t exposed limit ps))
     else Some (Err error.TooMany)
 
 -- why a translation was refused, where the types builder held so many types before. Too many is answered only where the

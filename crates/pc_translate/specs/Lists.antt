@@ -1,8 +1,11 @@
 -- Whether the lists of a plan fit each other.
 use Rattle.std.specs.Prelude.{◌≡◌, ◌<◌, ◌+◌, ℕ, List, length, take, slice_get, Some, false}
+use Rattle.pc_entity.specs.declared.packed_option.PackedOption.TheVariants as packed
 use Rattle.pc_spec_plan.specs.ExportNode.{NamedNode}
-use Rattle.pc_spec_plan.specs.PlanView.{Initializer}
+use Rattle.pc_spec_plan.specs.PlanView.{Initializer, intrinsic}
 use Rattle.pc_names.specs.Stands.{StandsFor}
+use Rattle.pc_numbers.specs.declared.module_entity.ModuleInternedTypeIndex.{ModuleInternedTypeIndex}
+use Rattle.pc_dfg_finish.specs.Uses.{UsesDefinition}
 use Rattle.pc_info.specs.declared.component.Component.{Component}
 use Rattle.pc_info.specs.declared.component.ComponentTranslation.{ComponentTranslation}
 use Rattle.pc_info.specs.Exports.{Entry, number_of}
@@ -24,8 +27,8 @@ pub record NumbersItems (c : Component) (nodes : List (NamedNode Mark)) : Type 0
 abbrev pub FindsExports : Component → Type 0
 FindsExports c = StandsFor (λ text key. key ≡ text) c.exports c.exports.definitions
 
--- each options entry and each trampoline of a plan is used, none is made twice, and each step, entry and trampoline
--- stands where it has to
+-- each options entry, each trampoline and each signature of an intrinsic is used, none is made twice, and each step,
+-- entry and trampoline stands where it has to
 pub record IsTidy (plan : ComponentTranslation) : Type 0 where
   -- no module of adapters is instantiated twice
   pub adapters_once : (m : ℕ) → AtMostOne (MakesAdapters m) (steps_in plan)
@@ -43,3 +46,6 @@ pub record IsTidy (plan : ComponentTranslation) : Type 0 where
   -- each options entry and each trampoline is used
   pub options_used : (n : ℕ) → n < length plan.component.options → IsUsed plan n
   pub trampolines_used : (n : ℕ) → n < length plan.trampolines → UsesTrampoline plan n
+  -- an intrinsic has a signature only where a step or an exported function names it
+  pub intrinsics_used : (n : ℕ) (s : ModuleInternedTypeIndex)
+      → slice_get plan.component.unsafe_intrinsics n ≡ Some (packed.Some s) → UsesDefinition plan (intrinsic n)

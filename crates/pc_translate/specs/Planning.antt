@@ -1,5 +1,5 @@
 -- What comes of a local program: a plan that stands for the reading of its root, or why there is none.
-use Rattle.std.specs.Prelude.{ℕ, Bool, true, false, [], List, Result, Ok, Err}
+use Rattle.std.specs.Prelude.{ℕ, [], List, Result, Ok, Err}
 use Rattle.pc_types_lists.specs.Types.{Types, types_held}
 use Rattle.pc_types.specs.declared.error.Error.{Error}
 use Rattle.pc_types.specs.declared.error.Error.TheVariants as error
@@ -9,8 +9,6 @@ use Rattle.pc_info.specs.declared.component.ComponentTranslation.{ComponentTrans
 use Rattle.pc_info.specs.declared.module.ModuleTranslation.{ModuleTranslation}
 use Rattle.pc_info.specs.Modules.{without_facts}
 use Rattle.pc_spec_reading.specs.Item.{Items}
-use Rattle.pc_local.specs.declared.item.LocalInitializer.{LocalInitializer}
-use Rattle.pc_local.specs.declared.item.LocalInitializer.TheVariants as local
 use Rattle.pc_dfg.specs.declared.dfg.ComponentDfg.{ComponentDfg}
 use Rattle.pc_dfg_linearize.specs.declared.error.FinishError.{FinishError}
 use Rattle.pc_dfg_linearize.specs.declared.error.FinishError.TheVariants as finish_error
@@ -21,17 +19,6 @@ use Rattle.pc_inline.specs.Inlines.{IsFault, StandsForReading}
 abbrev pub error_of_finish : FinishError → Error
 error_of_finish finish_error.TooMany = error.TooMany
 error_of_finish finish_error.NoMemory = error.NoMemory
-
--- a local item of a kind that is built
-abbrev pub is_built_local : LocalInitializer → Bool
-is_built_local local.IntrinsicsImport = false
-is_built_local (local.Builtin c) = false
-is_built_local (local.WaitableSet c) = false
-is_built_local (local.TaskReturn signature result opts) = false
-is_built_local (local.ErrorContext c) = false
-is_built_local (local.Context c) = false
-is_built_local (local.ThreadNewIndirect signature start table) = false
-is_built_local _ = true
 
 -- a module as it was handed in
 abbrev pub as_handed_in : ModuleRecord → ModuleTranslation

@@ -5,7 +5,6 @@
 //! says follows from what these promise; `specs/Translation.antt` has that statement.
 #![tactic(auto)]
 
-mod built;
 mod module_types;
 mod plan;
 mod translator;

@@ -16,14 +16,13 @@ ghost use Rattle.pc_translate.specs.Planning.{Plans, as_handed_in, error_of_fini
 ghost use Rattle.pc_translate.specs.Translation.{CountsGained, Gains, GainsCounted, IsPlanOf, IsRefusalOf};
 ghost use Rattle.pc_translate.specs.Translation.{Translates};
 
-use crate::built::is_built;
 use crate::plan::finish;
 use pc_dfg_finish::FinishError;
 use pc_entity::{NoMemory, PrimaryMap, Seq, StaticModuleIndex};
 use pc_info::{ComponentTranslation, ModuleTranslation};
 use pc_inline::inline_run;
 use pc_local::{LocalProgram, translate_payloads};
-use pc_parsed::{Payload, Tunables, is_numbered, not_built};
+use pc_parsed::{Payload, Tunables, is_numbered};
 use pc_types::{Error, ModuleRecord, TypeTable};
 use pc_types_builder::ComponentTypesBuilder;
 use std::alloc::Global;
@@ -48,8 +47,8 @@ fn translations(
     Ok(PrimaryMap::from_vec(translations))
 }
 
-/// The local program of payloads, where each item of the root is of a kind that is built.
-fn built_program(
+/// The local program of payloads, where each thing in them has a number.
+fn program_of(
     alloc: Global,
     table: &TypeTable,
     exposed: Option<&str>,
@@ -64,11 +63,7 @@ fn built_program(
     if !is_numbered(table, payloads) {
         return Err(Error::TooMany);
     }
-    let program = translate_payloads(alloc, table, exposed, payloads)?;
-    if !is_built(&program) {
-        return Err(not_built());
-    }
-    Ok(program)
+    translate_payloads(alloc, table, exposed, payloads)
 }
 
 /// Why a graph has no plan, as an error of the translation.
@@ -151,7 +146,7 @@ pub fn translate(
     ensures counts { IfOk result (λ _. CountsGained table.now (option_map (λ name. name.now) exposed.entry)
         tunables.now.max_component_instances payloads.now types.old types.new) }
 {
-    let program = built_program(alloc, table, exposed, payloads)?;
+    let program = program_of(alloc, table, exposed, payloads)?;
     let plan = plan_of(alloc, tunables, table, types, &program)?;
     // No two signatures are equal, so a lowering has the one of its options.
     types.types_are_distinct();
