@@ -3,3 +3,4 @@ pub mod Asked
 pub mod Imports
 pub mod Places
 pub mod Planned
+pub mod Refused

@@ -1,6 +1,6 @@
 //! Why adapters have no modules.
 
-use pc_dfg::AdapterId;
+use pc_dfg::{AdapterId, PushError};
 use pc_entity::NoMemory;
 
 /// Why the modules of adapters couldn't be made.
@@ -22,5 +22,19 @@ impl From<NoMemory> for AdaptError {
 
     fn from(_refused: NoMemory) -> AdaptError {
         AdaptError::NoMemory
+    }
+}
+
+impl From<PushError> for AdaptError {
+    ghost use Rattle.std.specs.Prelude.{◌≡◌};
+    ghost use Rattle.pc_adapt.specs.Refused.{of_push_error};
+
+    ghost from_gives = { λ refused e. e ≡ of_push_error refused };
+
+    fn from(refused: PushError) -> AdaptError {
+        match refused {
+            PushError::TooMany => AdaptError::TooMany,
+            PushError::NoMemory => AdaptError::NoMemory,
+        }
     }
 }

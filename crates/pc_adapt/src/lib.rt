@@ -11,7 +11,7 @@ pub mod facts;
 pub mod import;
 pub mod laws;
 pub mod plan;
-mod record_of;
+pub mod record_of;
 
 pub use asked::first_lacking;
 pub use error::AdaptError;

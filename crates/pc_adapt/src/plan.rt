@@ -372,7 +372,7 @@ fn is_async(adapter: &Adapter, lift: FunctionFacts, lower: FunctionFacts) -> boo
 }
 
 /// What a module imports for an adapter whose types have these facts.
-fn imports_for(
+pub fn imports_for(
     alloc: Global,
     adapter: &Adapter,
     lift: FunctionFacts,

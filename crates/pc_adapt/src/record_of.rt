@@ -88,8 +88,8 @@ fn behind_side(first: u32, side: &AdapterOptions) -> u32
     after(post_return, side.post_return.is_some())
 }
 
-/// What is said of an adapter whose places begin here.
-pub(crate) fn record_of_adapter(first: u32, id: AdapterId, adapter: &Adapter) -> AdapterRecord
+/// What is said of an adapter whose places begin here. Its function isn't known before its module is.
+pub fn record_of_adapter(first: u32, id: AdapterId, adapter: &Adapter) -> AdapterRecord
     requires room { first + 3 + side_count adapter.now.lift_options + side_count adapter.now.lower_options
         < 4294967296 }
     ensures { result ≡ record_of first id.0 adapter.now }

@@ -43,7 +43,7 @@ value_kept g h grows s has_exit = has_exit
 value_kept g h grows s has_trap = has_trap
 
 -- what stands for an import still does in a graph that has grown
-later : (g m n : ComponentDfg) (s : ModuleInternedTypeIndex) → Grows m n → AreHeld m → (i : Import) (d : CoreDef)
+pub later : (g m n : ComponentDfg) (s : ModuleInternedTypeIndex) → Grows m n → AreHeld m → (i : Import) (d : CoreDef)
     → IsDefined g m s i d → IsDefined g n s i d
 later g m n s grows heldm i d x = record {
   held = held_stays m n grows d x.held;
@@ -52,7 +52,7 @@ later g m n s grows heldm i d x = record {
 }
 
 -- and for the import to the graph before
-earlier : (g m n : ComponentDfg) (s : ModuleInternedTypeIndex) → Grows g m → AreHeld m → (i : Import) (d : CoreDef)
+pub earlier : (g m n : ComponentDfg) (s : ModuleInternedTypeIndex) → Grows g m → AreHeld m → (i : Import) (d : CoreDef)
     → All (IsHeld g) (in_import i) → IsDefined m n s i d → IsDefined g n s i d
 earlier g m n s grows heldm i d all x = record {
   held = x.held;
@@ -60,7 +60,7 @@ earlier g m n s grows heldm i d all x = record {
   names = λ y held one. one_back g m grows held (in_import i) y all (x.names y heldm one);
 }
 
-zip_append : {A B : Type 0} (R : A → B → Type 0) (xs ys : List A) (ps qs : List B) → AllZip R xs ps
+pub zip_append : {A B : Type 0} (R : A → B → Type 0) (xs ys : List A) (ps qs : List B) → AllZip R xs ps
     → AllZip R ys qs → AllZip R (xs ++ ys) (ps ++ qs)
 zip_append R [] ys [] qs front rest = rest
 zip_append R [] ys (p ∷ ps) qs front rest = absurd front

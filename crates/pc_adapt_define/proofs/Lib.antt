@@ -7,8 +7,8 @@ mod SlotLemmas
 -- what helpers stand for
 mod HelperLemmas
 -- definitions for imports one after the other
-mod ArgumentLemmas
+pub mod ArgumentLemmas
 -- what stands in the imports of an adapter
-mod OwnLemmas
+pub mod OwnLemmas
 -- how many entries the imports of an adapter cost
-mod FewLemmas
+pub mod FewLemmas

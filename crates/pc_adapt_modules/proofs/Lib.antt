@@ -1,7 +1,7 @@
 -- what held definitions name, they named before
 mod BackLemmas
 -- modules of a good split are grouped
-mod GroupedLemmas
+pub mod GroupedLemmas
 -- lists that are put together one by one
 mod RecordLemmas
 -- as what is imported what is planned

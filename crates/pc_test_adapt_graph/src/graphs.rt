@@ -15,6 +15,9 @@ pub enum Shape {
     /// core instance 0 again, and lacks a realloc.
     Small,
 
+    /// The same without adapter 2.
+    Pair,
+
     /// 100,000 adapters, each of a core instance that takes the one before it.
     Chain,
 
@@ -27,6 +30,7 @@ impl Shape {
     fn len(self) -> u32 {
         match self {
             Shape::Small => 3,
+            Shape::Pair => 2,
             Shape::Chain => 100_000,
             Shape::Wide => 100_000,
         }
@@ -117,7 +121,7 @@ fn step(alloc: Global, graph: &mut ComponentDfg, shape: Shape, n: u32) -> Result
     ensures ordered { OnOk result (IsOrdered graph.new) }
 {
     match shape {
-        Shape::Small => small_step(alloc, graph, n),
+        Shape::Small | Shape::Pair => small_step(alloc, graph, n),
         Shape::Chain => link(alloc, graph, InstanceId(n), Kind::Plain(0)),
         Shape::Wide => {
             push(graph, InstanceId(0), Kind::Plain(n))?;

@@ -1,9 +1,11 @@
-//! Tests of `pc_adapt_groups`, `pc_adapt` and `pc_adapt_modules`, on graphs that are built by hand.
+//! Tests of the crates of fused adapters, on graphs that are built by hand.
 //!
 //! What a clause says isn't tested again: here are one small graph that is grouped and planned, and graphs and modules
 //! of many adapters, which could take long.
 #![tactic(auto)]
 
+#[cfg(test)]
+mod definitions;
 #[cfg(test)]
 mod graphs;
 #[cfg(test)]
@@ -11,8 +13,12 @@ mod groups;
 #[cfg(test)]
 mod modules;
 #[cfg(test)]
+mod partitions;
+#[cfg(test)]
 mod plans;
 #[cfg(test)]
 mod sides;
 #[cfg(test)]
 mod support;
+#[cfg(test)]
+mod typed;

@@ -1,12 +1,12 @@
 //! What the adapters of the small graph are asked for, and what is planned for them.
 
-ghost use Rattle.std.specs.Prelude.{◌≡◌, true, None};
-ghost use Rattle.pc_types.specs.Table.{table_fault};
+ghost use Rattle.std.specs.Prelude.{◌≡◌, true};
 ghost use Rattle.pc_adapt.specs.Asked.{HoldsTypes, HoldTypes};
 
 use crate::graphs::{Shape, fill};
 use crate::sides::func;
 use crate::support::holds;
+use crate::typed::has_two;
 use pc_adapt::asked::has_options;
 use pc_adapt::facts::facts_of_function;
 use pc_adapt::{AdapterPlan, Import, first_lacking, plan_adapter};
@@ -20,7 +20,7 @@ use pc_entity::{
 };
 use pc_info::AdapterRecord;
 use pc_trampoline::{Transcode, Trap};
-use pc_types::{DeclType, PrimType, TypeFuncIndex, TypeKind, TypeTable, ValType, check_table};
+use pc_types::{DeclType, PrimType, TypeFuncIndex, TypeKind, TypeTable, ValType};
 use pc_types_builder::ComponentTypesBuilder;
 use std::alloc::Global;
 use std::test::*;
@@ -39,7 +39,7 @@ fn func_type(alloc: Global, with_string: bool, async_: bool) -> Result<DeclType,
 }
 
 /// Type 0, a function of a string, and type 1, an async function of nothing.
-fn two_types(alloc: Global) -> Result<TypeTable, NoMemory> {
+pub(crate) fn two_types(alloc: Global) -> Result<TypeTable, NoMemory> {
     let mut types = Seq::new(alloc);
     types.push(func_type(alloc, true, false)?)?;
     types.push(func_type(alloc, false, true)?)?;
@@ -47,27 +47,6 @@ fn two_types(alloc: Global) -> Result<TypeTable, NoMemory> {
         core_funcs: Seq::new(alloc),
         types,
     })
-}
-
-/// Whether a table is sound, and short enough to ask.
-fn is_sound(alloc: Global, table: &TypeTable) -> bool
-    ensures { result ≡ true → table_fault table.now ≡ None }
-{
-    if table.types.len() < 1_000_000 {
-        check_table(alloc, table).is_ok()
-    } else {
-        false
-    }
-}
-
-/// Converts both types, whether they are the first two.
-fn converts(alloc: Global, types: &mut ComponentTypesBuilder, table: &TypeTable) -> bool {
-    if !is_sound(alloc, table) {
-        return false;
-    }
-    let first = types.convert_func(table, 0);
-    let second = types.convert_func(table, 1);
-    first == Ok(TypeFuncIndex(0)) && second == Ok(TypeFuncIndex(1))
 }
 
 /// Whether the types of an adapter are held.
@@ -224,7 +203,7 @@ fn answers(alloc: Global) -> Result<[bool; 4], PushError> {
     empty_is_ordered();
     let mut types = ComponentTypesBuilder::new(alloc);
     let table = two_types(alloc)?;
-    let is_converted = converts(alloc, &mut types, &table);
+    let is_converted = has_two(alloc, &mut types, &table);
     let mut graph = ComponentDfg::new(alloc);
     fill(alloc, &mut graph, Shape::Small)?;
     Ok([

@@ -1,0 +1,87 @@
+-- A module of adapters, once it is gathered.
+use Rattle.std.proofs.Common.{◌≡◌, ◌≤◌, ℕ, ◌+◌, ◌*◌, List, [], ◌∷◌, ◌++◌, length, sym, ap, ◌∙◌, arith}
+use Rattle.std.specs.Prelude.{count_by}
+use Rattle.pc_types.specs.declared.parsed.CoreKind.TheVariants as kind
+use Rattle.pc_types.specs.Record.{imports_kind}
+use Rattle.pc_info.specs.declared.module.ModuleTranslation.{ModuleTranslation}
+use Rattle.pc_info.specs.Modules.{without_facts}
+use Rattle.pc_dfg.specs.declared.adapter.Adapter.{Adapter}
+use Rattle.pc_dfg.specs.declared.dfg.ComponentDfg.{ComponentDfg}
+use Rattle.pc_dfg.proofs.GrowLemmas.{grows_refl, grows_trans}
+use Rattle.pc_dfg.specs.Ordered.{IsOrdered}
+use Rattle.pc_spec_adapt.specs.Asked.{FunctionFacts}
+use Rattle.pc_adapt_modules.specs.Exports.{record_of_parts}
+use Rattle.pc_adapt_partition.specs.declared.group.Group.{Group}
+use Rattle.pc_adapt_partition.specs.Gathered.{AreGiven, Closes, Gathers}
+use Rattle.pc_adapt_partition.specs.Made.{AddsModule, Keeps}
+use Rattle.pc_adapt_partition.specs.Parts.{functions_from, functions_in, parts_of, with_functions}
+use Rattle.pc_adapt_partition.proofs.CountLemmas.{functions_few}
+use Rattle.pc_adapt_partition.proofs.GivenLemmas.{given_between, given_held, HeldParts}
+use Rattle.pc_adapt_partition.proofs.PartLemmas.{length_parts, length_records}
+
+module _ (lift lower : ℕ → FunctionFacts) (g m : ComponentDfg) (n : ℕ) (xs : List Adapter) (group : Group)
+    (gathers : Gathers g m n (parts_of lift lower n xs) group) where
+  -- the functions of the module have numbers
+  pub functions_fit : count_by (imports_kind kind.Func) group.parts.imports + length xs ≤ 4294967295
+  functions_fit =
+      let is = ap (count_by (imports_kind kind.Func)) gathers.imports in
+      omega (arith, is, gathers.room, functions_few lift lower n xs)
+
+  -- something is said of each adapter
+  pub records_many : length group.records ≡ length xs
+  records_many =
+      ap length gathers.records ∙ length_records 0 n (parts_of lift lower n xs) ∙ length_parts lift lower n xs
+
+  module _ (h : ComponentDfg) (ms ns : List ModuleTranslation) (closes : Closes m h ms ns n (length xs) group) where
+    keeps : Keeps (length xs) g h
+    keeps =
+        let many = length_parts lift lower n xs in
+        let memories = ap (λ (k : ComponentDfg). k.memories) closes.is in
+        let callbacks = ap (λ (k : ComponentDfg). k.callbacks) closes.is in
+        let post_returns = ap (λ (k : ComponentDfg). k.post_returns) closes.is in
+        let trampolines = ap (λ (k : ComponentDfg). k.trampolines) closes.is in
+        let modules = ap (λ (k : ComponentDfg). k.adapter_modules) closes.is in
+        let places = ap (λ (k : ComponentDfg). k.adapter_partitionings) closes.is in
+        record {
+          grows = grows_trans g m h gathers.adds.grows closes.grows;
+          ordered = λ o. closes.ordered (given_held g m (parts_of lift lower n xs) group.args gathers.given)
+              (gathers.adds.ordered o);
+          rest = closes.is
+              ∙ (λ j. record (gathers.adds.rest j) {
+                adapter_modules = sym modules j;
+                adapter_partitionings = sym places j;
+                memories = sym memories j;
+                callbacks = sym callbacks j;
+                post_returns = sym post_returns j;
+                trampolines = sym trampolines j;
+              });
+          few_memories = omega (arith, gathers.adds.few_memories, many, ap length memories);
+          few_callbacks = omega (arith, gathers.adds.few_callbacks, many, ap length callbacks);
+          few_post_returns = omega (arith, gathers.adds.few_post_returns, many, ap length post_returns);
+          few_trampolines = omega (arith, gathers.adds.few_trampolines, many, ap length trampolines);
+        }
+
+    -- it is added to modules and graph
+    pub adds_module : IsOrdered g → HeldParts g (parts_of lift lower n xs) → AddsModule lift lower g h ms ns n xs
+    adds_module o held =
+        let ps = parts_of lift lower n xs in
+        let count = count_by (imports_kind kind.Func) in
+        let many = length_parts lift lower n xs in
+        let heldm = (gathers.adds.ordered o).held in
+        record {
+          keeps = keeps;
+          modules = closes.modules
+              ∙ (λ j. ms ++ without_facts
+              (record_of_parts (gathers.imports j) (gathers.funcs j) n (sym many j))
+              (with_functions (count (gathers.imports j)) (gathers.records j)) ∷ []);
+          args = group.args;
+          adapter_modules = ap (λ (k : ComponentDfg). k.adapter_modules) closes.is
+              ∙ ap (λ (k : ComponentDfg). k.adapter_modules ++ (record { 0 = length ms }, group.args) ∷ [])
+              gathers.adds.rest;
+          given = given_between g g m h (grows_refl g) closes.grows o.held heldm ps group.args held gathers.given;
+          places = ap (λ (k : ComponentDfg). k.adapter_partitionings) closes.is
+              ∙ (λ j. (gathers.adds.rest j).adapter_partitionings
+              ++ functions_from (length ((gathers.adds.rest j).adapter_modules)) (count (gathers.imports j))
+              (length xs));
+          room = gathers.room;
+        }

@@ -1,0 +1,13 @@
+use Rattle.std.specs.Prelude.{◌≡◌, ◌≤◌, ℕ, length}
+use Rattle.pc_dfg.specs.Ordered.{IsOrdered}
+use Rattle.pc_spec_adapt.specs.Asked.{FunctionFacts}
+use Rattle.pc_adapt_partition.specs.Facts.{AreFacts}
+use Rattle.pc_adapt_partition.specs.Gathered.{Gathers}
+use Rattle.pc_adapt_partition.specs.Parts.{parts_of, slice}
+use Rattle.pc_adapt_partition.proofs.gather.gather.Given as goal
+
+abbrev pub invariant-loop-place : goal.invariant-loop-place
+invariant-loop-place l =
+    (lift lower : ℕ → FunctionFacts) → AreFacts l.types l.initial.graph.adapters lift lower
+    → Gathers l.initial.graph l.graph l.first
+    (parts_of lift lower l.first (slice l.first l.place l.initial.graph.adapters)) l.group

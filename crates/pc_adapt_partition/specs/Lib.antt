@@ -1,0 +1,7 @@
+-- What the public contract rests on, beside the words of the crates below.
+pub mod Facts
+pub mod Parts
+pub mod Made
+pub mod Partitions
+-- What the functions inside promise each other.
+pub mod Gathered
