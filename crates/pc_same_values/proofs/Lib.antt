@@ -1,0 +1,2 @@
+-- When a log says that an adapter was made.
+pub mod MadeLemmas
