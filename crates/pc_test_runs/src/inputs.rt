@@ -22,9 +22,6 @@ options 0 0 utf8 sync - - - -
 export \"f\" lifted export(0 func 0) options 0
 ";
 
-/// The text for an input whose root holds what isn't built. No item of it is read, so the place is the first.
-pub(crate) const NOT_BUILT: &str = "fault unsupported not-built at payload 0 item 0\n";
-
 /// How streams behave: the most bytes a call, and the call that fails.
 #[derive(Clone, Copy)]
 pub(crate) struct Ends {
@@ -225,13 +222,5 @@ pub(crate) fn are_refused_with(
     for text in texts {
         let is_so = is_translated(alloc, around, text, Status::Refused, written);
         holds(rt, text, is_so.unwrap_or(false));
-    }
-}
-
-/// Checks that each input is refused, since not all of it is built. Its name stands before it.
-pub(crate) fn are_not_built(rt: &impl Abort, alloc: Global, rows: &[(&str, &str)]) {
-    for (name, input) in rows {
-        let is_so = is_answered(alloc, "translate", input, Status::Refused, NOT_BUILT);
-        holds(rt, name, is_so.unwrap_or(false));
     }
 }

@@ -1,6 +1,6 @@
 //! What the root declares the unsafe intrinsics to be.
 
-use crate::inputs::{Around, NOT_BUILT, are_refused, holds, is_answered};
+use crate::inputs::{Around, are_refused, holds, is_answered};
 use pc_tool::Status;
 use std::alloc::{AllocError, Global};
 use std::process::Abort;
@@ -30,24 +30,34 @@ const ALL: &str =
        ["u64-checked-native-store",["func",16]],["context-get-i32-0",["func",17]],["context-set-i32-0",["func",18]],
        ["context-get-i32-1",["func",17]],["context-set-i32-1",["func",18]]]}"#;
 
-/// Entries of the type table, what the import is declared to be, and how the input is refused.
-static FUNCTIONS: [(&str, &str, &str); 10] = [
-    (ALL, r#"["instance",19]"#, NOT_BUILT),
+/// Entries of the type table, and what the import is declared to be: each function has the type that it has to have.
+static SOUND: [(&str, &str); 3] = [
+    (ALL, r#"["instance",19]"#),
     (
         r#"{"func":{"params":[["a","u64"]],"result":"u8","async":false}},{"instance":[["u8-native-load",["func",0]]]}"#,
         r#"["instance",1]"#,
-        NOT_BUILT,
     ),
     (
         r#"{"func":{"params":[["a","u64"]],"result":"u8","async":true}},{"instance":[["u8-native-load",["func",0]]]}"#,
         r#"["instance",1]"#,
-        NOT_BUILT,
     ),
+];
+
+/// The plan of each of them: the other import is the only one that the host gives.
+const PLAN: &str = "plan 1
+modules 0 0
+counts 0 1 0 0 0 0 0 0 0 0 0 0
+import-type 0 \"a\" func
+";
+
+/// Entries, what the import is declared to be, and how the input is refused.
+static FUNCTIONS: [(&str, &str, &str); 7] = [
+    // the type is found through others, but the other import is of none
     (
         r#"{"val":"u64"},{"val":0},{"func":{"params":[["a",1]],"result":"u8","async":false}},
            {"instance":[["u8-native-load",["func",2]]]}"#,
         r#"["instance",3]"#,
-        NOT_BUILT,
+        "fault bad-type at instance 0 item 0\n",
     ),
     (
         r#"{"func":{"params":[["a","u32"]],"result":"u8","async":false}},{"instance":[["u8-native-load",["func",0]]]}"#,
@@ -148,13 +158,21 @@ static IMPORTS: [(&str, &str); 3] = [
 ];
 
 /// What stands around the payloads of the rows above.
-const EXPOSED: Around = Around {
+const EMPTY: Around = Around {
     before: r#"{"limit":100,"intrinsics":"i","types":{"core":[],"types":[{"instance":[]}]},"payloads":["#,
     after: "]}",
 };
 
-/// Whether an input with these entries whose root imports this entity as the intrinsics is refused with this text.
-fn is_declared(alloc: Global, types: &str, entity: &str, fault: &str) -> Result<bool, AllocError> {
+/// An input and what it comes to.
+type Outcome<'a> = (Status, &'a str);
+
+/// Whether an input with these entries whose root imports this entity as the intrinsics comes to this.
+fn is_declared(
+    alloc: Global,
+    types: &str,
+    entity: &str,
+    outcome: Outcome<'_>,
+) -> Result<bool, AllocError> {
     let parts = [
         r#"{"limit":100,"intrinsics":"i","types":{"core":[],"types":["#,
         types,
@@ -163,24 +181,33 @@ fn is_declared(alloc: Global, types: &str, entity: &str, fault: &str) -> Result<
         r#"]]},"end"]}"#,
     ];
     let input = parts.join(alloc, "")?;
-    is_answered(alloc, "translate", &input, Status::Refused, fault)
+    is_answered(alloc, "translate", &input, outcome.0, outcome.1)
+}
+
+/// Checks that each input has the plan.
+fn are_sound(rt: &impl Abort, alloc: Global, rows: &[(&str, &str)]) {
+    for (types, entity) in rows {
+        let is_so = is_declared(alloc, types, entity, (Status::Done, PLAN));
+        holds(rt, types, is_so.unwrap_or(false));
+    }
 }
 
 /// Checks that each input is refused with the text beside it.
 fn are_declared(rt: &impl Abort, alloc: Global, rows: &[(&str, &str, &str)]) {
     for (types, entity, fault) in rows {
-        let is_so = is_declared(alloc, types, entity, fault);
+        let is_so = is_declared(alloc, types, entity, (Status::Refused, fault));
         holds(rt, types, is_so.unwrap_or(false));
     }
 }
 
 #[test]
 fn each_intrinsic_has_its_type(rt: HostRuntime) {
+    are_sound(&rt, rt.alloc(), &SOUND);
     are_declared(&rt, rt.alloc(), &FUNCTIONS);
 }
 
 #[test]
 fn the_root_alone_imports_functions_of_known_names_once(rt: HostRuntime) {
     are_declared(&rt, rt.alloc(), &OTHER);
-    are_refused(&rt, rt.alloc(), EXPOSED, &IMPORTS);
+    are_refused(&rt, rt.alloc(), EMPTY, &IMPORTS);
 }

@@ -4,6 +4,8 @@
 #[cfg(test)]
 mod adapters;
 #[cfg(test)]
+mod builtins;
+#[cfg(test)]
 mod captures;
 #[cfg(test)]
 mod contexts;
@@ -32,9 +34,13 @@ mod resources;
 #[cfg(test)]
 mod root;
 #[cfg(test)]
+mod slots;
+#[cfg(test)]
 mod streams;
 #[cfg(test)]
 mod structure;
+#[cfg(test)]
+mod tools;
 #[cfg(test)]
 mod translator;
 #[cfg(test)]

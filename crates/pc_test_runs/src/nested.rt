@@ -160,7 +160,7 @@ const NESTED: Around = Around {
 };
 
 /// Payloads in which items go from one component instance to another, and the plan.
-static GIVEN: [(&str, &str); 8] = [
+static GIVEN: [(&str, &str); 9] = [
     // a function of the host, lowered by a child
     (
         r#"{"imports":[["h",["func",0]]]},"component","version",{"imports":[["f",["func",0]]]},
@@ -264,10 +264,19 @@ export \"g\" imported 0
         r#"{"component-instances":[{"exports":[[["t","type",0]],2]}]}"#,
         EMPTY_PLAN,
     ),
+    // a builtin that nothing uses
+    (
+        r#""component","version",{"canon":[["task.cancel",0]]},"end",
+           {"component-instances":[{"instantiate":[0,[],2]}]}"#,
+        "plan 1
+modules 0 0
+counts 0 2 0 0 0 0 0 0 0 0 0 0
+",
+    ),
 ];
 
 /// Payloads whose reading ends elsewhere, and the fault.
-static ENDS: [(&str, &str); 8] = [
+static ENDS: [(&str, &str); 7] = [
     // an argument that is missing, or of another kind
     (
         r#""component","version",{"imports":[["f",["func",0]]]},"end",
@@ -307,12 +316,6 @@ static ENDS: [(&str, &str); 8] = [
         r#""component","version","end",
            {"component-instances":[{"instantiate":[0,[],2]},{"instantiate":[0,[],2]},{"instantiate":[0,[],2]}]}"#,
         "fault too-many-instances\n",
-    ),
-    // an item of a child that isn't built
-    (
-        r#""component","version",{"canon":[["task.cancel",0]]},"end",
-           {"component-instances":[{"instantiate":[0,[],2]}]}"#,
-        "fault unsupported not-built at instance 1 item 0\n",
     ),
 ];
 

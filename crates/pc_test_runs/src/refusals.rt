@@ -1,6 +1,6 @@
 //! Bytes that are no input, and items that fit nothing.
 
-use crate::inputs::{ALONE, Around, NOT_BUILT, are_refused};
+use crate::inputs::{ALONE, Around, are_refused};
 
 /// Bytes that are no input, and why.
 static NO_INPUTS: [(&str, &str); 4] = [
@@ -89,10 +89,9 @@ static ROWS: [(&str, &str); 15] = [
         r#"{"canon":[["lift",0,0,0,[]]]},{"exports":[["f","func",0]]}"#,
         "fault invalid at instance 0 item 1\n",
     ),
-    // a kind that isn't built, which comes before every fault
     (
-        r#"{"instances":[{"instantiate":[1,[]]}]},{"canon":[["task.cancel",0]]}"#,
-        NOT_BUILT,
+        r#"{"instances":[{"instantiate":[1,[]]}]},{"canon":[["task.cancel",1]]}"#,
+        "fault invalid at instance 0 item 1\n",
     ),
 ];
 
