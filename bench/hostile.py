@@ -23,9 +23,9 @@ PLAIN_TYPES = '{"core":[[[],[]]],"types":[{"module":[[],[]]},{"func":{"params":[
 BASE = ['"version"', ONE_FUNC, INSTANCE, ALIAS]
 
 
-def document(types, payloads, limit=1):
+def document(types, payloads, limit=1, intrinsics="null"):
     """An input in pieces, from its types and the pieces of its payload list."""
-    yield '{"limit":%d,"intrinsics":null,"types":' % limit
+    yield '{"limit":%d,"intrinsics":%s,"types":' % (limit, intrinsics)
     yield from [types] if isinstance(types, str) else types
     yield ',"payloads":['
     first = True
@@ -81,6 +81,40 @@ def many_exports(room):
     count = room // (per_lift + per_export)
     return document(PLAIN_TYPES, BASE + [
         canon(lambda n: LIFT, count * per_lift), exports(lambda n: '["name-%09d","func",%d]' % (n, n), count * per_export - 40), '"end"'])
+
+
+def of_form_two(names, types, payloads, limit=1):
+    """An input of form 2, as `document` makes one, from the pieces of its names too."""
+    yield '{"form":2,"limit":%d,"intrinsics":null,"types":' % limit
+    yield from [types] if isinstance(types, str) else types
+    yield ',"payloads":['
+    first = True
+    for payload in payloads:
+        if not first:
+            yield ","
+        first = False
+        yield payload
+    yield '],"names":['
+    yield from names
+    yield "]}"
+
+
+ONE_FUNC_BY_NUMBER = MODULE % ("[]", "[0]", "0", '[[0,"func",0]]')
+BASE_BY_NUMBER = ['"version"', ONE_FUNC_BY_NUMBER, '{"instances":{"instantiate":[0,[]]}}', '{"aliases":{"core-export":["func",0,0]}}']
+
+
+def many_lifts_of_form_two(room):
+    """One function is lifted over and over, each lift in a section of its own."""
+    return of_form_two(['"f"'], PLAIN_TYPES, BASE_BY_NUMBER + list(repeated(lambda n: '{"canon":%s}' % LIFT, room)) + ['"end"'])
+
+
+def many_exports_of_form_two(room):
+    """A third of the bytes are names, which stand behind the exports that name them by number."""
+    per_name, per_export = len('"name-000000000",'), len('{"exports":[1000000,"func",0]},')
+    count = room // (per_name + per_export)
+    names = ['"f"'] + [',"name-%09d"' % n for n in range(count)]
+    payloads = BASE_BY_NUMBER + ['{"canon":%s}' % LIFT] + ['{"exports":[%d,"func",0]}' % (n + 1) for n in range(count)] + ['"end"']
+    return of_form_two(names, PLAIN_TYPES, payloads)
 
 
 def an_export_twice(room):
@@ -457,6 +491,147 @@ def long_signature_lowered(room):
     return document(types, LOWERED + [canon(lambda n: LOWER, room - params * 6), '"end"'])
 
 
+def equal_builtins(room):
+    """One builtin over and over."""
+    return document(PLAIN_TYPES, ['"version"', canon(lambda n: '["backpressure.inc",0]', room), '"end"'])
+
+
+TABLE = '{"module":{"ty":0,"imports":[],"funcs":[],"tables":1,"memories":[],"globals":0,"tags":0,"exports":[["t","table",0]]}}'
+ITS_TABLE = '{"aliases":[{"core-export":["table",0,"t"]}]}'
+
+
+def thread(n):
+    """A builtin whose start type no other has."""
+    return '["thread.new-indirect",0,%d,0]' % n
+
+
+def builtins_apart(room):
+    """One builtin over and over, no two alike."""
+    return document(PLAIN_TYPES, ['"version"', TABLE, INSTANCE, ITS_TABLE, canon(thread, room), '"end"'])
+
+
+def used_builtins(room):
+    """The same, and one core instance takes them all."""
+    count = room // (len(thread(1000000)) + 1 + PER_IMPORT + PER_ITEM)
+    return document(PLAIN_TYPES, ['"version"', TABLE, taker(count), INSTANCE, ITS_TABLE,
+                                  fill('{"canon":[', thread, "]}", count), bag(count, lambda n: n), take(1, 1), '"end"'])
+
+
+def results_of_tasks(room):
+    """Ends of tasks, each with a result of a type of its own: a tuple in a tuple, and so on."""
+    count = room // len('{"tuple":[1000000]},["task.return",0,1000000,[]],')
+    types = fill(PLAIN_TYPES[:-2] + ',', lambda n: '{"tuple":[%s]}' % (n + 1 if n else '"u8"'), "]}", count)
+    return document(types, ['"version"', fill('{"canon":[', lambda n: '["task.return",0,%d,[]]' % (n + 2), "]}", count),
+                            '"end"'])
+
+
+def context_slots(room):
+    """Reads and writes of the two slots."""
+    return document(PLAIN_TYPES, ['"version"', canon(lambda n: '["context.%s",0,"i32",%d]' % (("get", "set")[n % 2], n // 2 % 2),
+                                                     room), '"end"'])
+
+
+LOAD = '{"core":[[["i64"],["i32"]]],"types":[{"func":{"params":[["a","u64"]],"result":"u8","async":false}},'
+LOAD += '{"instance":[["u8-native-load",["func",0]]]}]}'
+
+
+def lowered_intrinsics(room):
+    """An unsafe intrinsic is aliased and lowered over and over."""
+    count = room // len('{"export":["func",0,"u8-native-load"]},["lower",1000000,0,0,[]],')
+    named = fill('{"aliases":[', lambda n: '{"export":["func",0,"u8-native-load"]}', "]}", count)
+    lowered = fill('{"canon":[', lambda n: '["lower",%d,0,0,[]]' % n, "]}", count)
+    return document(LOAD, ['"version"', '{"imports":[["i",["instance",1]]]}', named, lowered, '"end"'], 1, '"i"')
+
+
+def builtins_of_one_resource(room):
+    """The three builtins of one resource, over and over."""
+    asked = canon(lambda n: '["resource.%s",0,0]' % ("new", "rep", "drop")[n % 3], room)
+    declared = '{"types":[{"resource":[0,"i32",null]}]}'
+    return document('{"core":[[[],[]]],"types":["resource"]}', ['"version"', declared, asked, '"end"'])
+
+
+def builtins_of_many_resources(room):
+    """A builtin of each of very many resources."""
+    count = room // len('"resource",{"resource":[1000000,"i32",null]},["resource.drop",0,1000000],')
+    types = fill('{"core":[[[],[]]],"types":[', lambda n: '"resource"', "]}", count)
+    declared = fill('{"types":[', lambda n: '{"resource":[%d,"i32",null]}' % n, "]}", count)
+    dropped = fill('{"canon":[', lambda n: '["resource.drop",0,%d]' % n, "]}", count)
+    return document(types, ['"version"', declared, dropped, '"end"'])
+
+
+def reads_of_many_streams(room):
+    """A read of each of very many streams: one of tuples of tuples, and so on."""
+    pair = '{"tuple":[%s]},{"stream":%d}'
+    count = room // len(pair % (1000000, 1000000) + ',["stream.read",0,1000000,[]],')
+    types = fill(PLAIN_TYPES[:-2] + ',', lambda n: pair % (2 * n if n else '"u8"', 2 * n + 2), "]}", count)
+    read = fill('{"canon":[', lambda n: '["stream.read",0,%d,[]]' % (2 * n + 3), "]}", count)
+    return document(types, ['"version"', read, '"end"'])
+
+
+def reads_of_a_long_type(room):
+    """A stream of the last of very many types, read over and over."""
+    entries = room // 2 // len('{"tuple":[1000000]},')
+    end = ',{"stream":%d}]}' % (entries + 1)
+    types = fill(PLAIN_TYPES[:-2] + ',', lambda n: '{"tuple":[%s]}' % (n + 1 if n else '"u8"'), end, entries)
+    read = canon(lambda n: '["stream.read",0,%d,[]]' % (entries + 2), room // 2)
+    return document(types, ['"version"', read, '"end"'])
+
+
+MEMORY = TABLE.replace('"tables":1,"memories":[]', '"tables":0,"memories":[false]')
+MEMORY = MEMORY.replace('"t","table"', '"m","memory"')
+ITS_MEMORY = '{"aliases":[{"core-export":["memory",0,"m"]}]}'
+
+
+def waits_on_one_memory(room):
+    """Waitable sets are waited for and polled, all with one memory."""
+    asked = canon(lambda n: '["waitable-set.%s",0,0]' % ("wait", "poll")[n % 2], room)
+    return document(PLAIN_TYPES, ['"version"', MEMORY, INSTANCE, ITS_MEMORY, asked, '"end"'])
+
+
+def used_waits(room):
+    """Waits on memories of their own, which one core instance takes."""
+    one = len(INSTANCE + ITS_MEMORY + '["waitable-set.wait",0,1000000],') + 16
+    count = room // (one + PER_IMPORT + PER_ITEM)
+    made = fill('{"instances":[', lambda n: '{"instantiate":[0,[]]}', "]}", count)
+    named = fill('{"aliases":[', lambda n: '{"core-export":["memory",%d,"m"]}' % n, "]}", count)
+    asked = fill('{"canon":[', lambda n: '["waitable-set.wait",0,%d]' % n, "]}", count)
+    taken = [bag(count, lambda n: n), take(1, count)]
+    return document(PLAIN_TYPES, ['"version"', MEMORY, taker(count), made, named, asked, *taken, '"end"'])
+
+
+def threads_in_children(room):
+    """Instances of a component that makes threads of the functions of its table, and asks for its slots."""
+    asked = '{"canon":[["thread.new-indirect",0,0,0],["context.get",0,"i32",0],["thread.index",0]]}'
+    child = ",".join(['"component","version"', TABLE, INSTANCE, ITS_TABLE, asked, '"end"'])
+    count = min(room // (len(ONE_CHILD) + 1), MOST - 1)
+    return nesting(child, fill('{"component-instances":[', lambda n: ONE_CHILD, "]}", count))
+
+
+def long_result_in_children(room):
+    """Instances of a component that ends tasks with the last of very many types."""
+    entries = room // 2 // len('{"tuple":[1000000]},')
+    types = fill(NEST_TYPES[:-2] + ",", lambda n: '{"tuple":[%s]}' % (n + 3 if n else '"u8"'), "]}", entries)
+    child = '"component","version",{"canon":[["task.return",0,%d,[]]]},"end"' % (entries + 3)
+    count = min(room // 2 // (len(ONE_CHILD) + 1), MOST - 1)
+    return over(types, child, fill('{"component-instances":[', lambda n: ONE_CHILD, "]}", count))
+
+
+def long_result_of_handles_in_children(room):
+    """The same over types that each component instance has anew, since a stream stands in them."""
+    count = min(100, MOST - 1)
+    entries = room // 2 // count // len('{"tuple":[1000000]},')
+    types = fill(NEST_TYPES[:-2] + ",", lambda n: '{"tuple":[%d]}' % (n + 3) if n else '{"stream":"u8"}', "]}", entries)
+    child = '"component","version",{"canon":[["task.return",0,%d,[]]]},"end"' % (entries + 3)
+    return over(types, child, fill('{"component-instances":[', lambda n: ONE_CHILD, "]}", count))
+
+
+def an_unknown_intrinsic(room):
+    """Members of the unsafe intrinsics, the last of which isn't one."""
+    end = ',{"export":["func",0,"u8"]}]}'
+    named = listed('{"aliases":[', lambda n: '{"export":["func",0,"u8-native-load"]}', end, room)
+    return document(LOAD, ['"version"', '{"imports":[["i",["instance",1]]]}', named, '"end"'], 1, '"i"')
+
+
 def exported(lift, count):
     """So many lifts, each exported."""
     return [fill('{"canon":[', lift, "]}", count),
@@ -716,16 +891,28 @@ def children_given_a_resource(room):
     return over(resources(2), '{"imports":[["r",["type",4]]]}', child, begins)
 
 
-def resources_between_long_types(room):
-    """Imports of resources, each its own, and after each one of a function over the last of very many types."""
+def resources_between(room, first, front, known):
+    """Imports of resources, each its own, and after each one of a function over the last of very many lists."""
     entries = room // 4 // len('{"list":1000000},')
     count = room // 2 // len('"resource",["r0000000",["type",1000000]],["f0000000",["func",1000000]],')
-    lists = fill(NEST_TYPES[:-2] + ",", lambda n: '{"list":"u8"}' if n == 0 else '{"list":%d}' % (n + 3), "", entries)
-    long_type = ',{"func":{"params":[["a",%d]],"result":null,"async":false}}' % (entries + 3)
+    last = entries + 3 + len(front)
+    lists = fill("".join([NEST_TYPES[:-2] + ",", *front]),
+                 lambda n: '{"list":%s}' % first if n == 0 else '{"list":%d}' % (n + 3 + len(front)), "", entries)
+    long_type = ',{"func":{"params":[["a",%d]],"result":null,"async":false}}' % last
     types = [*lists, long_type, *fill(",", lambda n: '"resource"', "]}", count)]
     pair = '["r%07d",["type",%d]],["f%07d",["func",%d]]'
-    imports = fill('{"imports":[', lambda n: pair % (n, n + entries + 5, n, entries + 4), "]}", count)
+    imports = fill('{"imports":[' + known, lambda n: pair % (n, n + last + 2, n, last + 1), "]}", count)
     return over(types, imports)
+
+
+def resources_between_long_types(room):
+    """Imports of resources, with uses between them of a type that needs very many entries."""
+    return resources_between(room, '"u8"', [], "")
+
+
+def resources_between_long_handles(room):
+    """The same where these entries lead to a resource, and are forgotten as another becomes known: the product."""
+    return resources_between(room, "5", ['"resource",', '{"own":4},'], '["h",["type",4]],')
 
 
 def doubling_instance_imported(room):
@@ -825,7 +1012,8 @@ def not_utf8(room):
 
 # the status that a run on each family has
 FAMILIES = {
-    many_lifts: 0, many_exports: 0, an_export_twice: 1, small_payloads: 0, empty_sections: 0, many_modules: 0,
+    many_lifts: 0, many_exports: 0, many_lifts_of_form_two: 0, many_exports_of_form_two: 0, an_export_twice: 1,
+    small_payloads: 0, empty_sections: 0, many_modules: 0,
     chain_of_modules: 0, wide_module: 0, wide_imports: 0, many_arguments: 0, long_signature: 0, long_function_type: 0,
     many_functions: 0, shared_parameters: 0, long_name: 0, long_escapes: 0, names_that_share_a_front: 0, deep_json: 1,
     deepest_json: 1, wide_json: 1, widest_record: 0, many_entries: 0, doubling_tuples: 0, entry_names_itself: 1,
@@ -833,7 +1021,11 @@ FAMILIES = {
     aliases_at_each_level: 1, names_in_a_bag: 0, names_of_arguments: 1, bag_of_arguments: 0, bag_of_aliases: 0,
     small_bags: 0, many_instances: 0, instances_with_a_long_name: 0, aliases_of_one_export: 0, aliases_of_each_kind: 0,
     equal_lowerings: 0, lowerings_apart: 0, used_lowerings: 0, chain_of_lowerings: 0, chain_of_arguments: 0,
-    unused_imports: 0, used_imports: 0, long_signature_lowered: 0, lifts_with_post_return: 0, options_in_one_slot: 0,
+    unused_imports: 0, used_imports: 0, long_signature_lowered: 0, equal_builtins: 0, builtins_apart: 0,
+    used_builtins: 0, results_of_tasks: 0, context_slots: 0, lowered_intrinsics: 0,
+    builtins_of_one_resource: 0, builtins_of_many_resources: 0, reads_of_many_streams: 0, reads_of_a_long_type: 0,
+    waits_on_one_memory: 0, used_waits: 0, threads_in_children: 0, long_result_in_children: 0,
+    long_result_of_handles_in_children: 0, an_unknown_intrinsic: 1, lifts_with_post_return: 0, options_in_one_slot: 0,
     options_of_one_function: 0, repeated_options: 0, versions_of_one_name: 0, exports_that_hash_alike: 0,
     module_names_that_hash_alike: 0, bag_that_hashes_alike: 0, arguments_that_hash_alike: 0, imports_that_hash_alike: 0,
     types_that_hash_alike: 0, many_children: 0, children_over_a_long_table: 0, children_with_a_long_type: 0,
@@ -841,8 +1033,8 @@ FAMILIES = {
     exports_of_a_child: 0, items_of_an_instance: 0, instances_of_instances: 0, aliases_of_one_member: 0,
     captures_of_a_child: 0, captures_at_each_level: 0, many_resources: 0, resources_with_destructors: 0,
     imported_resources: 0, one_resource_imported_often: 0, children_with_a_resource: 0, children_given_a_resource: 0,
-    resources_between_long_types: 0, doubling_instance_imported: 0, functions_of_a_host_instance: 0, instances_of_a_host_instance: 0,
-    chain_of_host_instances: 0, host_modules: 0, wide_host_module: 0, exported_instance: 0, exported_instances: 0,
+    resources_between_long_types: 0, resources_between_long_handles: 0, doubling_instance_imported: 0,
+    functions_of_a_host_instance: 0, instances_of_a_host_instance: 0, chain_of_host_instances: 0, host_modules: 0, wide_host_module: 0, exported_instance: 0, exported_instances: 0,
     exported_host_instance: 0, exported_types: 0, exported_modules: 0, many_ends: 1, not_utf8: 1,
 }
 
