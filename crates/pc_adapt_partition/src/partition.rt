@@ -79,7 +79,7 @@ fn make(
 }
 
 /// Groups all adapters of a graph, in the order of their numbers, and appends a module for each group to modules and
-/// graph. After a refusal graph and modules may hold some of them, and are to be let go.
+/// graph. A refused call may leave some of these modules behind: both lists are of no use then.
 pub fn partition_adapter_modules(
     alloc: Global,
     dfg: &mut ComponentDfg,
