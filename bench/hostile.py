@@ -23,9 +23,8 @@ PLAIN_TYPES = '{"core":[[[],[]]],"types":[{"module":[[],[]]},{"func":{"params":[
 BASE = ['"version"', ONE_FUNC, INSTANCE, ALIAS]
 
 
-def document(types, payloads, limit=1, intrinsics="null"):
-    """An input in pieces, from its types and the pieces of its payload list."""
-    yield '{"limit":%d,"intrinsics":%s,"types":' % (limit, intrinsics)
+def types_and_payloads(types, payloads):
+    """Types and payloads in pieces, up to the end of the payload list."""
     yield from [types] if isinstance(types, str) else types
     yield ',"payloads":['
     first = True
@@ -34,6 +33,12 @@ def document(types, payloads, limit=1, intrinsics="null"):
             yield ","
         first = False
         yield from [payload] if isinstance(payload, str) else payload
+
+
+def document(types, payloads, limit=1, intrinsics="null"):
+    """An input in pieces, from its types and the pieces of its payload list."""
+    yield '{"limit":%d,"intrinsics":%s,"types":' % (limit, intrinsics)
+    yield from types_and_payloads(types, payloads)
     yield "]}"
 
 
@@ -86,14 +91,7 @@ def many_exports(room):
 def of_form_two(names, types, payloads, limit=1):
     """An input of form 2, as `document` makes one, from the pieces of its names too."""
     yield '{"form":2,"limit":%d,"intrinsics":null,"types":' % limit
-    yield from [types] if isinstance(types, str) else types
-    yield ',"payloads":['
-    first = True
-    for payload in payloads:
-        if not first:
-            yield ","
-        first = False
-        yield payload
+    yield from types_and_payloads(types, payloads)
     yield '],"names":['
     yield from names
     yield "]}"

@@ -37,6 +37,7 @@ abbrev pub is_async_at : Option TypeFunc → Bool
 is_async_at None = false
 is_async_at (Some f) = f.async_
 
+-- the same of a number of the builder
 abbrev pub is_async_in : Types → ℕ → Bool
 is_async_in b i = is_async_at (slice_get b.funcs i)
 
