@@ -23,8 +23,10 @@ use Rattle.pc_adapt.specs.Planned.{has_future, has_own, has_prepare, has_start, 
 use Rattle.pc_adapt_define.specs.Adds.{Adds, IsFullFor}
 use Rattle.pc_adapt_define.specs.Define.{AreDefined, HasFullList, HasFullSlots, HasNoRoom, in_import, IsDefined}
 use Rattle.pc_adapt_define.specs.Define.{callbacks_in, memories_in, post_returns_in, total, trampolines_in}
+use Rattle.pc_adapt_define.specs.Only.{AddsOnly}
 use Rattle.pc_adapt_define.proofs.AddsLemmas.{adds_more, adds_none, adds_twice}
 use Rattle.pc_adapt_define.proofs.BackLemmas.{one_back}
+use Rattle.pc_adapt_define.proofs.OnlyLemmas.{only_both, only_same}
 
 -- an import keeps its value
 value_kept : (g h : ComponentDfg) → Grows g h → (s : Mark) {i : Import} {v : CoreValue Mark} → HasValue g s i v
@@ -46,6 +48,7 @@ value_kept g h grows s has_trap = has_trap
 pub later : (g m n : ComponentDfg) (s : ModuleInternedTypeIndex) → Grows m n → AreHeld m → (i : Import) (d : CoreDef)
     → IsDefined g m s i d → IsDefined g n s i d
 later g m n s grows heldm i d x = record {
+  form = x.form;
   held = held_stays m n grows d x.held;
   value = λ v has. means_kept m n grows (x.value v has);
   names = λ y held one. x.names y held (one_back m n grows heldm (d ∷ []) y (all_one (IsHeld m) d x.held) one);
@@ -55,6 +58,7 @@ later g m n s grows heldm i d x = record {
 pub earlier : (g m n : ComponentDfg) (s : ModuleInternedTypeIndex) → Grows g m → AreHeld m → (i : Import) (d : CoreDef)
     → All (IsHeld g) (in_import i) → IsDefined m n s i d → IsDefined g n s i d
 earlier g m n s grows heldm i d all x = record {
+  form = x.form;
   held = x.held;
   value = λ v has. x.value v (value_kept g m grows (mark.Signature s) has);
   names = λ y held one. one_back g m grows held (in_import i) y all (x.names y heldm one);
@@ -72,6 +76,7 @@ pub none_defined : (g : ComponentDfg) (s : ModuleInternedTypeIndex) (before : Li
     → AreDefined g g s [] before before
 none_defined g s before = record {
   adds = adds_none g;
+  only = only_same g [];
   defs = [];
   are = sym (append-nil before);
   each = tt;
@@ -85,9 +90,9 @@ total_more f (j ∷ is) i = let rest = total_more f is i in omega (arith, rest)
 pub one_defined : (g m n : ComponentDfg) (s : ModuleInternedTypeIndex) (is : List Import) (i : Import)
     (before mid after : List CoreDef) (d : CoreDef) → IsOrdered g → All (IsHeld g) (in_import i)
     → AreDefined g m s is before mid
-    → Adds (memories_in i) (callbacks_in i) (post_returns_in i) (trampolines_in i) m n → IsDefined m n s i d
-    → after ≡ mid ++ d ∷ [] → AreDefined g n s (is ++ i ∷ []) before after
-one_defined g m n s is i before mid after d o all so_far adds defined more =
+    → Adds (memories_in i) (callbacks_in i) (post_returns_in i) (trampolines_in i) m n → AddsOnly (i ∷ []) m n
+    → IsDefined m n s i d → after ≡ mid ++ d ∷ [] → AreDefined g n s (is ++ i ∷ []) before after
+one_defined g m n s is i before mid after d o all so_far adds only defined more =
     let a = total memories_in is in
     let b = total callbacks_in is in
     let p = total post_returns_in is in
@@ -104,6 +109,7 @@ one_defined g m n s is i before mid after d o all so_far adds defined more =
           (omega (arith, a')) (omega (arith, b')) (omega (arith, p')) (omega (arith, t'))
           (adds_twice a b p t (memories_in i) (callbacks_in i) (post_returns_in i) (trampolines_in i) g m n
           so_far.adds adds);
+      only = only_both is (i ∷ []) g m n so_far.only only;
       defs = so_far.defs ++ d ∷ [];
       are = more ∙ ap (λ xs. xs ++ d ∷ []) so_far.are ∙ append_assoc before so_far.defs (d ∷ []);
       each = zip_append (IsDefined g n s) is (i ∷ []) so_far.defs (d ∷ [])

@@ -293,6 +293,7 @@ own_defined g h s i d grows all is =
 
     own : All (IsHeld g) (d ∷ []) → IsDefined g h s (import.CoreDef d) d
     own here = record {
+      form = inl refl;
       held = held_stays g h grows d (all_first (IsHeld g) d [] here);
       value = λ v has. means has;
       names = λ y held one. one_back g h grows held (d ∷ []) y here one;
@@ -304,6 +305,7 @@ pub helper_defined : (g h : ComponentDfg) (s : ModuleInternedTypeIndex) (i : Imp
     → IsDefined g h s i (def.Trampoline n)
 unfolding IsHeld
 helper_defined g h s i t n grows all is at = record {
+  form = inr (helper_is h i t is, (n, refl));
   held = slice_get_within h.trampolines n.0 (s, t) at;
   value = λ v has. helper_means g h grows s n i t at is has;
   names = λ y held one. through_names g h grows held n (s, t) (in_import i) y at (helper_in h s i t is) all one;

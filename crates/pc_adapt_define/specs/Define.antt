@@ -2,10 +2,12 @@
 use Rattle.std.specs.Prelude.{◌≡◌, ◌⊎◌, ◌+◌, Bool, true, false, List, [], ◌∷◌, ◌++◌, option_map, ℕ, if◌then◌else◌}
 use Rattle.std.specs.List.{AllZip}
 use Rattle.pc_numbers.specs.declared.module_entity.ModuleInternedTypeIndex.{ModuleInternedTypeIndex}
+use Rattle.pc_numbers.specs.declared.runtime.TrampolineIndex.{TrampolineIndex}
 use Rattle.pc_spec_plan.specs.CoreValue.{CoreValue}
 use Rattle.pc_trampoline.specs.declared.part.Mark.{Mark}
 use Rattle.pc_trampoline.specs.declared.part.Mark.TheVariants as mark
 use Rattle.pc_dfg.specs.declared.core_def.CoreDef.{CoreDef}
+use Rattle.pc_dfg.specs.declared.core_def.CoreDef.TheVariants as def
 use Rattle.pc_dfg.specs.declared.dfg.ComponentDfg.{ComponentDfg}
 use Rattle.pc_dfg.specs.Held.{IsHeld, AreHeld}
 use Rattle.pc_dfg.specs.Means.{Means}
@@ -15,6 +17,7 @@ use Rattle.pc_adapt.specs.declared.import.Import.{Import}
 use Rattle.pc_adapt.specs.declared.import.Import.TheVariants as import
 use Rattle.pc_adapt.specs.Planned.{HasValue}
 use Rattle.pc_adapt_define.specs.Adds.{Adds, IsFull, IsFullFor, one_if}
+use Rattle.pc_adapt_define.specs.Only.{AddsOnly}
 
 -- the definitions in an import
 abbrev pub in_import : Import → List CoreDef
@@ -24,19 +27,25 @@ in_import (import.PrepareCall m) = if_any (option_map memory_def m)
 in_import (import.StartCall c p) = if_any c ++ if_any p
 in_import i = []
 
+-- whether an import is a helper
+abbrev pub is_helper : Import → Bool
+is_helper (import.CoreDef d) = false
+is_helper i = true
+
+-- a definition is a trampoline
+abbrev pub IsTrampoline : CoreDef → Type 0
+IsTrampoline d = (t : TrampolineIndex) × (d ≡ def.Trampoline t)
+
 -- a definition of the second graph stands for an import to the first one, with helpers under this core signature
 pub record IsDefined (g h : ComponentDfg) (s : ModuleInternedTypeIndex) (i : Import) (d : CoreDef) : Type 0 where
+  -- it is the definition in the import, or a trampoline for a helper
+  pub form : (i ≡ import.CoreDef d) ⊎ ((is_helper i ≡ true) × IsTrampoline d)
   -- its number is held
   pub held : IsHeld h d
   -- it has the value of the import
   pub value : (v : CoreValue Mark) → HasValue g (mark.Signature s) i v → Means h d v
   -- it names nothing but what the definitions in the import named
   pub names : (y : Thing) → AreHeld g → OneNames h (d ∷ []) y → OneNames g (in_import i) y
-
--- whether an import is a helper
-abbrev pub is_helper : Import → Bool
-is_helper (import.CoreDef d) = false
-is_helper i = true
 
 -- how many memories an import has slots for
 abbrev pub memories_in : Import → ℕ
@@ -83,6 +92,7 @@ pub record AreDefined (g h : ComponentDfg) (s : ModuleInternedTypeIndex) (is : L
     (before after : List CoreDef) : Type 0 where
   pub adds : Adds (total memories_in is) (total callbacks_in is) (total post_returns_in is) (total trampolines_in is)
       g h
+  pub only : AddsOnly is g h
   pub defs : List CoreDef
   pub are : after ≡ before ++ defs
   pub each : AllZip (IsDefined g h s) is defs

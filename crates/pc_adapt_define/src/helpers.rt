@@ -4,9 +4,11 @@ ghost use Rattle.std.specs.Prelude.{◌≡◌, ◌⊎◌, ◌∷◌, ◌++◌, [
 ghost use Rattle.pc_dfg.specs.Held.{IsHeld};
 ghost use Rattle.pc_dfg.specs.Names.{if_any};
 ghost use Rattle.pc_dfg.specs.Numbers.{memory_def};
+ghost use Rattle.pc_adapt.specs.declared.import.Import.TheVariants as asks;
 ghost use Rattle.pc_adapt_define.specs.Adds.{Adds, IsFull, IsFullFor, one_if};
 ghost use Rattle.pc_adapt_define.specs.Define.{HasFullSlots, callbacks_in, in_import, memories_in, post_returns_in};
 ghost use Rattle.pc_adapt_define.specs.Helpers.{IsWanted, Prepares, Starts, Transcodes};
+ghost use Rattle.pc_adapt_define.specs.Only.{AddsOnly};
 
 use crate::slots::{callback_slot, memory_slot, post_return_slot};
 use pc_adapt::Import;
@@ -34,6 +36,7 @@ fn transcoder(
 ) -> Result<Trampoline, PushError>
     requires held { All (IsHeld graph.old) (memory_def from ∷ memory_def to ∷ []) }
     ensures adds { Adds 2 0 0 0 graph.old graph.new }
+    ensures only { OnOk result (AddsOnly (asks.Transcode op from from64 to to64 ∷ []) graph.old graph.new) }
     ensures helper { IfOk result (λ t. Transcodes graph.new op from from64 to to64 t) }
     ensures full { result ≡ Err PushError.TooMany → IsFull graph.new.memories }
     ensures room { OnOk result (¬ (IsFull graph.old.memories)) }
@@ -56,6 +59,7 @@ fn prepare_call(
 ) -> Result<Trampoline, PushError>
     requires held { All (IsHeld graph.old) (if_any (option_map memory_def memory)) }
     ensures adds { Adds (one_if memory) 0 0 0 graph.old graph.new }
+    ensures only { OnOk result (AddsOnly (asks.PrepareCall memory ∷ []) graph.old graph.new) }
     ensures helper { IfOk result (λ t. Prepares graph.new memory t) }
     ensures full { result ≡ Err PushError.TooMany → IsFullFor memory graph.new.memories }
     ensures room { OnOk result (¬ (IsFullFor memory graph.old.memories)) }
@@ -72,6 +76,7 @@ fn start_call(
 ) -> Result<Trampoline, PushError>
     requires held { All (IsHeld graph.old) (if_any callback ++ if_any post_return) }
     ensures adds { Adds 0 (one_if callback) (one_if post_return) 0 graph.old graph.new }
+    ensures only { OnOk result (AddsOnly (asks.StartCall callback post_return ∷ []) graph.old graph.new) }
     ensures helper { IfOk result (λ t. Starts graph.new callback post_return t) }
     ensures full { result ≡ Err PushError.TooMany
         → IsFullFor callback graph.new.callbacks ⊎ IsFullFor post_return graph.new.post_returns }
@@ -90,6 +95,7 @@ fn start_call(
 pub(crate) fn asked_by(graph: &mut ComponentDfg, import: Import) -> Result<Wanted, PushError>
     requires held { All (IsHeld graph.old) (in_import import) }
     ensures adds { Adds (memories_in import) (callbacks_in import) (post_returns_in import) 0 graph.old graph.new }
+    ensures only { OnOk result (AddsOnly (import ∷ []) graph.old graph.new) }
     ensures wanted { IfOk result (λ w. IsWanted graph.new import w) }
     ensures full { result ≡ Err PushError.TooMany → HasFullSlots graph.new import }
     ensures room { OnOk result (¬ (HasFullSlots graph.old import)) }

@@ -83,7 +83,7 @@ module _ (args : List (CoreValue Mark)) where
       length-append (memory_if w memory) (function_if s realloc)
       ∙ (λ i. memory_length w memory i + function_length s realloc i)
 
-  side_length : (s : Mark) (w : Bool) (c : ℕ) (e : StringEncoding) (a : Bool) (t : Mark) (cb pr : MaybeValue Mark)
+  pub side_length : (s : Mark) (w : Bool) (c : ℕ) (e : StringEncoding) (a : Bool) (t : Mark) (cb pr : MaybeValue Mark)
       (m : DataModel Mark) → length (side s w m cb pr) ≡ side_taken (value.options c e a t cb pr m)
   side_length s w c e a t cb pr m =
       let model = memory_if w (memory_in m) ++ function_if s (realloc_in m) in

@@ -5,5 +5,5 @@ pub mod GroupedLemmas
 -- lists that are put together one by one
 mod RecordLemmas
 -- as what is imported what is planned
-mod EntityLemmas
-mod MemberLemmas
+pub mod EntityLemmas
+pub mod MemberLemmas

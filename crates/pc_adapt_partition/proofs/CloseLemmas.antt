@@ -1,23 +1,50 @@
 -- A module of adapters, once it is gathered.
-use Rattle.std.proofs.Common.{◌≡◌, ◌≤◌, ℕ, ◌+◌, ◌*◌, List, [], ◌∷◌, ◌++◌, length, sym, ap, ◌∙◌, arith}
+use Rattle.std.proofs.Common.{◌≡◌, ◌≤◌, inl, ℕ, ◌+◌, List, [], ◌∷◌, ◌++◌, length, Contains, sym, ap, subst, ◌∙◌}
+use Rattle.std.proofs.Common.{arith}
 use Rattle.std.specs.Prelude.{count_by}
+use Rattle.pc_numbers.specs.declared.component_entity.StaticModuleIndex.{StaticModuleIndex}
+use Rattle.pc_numbers.specs.declared.entity_index.EntityIndex.{EntityIndex}
 use Rattle.pc_types.specs.declared.parsed.CoreKind.TheVariants as kind
 use Rattle.pc_types.specs.Record.{imports_kind}
 use Rattle.pc_info.specs.declared.module.ModuleTranslation.{ModuleTranslation}
 use Rattle.pc_info.specs.Modules.{without_facts}
+use Rattle.pc_spec_plan.specs.PlanView as plan
 use Rattle.pc_dfg.specs.declared.adapter.Adapter.{Adapter}
+use Rattle.pc_dfg.specs.declared.core_def.CoreDef.{CoreDef}
 use Rattle.pc_dfg.specs.declared.dfg.ComponentDfg.{ComponentDfg}
+use Rattle.pc_dfg.specs.declared.ids.AdapterModuleId.{AdapterModuleId}
+use Rattle.pc_dfg.specs.Numbers.{slots_of}
 use Rattle.pc_dfg.proofs.GrowLemmas.{grows_refl, grows_trans}
 use Rattle.pc_dfg.specs.Ordered.{IsOrdered}
 use Rattle.pc_spec_adapt.specs.Asked.{FunctionFacts}
+use Rattle.pc_adapt_define.specs.Only.{AddsOwn}
+use Rattle.pc_adapt_define.proofs.OwnSlotLemmas.{own_twice}
 use Rattle.pc_adapt_modules.specs.Exports.{record_of_parts}
 use Rattle.pc_adapt_partition.specs.declared.group.Group.{Group}
-use Rattle.pc_adapt_partition.specs.Gathered.{AreGiven, Closes, Gathers}
+use Rattle.pc_adapt_partition.specs.Gathered.{Closes, Gathers}
 use Rattle.pc_adapt_partition.specs.Made.{AddsModule, Keeps}
-use Rattle.pc_adapt_partition.specs.Parts.{functions_from, functions_in, parts_of, with_functions}
+use Rattle.pc_adapt_partition.specs.Parts.{functions_from, parts_of, with_functions}
 use Rattle.pc_adapt_partition.proofs.CountLemmas.{functions_few}
 use Rattle.pc_adapt_partition.proofs.GivenLemmas.{given_between, given_held, HeldParts}
 use Rattle.pc_adapt_partition.proofs.PartLemmas.{length_parts, length_records}
+
+-- modules of adapters and places of adapters are no slots
+module _ (m h : ComponentDfg) (ams : List (StaticModuleIndex × List CoreDef))
+    (ps : List (AdapterModuleId × EntityIndex))
+    (is : h ≡ record m { adapter_modules = ams; adapter_partitionings = ps }) where
+  same_slots : (k : plan.SlotKind) (d : CoreDef) → Contains (slots_of h k) d → Contains (slots_of m k) d
+  unfolding slots_of
+  same_slots plan.memory d inside = subst (λ (i : ComponentDfg). Contains (slots_of i plan.memory) d) is inside
+  same_slots plan.table d inside = subst (λ (i : ComponentDfg). Contains (slots_of i plan.table) d) is inside
+  same_slots plan.realloc d inside = subst (λ (i : ComponentDfg). Contains i.reallocs d) is inside
+  same_slots plan.callback d inside = subst (λ (i : ComponentDfg). Contains i.callbacks d) is inside
+  same_slots plan.post_return d inside = subst (λ (i : ComponentDfg). Contains i.post_returns d) is inside
+
+  own_beside : AddsOwn m h
+  own_beside = record {
+    slots = λ k d inside. inl (same_slots k d inside);
+    trampolines = λ x inside. inl (subst (λ (i : ComponentDfg). Contains i.trampolines x) is inside);
+  }
 
 module _ (lift lower : ℕ → FunctionFacts) (g m : ComponentDfg) (n : ℕ) (xs : List Adapter) (group : Group)
     (gathers : Gathers g m n (parts_of lift lower n xs) group) where
@@ -55,6 +82,8 @@ module _ (lift lower : ℕ → FunctionFacts) (g m : ComponentDfg) (n : ℕ) (xs
                 post_returns = sym post_returns j;
                 trampolines = sym trampolines j;
               });
+          own = own_twice g m h (ap (λ (k : ComponentDfg). k.adapters) gathers.adds.rest) gathers.own
+              (own_beside m h _ _ closes.is);
           few_memories = omega (arith, gathers.adds.few_memories, many, ap length memories);
           few_callbacks = omega (arith, gathers.adds.few_callbacks, many, ap length callbacks);
           few_post_returns = omega (arith, gathers.adds.few_post_returns, many, ap length post_returns);

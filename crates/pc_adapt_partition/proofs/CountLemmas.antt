@@ -1,6 +1,6 @@
 -- How many places the imports of an adapter take, and how many of them are functions.
-use Rattle.std.proofs.Common.{◌≡◌, ◌<◌, ◌≤◌, ℕ, suc, ◌+◌, ◌-◌, Bool, true, false, List, [], ◌∷◌, ◌++◌, length, Option}
-use Rattle.std.proofs.Common.{None, Some, refl, sym, ap, ◌∙◌, arith, length-append}
+use Rattle.std.proofs.Common.{◌≡◌, ◌≤◌, ℕ, suc, ◌+◌, ◌-◌, Bool, true, false, List, [], ◌∷◌, ◌++◌, length, Option}
+use Rattle.std.proofs.Common.{None, Some, refl, ap, arith, length-append}
 use Rattle.std.specs.Prelude.{cond, count_by, replicate}
 use Rattle.std.specs.Fmt.{decimal}
 use Rattle.std.specs.Option.{is_some}
@@ -23,11 +23,11 @@ use Rattle.pc_adapt.specs.declared.import.Import.{Import}
 use Rattle.pc_adapt.specs.declared.import.Import.TheVariants as import
 use Rattle.pc_adapt.specs.Imports.{definitions, first_imports, imports_of, memory_imports, memory_of, realloc_of}
 use Rattle.pc_adapt.specs.Imports.{side_imports}
-use Rattle.pc_adapt.specs.Places.{count_if, has_memory, has_realloc, model_count, side_count}
+use Rattle.pc_adapt.specs.Places.{count_if, has_memory, has_realloc, side_count}
 use Rattle.pc_adapt_modules.specs.Entities.{entities_for, first_entities, function_if, memory_entities}
 use Rattle.pc_adapt_modules.specs.Entities.{named_entities, side_entities}
 use Rattle.pc_adapt_modules.specs.Entities as entities
-use Rattle.pc_adapt_partition.specs.Parts.{Part, entities_of, functions_in, parts_of, total_imports}
+use Rattle.pc_adapt_partition.specs.Parts.{entities_of, functions_in, parts_of, total_imports}
 
 definition_count : (d : Option CoreDef) → length (definitions d) ≡ count_if (is_some d)
 definition_count None = refl

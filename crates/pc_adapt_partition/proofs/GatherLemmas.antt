@@ -1,24 +1,22 @@
 -- A module while its adapters are gathered.
-use Rattle.std.proofs.Common.{◌≡◌, ◌<◌, ◌≤◌, ℕ, ◌+◌, ◌*◌, List, [], ◌∷◌, ◌++◌, length, refl, sym, ap, subst, ◌∙◌}
+use Rattle.std.proofs.Common.{◌≡◌, ℕ, ◌+◌, ◌*◌, List, [], ◌∷◌, ◌++◌, length, sym, ap, subst, ◌∙◌}
 use Rattle.std.proofs.Common.{arith, length-append}
 use Rattle.std.specs.Prelude.{Some, slice_get}
 use Rattle.pc_dfg.specs.declared.adapter.Adapter.{Adapter}
-use Rattle.pc_dfg.specs.declared.core_def.CoreDef.{CoreDef}
 use Rattle.pc_dfg.specs.declared.dfg.ComponentDfg.{ComponentDfg}
-use Rattle.pc_dfg.specs.Held.{AreHeld}
 use Rattle.pc_dfg.specs.Ordered.{IsOrdered}
 use Rattle.pc_dfg.proofs.GrowLemmas.{grows_refl}
 use Rattle.pc_spec_adapt.specs.Asked.{FunctionFacts}
 use Rattle.pc_adapt.specs.Imports.{imports_of}
 use Rattle.pc_adapt.specs.Places.{record_of}
-use Rattle.pc_adapt_define.specs.Adds.{Adds}
 use Rattle.pc_adapt_define.proofs.AddsLemmas.{adds_more, adds_none, adds_twice}
 use Rattle.pc_adapt_define.proofs.FewLemmas.{adds_few}
 use Rattle.pc_adapt_define.proofs.OwnLemmas.{imports_held}
+use Rattle.pc_adapt_define.proofs.OwnSlotLemmas.{own_from, own_none, own_twice}
 use Rattle.pc_adapt_modules.specs.Entities.{entities_for, named_entities}
 use Rattle.pc_adapt_partition.specs.declared.group.Group.{Group}
 use Rattle.pc_adapt_partition.specs.Gathered.{AreGiven, Gathers, Puts}
-use Rattle.pc_adapt_partition.specs.Parts.{Part, parts_of, records_from, slice, total_imports}
+use Rattle.pc_adapt_partition.specs.Parts.{Part, total_imports}
 use Rattle.pc_adapt_partition.proofs.GivenLemmas.{given_between, given_long, given_more, HeldParts, zip_between}
 use Rattle.pc_adapt_partition.proofs.PartLemmas.{entities_more, records_more, signatures_more, total_more}
 
@@ -27,6 +25,7 @@ pub gathers_none : (g : ComponentDfg) (first : ℕ) (group : Group) → group.pa
     → group.records ≡ [] → group.args ≡ [] → Gathers g g first [] group
 gathers_none g first group parts records args = record {
   adds = adds_none g;
+  own = own_none g;
   imports = ap (λ p. p.imports) parts;
   funcs = ap (λ p. p.funcs) parts;
   records = records;
@@ -46,6 +45,7 @@ gathers_more g m n first ps x lift lower old new o held at so_far puts =
     let k = length ps in
     let s = x.lower_options.core_type in
     let heldm = (so_far.adds.ordered o).held in
+    let same = ap (λ (i : ComponentDfg). i.adapters) so_far.adds.rest in
     let one = adds_few m n s x lift lower old.args new.args puts.defined in
     let heldn = (one.ordered (so_far.adds.ordered o)).held in
     let longer = length-append ps (p ∷ []) in
@@ -62,6 +62,8 @@ gathers_more g m n first ps x lift lower old new o held at so_far puts =
           (length (ps ++ p ∷ [])) (12 * length (ps ++ p ∷ [])) g n (omega (arith, longer)) (omega (arith, longer))
           (omega (arith, longer)) (omega (arith, longer))
           (adds_twice (9 * k) k k (12 * k) 9 1 1 12 g m n so_far.adds one);
+      own = own_twice g m n same so_far.own
+          (own_from m n (first + k) x lift lower (ap (λ xs. slice_get xs (first + k)) same ∙ at) puts.defined.only);
       imports = ap (λ (q : Group). q.parts.imports) puts.is
           ∙ ap (λ es. es ++ named_entities (first + k) 0 (entities_for x (length is))) so_far.imports
           ∙ sym (entities_more first ps p);

@@ -1,5 +1,5 @@
 -- What stands for imports of one adapter after the other.
-use Rattle.std.proofs.Common.{◌≡◌, ◌⊎◌, ℕ, suc, zero, ◌+◌, inl, inr, List, [], ◌∷◌, ◌++◌, length, All, Contains, refl, sym}
+use Rattle.std.proofs.Common.{◌≡◌, ◌⊎◌, ℕ, suc, zero, ◌+◌, inl, inr, List, [], ◌∷◌, ◌++◌, length, All, refl, sym}
 use Rattle.std.proofs.Common.{ap, subst, ◌∙◌, arith, length-append}
 use Rattle.std.specs.Prelude.{Some, slice_get}
 use Rattle.std.specs.List.{AllZip}
@@ -15,7 +15,6 @@ use Rattle.pc_dfg.specs.Names.{in_adapter, OneNames, Thing}
 use Rattle.pc_dfg.proofs.AllLemmas.{all_first, all_none, all_rest}
 use Rattle.pc_spec_adapt.specs.Asked.{FunctionFacts}
 use Rattle.pc_adapt.specs.declared.import.Import.{Import}
-use Rattle.pc_adapt.specs.Imports.{imports_of}
 use Rattle.pc_adapt_define.specs.Define.{in_import, IsDefined}
 use Rattle.pc_adapt_define.proofs.ArgumentLemmas.{earlier, later}
 use Rattle.pc_adapt_define.proofs.OwnLemmas.{arguments_tell, imports_held}

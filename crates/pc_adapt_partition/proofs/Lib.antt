@@ -14,8 +14,18 @@ mod MakeLemmas
 -- the fewest runs, and the places of adapters
 mod SplitLemmas
 mod PlaceLemmas
+-- what the graph is after it: told, apart and wired
+mod ToldLemmas
+mod ApartLemmas
+mod WiredLemmas
 mod PartitionLemmas
 -- one step of each loop
 mod StepLemmas
 -- which adapter is told to lack an option
 mod RefusalLemmas
+-- modules of adapters by the values of the adapters
+mod RecordLemmas
+mod AdaptedLemmas
+-- they are wired
+mod SaidLemmas
+mod WiredModuleLemmas

@@ -1,5 +1,5 @@
 -- Modules of groups of adapters, one after the other.
-use Rattle.std.proofs.Common.{◌≡◌, ◌⊎◌, ◌<◌, ◌≤◌, inl, inr, ℕ, ◌+◌, ◌*◌, List, [], ◌∷◌, ◌++◌, length, refl, sym, ap}
+use Rattle.std.proofs.Common.{◌≡◌, ◌⊎◌, ◌<◌, ◌≤◌, inl, inr, ℕ, ◌+◌, List, [], ◌∷◌, ◌++◌, length, refl, sym, ap}
 use Rattle.std.proofs.Common.{subst, ◌∙◌, arith, length-append}
 use Rattle.std.proofs.lemmas.List.{append_assoc, append-nil}
 use Rattle.pc_info.specs.declared.module.ModuleTranslation.{ModuleTranslation}
@@ -10,12 +10,13 @@ use Rattle.pc_dfg.specs.declared.ids.AdapterModuleId.{AdapterModuleId}
 use Rattle.pc_dfg.specs.Ordered.{IsOrdered}
 use Rattle.pc_dfg.proofs.GrowLemmas.{grows_refl, grows_trans}
 use Rattle.pc_spec_adapt.specs.Asked.{FunctionFacts}
+use Rattle.pc_adapt_define.proofs.OwnSlotLemmas.{own_none, own_twice}
 use Rattle.pc_adapt_partition.specs.Gathered.{AreGiven}
 use Rattle.pc_adapt_partition.specs.Made.{AddsModule, AreArguments, HasLong, Keeps, Makes, cut, sum_of}
 use Rattle.pc_adapt_partition.specs.Parts.{functions_from, functions_in, module_for, modules_of, parts_of, places_of}
 use Rattle.pc_adapt_partition.specs.Parts.{slice, total_imports}
 use Rattle.pc_adapt_partition.proofs.CutLemmas.{arguments_later, arguments_more, cut_more, held_cut, held_in}
-use Rattle.pc_adapt_partition.proofs.CutLemmas.{length_arguments, length_cut, length_modules, long_more, modules_more}
+use Rattle.pc_adapt_partition.proofs.CutLemmas.{length_arguments, length_modules, long_more, modules_more}
 use Rattle.pc_adapt_partition.proofs.CutLemmas.{places_more, stand_cut, stand_slice, sum_more}
 use Rattle.pc_adapt_partition.proofs.GivenLemmas.{given_between, parts_held}
 use Rattle.pc_adapt_partition.proofs.PartLemmas.{length_slice}
@@ -25,6 +26,7 @@ keeps_none g = record {
   grows = grows_refl g;
   ordered = λ o. o;
   rest = refl;
+  own = own_none g;
   few_memories = omega arith;
   few_callbacks = omega arith;
   few_post_returns = omega arith;
@@ -43,6 +45,7 @@ keeps_twice a b c g m h all first second = record {
     adapter_modules = h.adapter_modules;
     adapter_partitionings = h.adapter_partitionings;
   });
+  own = own_twice g m h (ap (λ (i : ComponentDfg). i.adapters) first.rest) first.own second.own;
   few_memories = omega (arith, all, first.few_memories, second.few_memories);
   few_callbacks = omega (arith, all, first.few_callbacks, second.few_callbacks);
   few_post_returns = omega (arith, all, first.few_post_returns, second.few_post_returns);

@@ -1,29 +1,36 @@
 -- The modules of all adapters of a graph: what is known of the adapters' types, and how much is added.
-use Rattle.std.proofs.Common.{◌≡◌, ◌⊎◌, ◌<◌, ◌≤◌, inl, inr, ℕ, ◌+◌, List, [], ◌++◌, length, refl, sym, ap, subst, ◌∙◌}
+use Rattle.std.proofs.Common.{◌≡◌, inl, inr, ℕ, List, [], length, refl, ap, subst}
 use Rattle.std.proofs.Common.{arith, length-append}
 use Rattle.std.specs.Prelude.{Some, slice_get}
 use Rattle.pc_numbers.specs.declared.runtime.ResourceIndex.{ResourceIndex}
 use Rattle.pc_types.specs.TypeTree.{Identity, TypeTree}
 use Rattle.pc_types_lists.specs.Types.{Types}
 use Rattle.pc_info.specs.declared.module.ModuleTranslation.{ModuleTranslation}
+use Rattle.pc_numbers.specs.declared.component_entity.StaticModuleIndex.{StaticModuleIndex}
 use Rattle.pc_dfg.specs.declared.adapter.Adapter.{Adapter}
+use Rattle.pc_dfg.specs.declared.core_def.CoreDef.{CoreDef}
 use Rattle.pc_dfg.specs.declared.dfg.ComponentDfg.{ComponentDfg}
 use Rattle.pc_dfg.specs.Ordered.{IsOrdered}
+use Rattle.pc_dfg.specs.Told.{IsTold, Unsaid}
 use Rattle.pc_dfg_linearize.specs.Grouped.{IsGrouped}
+use Rattle.pc_dfg_linearize.specs.Wired.{IsWired, IsWiredModule}
 use Rattle.pc_spec_adapt.specs.Asked.{FunctionFacts}
-use Rattle.pc_spec_adapt.specs.Split.{IsFewest}
 use Rattle.pc_adapt.specs.Asked.{AreTyped, HoldTypes}
 use Rattle.pc_adapt_define.specs.Define.{HasNoRoom}
-use Rattle.pc_adapt_groups.specs.Lengths.{runs_from}
 use Rattle.pc_adapt_groups.specs.Needs.{Needs}
 use Rattle.pc_adapt_partition.specs.Facts.{AreFacts, AreKnown, HasFacts, HaveTrees, IsKnown}
-use Rattle.pc_adapt_partition.specs.Made.{AddsFew, IsPast, Keeps, Makes, cut, of_adapters, of_callbacks, of_memories}
+use Rattle.pc_adapt_partition.specs.Made.{AddsFew, AreModulesApart, IsPast, Keeps, Makes, cut, of_callbacks}
+use Rattle.pc_adapt_partition.specs.Made.{of_memories}
 use Rattle.pc_adapt_partition.specs.Made.{of_post_returns, of_trampolines, sum_of}
 use Rattle.pc_adapt_partition.specs.Parts.{modules_of}
 use Rattle.pc_adapt_partition.specs.Partitions.{Partitions, facts_by}
+use Rattle.pc_adapt_partition.specs.Wired.{LiftFunctions}
+use Rattle.pc_adapt_partition.proofs.ApartLemmas.{are_apart}
 use Rattle.pc_adapt_partition.proofs.CutLemmas.{length_arguments, length_cut, length_modules}
 use Rattle.pc_adapt_partition.proofs.PlaceLemmas.{all_placed, is_grouped}
-use Rattle.pc_adapt_partition.proofs.SplitLemmas.{all_lengths, few_lengths}
+use Rattle.pc_adapt_partition.proofs.SplitLemmas.{all_lengths, few_lengths, lengths_some}
+use Rattle.pc_adapt_partition.proofs.ToldLemmas.{told_after}
+use Rattle.pc_adapt_partition.proofs.WiredLemmas.{wired_after}
 
 -- types with trees have facts
 pub facts_from : (b : Types) (who : ResourceIndex → Identity) (g : ComponentDfg) (lift lower : ℕ → TypeTree)
@@ -112,3 +119,20 @@ module _ (lift lower : ℕ → FunctionFacts) (g h : ComponentDfg) (ms ns : List
         );
         all_adapters = all_placed lift lower g h ms ns parts.lengths o no_modules ungrouped parts.fewest makes;
       }
+
+  -- what is told stays told
+  pub told_all : (u : Unsaid) → IsTold u g → IsTold u h
+  told_all u told = told_after u g h (sum_of parts.lengths) makes.keeps told
+
+  -- modules and places of adapters are apart
+  pub apart_all : AreModulesApart h
+  apart_all = are_apart lift lower g h ms ns parts.lengths no_modules ungrouped makes
+
+  -- the graph stays wired, where the new modules are
+  pub wired_all : LiftFunctions g → IsWired g ms
+      → ((m : ℕ) (x : StaticModuleIndex × List CoreDef) → slice_get h.adapter_modules m ≡ Some x
+      → IsWiredModule h ns m x) → IsWired h ns
+  wired_all lifts wired modules =
+      wired_after lift lower g h ms ns parts.lengths
+      (all_lengths (Needs g) (length g.adapters) parts.lengths parts.fewest)
+      (lengths_some (Needs g) (length g.adapters) parts.lengths parts.fewest) no_modules makes lifts wired modules

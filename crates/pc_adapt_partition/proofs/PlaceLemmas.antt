@@ -22,21 +22,21 @@ use Rattle.pc_adapt_groups.specs.Lengths.{runs_from}
 use Rattle.pc_adapt_groups.specs.Needs.{Needs}
 use Rattle.pc_adapt_modules.specs.Modules.{AreModules}
 use Rattle.pc_adapt_modules.proofs.GroupedLemmas.{grouped}
-use Rattle.pc_adapt_partition.specs.Made.{AreArguments, Keeps, Makes, cut, sum_of}
+use Rattle.pc_adapt_partition.specs.Made.{AreArguments, Makes, cut, sum_of}
 use Rattle.pc_adapt_partition.specs.Parts.{functions_from, functions_in, parts_of, places_of, slice}
 use Rattle.pc_adapt_partition.proofs.CutLemmas.{held_cut, held_in}
 use Rattle.pc_adapt_partition.proofs.GivenLemmas.{given_names}
 use Rattle.pc_adapt_partition.proofs.PartLemmas.{length_slice, slice_at}
 use Rattle.pc_adapt_partition.proofs.SplitLemmas.{all_lengths, in_range}
 
-no_item : {A : Type 0} (x : A) → None ≡ Some x → ⊥
+pub no_item : {A : Type 0} (x : A) → None ≡ Some x → ⊥
 no_item x e = grind (arith, e)
 
-same_item : {A : Type 0} {x y : A} → Some x ≡ Some y → x ≡ y
+pub same_item : {A : Type 0} {x y : A} → Some x ≡ Some y → x ≡ y
 same_item e = grind (arith, e)
 
 -- a place in two lists is in the first, or as far in the second
-get_right : {A : Type 0} (xs ys : List A) (k : ℕ) → slice_get (xs ++ ys) (length xs + k) ≡ slice_get ys k
+pub get_right : {A : Type 0} (xs ys : List A) (k : ℕ) → slice_get (xs ++ ys) (length xs + k) ≡ slice_get ys k
 get_right [] ys k =
     let here : 0 + k ≡ k = omega arith in
     ap (slice_get ys) here
@@ -44,13 +44,13 @@ get_right (x ∷ xs) ys k =
     let here : suc (length xs) + k ≡ suc (length xs + k) = omega arith in
     ap (slice_get (x ∷ xs ++ ys)) here ∙ get_right xs ys k
 
-get_left : {A : Type 0} (xs ys : List A) (k : ℕ) → k < length xs → slice_get (xs ++ ys) k ≡ slice_get xs k
+pub get_left : {A : Type 0} (xs ys : List A) (k : ℕ) → k < length xs → slice_get (xs ++ ys) k ≡ slice_get xs k
 get_left [] ys k none = absurd (omega (arith, none))
 get_left (x ∷ xs) ys zero some = refl
 get_left (x ∷ xs) ys (suc k) some = get_left xs ys k (omega (arith, some))
 
 -- functions of a module are in it
-function_in : (m f k a : ℕ) (p : AdapterModuleId × EntityIndex) → slice_get (functions_from m f k) a ≡ Some p
+pub function_in : (m f k a : ℕ) (p : AdapterModuleId × EntityIndex) → slice_get (functions_from m f k) a ≡ Some p
     → p.0.0 ≡ m
 function_in m f zero a p at = absurd (no_item p at)
 function_in m f (suc k) zero p at = ap (λ (q : AdapterModuleId × EntityIndex). q.0.0) (sym (same_item at))

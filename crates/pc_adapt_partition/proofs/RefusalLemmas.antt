@@ -1,5 +1,5 @@
 -- Which adapter is told to lack an option.
-use Rattle.std.proofs.Common.{◌≡◌, Ok, Err, Option, None, Some, ℕ, sym, ap, subst, ◌∙◌, arith}
+use Rattle.std.proofs.Common.{◌≡◌, Ok, Err, Option, None, Some, ℕ, sym, ap, ◌∙◌, arith}
 use Rattle.std.specs.Prelude.{◌↔◌}
 use Rattle.std.specs.declared.result.Result.{Result}
 use Rattle.pc_types.specs.TypeTree.{TypeTree}

@@ -1,7 +1,7 @@
 -- Lengths of the fewest runs: they make up all numbers, and none is 0 for nothing.
 use Rattle.std.proofs.Common.{◌≡◌, ◌<◌, ◌≤◌, ℕ, zero, suc, ◌+◌, List, [], ◌∷◌, ◌++◌, length, All, refl, sym, ap, subst}
 use Rattle.std.proofs.Common.{◌∙◌, arith, length-append}
-use Rattle.std.specs.List.{Contains, flat_map, range_with_len}
+use Rattle.std.specs.List.{Contains, range_with_len}
 use Rattle.std.proofs.lemmas.List.Elements.{All-cons}
 use Rattle.std.proofs.lemmas.List.FromFn.{length-range_with_len, get_or-range_with_len}
 use Rattle.pc_dfg.proofs.AllLemmas.{all_first, all_rest}
@@ -30,6 +30,23 @@ abbrev compress : List ℕ → List ℕ
 compress [] = []
 compress (zero ∷ ls) = compress ls
 compress (suc l ∷ ls) = suc l ∷ compress ls
+
+-- there are no more of these
+compress_fewer : (ls : List ℕ) → length (compress ls) ≤ length ls
+compress_fewer [] = omega arith
+compress_fewer (zero ∷ ls) = let rest = compress_fewer ls in omega (arith, rest)
+compress_fewer (suc l ∷ ls) = let rest = compress_fewer ls in omega (arith, rest)
+
+-- each length is that of something
+abbrev pub AllSome : List ℕ → Type 0
+AllSome [] = Unit {0}
+AllSome (l ∷ ls) = (0 < l) × AllSome ls
+
+-- where there are as many, none is 0
+all_some : (ls : List ℕ) → length ls ≤ length (compress ls) → AllSome ls
+all_some [] few = tt
+all_some (zero ∷ ls) few = absurd (omega (arith, few, compress_fewer ls))
+all_some (suc l ∷ ls) few = (omega arith, all_some ls (omega (arith, few)))
 
 compress_few : (ls : List ℕ) → length (compress ls) ≤ sum_of ls
 compress_few [] = omega arith
@@ -81,6 +98,10 @@ module _ (Needs : ℕ → ℕ → Type 0) (n : ℕ) (ls : List ℕ) (fewest : Is
   least =
       let few = fewest.fewest (runs_from 0 (compress ls)) compressed in
       omega (arith, few, length_runs 0 ls, length_runs 0 (compress ls))
+
+  -- no run is empty
+  pub lengths_some : AllSome ls
+  lengths_some = all_some ls least
 
   -- there are no more runs than numbers
   pub few_lengths : length ls ≤ n

@@ -1,10 +1,10 @@
 -- One step of each loop, and what is left of each call.
-use Rattle.std.proofs.Common.{◌≡◌, ◌⊎◌, ◌<◌, ◌≤◌, inl, inr, ℕ, zero, suc, ◌+◌, ◌-◌, List, [], ◌∷◌, ◌++◌, length, take, drop}
-use Rattle.std.proofs.Common.{get_or, All, Ok, Err, refl, sym, ap, subst, ◌∙◌, arith, length-append}
+use Rattle.std.proofs.Common.{◌≡◌, ◌<◌, ◌≤◌, ℕ, zero, suc, ◌+◌, ◌-◌, List, [], ◌∷◌, ◌++◌, length, take, drop}
+use Rattle.std.proofs.Common.{get_or, All, Ok, Err, sym, ap, subst, ◌∙◌, arith}
 use Rattle.std.specs.Prelude.{Some, slice_get, count_by, OnOk}
 use Rattle.std.specs.declared.result.Result.{Result}
-use Rattle.std.proofs.lemmas.List.{append_assoc, append-nil, length-take-le, take-append-drop, take-take, take_more}
-use Rattle.std.proofs.lemmas.Option.{same_Some, slice_get-get_or, slice_get_within}
+use Rattle.std.proofs.lemmas.List.{append_assoc, length-take-le, take-append-drop, take-take, take_more}
+use Rattle.std.proofs.lemmas.Option.{same_Some, slice_get-get_or}
 use Rattle.pc_entity.proofs.LookupLemmas.{found_at}
 use Rattle.pc_numbers.specs.declared.component_entity.StaticModuleIndex.{StaticModuleIndex}
 use Rattle.pc_numbers.specs.declared.entity_index.EntityIndex.TheVariants as entity
@@ -28,11 +28,12 @@ use Rattle.pc_spec_adapt.specs.Asked.{FunctionFacts}
 use Rattle.pc_adapt.specs.declared.import.Import.{Import}
 use Rattle.pc_adapt.specs.Imports.{imports_of}
 use Rattle.pc_adapt.specs.Places.{side_count}
+use Rattle.pc_adapt_define.specs.Define.{AreDefined}
 use Rattle.pc_adapt_define.proofs.OwnLemmas.{imports_held}
 use Rattle.pc_adapt_modules.specs.Exports.{record_of_parts}
 use Rattle.pc_adapt_partition.specs.declared.group.Group.{Group}
 use Rattle.pc_adapt_partition.specs.Facts.{AreFacts, AreKnown, HasFacts, IsKnown}
-use Rattle.pc_adapt_partition.specs.Gathered.{Closes, Gathers, Puts}
+use Rattle.pc_adapt_partition.specs.Gathered.{Closes, Gathers, noted, Puts}
 use Rattle.pc_adapt_partition.specs.Made.{AddsModule, HasLong, Makes, cut, sum_of}
 use Rattle.pc_adapt_partition.specs.Parts.{Part, functions_from, parts_of, slice, total_imports, with_functions}
 use Rattle.pc_adapt_partition.proofs.CloseLemmas.{adds_module, functions_fit, records_many}
@@ -162,6 +163,31 @@ note_room b xs a known y z aty atz is planned old many size few room =
     let most = subst (λ k. 3 + side_count k.lift_options + side_count k.lower_options
     ≤ length (imports_of known.lift known.lower y)) (sym samey ∙ samez) (imports_long known.lift known.lower y) in
     omega (arith, most, long, size, few, room)
+
+-- what was noted and defined for an adapter adds it
+pub puts_from : (b : Types) (g h : ComponentDfg) (a : ℕ) (y z w x : Adapter) → slice_get g.adapters a ≡ Some y
+    → slice_get g.adapters a ≡ Some z → slice_get g.adapters a ≡ Some w → slice_get g.adapters a ≡ Some x
+    → (is : List Import) → ((lift lower : FunctionFacts) → HasFacts b y lift lower → is ≡ imports_of lift lower y)
+    → (old mid : Group) (args : List CoreDef) (many : ℕ) → many ≡ length is → mid ≡ noted old a z many
+    → length old.args + length is ≤ 4294967294 → AreDefined g h w.lower_options.core_type is mid.args args
+    → (lift lower : FunctionFacts) → HasFacts b x lift lower
+    → Puts g h a x (imports_of lift lower x) old (record mid { args = args })
+puts_from b g h a y z w x aty atz atw atx is planned old mid args many size noted_is room defined lift lower facts =
+    let samey = same_Some y x (sym aty ∙ atx) in
+    let samez = same_Some z x (sym atz ∙ atx) in
+    let samew = same_Some w x (sym atw ∙ atx) in
+    let here = planned lift lower (subst (λ k. HasFacts b k lift lower) (sym samey) facts)
+    ∙ ap (imports_of lift lower) samey in
+    let before : mid.args ≡ old.args = ap (λ (q : Group). q.args) noted_is in
+    record {
+      defined = subst (λ js. AreDefined g h x.lower_options.core_type js old.args args) here
+          (subst (λ ds. AreDefined g h x.lower_options.core_type is ds args) before
+          (subst (λ k. AreDefined g h k.lower_options.core_type is mid.args args) samew defined));
+      is = (λ i. record (noted_is i) { args = args })
+          ∙ (λ i. record (noted old a (samez i) (size i)) { args = args })
+          ∙ ap (λ js. record (noted old a x (length js)) { args = args }) here;
+      room = subst (λ js. length old.args + length js ≤ 4294967294) here room;
+    }
 
 -- what is imported for an adapter is held
 pub planned_held : (b : Types) (g : ComponentDfg) → AreHeld g → (a : ℕ) → IsKnown b g.adapters a → (y : Adapter)

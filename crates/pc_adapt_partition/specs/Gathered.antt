@@ -15,6 +15,7 @@ use Rattle.pc_adapt.specs.declared.import.Import.{Import}
 use Rattle.pc_adapt.specs.Places.{record_of}
 use Rattle.pc_adapt_define.specs.Adds.{Adds}
 use Rattle.pc_adapt_define.specs.Define.{AreDefined, IsDefined}
+use Rattle.pc_adapt_define.specs.Only.{AddsOwn}
 use Rattle.pc_adapt_modules.specs.Entities.{entities_for, named_entities}
 use Rattle.pc_adapt_modules.specs.Exports.{record_of_parts}
 use Rattle.pc_adapt_modules.specs.Members.{signatures_of}
@@ -49,6 +50,7 @@ AreGiven g h (p ∷ ps) args =
 -- what is gathered of these adapters, the first of which has this number
 pub record Gathers (g h : ComponentDfg) (first : ℕ) (ps : List Part) (group : Group) : Type 0 where
   pub adds : Adds (9 * length ps) (length ps) (length ps) (12 * length ps) g h
+  pub own : AddsOwn g h
   pub imports : group.parts.imports ≡ entities_of first ps
   pub funcs : group.parts.funcs ≡ signatures_of (adapters_in ps)
   pub records : group.records ≡ records_from 0 first ps

@@ -3,5 +3,7 @@ pub mod Facts
 pub mod Parts
 pub mod Made
 pub mod Partitions
+pub mod Wired
+pub mod Adapted
 -- What the functions inside promise each other.
 pub mod Gathered

@@ -1,5 +1,6 @@
 -- A graph that has got the modules of its adapters.
-use Rattle.std.specs.Prelude.{◌≡◌, ◌⊎◌, ◌<◌, ℕ, ◌+◌, ◌*◌, ◌≤◌, List, [], ◌∷◌, ◌++◌, length}
+use Rattle.std.specs.Prelude.{◌≡◌, ◌⊎◌, ◌<◌, ℕ, ◌+◌, ◌*◌, ◌≤◌, List, [], ◌∷◌, ◌++◌, length, map}
+use Rattle.pc_entity.specs.Lists.{AreDistinct}
 use Rattle.pc_numbers.specs.declared.component_entity.StaticModuleIndex.{StaticModuleIndex}
 use Rattle.pc_info.specs.declared.module.ModuleTranslation.{ModuleTranslation}
 use Rattle.pc_dfg.specs.declared.adapter.Adapter.{Adapter}
@@ -8,6 +9,7 @@ use Rattle.pc_dfg.specs.declared.dfg.ComponentDfg.{ComponentDfg}
 use Rattle.pc_dfg.specs.Grows.{Grows}
 use Rattle.pc_dfg.specs.Ordered.{IsOrdered}
 use Rattle.pc_spec_adapt.specs.Asked.{FunctionFacts}
+use Rattle.pc_adapt_define.specs.Only.{AddsOwn}
 use Rattle.pc_adapt_partition.specs.Gathered.{AreGiven}
 use Rattle.pc_adapt_partition.specs.Parts.{functions_from, functions_in, module_for, modules_of, parts_of, places_of}
 use Rattle.pc_adapt_partition.specs.Parts.{slice, total_imports}
@@ -27,6 +29,8 @@ pub record Keeps (many : ℕ) (g h : ComponentDfg) : Type 0 where
     adapter_modules = h.adapter_modules;
     adapter_partitionings = h.adapter_partitionings;
   }
+  -- slots and trampolines are added only for adapters of the first one
+  pub own : AddsOwn g h
   pub few_memories : length h.memories ≤ length g.memories + 9 * many
   pub few_callbacks : length h.callbacks ≤ length g.callbacks + many
   pub few_post_returns : length h.post_returns ≤ length g.post_returns + many
@@ -47,6 +51,11 @@ pub record AddsFew (many : ℕ) (ms ns : List ModuleTranslation) (h : ComponentD
   pub few_modules : length ns ≤ length ms + many
   pub few_adapter_modules : length h.adapter_modules ≤ many
   pub all_adapters : length h.adapter_partitionings ≡ many
+
+-- no two modules of adapters are one core module, and no two adapters are one function of one module
+pub record AreModulesApart (h : ComponentDfg) : Type 0 where
+  pub modules : AreDistinct (map (λ (x : StaticModuleIndex × List CoreDef). x.0) h.adapter_modules)
+  pub adapters : AreDistinct h.adapter_partitionings
 
 -- the sum of numbers
 abbrev pub sum_of : List ℕ → ℕ

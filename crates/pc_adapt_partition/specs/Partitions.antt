@@ -1,5 +1,5 @@
 -- A graph whose adapters have their modules: as few as can be.
-use Rattle.std.specs.Prelude.{◌≡◌, ◌⊎◌, ◌<◌, ℕ, List, length}
+use Rattle.std.specs.Prelude.{◌<◌, ℕ, List, length}
 use Rattle.pc_info.specs.declared.module.ModuleTranslation.{ModuleTranslation}
 use Rattle.pc_types.specs.TypeTree.{TypeTree}
 use Rattle.pc_dfg.specs.declared.dfg.ComponentDfg.{ComponentDfg}

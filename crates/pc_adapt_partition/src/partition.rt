@@ -3,15 +3,20 @@
 ghost use Rattle.std.specs.Prelude.{◌≡◌, ◌+◌, ◌*◌, ◌<◌, ◌≤◌, ◌⊎◌, ◌↔◌, [], ℕ, true, length, Err, OnOk};
 ghost use Rattle.pc_numbers.specs.declared.runtime.ResourceIndex.{ResourceIndex};
 ghost use Rattle.pc_types.specs.TypeTree.{Identity, TypeTree};
-ghost use Rattle.pc_dfg.specs.Grows.{Grows};
+ghost use Rattle.pc_spec_plan.specs.CoreValue.{CoreValue};
+ghost use Rattle.pc_trampoline.specs.declared.part.Mark.{Mark};
 ghost use Rattle.pc_dfg.specs.Ordered.{IsOrdered};
 ghost use Rattle.pc_dfg.specs.declared.ids.AdapterId.{AdapterId as Adapters};
+ghost use Rattle.pc_dfg.specs.Told.{IsTold, Unsaid};
 ghost use Rattle.pc_dfg_linearize.specs.Grouped.{IsGrouped};
+ghost use Rattle.pc_dfg_linearize.specs.Wired.{IsWired};
 ghost use Rattle.pc_spec_adapt.specs.Asked.{FunctionFacts};
 ghost use Rattle.pc_adapt.specs.Asked.{AreTyped, HoldTypes, LacksFirst};
+ghost use Rattle.pc_adapt_partition.specs.Adapted.{AreAdapted};
 ghost use Rattle.pc_adapt_partition.specs.Facts.{AreFacts, AreKnown, HaveTrees};
-ghost use Rattle.pc_adapt_partition.specs.Made.{AddsFew, IsPast, Keeps};
+ghost use Rattle.pc_adapt_partition.specs.Made.{AddsFew, AreModulesApart, IsPast, Keeps};
 ghost use Rattle.pc_adapt_partition.specs.Partitions.{HasFullSlots, HasTooMany, Partitions, facts_by};
+ghost use Rattle.pc_adapt_partition.specs.Wired.{AreHandedIn, HaveValues, LiftFunctions};
 
 use crate::make::make_modules;
 use pc_adapt::{AdaptError, first_lacking};
@@ -97,9 +102,19 @@ pub fn partition_adapter_modules(
     ensures partitions { OnOk result ((who : ResourceIndex → Identity) (lift lower : ℕ → TypeTree)
         → AreTyped types.now who dfg.old lift lower
         → Partitions (facts_by lift) (facts_by lower) dfg.old dfg.new modules.old modules.new) }
+    ensures adapted { OnOk result ((who : ResourceIndex → Identity) (lift lower : ℕ → TypeTree)
+        (values : ℕ → CoreValue Mark)
+        → AreTyped types.now who dfg.old lift lower → HaveValues dfg.old values
+        → AreAdapted (facts_by lift) (facts_by lower) values dfg.old dfg.new modules.old modules.new) }
     ensures keeps { OnOk result (Keeps (length dfg.old.adapters) dfg.old dfg.new) }
     ensures ordered { OnOk result (IsOrdered dfg.new) }
     ensures grouped { OnOk result (IsGrouped dfg.new) }
+    ensures told { OnOk result ((u : Unsaid) → IsTold u dfg.old → IsTold u dfg.new) }
+    ensures distinct { OnOk result (AreModulesApart dfg.new) }
+    ensures wired { OnOk result ((who : ResourceIndex → Identity) (lift lower : ℕ → TypeTree)
+        (values : ℕ → CoreValue Mark) → AreTyped types.now who dfg.old lift lower → AreHandedIn modules.old
+        → HaveValues dfg.old values → LiftFunctions dfg.old → IsWired dfg.old modules.old
+        → IsWired dfg.new modules.new) }
     ensures few { OnOk result (AddsFew (length dfg.old.adapters) modules.old modules.new dfg.new) }
     ensures room { OnOk result (¬ (IsPast dfg.new modules.new)) }
     ensures full { result ≡ Err AdaptError.TooMany → (who : ResourceIndex → Identity) (lift lower : ℕ → TypeTree)

@@ -35,7 +35,7 @@ loop-import-preserved c =
       append_assoc at.yielded (x ∷ []) _ ∙ rw (← steps) at.invariant.0,
       one_defined c.args.graph.now at.graph c.define.new.graph c.args.signature at.yielded x c.args.args.now at.args
           c.push.new.self c.in_ok-def.def c.requires.ordered held at.invariant.1 c.define.ensures.adds
-          c.in_ok-def.ensures.defined c.in_ok-push.ensures.ok,
+          c.in_ok-def.ensures.only c.in_ok-def.ensures.defined c.in_ok-push.ensures.ok,
       let was = at.invariant.2 in
           let gone = c.in-Some.ensures.steps.1 in
           let short = ap length steps in

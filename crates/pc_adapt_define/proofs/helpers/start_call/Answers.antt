@@ -2,6 +2,7 @@ use Rattle.std.specs.Prelude.{option_map}
 use Rattle.pc_dfg.specs.declared.ids.CallbackId.{CallbackId}
 use Rattle.pc_dfg.specs.Names.{if_any}
 use Rattle.std.proofs.Common.{refl}
+use Rattle.pc_adapt_define.proofs.OnlyLemmas.{only_twice}
 use Rattle.pc_adapt_define.proofs.SlotLemmas.{behind_held, both_room, callback_stays}
 use Rattle.pc_adapt_define.proofs.helpers.start_call.Goals as goal
 
@@ -25,3 +26,8 @@ pub returns-clause-room : goal.returns-clause-room
 returns-clause-room c =
     both_room _ c.callback_slot.new.graph c.args.callback c.args.post_return c.callback_slot.ensures.adds.grows
     c.in_ok-first.ensures.room c.in_ok-second.ensures.room
+
+pub returns-clause-only : goal.returns-clause-only
+returns-clause-only c =
+    only_twice _ _ c.callback_slot.new.graph c.post_return_slot.new.graph
+    (c.in_ok-first.ensures.only c.args.post_return) (c.in_ok-second.ensures.only c.args.callback)

@@ -3,8 +3,11 @@ use Rattle.pc_dfg.specs.Held.{IsHeld}
 use Rattle.pc_dfg.specs.Numbers.{memory_def}
 use Rattle.pc_dfg.proofs.AllLemmas.{all_first, all_rest}
 use Rattle.pc_dfg.proofs.HeldLemmas.{held_stays}
+use Rattle.pc_spec_plan.specs.PlanView as plan
+use Rattle.pc_adapt.specs.declared.import.Import.TheVariants as import
 use Rattle.pc_adapt_define.specs.Adds.{Adds}
 use Rattle.pc_adapt_define.proofs.AddsLemmas.{adds_memory, adds_more, adds_twice}
+use Rattle.pc_adapt_define.proofs.OnlyLemmas.{contains_first, contains_second, only_memory, only_twice, slot_of}
 use Rattle.pc_adapt_define.proofs.SlotLemmas.{put_kept}
 use Rattle.pc_adapt_define.proofs.helpers.transcoder.Goals as goal
 
@@ -39,3 +42,17 @@ returns-clause-helper c = record {
   source_at = put_kept _ _ c.args.to c.push_memory-2.ensures.put _ _ c.in_ok-source.ensures.held;
   target_at = c.in_ok-target.ensures.held;
 }
+
+pub returns-clause-only : goal.returns-clause-only
+returns-clause-only c =
+    let g = c.args.graph.now in
+    let m = c.push_memory.new.self in
+    let h = c.push_memory-2.new.self in
+    let i = import.Transcode c.args.op c.args.from c.args.from64 c.args.to c.args.to64 in
+    only_twice (i ∷ []) g m h
+    (only_memory g m (i ∷ []) c.args.from c.push_memory.ensures.rest c.push_memory.ensures.put
+    (slot_of i plan.memory (memory_def c.args.from)
+    (contains_first (memory_def c.args.from) (memory_def c.args.to ∷ []))))
+    (only_memory m h (i ∷ []) c.args.to c.push_memory-2.ensures.rest c.push_memory-2.ensures.put
+    (slot_of i plan.memory (memory_def c.args.to)
+    (contains_second (memory_def c.args.from) (memory_def c.args.to))))

@@ -1,4 +1,4 @@
-use Rattle.std.proofs.Common.{◌≡◌, ap, subst, arith, ◌+◌, Bool, ℕ}
+use Rattle.std.proofs.Common.{◌≡◌, ap, subst, arith, ◌+◌, ◌∷◌, [], Bool, ℕ}
 use Rattle.std.specs.Prelude.{if◌then◌else◌}
 use Rattle.pc_adapt_define.specs.Define.{callbacks_in, memories_in, post_returns_in, trampolines_in}
 use Rattle.pc_dfg.proofs.GrowLemmas.{grows_trans}
@@ -6,6 +6,7 @@ use Rattle.pc_adapt_define.specs.Helpers.{IsWanted}
 use Rattle.pc_adapt_define.proofs.AddsLemmas.{adds_more, adds_trampoline, adds_twice}
 use Rattle.pc_adapt_define.proofs.HelperLemmas.{full_trampolines, helper_defined, helper_held, helper_room}
 use Rattle.pc_adapt_define.proofs.HelperLemmas.{helper_stays, not_refused, own_defined}
+use Rattle.pc_adapt_define.proofs.OnlyLemmas.{helper_entry, only_trampoline, only_twice}
 use Rattle.pc_adapt_define.proofs.SlotLemmas.{trampolines_longer}
 use Rattle.pc_adapt_define.proofs.HelperLemmas.{helper_is}
 use Rattle.pc_adapt_define.proofs.imports.define.Goals as goal
@@ -39,6 +40,15 @@ returns-in_ok-number-in-Helper-clause-adds c =
     (adds_trampoline m c.push_trampoline.new.self c.push_trampoline.ensures.grows
     (c.push_trampoline.ensures.ordered (helper_held m c.args.signature i c.in-Helper.helper asked))
     (c.args.signature, c.in-Helper.helper) c.push_trampoline.ensures.rest c.push_trampoline.ensures.put))
+
+pub returns-in_ok-number-in-Helper-clause-only : goal.returns-in_ok-number-in-Helper-clause-only
+returns-in_ok-number-in-Helper-clause-only c =
+    let m = c.asked_by.new.graph in
+    let h = c.push_trampoline.new.self in
+    let asked = subst (IsWanted m c.args.import) c.in-Helper.is c.in_ok-def.ensures.wanted in
+    only_twice (c.args.import ∷ []) _ m h c.in_ok-def.ensures.only
+    (only_trampoline m h (c.args.import ∷ []) (c.args.signature, c.in-Helper.helper) c.push_trampoline.ensures.rest
+    c.push_trampoline.ensures.put (helper_entry m c.args.signature c.args.import c.in-Helper.helper asked))
 
 pub returns-in_ok-number-in-Helper-clause-defined : goal.returns-in_ok-number-in-Helper-clause-defined
 returns-in_ok-number-in-Helper-clause-defined c =

@@ -1,5 +1,4 @@
-use Rattle.std.proofs.Common.{◌≡◌, ◌⊎◌, inl, inr, ap, arith, ◌+◌}
-use Rattle.pc_adapt_define.specs.Define.{HasNoRoom}
+use Rattle.std.proofs.Common.{inl, inr, ap, arith, ◌+◌}
 use Rattle.pc_adapt_partition.proofs.StepLemmas.{gather_full, gather_step, known_next}
 use Rattle.pc_adapt_partition.proofs.gather.gather.Goals as goal
 

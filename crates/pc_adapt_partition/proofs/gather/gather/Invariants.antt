@@ -1,5 +1,4 @@
-use Rattle.std.specs.Prelude.{◌≡◌, ◌≤◌, ℕ, length}
-use Rattle.pc_dfg.specs.Ordered.{IsOrdered}
+use Rattle.std.specs.Prelude.{ℕ}
 use Rattle.pc_spec_adapt.specs.Asked.{FunctionFacts}
 use Rattle.pc_adapt_partition.specs.Facts.{AreFacts}
 use Rattle.pc_adapt_partition.specs.Gathered.{Gathers}

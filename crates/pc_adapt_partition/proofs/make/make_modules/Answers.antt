@@ -1,4 +1,4 @@
-use Rattle.std.proofs.Common.{◌≡◌, ◌⊎◌, inl, inr, ap, arith, length, take, get_or}
+use Rattle.std.proofs.Common.{inl, inr, ap, arith, length, take}
 use Rattle.pc_adapt_partition.specs.Made.{sum_of}
 use Rattle.pc_adapt_partition.proofs.CutLemmas.{sum_step}
 use Rattle.pc_adapt_partition.proofs.MakeLemmas.{same_adapters}

@@ -1,4 +1,4 @@
-use Rattle.std.specs.Prelude.{◌≡◌, ◌≤◌, ℕ, length, take}
+use Rattle.std.specs.Prelude.{◌≡◌, ℕ, take}
 use Rattle.pc_spec_adapt.specs.Asked.{FunctionFacts}
 use Rattle.pc_adapt_partition.specs.Facts.{AreFacts}
 use Rattle.pc_adapt_partition.specs.Made.{Makes, sum_of}

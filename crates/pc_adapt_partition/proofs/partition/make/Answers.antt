@@ -1,4 +1,4 @@
-use Rattle.std.proofs.Common.{◌≡◌, inl, inr, length, ap, ◌∙◌, subst}
+use Rattle.std.proofs.Common.{inl, inr, length, ap, ◌∙◌, subst}
 use Rattle.pc_adapt_groups.specs.Needs.{Needs}
 use Rattle.pc_adapt_partition.specs.Made.{HasLong, cut, sum_of}
 use Rattle.pc_adapt_partition.specs.Partitions.{past, long}

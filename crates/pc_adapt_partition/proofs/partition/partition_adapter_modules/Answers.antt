@@ -1,8 +1,10 @@
 use Rattle.std.proofs.Common.{Ok, refl}
 use Rattle.pc_adapt_partition.specs.Partitions.{facts_by}
-use Rattle.pc_adapt_partition.proofs.PartitionLemmas.{adds_few, facts_from, grouped_after, keeps_all, known_from}
-use Rattle.pc_adapt_partition.proofs.PartitionLemmas.{ordered_after}
+use Rattle.pc_adapt_partition.proofs.AdaptedLemmas.{are_adapted}
+use Rattle.pc_adapt_partition.proofs.PartitionLemmas.{adds_few, apart_all, facts_from, grouped_after, keeps_all}
+use Rattle.pc_adapt_partition.proofs.PartitionLemmas.{known_from, ordered_after, told_all, wired_all}
 use Rattle.pc_adapt_partition.proofs.RefusalLemmas.{lacking_told, nobody_lacks, not_bad_push, not_bad_ok, push_full}
+use Rattle.pc_adapt_partition.proofs.WiredModuleLemmas.{modules_wired}
 use Rattle.pc_adapt_partition.proofs.partition.partition_adapter_modules.Goals as goal
 
 pub returns-in-Some-clause-bad : goal.returns-in-Some-clause-bad
@@ -35,6 +37,13 @@ returns-clause-partitions c who lift lower typed =
     c.in_ok-make.ensures.partitions (facts_by lift) (facts_by lower)
     (facts_from c.args.types.now who c.args.dfg.now lift lower typed)
 
+pub returns-clause-adapted : goal.returns-clause-adapted
+returns-clause-adapted c who lift lower values typed mean =
+    are_adapted (facts_by lift) (facts_by lower) values c.args.dfg.now c.make.new.graph c.args.modules.now
+    c.make.new.modules c.requires.no_modules c.requires.ungrouped mean
+    (c.in_ok-make.ensures.partitions (facts_by lift) (facts_by lower)
+    (facts_from c.args.types.now who c.args.dfg.now lift lower typed))
+
 pub returns-clause-keeps : goal.returns-clause-keeps
 returns-clause-keeps c =
     let known = known_from c.args.types.now c.args.dfg.now c.requires.held c.requires.typed in
@@ -62,3 +71,28 @@ returns-clause-few c =
     adds_few known.lift known.lower c.args.dfg.now c.make.new.graph c.args.modules.now c.make.new.modules
     c.requires.ordered c.requires.no_modules c.requires.ungrouped
     (c.in_ok-make.ensures.partitions known.lift known.lower known.facts)
+
+pub returns-clause-told : goal.returns-clause-told
+returns-clause-told c u told =
+    let known = known_from c.args.types.now c.args.dfg.now c.requires.held c.requires.typed in
+    told_all known.lift known.lower c.args.dfg.now c.make.new.graph c.args.modules.now c.make.new.modules
+    c.requires.ordered c.requires.no_modules c.requires.ungrouped
+    (c.in_ok-make.ensures.partitions known.lift known.lower known.facts) u told
+
+pub returns-clause-distinct : goal.returns-clause-distinct
+returns-clause-distinct c =
+    let known = known_from c.args.types.now c.args.dfg.now c.requires.held c.requires.typed in
+    apart_all known.lift known.lower c.args.dfg.now c.make.new.graph c.args.modules.now c.make.new.modules
+    c.requires.ordered c.requires.no_modules c.requires.ungrouped
+    (c.in_ok-make.ensures.partitions known.lift known.lower known.facts)
+
+pub returns-clause-wired : goal.returns-clause-wired
+returns-clause-wired c who lift lower values typed handed_in have lifts wired =
+    let parts = c.in_ok-make.ensures.partitions (facts_by lift) (facts_by lower)
+    (facts_from c.args.types.now who c.args.dfg.now lift lower typed) in
+    wired_all (facts_by lift) (facts_by lower) c.args.dfg.now c.make.new.graph c.args.modules.now c.make.new.modules
+    c.requires.ordered c.requires.no_modules c.requires.ungrouped parts lifts wired
+    (modules_wired (facts_by lift) (facts_by lower) values c.args.dfg.now c.make.new.graph c.args.modules.now
+    c.make.new.modules c.requires.ordered parts.makes.keeps.grows have
+    (are_adapted (facts_by lift) (facts_by lower) values c.args.dfg.now c.make.new.graph c.args.modules.now
+    c.make.new.modules c.requires.no_modules c.requires.ungrouped have parts))
