@@ -40,12 +40,12 @@ use Rattle.pc_adapt.specs.Imports.{transfer_imports}
 use Rattle.pc_adapt.specs.Planned.{StandsFor}
 use Rattle.pc_adapt_define.specs.Define.{in_import, IsDefined}
 
-front : {A : Type 0} (P : A → Type 0) (xs ys : List A) → All P (xs ++ ys) → All P xs
+pub front : {A : Type 0} (P : A → Type 0) (xs ys : List A) → All P (xs ++ ys) → All P xs
 front P [] ys all = all_none P
 front P (x ∷ xs) ys all =
     All-cons P x xs (all_first P x (xs ++ ys) all) (front P xs ys (all_rest P x (xs ++ ys) all))
 
-behind : {A : Type 0} (P : A → Type 0) (xs ys : List A) → All P (xs ++ ys) → All P ys
+pub behind : {A : Type 0} (P : A → Type 0) (xs ys : List A) → All P (xs ++ ys) → All P ys
 behind P [] ys all = all
 behind P (x ∷ xs) ys all = behind P xs ys (all_rest P x (xs ++ ys) all)
 

@@ -32,16 +32,7 @@ use Rattle.pc_adapt.specs.Imports.{calls, copies, copies_if, copy, definitions, 
 use Rattle.pc_adapt.specs.Imports.{Memory, memory_imports, memory_of, realloc_of, side_imports, transfer_imports}
 use Rattle.pc_adapt_define.specs.Define.{in_import, IsDefined}
 use Rattle.pc_adapt_define.specs.Only.{AddsOnly, AddsOwn, HasSlotFor, in_slots, own_slots, side_memory}
-use Rattle.pc_adapt_define.proofs.OwnLemmas.{imports_all}
-
-front : {A : Type 0} (P : A → Type 0) (xs ys : List A) → All P (xs ++ ys) → All P xs
-front P [] ys all = all_none P
-front P (x ∷ xs) ys all =
-    All-cons P x xs (all_first P x (xs ++ ys) all) (front P xs ys (all_rest P x (xs ++ ys) all))
-
-behind : {A : Type 0} (P : A → Type 0) (xs ys : List A) → All P (xs ++ ys) → All P ys
-behind P [] ys all = all
-behind P (x ∷ xs) ys all = behind P xs ys (all_rest P x (xs ++ ys) all)
+use Rattle.pc_adapt_define.proofs.OwnLemmas.{behind, front, imports_all}
 
 module _ (x : Adapter) where
   -- the slots of an import are those of the adapter
