@@ -1,5 +1,5 @@
 -- Definitions that stand for imports, one after the other.
-use Rattle.std.proofs.Common.{ℕ, ◌+◌, ◌≡◌, inl, inr, List, [], ◌∷◌, ◌++◌, All, Option, None, Some, sym}
+use Rattle.std.proofs.Common.{ℕ, ◌+◌, ◌≡◌, ◌≤◌, inl, inr, List, [], ◌∷◌, ◌++◌, All, Option, None, Some, sym}
 use Rattle.std.proofs.Common.{ap, subst, ◌∙◌, arith}
 use Rattle.std.specs.List.{AllZip}
 use Rattle.std.proofs.lemmas.List.{append_assoc, append-nil}
@@ -85,6 +85,28 @@ none_defined g s before = record {
 total_more : (f : Import → ℕ) (is : List Import) (i : Import) → total f (is ++ i ∷ []) ≡ total f is + f i
 total_more f [] i = omega arith
 total_more f (j ∷ is) i = let rest = total_more f is i in omega (arith, rest)
+
+-- a front of a list and what is behind it are no more than all of it
+total_within : (f : Import → ℕ) (xs ys : List Import) (i : Import) → total f xs + f i ≤ total f (xs ++ i ∷ ys)
+total_within f [] ys i = omega arith
+total_within f (x ∷ xs) ys i = let rest = total_within f xs ys i in omega (arith, rest)
+
+-- what so many imports and one more add is no more than what all of them add
+pub adds_so_far : (g m n : ComponentDfg) (all xs ys : List Import) (i : Import) → xs ++ i ∷ ys ≡ all
+    → Adds (total memories_in xs) (total callbacks_in xs) (total post_returns_in xs) (total trampolines_in xs) g m
+    → Adds (memories_in i) (callbacks_in i) (post_returns_in i) (trampolines_in i) m n
+    → Adds (total memories_in all) (total callbacks_in all) (total post_returns_in all) (total trampolines_in all) g n
+adds_so_far g m n all xs ys i is so_far adds =
+    let whole = xs ++ i ∷ ys in
+    subst (λ l. Adds (total memories_in l) (total callbacks_in l) (total post_returns_in l) (total trampolines_in l)
+    g n) is
+    (adds_more (total memories_in xs + memories_in i) (total callbacks_in xs + callbacks_in i)
+    (total post_returns_in xs + post_returns_in i) (total trampolines_in xs + trampolines_in i)
+    (total memories_in whole) (total callbacks_in whole) (total post_returns_in whole) (total trampolines_in whole)
+    g n (total_within memories_in xs ys i) (total_within callbacks_in xs ys i) (total_within post_returns_in xs ys i)
+    (total_within trampolines_in xs ys i)
+    (adds_twice (total memories_in xs) (total callbacks_in xs) (total post_returns_in xs) (total trampolines_in xs)
+    (memories_in i) (callbacks_in i) (post_returns_in i) (trampolines_in i) g m n so_far adds))
 
 -- of one import more
 pub one_defined : (g m n : ComponentDfg) (s : ModuleInternedTypeIndex) (is : List Import) (i : Import)

@@ -258,11 +258,18 @@ post_returns_few : (lift lower : FunctionFacts) (x : Adapter)
     → total post_returns_in (imports_of lift lower x) ≤ 1
 post_returns_few lift lower x = imports_few post_returns_in 0 0 1 post_returns_count lift lower x
 
--- what definitions for the imports of an adapter add
-pub adds_few : (g h : ComponentDfg) (s : ModuleInternedTypeIndex) (x : Adapter) (lift lower : FunctionFacts)
-    (before after : List CoreDef) → AreDefined g h s (imports_of lift lower x) before after → Adds 9 1 1 12 g h
-adds_few g h s x lift lower before after all =
+-- what is added for the imports of an adapter is that at most
+pub adds_at_most : (g h : ComponentDfg) (x : Adapter) (lift lower : FunctionFacts)
+    → Adds (total memories_in (imports_of lift lower x)) (total callbacks_in (imports_of lift lower x))
+    (total post_returns_in (imports_of lift lower x)) (total trampolines_in (imports_of lift lower x)) g h
+    → Adds 9 1 1 12 g h
+adds_at_most g h x lift lower adds =
     let is = imports_of lift lower x in
     adds_more (total memories_in is) (total callbacks_in is) (total post_returns_in is) (total trampolines_in is)
     9 1 1 12 g h (memories_few lift lower x) (callbacks_few lift lower x) (post_returns_few lift lower x)
-    (trampolines_few lift lower x) all.adds
+    (trampolines_few lift lower x) adds
+
+-- what definitions for the imports of an adapter add
+pub adds_few : (g h : ComponentDfg) (s : ModuleInternedTypeIndex) (x : Adapter) (lift lower : FunctionFacts)
+    (before after : List CoreDef) → AreDefined g h s (imports_of lift lower x) before after → Adds 9 1 1 12 g h
+adds_few g h s x lift lower before after all = adds_at_most g h x lift lower all.adds

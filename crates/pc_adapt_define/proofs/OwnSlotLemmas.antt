@@ -1,13 +1,11 @@
 -- What is defined for the imports of an adapter adds slots that the adapter may need, and takes from core instances
 -- only what the adapter does.
 use Rattle.std.proofs.Common.{◌≡◌, inl, inr, ℕ, Bool, true, false, ◌&&◌, List, [], ◌∷◌, ◌++◌, All, Contains, Option}
-use Rattle.std.proofs.Common.{None, Some, refl, sym, ap, subst, ◌∙◌, arith}
+use Rattle.std.proofs.Common.{None, Some, refl, sym, ap, subst, ◌∙◌, true≢false}
 use Rattle.std.specs.Prelude.{map, option_map, slice_get}
 use Rattle.std.specs.List.{AllZip}
 use Rattle.std.proofs.lemmas.List.Elements.{All-append, All-cons, All-contains, All-contains_itself}
-use Rattle.pc_numbers.specs.declared.entity_index.EntityIndex.{EntityIndex}
 use Rattle.pc_numbers.specs.declared.module_entity.ModuleInternedTypeIndex.{ModuleInternedTypeIndex}
-use Rattle.pc_numbers.specs.declared.runtime.RuntimeComponentInstanceIndex.{RuntimeComponentInstanceIndex}
 use Rattle.pc_numbers.specs.declared.runtime.TrampolineIndex.{TrampolineIndex}
 use Rattle.pc_types_lists.specs.declared.facts.TypeFacts.{TypeFacts}
 use Rattle.pc_types_lists.specs.Facts.{join}
@@ -19,7 +17,6 @@ use Rattle.pc_dfg.specs.declared.adapter.DataModel.{DataModel}
 use Rattle.pc_dfg.specs.declared.adapter.DataModel.TheVariants as model
 use Rattle.pc_dfg.specs.declared.core_def.CoreDef.{CoreDef}
 use Rattle.pc_dfg.specs.declared.core_def.CoreDef.TheVariants as def
-use Rattle.pc_dfg.specs.declared.core_def.CoreExport.{CoreExport}
 use Rattle.pc_dfg.specs.declared.dfg.ComponentDfg.{ComponentDfg}
 use Rattle.pc_dfg.specs.Names.{if_any, in_adapter, in_side, in_side_model}
 use Rattle.pc_dfg.specs.Numbers.{memory_def}
@@ -30,7 +27,7 @@ use Rattle.pc_adapt.specs.declared.import.Import.{Import}
 use Rattle.pc_adapt.specs.declared.import.Import.TheVariants as import
 use Rattle.pc_adapt.specs.Imports.{calls, copies, copies_if, copy, definitions, import_if, imports_of, is_async_call}
 use Rattle.pc_adapt.specs.Imports.{Memory, memory_imports, memory_of, realloc_of, side_imports, transfer_imports}
-use Rattle.pc_adapt_define.specs.Define.{in_import, IsDefined}
+use Rattle.pc_adapt_define.specs.Define.{in_import, is_taken, IsDefined}
 use Rattle.pc_adapt_define.specs.Only.{AddsOnly, AddsOwn, HasSlotFor, in_slots, own_slots, side_memory}
 use Rattle.pc_adapt_define.proofs.OwnLemmas.{behind, front, imports_all}
 
@@ -279,47 +276,44 @@ module _ (x : Adapter) where
   pub own_stands : (k : plan.SlotKind) (d : CoreDef) → Contains (own_slots x k) d → Contains (in_adapter x) d
   own_stands k d own = All-contains Here (own_slots x k) d (own_here k) own
 
-  -- what is taken from a core instance stands in the adapter
+  -- what is taken from what there is stands in the adapter
   abbrev Taken : CoreDef → Type 0
-  Taken d = (e : CoreExport EntityIndex) → d ≡ def.Export e → Contains (in_adapter x) d
-
-  no_flags : (c : RuntimeComponentInstanceIndex) (e : CoreExport EntityIndex) → def.InstanceFlags c ≡ def.Export e → ⊥
-  no_flags c e is = grind (arith, is)
-
-  no_trampoline : (e : CoreExport EntityIndex) (t : TrampolineIndex) → def.Export e ≡ def.Trampoline t → ⊥
-  no_trampoline e t is = grind (arith, is)
+  Taken d = is_taken d ≡ true → Contains (in_adapter x) d
 
   all_taken : (lift lower : FunctionFacts) → All (λ i. All Taken (in_import i)) (imports_of lift lower x)
   all_taken lift lower =
-      imports_all Taken lift lower x (λ k d below e is. All-contains_itself (in_adapter x) k d below)
-      (λ e is. absurd (no_flags x.lift_options.instance e is))
-      (λ e is. absurd (no_flags x.lower_options.instance e is))
+      imports_all Taken lift lower x (λ k d below taken. All-contains_itself (in_adapter x) k d below)
+      (λ taken. absurd (true≢false (sym taken)))
+      (λ taken. absurd (true≢false (sym taken)))
 
-  own_taken : (i : Import) (e : CoreExport EntityIndex) → All Taken (in_import i) → i ≡ import.CoreDef (def.Export e)
-      → Contains (in_adapter x) (def.Export e)
-  own_taken i e all is =
-      all_first Taken (def.Export e) [] (subst (λ j. All Taken (in_import j)) is all) e refl
+  own_taken : (i : Import) (d : CoreDef) → is_taken d ≡ true → All Taken (in_import i) → i ≡ import.CoreDef d
+      → Contains (in_adapter x) d
+  own_taken i d taken all is = all_first Taken d [] (subst (λ j. All Taken (in_import j)) is all) taken
 
-  module _ (g h : ComponentDfg) (s : ModuleInternedTypeIndex) where
-    each_taken : (is : List Import) (ds : List CoreDef) (e : CoreExport EntityIndex)
-        → All (λ i. All Taken (in_import i)) is → AllZip (IsDefined g h s) is ds
-        → All (λ d. d ≡ def.Export e → Contains (in_adapter x) (def.Export e)) ds
-    each_taken [] [] e all each = all_none (λ d. d ≡ def.Export e → Contains (in_adapter x) (def.Export e))
-    each_taken [] (d ∷ ds) e all each = absurd each
-    each_taken (i ∷ is) [] e all each = absurd each
-    each_taken (i ∷ is) (d ∷ ds) e all each =
-        All-cons (λ d. d ≡ def.Export e → Contains (in_adapter x) (def.Export e)) d ds
-        (λ same. elim each.0.form as (λ _. Contains (in_adapter x) (def.Export e)) [
+  no_helper : (d : CoreDef) (t : TrampolineIndex) → is_taken d ≡ true → d ≡ def.Trampoline t → ⊥
+  no_helper d t taken is = true≢false (sym taken ∙ ap is_taken is)
+
+  module _ (g h : ComponentDfg) (s : ModuleInternedTypeIndex) (d : CoreDef) (taken : is_taken d ≡ true) where
+    -- where it is the definition, it stands in the adapter
+    abbrev IsHere : CoreDef → Type 0
+    IsHere y = y ≡ d → Contains (in_adapter x) d
+
+    each_taken : (is : List Import) (ds : List CoreDef) → All (λ i. All Taken (in_import i)) is
+        → AllZip (IsDefined g h s) is ds → All IsHere ds
+    each_taken [] [] all each = all_none IsHere
+    each_taken [] (y ∷ ds) all each = absurd each
+    each_taken (i ∷ is) [] all each = absurd each
+    each_taken (i ∷ is) (y ∷ ds) all each =
+        All-cons IsHere y ds
+        (λ same. elim each.0.form as (λ _. Contains (in_adapter x) d) [
           | inl own ↦
-              own_taken i e (all_first (λ j. All Taken (in_import j)) i is all) (own ∙ ap import.CoreDef same)
-          | inr helper ↦ absurd (no_trampoline e helper.1.0 (sym same ∙ helper.1.1))
+              own_taken i d taken (all_first (λ j. All Taken (in_import j)) i is all) (own ∙ ap import.CoreDef same)
+          | inr helper ↦ absurd (no_helper d helper.1.0 taken (sym same ∙ helper.1.1))
         ])
-        (each_taken is ds e (all_rest (λ j. All Taken (in_import j)) i is all) each.1)
+        (each_taken is ds (all_rest (λ j. All Taken (in_import j)) i is all) each.1)
 
-    -- what is defined for its imports takes from core instances only what stands in it
-    pub export_stands : (lift lower : FunctionFacts) (ds : List CoreDef) (e : CoreExport EntityIndex)
-        → AllZip (IsDefined g h s) (imports_of lift lower x) ds → Contains ds (def.Export e)
-        → Contains (in_adapter x) (def.Export e)
-    export_stands lift lower ds e each inside =
-        All-contains (λ d. d ≡ def.Export e → Contains (in_adapter x) (def.Export e)) ds (def.Export e)
-        (each_taken (imports_of lift lower x) ds e (all_taken lift lower) each) inside refl
+    -- what is defined for its imports takes from what there is only what stands in it
+    pub taken_stands : (lift lower : FunctionFacts) (ds : List CoreDef)
+        → AllZip (IsDefined g h s) (imports_of lift lower x) ds → Contains ds d → Contains (in_adapter x) d
+    taken_stands lift lower ds each inside =
+        All-contains IsHere ds d (each_taken (imports_of lift lower x) ds (all_taken lift lower) each) inside refl

@@ -32,6 +32,15 @@ abbrev pub is_helper : Import → Bool
 is_helper (import.CoreDef d) = false
 is_helper i = true
 
+-- whether a module takes a definition from what there is: an export of a core instance, an intrinsic or an adapter.
+-- Flags and helpers are there for it
+abbrev pub is_taken : CoreDef → Bool
+is_taken (def.Export e) = true
+is_taken (def.InstanceFlags c) = false
+is_taken (def.Trampoline t) = false
+is_taken (def.UnsafeIntrinsic s i) = true
+is_taken (def.Adapter a) = true
+
 -- a definition is a trampoline
 abbrev pub IsTrampoline : CoreDef → Type 0
 IsTrampoline d = (t : TrampolineIndex) × (d ≡ def.Trampoline t)

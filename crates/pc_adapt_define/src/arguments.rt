@@ -3,7 +3,9 @@
 ghost use Rattle.std.specs.Prelude.{◌≡◌, All, Err, OnOk};
 ghost use Rattle.pc_dfg.specs.Held.{IsHeld};
 ghost use Rattle.pc_dfg.specs.Ordered.{IsOrdered};
-ghost use Rattle.pc_adapt_define.specs.Define.{AreDefined, HasNoRoom, in_import};
+ghost use Rattle.pc_adapt_define.specs.Adds.{Adds};
+ghost use Rattle.pc_adapt_define.specs.Define.{AreDefined, HasNoRoom, callbacks_in, in_import, memories_in};
+ghost use Rattle.pc_adapt_define.specs.Define.{post_returns_in, total, trampolines_in};
 
 use crate::imports::define;
 use pc_adapt::Import;
@@ -21,6 +23,8 @@ pub fn define_all(
     requires held { All (λ i. All (IsHeld graph.old) (in_import i)) imports.items }
     ensures defined { OnOk result
         (AreDefined graph.old graph.new signature imports.items args.old args.new) }
+    ensures adds { Adds (total memories_in imports.items) (total callbacks_in imports.items)
+        (total post_returns_in imports.items) (total trampolines_in imports.items) graph.old graph.new }
     ensures full { result ≡ Err PushError.TooMany → HasNoRoom graph.new }
 {
     for import in imports {

@@ -1,5 +1,5 @@
 -- an adapter is told from its record
 pub mod FoundLemmas
 -- what is planned is short, and is named
-mod ShortLemmas
+pub mod ShortLemmas
 mod FineLemmas

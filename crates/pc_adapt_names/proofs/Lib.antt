@@ -1,4 +1,4 @@
 -- what definitions, adapters and side effects name
 mod SameLemmas
 -- what adapters need, in a graph and in a log
-mod NeedsLemmas
+pub mod NeedsLemmas

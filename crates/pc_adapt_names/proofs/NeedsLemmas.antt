@@ -58,7 +58,7 @@ zip_back R (a ∷ xs) (b ∷ ys) zero y all at = (a, refl, subst (R a) (same_Som
 zip_back R (a ∷ xs) (b ∷ ys) (suc i) y all at = zip_back R xs ys i y all.1 at
 
 -- runs that are the fewest for one relation are so for another that says the same
-fewest_alike : (P Q : ℕ → ℕ → Type 0) (n : ℕ) (runs : List (List ℕ)) → ((a b : ℕ) → P a b → Q a b)
+pub fewest_alike : (P Q : ℕ → ℕ → Type 0) (n : ℕ) (runs : List (List ℕ)) → ((a b : ℕ) → P a b → Q a b)
     → ((a b : ℕ) → Q a b → P a b) → IsFewest P n runs → IsFewest Q n runs
 fewest_alike P Q n runs there back least = record {
   split = record {

@@ -15,12 +15,16 @@ mod MakeLemmas
 mod SplitLemmas
 mod PlaceLemmas
 -- what the graph is after it: told, apart and wired
-mod ToldLemmas
+pub mod ToldLemmas
 mod ApartLemmas
 mod WiredLemmas
 mod PartitionLemmas
 -- one step of each loop
 mod StepLemmas
+-- how much is added at most, however it ends
+mod MostLemmas
+-- and how much a module imports at most
+pub mod LongLemmas
 -- which adapter is told to lack an option
 mod RefusalLemmas
 -- modules of adapters by the values of the adapters

@@ -1,5 +1,5 @@
 -- The modules of all adapters of a graph: what is known of the adapters' types, and how much is added.
-use Rattle.std.proofs.Common.{◌≡◌, inl, inr, ℕ, List, [], length, refl, ap, subst}
+use Rattle.std.proofs.Common.{◌≡◌, inl, inr, ℕ, true, List, [], length, refl, ap, subst}
 use Rattle.std.proofs.Common.{arith, length-append}
 use Rattle.std.specs.Prelude.{Some, slice_get}
 use Rattle.pc_numbers.specs.declared.runtime.ResourceIndex.{ResourceIndex}
@@ -13,10 +13,10 @@ use Rattle.pc_dfg.specs.declared.dfg.ComponentDfg.{ComponentDfg}
 use Rattle.pc_dfg.specs.Ordered.{IsOrdered}
 use Rattle.pc_dfg.specs.Told.{IsTold, Unsaid}
 use Rattle.pc_dfg_linearize.specs.Grouped.{IsGrouped}
-use Rattle.pc_dfg_linearize.specs.Wired.{IsWired, IsWiredModule}
+use Rattle.pc_dfg_linearize.specs.Wired.{IsWired, IsWiredModule, Occurs}
 use Rattle.pc_spec_adapt.specs.Asked.{FunctionFacts}
 use Rattle.pc_adapt.specs.Asked.{AreTyped, HoldTypes}
-use Rattle.pc_adapt_define.specs.Define.{HasNoRoom}
+use Rattle.pc_adapt_define.specs.Define.{HasNoRoom, is_taken}
 use Rattle.pc_adapt_groups.specs.Needs.{Needs}
 use Rattle.pc_adapt_partition.specs.Facts.{AreFacts, AreKnown, HasFacts, HaveTrees, IsKnown}
 use Rattle.pc_adapt_partition.specs.Made.{AddsFew, AreModulesApart, IsPast, Keeps, Makes, cut, of_callbacks}
@@ -30,7 +30,7 @@ use Rattle.pc_adapt_partition.proofs.CutLemmas.{length_arguments, length_cut, le
 use Rattle.pc_adapt_partition.proofs.PlaceLemmas.{all_placed, is_grouped}
 use Rattle.pc_adapt_partition.proofs.SplitLemmas.{all_lengths, few_lengths, lengths_some}
 use Rattle.pc_adapt_partition.proofs.ToldLemmas.{told_after}
-use Rattle.pc_adapt_partition.proofs.WiredLemmas.{wired_after}
+use Rattle.pc_adapt_partition.proofs.WiredLemmas.{occurs_before, wired_after}
 
 -- types with trees have facts
 pub facts_from : (b : Types) (who : ResourceIndex → Identity) (g : ComponentDfg) (lift lower : ℕ → TypeTree)
@@ -127,6 +127,13 @@ module _ (lift lower : ℕ → FunctionFacts) (g h : ComponentDfg) (ms ns : List
   -- modules and places of adapters are apart
   pub apart_all : AreModulesApart h
   apart_all = are_apart lift lower g h ms ns parts.lengths no_modules ungrouped makes
+
+  -- what is taken from what there is was taken before
+  pub occurs_all : (d : CoreDef) → is_taken d ≡ true → Occurs h d → Occurs g d
+  occurs_all d taken occurs =
+      occurs_before lift lower g h ms ns parts.lengths
+      (all_lengths (Needs g) (length g.adapters) parts.lengths parts.fewest)
+      (lengths_some (Needs g) (length g.adapters) parts.lengths parts.fewest) no_modules makes taken occurs
 
   -- the graph stays wired, where the new modules are
   pub wired_all : LiftFunctions g → IsWired g ms

@@ -5,15 +5,12 @@ use Rattle.std.specs.Prelude.{filter, map, slice_get}
 use Rattle.std.proofs.lemmas.List.{append-nil}
 use Rattle.std.proofs.lemmas.List.Elements.{All-contains, Contains-append_cases, filter-append}
 use Rattle.pc_numbers.specs.declared.component_entity.StaticModuleIndex.{StaticModuleIndex}
-use Rattle.pc_numbers.specs.declared.entity_index.EntityIndex.{EntityIndex}
 use Rattle.pc_spec_plan.specs.PlanView as plan
 use Rattle.pc_info.specs.declared.module.AdapterRecord.{AdapterRecord}
 use Rattle.pc_info.specs.declared.module.ModuleTranslation.{ModuleTranslation}
 use Rattle.pc_info.specs.Modules.{handed_in_view, is_handed_in, module_view}
 use Rattle.pc_dfg.specs.declared.adapter.Adapter.{Adapter}
 use Rattle.pc_dfg.specs.declared.core_def.CoreDef.{CoreDef}
-use Rattle.pc_dfg.specs.declared.core_def.CoreDef.TheVariants as def
-use Rattle.pc_dfg.specs.declared.core_def.CoreExport.{CoreExport}
 use Rattle.pc_dfg.specs.declared.dfg.ComponentDfg.{ComponentDfg}
 use Rattle.pc_dfg.specs.declared.instance.SideEffect.{SideEffect}
 use Rattle.pc_dfg.specs.declared.instance.SideEffect.TheVariants as effect
@@ -24,8 +21,9 @@ use Rattle.pc_dfg_linearize.specs.Wired.{in_a_module, in_a_slot, in_an_adapter, 
 use Rattle.pc_dfg_linearize.specs.Wired.{callbacks, is_function, IsWired, IsWiredModule, Occurs, OfFunctions}
 use Rattle.pc_dfg_linearize.specs.Wired.{post_returns, reallocs}
 use Rattle.pc_spec_adapt.specs.Asked.{FunctionFacts}
+use Rattle.pc_adapt_define.specs.Define.{is_taken}
 use Rattle.pc_adapt_define.specs.Only.{IsOwnSlot, own_slots}
-use Rattle.pc_adapt_define.proofs.OwnSlotLemmas.{export_stands, own_stands}
+use Rattle.pc_adapt_define.proofs.OwnSlotLemmas.{own_stands, taken_stands}
 use Rattle.pc_adapt_partition.specs.Gathered.{AreGiven}
 use Rattle.pc_adapt_partition.specs.Made.{AreArguments, Makes, cut, sum_of}
 use Rattle.pc_adapt_partition.specs.Parts.{module_for, modules_of, parts_of, records_from, with_functions}
@@ -78,35 +76,31 @@ module _ (lift lower : ℕ → FunctionFacts) where
       (not_handed_in t (omega (arith, long, some.0)))
       ∙ none_handed_in (n + length xs) gs some.1
 
-  -- what the arguments of a module take from core instances stands in adapters
-  module _ (g h : ComponentDfg) where
-    given_occurs : (n : ℕ) (xs : List Adapter) (args : List CoreDef) (e : CoreExport EntityIndex)
-        → StandFrom n g.adapters xs → AreGiven g h (parts_of lift lower n xs) args → Contains args (def.Export e)
-        → Occurs g (def.Export e)
-    given_occurs n [] args e stand none has =
-        let empty : Contains [] (def.Export e) = subst (λ ds. Contains ds (def.Export e)) none has in
-        absurd (omega (arith, empty.1))
-    given_occurs n (x ∷ xs) args e stand (own, rest, is, first, others) has =
-        elim (Contains-append_cases own rest (def.Export e) (subst (λ ds. Contains ds (def.Export e)) is has))
-        as (λ _. Occurs g (def.Export e)) [
+  -- what the arguments of a module take from what there is stands in adapters
+  module _ (g h : ComponentDfg) (d : CoreDef) (taken : is_taken d ≡ true) where
+    given_occurs : (n : ℕ) (xs : List Adapter) (args : List CoreDef) → StandFrom n g.adapters xs
+        → AreGiven g h (parts_of lift lower n xs) args → Contains args d → Occurs g d
+    given_occurs n [] args stand none has =
+        let empty : Contains [] d = subst (λ ds. Contains ds d) none has in absurd (omega (arith, empty.1))
+    given_occurs n (x ∷ xs) args stand (own, rest, is, first, others) has =
+        elim (Contains-append_cases own rest d (subst (λ ds. Contains ds d) is has)) as (λ _. Occurs g d) [
           | inl front ↦
               in_an_adapter n x (stand_first n g.adapters x xs stand)
-              (export_stands x g h x.lower_options.core_type (lift n) (lower n) own e first front)
-          | inr behind ↦ given_occurs (n + 1) xs rest e (stand_rest n g.adapters x xs stand) others behind
+              (taken_stands x g h x.lower_options.core_type d taken (lift n) (lower n) own first front)
+          | inr behind ↦ given_occurs (n + 1) xs rest (stand_rest n g.adapters x xs stand) others behind
         ]
 
     arguments_occur : (s n : ℕ) (gs : List (List Adapter)) (ams : List (StaticModuleIndex × List CoreDef)) (i : ℕ)
-        (a : StaticModuleIndex × List CoreDef) (e : CoreExport EntityIndex) → StandIn n g.adapters gs
-        → AreArguments lift lower g h s n gs ams → slice_get ams i ≡ Some a → Contains a.1 (def.Export e)
-        → Occurs g (def.Export e)
-    arguments_occur s n [] [] i a e stand are at has = absurd (no_item a at)
-    arguments_occur s n [] (b ∷ ams) i a e stand are at has = absurd are
-    arguments_occur s n (xs ∷ gs) [] i a e stand are at has = absurd are
-    arguments_occur s n (xs ∷ gs) (b ∷ ams) zero a e stand are at has =
-        given_occurs n xs b.1 e stand.0 are.1
-        (subst (λ (c : StaticModuleIndex × List CoreDef). Contains c.1 (def.Export e)) (sym (same_item at)) has)
-    arguments_occur s n (xs ∷ gs) (b ∷ ams) (suc i) a e stand are at has =
-        arguments_occur (s + 1) (n + length xs) gs ams i a e stand.1 are.2 at has
+        (a : StaticModuleIndex × List CoreDef) → StandIn n g.adapters gs
+        → AreArguments lift lower g h s n gs ams → slice_get ams i ≡ Some a → Contains a.1 d → Occurs g d
+    arguments_occur s n [] [] i a stand are at has = absurd (no_item a at)
+    arguments_occur s n [] (b ∷ ams) i a stand are at has = absurd are
+    arguments_occur s n (xs ∷ gs) [] i a stand are at has = absurd are
+    arguments_occur s n (xs ∷ gs) (b ∷ ams) zero a stand are at has =
+        given_occurs n xs b.1 stand.0 are.1
+        (subst (λ (c : StaticModuleIndex × List CoreDef). Contains c.1 d) (sym (same_item at)) has)
+    arguments_occur s n (xs ∷ gs) (b ∷ ams) (suc i) a stand are at has =
+        arguments_occur (s + 1) (n + length xs) gs ams i a stand.1 are.2 at has
 
 -- what a side effect makes names the same where instances and resources are the same
 effect_same : (g h : ComponentDfg) → h.instances ≡ g.instances → h.resources ≡ g.resources → (x : SideEffect)
@@ -161,26 +155,22 @@ module _ (lift lower : ℕ → FunctionFacts) (g h : ComponentDfg) (ms ns : List
   slot_occurs k d (inr own) =
       in_an_adapter own.number own.adapter own.at (own_stands own.adapter k d own.own)
 
-  -- what is taken from a core instance was taken before
-  pub occurs_before : {d : CoreDef} (e : CoreExport EntityIndex) → d ≡ def.Export e → Occurs h d
-      → Occurs g (def.Export e)
-  occurs_before e is (in_a_slot k n {d = d} at) =
-      subst (Occurs g) is (slot_occurs k d (makes.keeps.own.slots k d (inside (slots_of h k) n d at)))
-  occurs_before e is (in_an_effect i x {d = d} at has) =
+  -- what is taken from what there is was taken before
+  pub occurs_before : {d : CoreDef} → is_taken d ≡ true → Occurs h d → Occurs g d
+  occurs_before taken (in_a_slot k n {d = d} at) =
+      slot_occurs k d (makes.keeps.own.slots k d (inside (slots_of h k) n d at))
+  occurs_before taken (in_an_effect i x {d = d} at has) =
       let same = effect_same g h (ap (λ (k : ComponentDfg). k.instances) makes.keeps.rest)
       (ap (λ (k : ComponentDfg). k.resources) makes.keeps.rest) x in
-      subst (Occurs g) is
-      (in_an_effect i x (ap (λ (k : ComponentDfg). slice_get k.side_effects i) (sym makes.keeps.rest) ∙ at)
-      (subst (λ ds. Contains ds d) same has))
-  occurs_before e is (in_a_module m x at has) =
-      arguments_occur lift lower g h (length ms) 0 gs makes.adapter_modules m x e (stand_cut ls 0 g.adapters few)
-      makes.given (ap (λ xs. slice_get xs m) (sym modules_are) ∙ at) (subst (Contains x.1) is has)
-  occurs_before e is (in_an_adapter a x at has) =
-      subst (Occurs g) is
-      (in_an_adapter a x (ap (λ (k : ComponentDfg). slice_get k.adapters a) (sym makes.keeps.rest) ∙ at) has)
-  occurs_before e is (in_an_export n ty o at) =
-      subst (Occurs g) is
-      (in_an_export n ty o (ap (λ (k : ComponentDfg). slice_get k.export_items n) (sym makes.keeps.rest) ∙ at))
+      in_an_effect i x (ap (λ (k : ComponentDfg). slice_get k.side_effects i) (sym makes.keeps.rest) ∙ at)
+      (subst (λ ds. Contains ds d) same has)
+  occurs_before taken (in_a_module m x {d = d} at has) =
+      arguments_occur lift lower g h d taken (length ms) 0 gs makes.adapter_modules m x (stand_cut ls 0 g.adapters few)
+      makes.given (ap (λ xs. slice_get xs m) (sym modules_are) ∙ at) has
+  occurs_before taken (in_an_adapter a x at has) =
+      in_an_adapter a x (ap (λ (k : ComponentDfg). slice_get k.adapters a) (sym makes.keeps.rest) ∙ at) has
+  occurs_before taken (in_an_export n ty o at) =
+      in_an_export n ty o (ap (λ (k : ComponentDfg). slice_get k.export_items n) (sym makes.keeps.rest) ∙ at)
 
   module _ (lifts : LiftFunctions g) (wired : IsWired g ms) where
     -- what stands in a slot of functions is one
@@ -203,7 +193,7 @@ module _ (lift lower : ℕ → FunctionFacts) (g h : ComponentDfg) (ms ns : List
           (found.0, ap (λ rs. slice_get rs m.0) handed_in_same ∙ found.1, found.2);
       items = λ i m args e r at occurs is there.
           wired.items i m args e r (ap (λ (k : ComponentDfg). slice_get k.instances i) (sym makes.keeps.rest) ∙ at)
-          (occurs_before e refl occurs) is (ap (λ rs. slice_get rs m.0) (sym handed_in_same) ∙ there);
+          (occurs_before refl occurs) is (ap (λ rs. slice_get rs m.0) (sym handed_in_same) ∙ there);
       functions = λ k n d of at. function_here k d of (makes.keeps.own.slots k d (inside (slots_of h k) n d at));
       adapter_modules = modules;
       exports = λ n ty m at.

@@ -70,3 +70,13 @@ pub record Closes (g h : ComponentDfg) (ms ns : List ModuleTranslation) (first m
   }
   pub grows : Grows g h
   pub ordered : All (IsHeld g) group.args → IsOrdered g → IsOrdered h
+
+-- at most one module is added to modules and graph, with the places of so many adapters, and nothing else
+pub record ClosesFew (many : ℕ) (g h : ComponentDfg) (ms ns : List ModuleTranslation) : Type 0 where
+  pub rest : h ≡ record g {
+    adapter_modules = h.adapter_modules;
+    adapter_partitionings = h.adapter_partitionings;
+  }
+  pub few_adapter_modules : length h.adapter_modules ≤ length g.adapter_modules + 1
+  pub few_adapters : length h.adapter_partitionings ≤ length g.adapter_partitionings + many
+  pub few_modules : length ns ≤ length ms + 1

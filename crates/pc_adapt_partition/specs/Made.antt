@@ -52,6 +52,16 @@ pub record AddsFew (many : ℕ) (ms ns : List ModuleTranslation) (h : ComponentD
   pub few_adapter_modules : length h.adapter_modules ≤ many
   pub all_adapters : length h.adapter_partitionings ≡ many
 
+-- at most so much is added to a graph and to modules for so many adapters, and so many modules of them
+pub record AddsAtMost (many groups : ℕ) (g h : ComponentDfg) (ms ns : List ModuleTranslation) : Type 0 where
+  pub few_memories : length h.memories ≤ length g.memories + 9 * many
+  pub few_callbacks : length h.callbacks ≤ length g.callbacks + many
+  pub few_post_returns : length h.post_returns ≤ length g.post_returns + many
+  pub few_trampolines : length h.trampolines ≤ length g.trampolines + 12 * many
+  pub few_adapter_modules : length h.adapter_modules ≤ length g.adapter_modules + groups
+  pub few_adapters : length h.adapter_partitionings ≤ length g.adapter_partitionings + many
+  pub few_modules : length ns ≤ length ms + groups
+
 -- no two modules of adapters are one core module, and no two adapters are one function of one module
 pub record AreModulesApart (h : ComponentDfg) : Type 0 where
   pub modules : AreDistinct (map (λ (x : StaticModuleIndex × List CoreDef). x.0) h.adapter_modules)

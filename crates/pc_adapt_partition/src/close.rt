@@ -5,7 +5,7 @@ ghost use Rattle.pc_types.specs.declared.parsed.CoreKind.TheVariants as kind;
 ghost use Rattle.pc_types.specs.Record.{imports_kind};
 ghost use Rattle.pc_dfg.specs.Grows.{Grows};
 ghost use Rattle.pc_dfg.specs.Ordered.{IsOrdered};
-ghost use Rattle.pc_adapt_partition.specs.Gathered.{Closes};
+ghost use Rattle.pc_adapt_partition.specs.Gathered.{Closes, ClosesFew};
 ghost use Rattle.pc_adapt_partition.specs.Made.{IsPast};
 ghost use Rattle.pc_adapt_partition.specs.Parts.{functions_from, with_functions};
 
@@ -68,6 +68,8 @@ fn place_adapters(
     }) }
     ensures grows { OnOk result (Grows graph.old graph.new) }
     ensures ordered { OnOk result (IsOrdered graph.old → IsOrdered graph.new) }
+    ensures rest { graph.new ≡ record graph.old { adapter_partitionings = graph.new.adapter_partitionings } }
+    ensures few { length graph.new.adapter_partitionings ≤ length graph.old.adapter_partitionings + many }
     ensures full { result ≡ Err PushError.TooMany → 4294967295 ≤ length graph.new.adapter_partitionings }
 {
     for place in 0..many {
@@ -90,6 +92,7 @@ pub(crate) fn close(
     requires functions { count_by (imports_kind kind.Func) group.parts.imports + many ≤ 4294967295 }
     requires all { length group.records ≡ many }
     ensures closes { OnOk result (Closes graph.old graph.new modules.old modules.new first many group) }
+    ensures few { ClosesFew many graph.old graph.new modules.old modules.new }
     ensures full { result ≡ Err PushError.TooMany → IsPast graph.new modules.new }
 {
     let Group {

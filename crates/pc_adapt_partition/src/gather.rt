@@ -1,8 +1,9 @@
 //! The adapters of a module, one after the other.
 
-ghost use Rattle.std.specs.Prelude.{◌≡◌, ◌+◌, ◌<◌, ◌≤◌, ◌⊎◌, ℕ, length, Err, IfOk};
+ghost use Rattle.std.specs.Prelude.{◌≡◌, ◌+◌, ◌*◌, ◌<◌, ◌≤◌, ◌⊎◌, ℕ, length, Err, IfOk};
 ghost use Rattle.pc_dfg.specs.Ordered.{IsOrdered};
 ghost use Rattle.pc_spec_adapt.specs.Asked.{FunctionFacts};
+ghost use Rattle.pc_adapt_define.specs.Adds.{Adds};
 ghost use Rattle.pc_adapt_define.specs.Define.{HasNoRoom};
 ghost use Rattle.pc_adapt_partition.specs.Facts.{AreFacts, AreKnown};
 ghost use Rattle.pc_adapt_partition.specs.Gathered.{Gathers};
@@ -28,6 +29,7 @@ pub(crate) fn gather(
     ensures gathers { IfOk result (λ group. (lift lower : ℕ → FunctionFacts)
         → AreFacts types.now graph.old.adapters lift lower
         → Gathers graph.old graph.new first (parts_of lift lower first (slice first many graph.old.adapters)) group) }
+    ensures few { Adds (9 * many) many many (12 * many) graph.old graph.new }
     ensures full { result ≡ Err PushError.TooMany → HasNoRoom graph.new
         ⊎ ((lift lower : ℕ → FunctionFacts) → AreFacts types.now graph.old.adapters lift lower
         → 4294967294 < total_imports (parts_of lift lower first (slice first many graph.old.adapters))) }

@@ -8,6 +8,7 @@ ghost use Rattle.pc_spec_adapt.specs.Asked.{FunctionFacts};
 ghost use Rattle.pc_adapt.specs.Asked.{HoldsTypes};
 ghost use Rattle.pc_adapt.specs.Imports.{imports_of};
 ghost use Rattle.pc_adapt.specs.Places.{side_count};
+ghost use Rattle.pc_adapt_define.specs.Adds.{Adds};
 ghost use Rattle.pc_adapt_define.specs.Define.{HasNoRoom};
 ghost use Rattle.pc_adapt_partition.specs.Facts.{HasFacts, IsKnown};
 ghost use Rattle.pc_adapt_partition.specs.Gathered.{Puts, noted};
@@ -98,6 +99,7 @@ pub(crate) fn put(
     ensures puts { OnOk result ((x : Fused) (lift lower : FunctionFacts) → slice_get graph.old.adapters id.0 ≡ Some x
         → HasFacts types.now x lift lower
         → Puts graph.old graph.new id.0 x (imports_of lift lower x) group.old group.new) }
+    ensures few { Adds 9 1 1 12 graph.old graph.new }
     ensures full { result ≡ Err PushError.TooMany → HasNoRoom graph.new
         ⊎ ((x : Fused) (lift lower : FunctionFacts) → slice_get graph.old.adapters id.0 ≡ Some x
         → HasFacts types.now x lift lower

@@ -4,7 +4,7 @@ ghost use Rattle.std.specs.Prelude.{◌≡◌, ◌+◌, ◌<◌, ◌≤◌, ◌�
 ghost use Rattle.pc_dfg.specs.Ordered.{IsOrdered};
 ghost use Rattle.pc_spec_adapt.specs.Asked.{FunctionFacts};
 ghost use Rattle.pc_adapt_partition.specs.Facts.{AreFacts, AreKnown};
-ghost use Rattle.pc_adapt_partition.specs.Made.{AddsModule, HasLong, IsPast, Makes, cut, sum_of};
+ghost use Rattle.pc_adapt_partition.specs.Made.{AddsAtMost, AddsModule, HasLong, IsPast, Makes, cut, sum_of};
 ghost use Rattle.pc_adapt_partition.specs.Parts.{parts_of, slice, total_imports};
 
 use crate::close::close;
@@ -31,6 +31,7 @@ fn make_module(
     ensures adds { OnOk result ((lift lower : ℕ → FunctionFacts) → AreFacts types.now graph.old.adapters lift lower
         → AddsModule lift lower graph.old graph.new modules.old modules.new first
         (slice first many graph.old.adapters)) }
+    ensures few { AddsAtMost many 1 graph.old graph.new modules.old modules.new }
     ensures full { result ≡ Err PushError.TooMany → IsPast graph.new modules.new
         ⊎ ((lift lower : ℕ → FunctionFacts) → AreFacts types.now graph.old.adapters lift lower
         → 4294967294 < total_imports (parts_of lift lower first (slice first many graph.old.adapters))) }
@@ -53,6 +54,8 @@ pub(crate) fn make_modules(
     requires numbers { length graph.old.adapters ≤ 4294967295 }
     ensures makes { OnOk result ((lift lower : ℕ → FunctionFacts) → AreFacts types.now graph.old.adapters lift lower
         → Makes lift lower graph.old graph.new modules.old modules.new lengths.now) }
+    ensures few { AddsAtMost (length graph.old.adapters) (length lengths.now) graph.old graph.new modules.old
+        modules.new }
     ensures full { result ≡ Err PushError.TooMany → IsPast graph.new modules.new
         ⊎ ((lift lower : ℕ → FunctionFacts) → AreFacts types.now graph.old.adapters lift lower
         → HasLong lift lower 0 (cut lengths.now 0 graph.old.adapters)) }

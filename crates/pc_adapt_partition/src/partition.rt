@@ -5,16 +5,18 @@ ghost use Rattle.pc_numbers.specs.declared.runtime.ResourceIndex.{ResourceIndex}
 ghost use Rattle.pc_types.specs.TypeTree.{Identity, TypeTree};
 ghost use Rattle.pc_spec_plan.specs.CoreValue.{CoreValue};
 ghost use Rattle.pc_trampoline.specs.declared.part.Mark.{Mark};
+ghost use Rattle.pc_dfg.specs.declared.core_def.CoreDef.{CoreDef};
 ghost use Rattle.pc_dfg.specs.Ordered.{IsOrdered};
 ghost use Rattle.pc_dfg.specs.declared.ids.AdapterId.{AdapterId as Adapters};
 ghost use Rattle.pc_dfg.specs.Told.{IsTold, Unsaid};
 ghost use Rattle.pc_dfg_linearize.specs.Grouped.{IsGrouped};
-ghost use Rattle.pc_dfg_linearize.specs.Wired.{IsWired};
+ghost use Rattle.pc_dfg_linearize.specs.Wired.{IsWired, Occurs};
 ghost use Rattle.pc_spec_adapt.specs.Asked.{FunctionFacts};
+ghost use Rattle.pc_adapt_define.specs.Define.{is_taken};
 ghost use Rattle.pc_adapt.specs.Asked.{AreTyped, HoldTypes, LacksFirst};
 ghost use Rattle.pc_adapt_partition.specs.Adapted.{AreAdapted};
 ghost use Rattle.pc_adapt_partition.specs.Facts.{AreFacts, AreKnown, HaveTrees};
-ghost use Rattle.pc_adapt_partition.specs.Made.{AddsFew, AreModulesApart, IsPast, Keeps};
+ghost use Rattle.pc_adapt_partition.specs.Made.{AddsAtMost, AddsFew, AreModulesApart, IsPast, Keeps};
 ghost use Rattle.pc_adapt_partition.specs.Partitions.{HasFullSlots, HasTooMany, Partitions, facts_by};
 ghost use Rattle.pc_adapt_partition.specs.Wired.{AreHandedIn, HaveValues, LiftFunctions};
 
@@ -69,6 +71,8 @@ fn make(
     ensures partitions { OnOk result ((lift lower : ℕ → FunctionFacts)
         → AreFacts types.now graph.old.adapters lift lower
         → Partitions lift lower graph.old graph.new modules.old modules.new) }
+    ensures most { AddsAtMost (length graph.old.adapters) (length graph.old.adapters) graph.old graph.new modules.old
+        modules.new }
     ensures room { OnOk result (¬ (IsPast graph.new modules.new)) }
     ensures full { result ≡ Err PushError.TooMany → (lift lower : ℕ → FunctionFacts)
         → AreFacts types.now graph.old.adapters lift lower
@@ -115,8 +119,12 @@ pub fn partition_adapter_modules(
         (values : ℕ → CoreValue Mark) → AreTyped types.now who dfg.old lift lower → AreHandedIn modules.old
         → HaveValues dfg.old values → LiftFunctions dfg.old → IsWired dfg.old modules.old
         → IsWired dfg.new modules.new) }
+    ensures occurs { OnOk result ((d : CoreDef) → is_taken d ≡ true → Occurs dfg.new d → Occurs dfg.old d) }
     ensures few { OnOk result (AddsFew (length dfg.old.adapters) modules.old modules.new dfg.new) }
     ensures room { OnOk result (¬ (IsPast dfg.new modules.new)) }
+    // However it ends, that is the most that was added.
+    ensures most { AddsAtMost (length dfg.old.adapters) (length dfg.old.adapters) dfg.old dfg.new modules.old
+        modules.new }
     ensures full { result ≡ Err AdaptError.TooMany → (who : ResourceIndex → Identity) (lift lower : ℕ → TypeTree)
         → AreTyped types.now who dfg.old lift lower
         → HasTooMany (facts_by lift) (facts_by lower) dfg.old dfg.new modules.new }

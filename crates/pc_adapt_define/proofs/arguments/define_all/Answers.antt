@@ -1,8 +1,11 @@
 use Rattle.std.proofs.Common.{◌≡◌, ◌∷◌, [], ◌++◌, List, length, refl, sym, ap, subst, ◌∙◌, append_assoc, append-nil}
 use Rattle.std.proofs.Common.{arith, rules}
 use Rattle.std.specs.Vec.Iter.{into_iter_items}
-use Rattle.pc_adapt_define.specs.Define.{AreDefined}
-use Rattle.pc_adapt_define.proofs.ArgumentLemmas.{list_full, next_held, next_stays, none_defined, one_defined}
+use Rattle.pc_adapt_define.specs.Adds.{Adds}
+use Rattle.pc_adapt_define.specs.Define.{AreDefined, callbacks_in, memories_in, post_returns_in, total}
+use Rattle.pc_adapt_define.specs.Define.{trampolines_in}
+use Rattle.pc_adapt_define.proofs.ArgumentLemmas.{adds_so_far, list_full, next_held, next_stays, none_defined}
+use Rattle.pc_adapt_define.proofs.ArgumentLemmas.{one_defined}
 use Rattle.pc_adapt_define.proofs.arguments.define_all.Goals as goal
 
 nothing_left : {X : Type 0} (l : List X) → length l ≡ 0 → l ≡ []
@@ -55,3 +58,33 @@ pub returns-in_err-def-clause-full : goal.returns-in_err-def-clause-full
 returns-in_err-def-clause-full c is =
     let too_many = rw is at c.from_residual.ensures.1 in
     list_full c.define.new.graph c.in-Some.import (c.in_err-def.ensures.full (cc too_many))
+
+pub returns-in_err-def-clause-adds : goal.returns-in_err-def-clause-adds
+returns-in_err-def-clause-adds c =
+    let at = c.loop-import in
+    let x = c.in-Some.import in
+    let steps : into_iter_items at.import-iterator ≡ x ∷ into_iter_items c.next.new.self = c.in-Some.ensures.steps.0 in
+    let all = ap (λ xs. at.yielded ++ xs) (sym steps) ∙ at.invariant.0
+    ∙ c.into_iter-import-iterator.ensures.into_iter_gives.0 in
+    adds_so_far c.args.graph.now at.graph c.define.new.graph c.args.imports.items at.yielded
+    (into_iter_items c.next.new.self) x all at.invariant.1.adds c.define.ensures.adds
+
+pub returns-in_err-push-clause-adds : goal.returns-in_err-push-clause-adds
+returns-in_err-push-clause-adds c =
+    let at = c.loop-import in
+    let x = c.in-Some.import in
+    let steps : into_iter_items at.import-iterator ≡ x ∷ into_iter_items c.next.new.self = c.in-Some.ensures.steps.0 in
+    let all = ap (λ xs. at.yielded ++ xs) (sym steps) ∙ at.invariant.0
+    ∙ c.into_iter-import-iterator.ensures.into_iter_gives.0 in
+    adds_so_far c.args.graph.now at.graph c.define.new.graph c.args.imports.items at.yielded
+    (into_iter_items c.next.new.self) x all at.invariant.1.adds c.define.ensures.adds
+
+pub returns-clause-adds : goal.returns-clause-adds
+returns-clause-adds c =
+    let at = c.loop-import in
+    let none = c.in-None.ensures.steps in
+    let empty : into_iter_items at.import-iterator ≡ [] = nothing_left _ (sym at.invariant.2 ∙ none.0) in
+    let all = sym (append-nil at.yielded) ∙ rw empty at at.invariant.0
+    ∙ c.into_iter-import-iterator.ensures.into_iter_gives.0 in
+    subst (λ l. Adds (total memories_in l) (total callbacks_in l) (total post_returns_in l) (total trampolines_in l)
+    c.args.graph.now at.graph) all at.invariant.1.adds

@@ -1,4 +1,7 @@
+use Rattle.std.proofs.Common.{subst, sym}
+use Rattle.pc_adapt_partition.specs.Gathered.{ClosesFew}
 use Rattle.pc_adapt_partition.proofs.StepLemmas.{closes_from, on_ok_three}
+use Rattle.pc_adapt_partition.proofs.MostLemmas.{closes_few, nothing_closed, one_longer, pushed_closed}
 use Rattle.pc_adapt_partition.proofs.close.close.Goals as goal
 
 pub returns-clause-closes : goal.returns-clause-closes
@@ -14,3 +17,28 @@ returns-clause-closes c =
     c.num_imported_funcs-function.ensures c.in_ok-adapters.ensures c.new.ensures c.in_ok-core_module.ensures.ok
     c.in_ok-core_module.ensures.key push.ok push.rest push.key push.grows push.ordered is grows ordered)
     placed.placed placed.grows placed.ordered
+
+pub returns-in_err-record_-clause-few : goal.returns-in_err-record_-clause-few
+returns-in_err-record_-clause-few c = nothing_closed c.args.many c.args.graph.now c.args.modules.now
+
+pub returns-in_err-adapters-clause-few : goal.returns-in_err-adapters-clause-few
+returns-in_err-adapters-clause-few c = nothing_closed c.args.many c.args.graph.now c.args.modules.now
+
+pub returns-in_err-core_module-clause-few : goal.returns-in_err-core_module-clause-few
+returns-in_err-core_module-clause-few c =
+    subst (ClosesFew c.args.many c.args.graph.now c.args.graph.now c.args.modules.now)
+    (sym c.in_err-core_module.ensures.err) (nothing_closed c.args.many c.args.graph.now c.args.modules.now)
+
+pub returns-in_err-adapter_module-clause-few : goal.returns-in_err-adapter_module-clause-few
+returns-in_err-adapter_module-clause-few c =
+    subst (λ g. ClosesFew c.args.many c.args.graph.now g c.args.modules.now c.push_module.new.modules)
+    (sym c.in_err-adapter_module.ensures.err)
+    (pushed_closed c.args.many c.args.graph.now c.args.modules.now c.push_module.new.modules _
+    c.in_ok-core_module.ensures.ok)
+
+pub returns-clause-few : goal.returns-clause-few
+returns-clause-few c =
+    closes_few c.args.many c.args.graph.now c.push_adapter_module.new.self c.place_adapters.new.graph
+    c.args.modules.now c.push_module.new.modules c.in_ok-adapter_module.ensures.rest
+    (one_longer _ _ _ c.in_ok-adapter_module.ensures.ok) c.place_adapters.ensures.rest c.place_adapters.ensures.few
+    (one_longer _ _ _ c.in_ok-core_module.ensures.ok)

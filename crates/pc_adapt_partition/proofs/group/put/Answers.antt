@@ -2,6 +2,7 @@ use Rattle.std.proofs.Common.{arith, ◌≡◌, length}
 use Rattle.std.proofs.lemmas.Option.{slice_get_within}
 use Rattle.std.proofs.lemmas.Result.{on_ok_weaker}
 use Rattle.pc_adapt_partition.proofs.StepLemmas.{note_room, planned_held, puts_from}
+use Rattle.pc_adapt_partition.proofs.MostLemmas.{nothing_added, planned_few}
 use Rattle.pc_adapt_partition.proofs.group.put.Goals as goal
 
 pub note-requires : goal.note-requires
@@ -36,3 +37,17 @@ returns-clause-puts c =
     c.in_ok-note.ensures (omega (arith, size, c.if-len.false, c.len-2.ensures, c.requires.room)) defined lift lower
     facts)
     c.define_all.ensures.defined
+
+pub returns-in_err-imports-clause-few : goal.returns-in_err-imports-clause-few
+returns-in_err-imports-clause-few c = nothing_added 9 1 1 12 c.args.graph.now
+
+pub returns-then-len-clause-few : goal.returns-then-len-clause-few
+returns-then-len-clause-few c = nothing_added 9 1 1 12 c.args.graph.now
+
+pub returns-in_err-note-clause-few : goal.returns-in_err-note-clause-few
+returns-in_err-note-clause-few c = nothing_added 9 1 1 12 c.args.graph.now
+
+pub returns-clause-few : goal.returns-clause-few
+returns-clause-few c =
+    planned_few c.args.types.now c.args.graph.now c.define_all.new.graph c.args.id.0 c.requires.known
+    c.index.result.now c.index.ensures c.in_ok-imports.imports.items c.in_ok-imports.ensures c.define_all.ensures.adds

@@ -3,6 +3,7 @@ use Rattle.pc_adapt_partition.specs.Made.{sum_of}
 use Rattle.pc_adapt_partition.proofs.CutLemmas.{sum_step}
 use Rattle.pc_adapt_partition.proofs.MakeLemmas.{same_adapters}
 use Rattle.pc_adapt_partition.proofs.StepLemmas.{make_full, make_step, sum_next}
+use Rattle.pc_adapt_partition.proofs.MostLemmas.{made_front, made_next}
 use Rattle.pc_adapt_partition.proofs.make.make_modules.Goals as goal
 
 pub overflow_cast-many : goal.overflow_cast-many
@@ -71,3 +72,14 @@ loop-place-preserved c = (
       c.loop-place.first c.requires.ordered facts c.loop-place-test.true c.requires.all c.loop-place.invariant.0
       (c.loop-place.invariant.1 lift lower facts) c.in_ok-make_module.ensures.adds,
 )
+
+pub returns-in_err-make_module-clause-few : goal.returns-in_err-make_module-clause-few
+returns-in_err-make_module-clause-few c =
+    made_next c.args.types.now c.args.graph.now c.loop-place.graph c.args.modules.now c.loop-place.modules
+    c.args.lengths.now c.loop-place.place c.requires.known c.requires.all c.loop-place.invariant.1
+    c.make_module.new.graph c.make_module.new.modules 0 c.loop-place-test.true c.make_module.ensures.few
+
+pub returns-clause-few : goal.returns-clause-few
+returns-clause-few c =
+    made_front c.args.types.now c.args.graph.now c.loop-place.graph c.args.modules.now c.loop-place.modules
+    c.args.lengths.now c.loop-place.place c.requires.known c.requires.all c.loop-place.invariant.1

@@ -2,9 +2,10 @@ use Rattle.std.proofs.Common.{Ok, refl}
 use Rattle.pc_adapt_partition.specs.Partitions.{facts_by}
 use Rattle.pc_adapt_partition.proofs.AdaptedLemmas.{are_adapted}
 use Rattle.pc_adapt_partition.proofs.PartitionLemmas.{adds_few, apart_all, facts_from, grouped_after, keeps_all}
-use Rattle.pc_adapt_partition.proofs.PartitionLemmas.{known_from, ordered_after, told_all, wired_all}
+use Rattle.pc_adapt_partition.proofs.PartitionLemmas.{known_from, occurs_all, ordered_after, told_all, wired_all}
 use Rattle.pc_adapt_partition.proofs.RefusalLemmas.{lacking_told, nobody_lacks, not_bad_push, not_bad_ok, push_full}
 use Rattle.pc_adapt_partition.proofs.WiredModuleLemmas.{modules_wired}
+use Rattle.pc_adapt_partition.proofs.MostLemmas.{nothing_made}
 use Rattle.pc_adapt_partition.proofs.partition.partition_adapter_modules.Goals as goal
 
 pub returns-in-Some-clause-bad : goal.returns-in-Some-clause-bad
@@ -86,6 +87,13 @@ returns-clause-distinct c =
     c.requires.ordered c.requires.no_modules c.requires.ungrouped
     (c.in_ok-make.ensures.partitions known.lift known.lower known.facts)
 
+pub returns-clause-occurs : goal.returns-clause-occurs
+returns-clause-occurs c =
+    let known = known_from c.args.types.now c.args.dfg.now c.requires.held c.requires.typed in
+    occurs_all known.lift known.lower c.args.dfg.now c.make.new.graph c.args.modules.now c.make.new.modules
+    c.requires.ordered c.requires.no_modules c.requires.ungrouped
+    (c.in_ok-make.ensures.partitions known.lift known.lower known.facts)
+
 pub returns-clause-wired : goal.returns-clause-wired
 returns-clause-wired c who lift lower values typed handed_in have lifts wired =
     let parts = c.in_ok-make.ensures.partitions (facts_by lift) (facts_by lower)
@@ -96,3 +104,12 @@ returns-clause-wired c who lift lower values typed handed_in have lifts wired =
     c.make.new.modules c.requires.ordered parts.makes.keeps.grows have
     (are_adapted (facts_by lift) (facts_by lower) values c.args.dfg.now c.make.new.graph c.args.modules.now
     c.make.new.modules c.requires.no_modules c.requires.ungrouped have parts))
+
+pub returns-in-Some-clause-most : goal.returns-in-Some-clause-most
+returns-in-Some-clause-most c = nothing_made _ _ c.args.dfg.now c.args.modules.now
+
+pub returns-in_err-make-clause-most : goal.returns-in_err-make-clause-most
+returns-in_err-make-clause-most c = c.make.ensures.most
+
+pub returns-clause-most : goal.returns-clause-most
+returns-clause-most c = c.make.ensures.most
