@@ -22,6 +22,7 @@ mod SharedLemmas
 mod TwiceLemmas
 mod UsedLemmas
 mod SlotUseLemmas
+mod HeadedLemmas
 mod LoweringUseLemmas
 mod RangeLemmas
 mod LiftedLemmas

@@ -69,6 +69,7 @@ use Rattle.pc_dfg_finish.proofs.ApartLemmas.{are_apart, is_of_adapters}
 use Rattle.pc_dfg_finish.proofs.CopyLemmas.{same_options, same_trampoline}
 use Rattle.pc_dfg_finish.proofs.ExportPieceLemmas.{all_exported, exported_piece}
 use Rattle.pc_dfg_linearize.proofs.FullLemmas.{count_within}
+use Rattle.pc_dfg_finish.proofs.HeadedLemmas.{few_headed, headed_alike}
 use Rattle.pc_dfg_finish.proofs.LiftedLemmas.{exported_numbered, exported_options, lifted_within, made_of}
 use Rattle.pc_dfg_finish.proofs.LoweringUseLemmas.{used_lowering}
 use Rattle.pc_dfg_finish.proofs.OwnedLemmas.{run_owned}
@@ -195,6 +196,7 @@ module _ (g : ComponentDfg) (ordered : IsOrdered g) (f : Finish) (done : DoneBef
           value = value.0;
           means = value.1;
           resolves = grown.reached.resolves.trampoline t n value.0 (view whole ms) given.1 value.1 (extends ms);
+          headed = headed_alike g h given.0 n is (further.continues.represents done.represents);
         }
 
     -- no value stands there twice
@@ -486,6 +488,7 @@ module _ (g : ComponentDfg) (ordered : IsOrdered g) (f : Finish) (done : DoneBef
           let within = count_within h.numbers.trampolines (length h.trampolines)
           (further.continues.fills done.fills).trampolines in
           omega (arith, within, further.continues.fits.trampolines);
+      few_headed = few_headed g h (further.continues.represents done.represents) (further.continues.fills done.fills);
       names = exports.named.definitions;
       finds = exports.named.finds;
       items = exports.forms;

@@ -1,7 +1,7 @@
 -- The plan of a graph: what it does, and what it has.
 use Rattle.std.specs.List.{AllZip}
 use Rattle.std.specs.Prelude.{◌≡◌, ◌<◌, ◌≤◌, ℕ, List, length, map, take, None, Some}
-use Rattle.std.specs.Prelude.{slice_get, true, false}
+use Rattle.std.specs.Prelude.{slice_get, count_by, true, false}
 use Rattle.pc_numbers.specs.declared.runtime.TrampolineIndex.{TrampolineIndex}
 use Rattle.pc_spec_plan.specs.CoreValue.{CoreValue}
 use Rattle.pc_spec_plan.specs.Counts.{own_counts}
@@ -9,7 +9,7 @@ use Rattle.pc_spec_plan.specs.ExportNode.{NamedNode}
 use Rattle.pc_spec_plan.specs.Log.{Entry, instances_of}
 use Rattle.pc_spec_plan.specs.Machine.{NeverStuck, RuntimeInstance, State, owned_instances, resolve}
 use Rattle.pc_spec_plan.specs.PlanView as plan
-use Rattle.pc_spec_plan.specs.PlanView.{Definition, Initializer, PlanView, SlotKind, intrinsic}
+use Rattle.pc_spec_plan.specs.PlanView.{Definition, Initializer, PlanView, SlotKind, TrampolineEntry, intrinsic}
 use Rattle.pc_spec_plan.specs.Trace.{run_trace}
 use Rattle.pc_trampoline.specs.declared.part.Mark.{Mark}
 use Rattle.pc_trampoline.specs.View.{PlanTrampoline, entry_view}
@@ -44,6 +44,7 @@ use Rattle.pc_dfg.specs.Told.{IsTold, Unsaid}
 use Rattle.pc_info.specs.Apart.{AreApart}
 use Rattle.pc_info.specs.Slots.{FillsWith, MakesAdapters}
 use Rattle.pc_dfg_finish.specs.Apart.{IsOfAdapters, TellsSlots, module_of}
+use Rattle.pc_dfg_finish.specs.Headed.{is_headed}
 use Rattle.pc_info.specs.Slots.{AtMostOne, IsUsed, StandsAt, TakesLowering, UsesLowering}
 use Rattle.pc_info.specs.Slots.{UsesSlot, UsesTrampoline, slots_in}
 use Rattle.pc_info.specs.Standing.{AreNumberedBehind, CarriesNext, IsMadeLate, Makes, Piece, a_trampoline}
@@ -53,7 +54,7 @@ use Rattle.pc_dfg_finish.specs.Unnumbered.{unnumbered, unnumbered_options}
 use Rattle.pc_dfg_linearize.specs.Wired.{IsWired, Occurs}
 
 -- in this state of its run with all modules, a trampoline of a plan resolves to what one of the graph means, and stands
--- under the signature of that one
+-- under the signature of that one; it is a helper exactly where that one is
 pub record StandsForOne (g : ComponentDfg) (p : ComponentTranslation) (ms : List ModuleTranslation) (s : State Mark)
     (n : ℕ) : Type 0 where
   pub trampoline : TrampolineIndex
@@ -63,6 +64,8 @@ pub record StandsForOne (g : ComponentDfg) (p : ComponentTranslation) (ms : List
   pub value : CoreValue Mark
   pub means : Means g (def.Trampoline trampoline) value
   pub resolves : resolve (view p ms) s (plan.trampoline n) ≡ Some value
+  pub headed : (x : TrampolineEntry Mark) → slice_get (view p ms).trampolines n ≡ Some x
+      → is_headed x ≡ is_headed (trampoline_entry entry)
 
 -- a plan never gets stuck: run from nothing it does what a trace says, in order, and it ends with these exports
 pub record Does (p : PlanView Mark) (trace : List (Entry Mark)) (nodes : List (NamedNode Mark)) : Type 0 where
@@ -128,10 +131,13 @@ pub record Finishes (g : ComponentDfg) (converted : ℕ → Mark) (plan : Compon
   pub counts : (ms : List ModuleTranslation)
       → counts_view plan.component ≡ own_counts (view plan ms) g.num_runtime_component_instances g.num_future_tables
       g.num_stream_tables g.num_error_context_tables
-  -- each trampoline has its signature, is one of the graph, and there are no more than there; none stands twice
+  -- each trampoline has its signature, is one of the graph, and there are no more than there, nor more that are no
+  -- helpers; none stands twice
   pub signatures : length plan.component.trampolines ≡ length plan.trampolines
   pub trampolines : (n : ℕ) (x : PlanTrampoline) → slice_get plan.trampolines n ≡ Some x → IsTrampolineOf g plan n x
   pub few_trampolines : length plan.trampolines ≤ length g.trampolines
+  pub few_headed : count_by is_headed (trampolines_view 0 plan.component.trampolines plan.trampolines)
+      ≤ count_by (λ (x : SignedTrampoline). is_headed (trampoline_entry x)) g.trampolines
   pub apart : (i j : ℕ) (s : ModuleInternedTypeIndex) (x : PlanTrampoline) → StandsAt plan s x i → StandsAt plan s x j
       → i ≡ j
   -- and a step or an exported function names each

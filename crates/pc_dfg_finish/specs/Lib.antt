@@ -1,5 +1,6 @@
 -- What the public contract rests on, in reading order.
 pub mod Unnumbered
+pub mod Headed
 pub mod Apart
 pub mod Uses
 pub mod Finishes
