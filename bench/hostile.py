@@ -467,6 +467,119 @@ def chain_of_arguments(room):
     return document(PLAIN_TYPES, LOWERED + [taker(count), chain, links, take(0, 0), '"end"'])
 
 
+LIFTED = BASE + ['{"canon":[["lift",0,1,0,[]]]}']
+PER_ADAPTER = len(LINK % 1000000) + 1
+
+
+def equal_adapters(room):
+    """One lifted function is lowered over and over, always alike: one adapter."""
+    return document(PLAIN_TYPES, LIFTED + [canon(lambda n: LOWER, room), '"end"'])
+
+
+def adapters_apart(room):
+    """One lifted function is lowered over and over, and no two of the options are equal: one module has all."""
+    lowered = canon(apart, room - 2 * SIDE * PER_ALIAS)
+    lift = '{"canon":[["lift",0,1,0,[]]]}'
+    return document(PLAIN_TYPES, ['"version"', giver(SIDE), INSTANCE, given(SIDE), lift, lowered, '"end"'])
+
+
+def used_adapters(room):
+    """The same, and one core instance takes them all."""
+    count = (room - 2 * SIDE * PER_ALIAS) // (len(apart(SIDE * SIDE - 1)) + 1 + PER_IMPORT + PER_ITEM)
+    lift = '{"canon":[["lift",0,1,0,[]]]}'
+    lowered = fill('{"canon":[', apart, "]}", count)
+    return document(PLAIN_TYPES, ['"version"', giver(SIDE), taker(count), INSTANCE, given(SIDE), lift, lowered,
+                                  bag(count, lambda n: SIDE + n), take(1, 1), '"end"'])
+
+
+def chain_of_adapters(room):
+    """Each adapter has the one before it as realloc, so each is in a module of its own; the last is exported."""
+    count = room // PER_ADAPTER
+    chain = fill('{"canon":[', lambda n: LINK % n, ',["lift",%d,1,0,[]]]}' % count, count)
+    return document(PLAIN_TYPES, LIFTED + [chain, '{"exports":[["e","func",1]]}', '"end"'])
+
+
+def adapters_of_adapters(room):
+    """Each adapter is lifted and lowered again, and the last is exported."""
+    both = '["lower",%d,1,0,[]],["lift",%d,1,0,[]]'
+    count = room // (len(both % (1000000, 1000000)) + 1)
+    chain = fill('{"canon":[', lambda n: both % (n, n + 1), "]}", count)
+    return document(PLAIN_TYPES, LIFTED + [chain, '{"exports":[["e","func",%d]]}' % count, '"end"'])
+
+
+# a component that lowers what it is given, has a core instance take that, and lifts what the instance exports
+RELAY = ('"component","version",' + IMPORT + ',{"canon":[' + LOWER + "]},"
+         + core_module('["a","e",["func",0]]', 1, '["f","func",1]')
+         + ',{"instances":[{"exports":[["e","func",0]]},{"instantiate":[0,[["a",0]]]}]}'
+         + ',{"aliases":[{"core-export":["func",1,"f"]}]},{"canon":[["lift",1,1,0,[]]]},{"exports":[["f","func",1]]},"end"')
+
+
+def chain_of_relays(room):
+    """Very many instances of a component, each of which lowers the function that the one before it lifts."""
+    piece = '{"component-instances":[{"instantiate":[0,[["i","func",%d]],2]}]},{"aliases":[{"export":["func",%d,"f"]}]}'
+    count = min(room // (len(piece % (1000000, 1000000)) + 1), MOST - 1)
+    types = PLAIN_TYPES[:-2] + ',{"instance":[["f",["func",1]]]}]}'
+    links = ",".join(piece % (n, n) for n in range(count))
+    return document(types, LIFTED + [RELAY, links, '"end"'], MOST)
+
+
+def destructors_that_are_adapters(room):
+    """Very many resources, each with an adapter of its own as destructor."""
+    declared = '{"resource":[2,"i32",%d]}'
+    count = (room - 2 * SIDE * PER_ALIAS) // (len(apart(SIDE * SIDE - 1)) + len(declared % 1000000) + 2)
+    lowered = fill('{"canon":[["lift",0,1,0,[]],', apart, "]}", count)
+    types = PLAIN_TYPES[:-2] + ',"resource"]}'
+    return document(types, ['"version"', giver(SIDE), INSTANCE, given(SIDE), lowered,
+                            fill('{"types":[', lambda n: declared % (SIDE + n), "]}", count), '"end"'])
+
+
+STRINGS = '{"core":[[[],[]]],"types":[{"module":[[],[]]},{"func":{"params":[["s","string"]],"result":"string","async":false}}]}'
+
+
+def memories(count):
+    """A core module with so many memories behind one function, and aliases of them."""
+    items = ",".join('["e%07d","memory",%d]' % (n, n) for n in range(count))
+    has = '{"module":{"ty":0,"imports":[],"funcs":[0],"tables":0,"memories":[%s],"globals":0,"tags":0,"exports":[["f","func",0],%s]}}'
+    return has % (",".join(["false"] * count), items), fill(
+        '{"aliases":[{"core-export":["func",0,"f"]},', lambda n: '{"core-export":["memory",0,"e%07d"]}' % n, "]}", count)
+
+
+def adapters_of_strings(room):
+    """A function of strings is lowered over and over, each time with a memory of its own."""
+    lowered = '["lower",0,1,0,["compact-utf16",["memory",%d],["realloc",0]]]'
+    count = room // (len(lowered % 1000000) + 1 + PER_ALIAS + PER_EXPORT + 8)
+    module, aliased = memories(count)
+    lift = '{"canon":[["lift",0,1,0,["utf16",["memory",0],["realloc",0]]]]}'
+    return document(STRINGS, ['"version"', module, INSTANCE, aliased, lift,
+                              fill('{"canon":[', lambda n: lowered % n, "]}", count), '"end"'])
+
+
+def an_adapter_without_memory(room):
+    """The same, and the last one lacks its memory."""
+    lowered = '["lower",0,1,0,["compact-utf16",["memory",%d],["realloc",0]]]'
+    count = room // (len(lowered % 1000000) + 1 + PER_ALIAS + PER_EXPORT + 8)
+    module, aliased = memories(count)
+    lift = '{"canon":[["lift",0,1,0,["utf16",["memory",0],["realloc",0]]]]}'
+    return document(STRINGS, ['"version"', module, INSTANCE, aliased, lift,
+                              fill('{"canon":[', lambda n: lowered % n, ',["lower",0,1,0,[]]]}', count), '"end"'])
+
+
+def adapters_over_wide_records(room):
+    """A memory behind very many imported ones, on one side of very many adapters."""
+    half = room // 2
+    count = min(half // (len('["a","e0000000",["memory",false]],') + PER_ITEM), MOST)
+    needs = ",".join('["a","e%07d",["memory",false]]' % n for n in range(count))
+    one = '{"module":{"ty":0,"imports":[],"funcs":[0],"tables":0,"memories":[false],"globals":0,"tags":0,"exports":[["f","func",0],["m","memory",0]]}}'
+    wide = '{"module":{"ty":0,"imports":[%s],"funcs":[],"tables":0,"memories":[true],"globals":0,"tags":0,"exports":[["m","memory",%d]]}}'
+    items = fill('{"exports":[', lambda n: '["e%07d","memory",0]' % n, "]}", count)
+    begin = ['"version"', one, INSTANCE, '{"aliases":[{"core-export":["func",0,"f"]},{"core-export":["memory",0,"m"]}]}']
+    made = ['{"instances":[' + "".join(items) + ',{"instantiate":[1,[["a",1]]]}]}',
+            '{"aliases":[{"core-export":["memory",2,"m"]}]}', '{"canon":[["lift",0,1,0,[]]]}']
+    link = '["lower",0,1,0,[["memory",1],["realloc",%d]]]'
+    chain = fill('{"canon":[', lambda n: link % n, "]}", half // (len(link % 1000000) + 1) // 2)
+    return document(PLAIN_TYPES, begin + [wide % (needs, count)] + made + [chain, '"end"'])
+
+
 def unused_imports(room):
     """Imports of functions that nothing uses."""
     imports = listed('{"imports":[', lambda n: '["i%d",["func",1]]' % n, "]}", room)
@@ -1019,7 +1132,9 @@ FAMILIES = {
     aliases_at_each_level: 1, names_in_a_bag: 0, names_of_arguments: 1, bag_of_arguments: 0, bag_of_aliases: 0,
     small_bags: 0, many_instances: 0, instances_with_a_long_name: 0, aliases_of_one_export: 0, aliases_of_each_kind: 0,
     equal_lowerings: 0, lowerings_apart: 0, used_lowerings: 0, chain_of_lowerings: 0, chain_of_arguments: 0,
-    unused_imports: 0, used_imports: 0, long_signature_lowered: 0, equal_builtins: 0, builtins_apart: 0,
+    equal_adapters: 0, adapters_apart: 0, used_adapters: 0, chain_of_adapters: 0, adapters_of_adapters: 0,
+    chain_of_relays: 0, destructors_that_are_adapters: 0, adapters_of_strings: 0, an_adapter_without_memory: 1,
+    adapters_over_wide_records: 0, unused_imports: 0, used_imports: 0, long_signature_lowered: 0, equal_builtins: 0, builtins_apart: 0,
     used_builtins: 0, results_of_tasks: 0, context_slots: 0, lowered_intrinsics: 0,
     builtins_of_one_resource: 0, builtins_of_many_resources: 0, reads_of_many_streams: 0, reads_of_a_long_type: 0,
     waits_on_one_memory: 0, used_waits: 0, threads_in_children: 0, long_result_in_children: 0,

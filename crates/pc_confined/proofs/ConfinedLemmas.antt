@@ -10,7 +10,6 @@ use Rattle.pc_spec_plan.specs.Log.{Entry, Owned, declared, declared_resource, in
 use Rattle.pc_spec_plan.specs.Log.{needed}
 use Rattle.pc_parsed.specs.declared.payload.Payload.{Payload}
 use Rattle.pc_parsed.specs.Mark.{Mark}
-use Rattle.pc_spec_reading.specs.Guard.{Guard, everything}
 use Rattle.pc_spec_reading.specs.Item.{Items}
 use Rattle.pc_spec_reading.specs.Nest.{root_of}
 use Rattle.pc_spec_reading.specs.Outcome.{Outcome, done}
@@ -50,13 +49,13 @@ module _ (log : List (Entry Mark)) where
         All-contains (IsConfinedEntry log) log (made (adapter t lift u lower callee)) h at;
   }
 
--- so is that of a reading that is done, whatever is let through
-pub of_body : (g : Guard) (t : TypeTable) (ms : List ModuleRecord) (limit : ℕ) (counted : Option ℕ) (body : Items)
-    (r : Reading) → reading_of g t ms limit counted body ≡ done r → IsConfined r.log
-of_body g t ms limit counted body r is =
+-- so is that of a reading that is done
+pub of_body : (t : TypeTable) (ms : List ModuleRecord) (limit : ℕ) (counted : Option ℕ) (body : Items)
+    (r : Reading) → reading_of t ms limit counted body ≡ done r → IsConfined r.log
+of_body t ms limit counted body r is =
     confined r.log
     (subst (λ (o : Outcome Reading). IfDone o (λ (r : Reading). AreConfined r.log)) is
-    (reading_confined g t ms limit counted body))
+    (reading_confined t ms limit counted body))
 
 -- and that of a list of payloads
 pub of_list : (t : TypeTable) (exposed : Option (List ℕ)) (limit : ℕ) (counted : Option ℕ) (ps : List Payload)
@@ -64,9 +63,9 @@ pub of_list : (t : TypeTable) (exposed : Option (List ℕ)) (limit : ℕ) (count
 unfolding reading
 of_list t exposed limit counted ps r = by (root_of exposed ps)
   where
-    by : (o : Option Items) → option_map (reading_of everything t (modules_of ps) limit counted) o ≡ Some (done r)
+    by : (o : Option Items) → option_map (reading_of t (modules_of ps) limit counted) o ≡ Some (done r)
         → IsConfined r.log
     by None is = absurd (none-some (done r) is)
     by (Some body) is =
-        of_body everything t (modules_of ps) limit counted body r
-        (same_Some (reading_of everything t (modules_of ps) limit counted body) (done r) is)
+        of_body t (modules_of ps) limit counted body r
+        (same_Some (reading_of t (modules_of ps) limit counted body) (done r) is)

@@ -1,14 +1,11 @@
 -- The exports of the root only add what is needed to a log.
 use Rattle.std.proofs.Common.{ℕ, ◌+◌, Bool, true, false, List, [], ◌∷◌, Option, None, Some, if◌then◌else◌}
-use Rattle.pc_types.specs.declared.error.Place.TheVariants as place
-use Rattle.pc_types.specs.declared.error.Unsupported.TheVariants.{NotBuilt}
 use Rattle.pc_types.specs.declared.parsed.TypeTable.{TypeTable}
 use Rattle.pc_types.specs.TypeTree.{Fields, Path, TypeTree, and_field, no_fields}
 use Rattle.pc_types.specs.TypeTree as tree
 use Rattle.pc_spec_plan.specs.ExportNode.{ExportNode}
 use Rattle.pc_spec_plan.specs.Log.{needed}
 use Rattle.pc_parsed.specs.Mark.{Mark}
-use Rattle.pc_spec_reading.specs.Guard.{Guard}
 use Rattle.pc_spec_reading.specs.HostTypes.{type_at}
 use Rattle.pc_spec_reading.specs.Item.{ExportOf}
 use Rattle.pc_spec_reading.specs.Items.{exported_value}
@@ -18,7 +15,7 @@ use Rattle.pc_spec_reading.specs.Nodes.{host_function_node, host_leaf, host_node
 use Rattle.pc_spec_reading.specs.Nodes.{instance_value_node, leaf, module_node, more, no_data, passed, reached}
 use Rattle.pc_spec_reading.specs.Nodes.{refused}
 use Rattle.pc_spec_reading.specs.Nodes.{then_reach, value_node, value_nodes}
-use Rattle.pc_spec_reading.specs.Outcome.{Outcome, fault, unsupported}
+use Rattle.pc_spec_reading.specs.Outcome.{Outcome}
 use Rattle.pc_spec_reading.specs.Reading.{exporting, root_exports}
 use Rattle.pc_spec_reading.specs.Scope.{Scope}
 use Rattle.pc_spec_reading.specs.Value.{Function, Instance, Module, NamedValue, NamedValues, Value, and_value}
@@ -142,17 +139,10 @@ exporting_confined n (Some e) w skip go h rest each =
     then_done IsConfinedFinish IsConfinedFinish (go (n + 1) v) _ (each (n + 1) v c) (λ f d. d))
 
 -- the exports of the root
-pub exports_confined : (g : Guard) (t : TypeTable) (s : Scope) (es : List ExportOf) (n : ℕ) (w : World)
-    → AreConfined w.log → IfDone (root_exports g t s es n w) IsConfinedFinish
+pub exports_confined : (t : TypeTable) (s : Scope) (es : List ExportOf) (n : ℕ) (w : World)
+    → AreConfined w.log → IfDone (root_exports t s es n w) IsConfinedFinish
 unfolding root_exports
-exports_confined g t s [] n w h = h
-exports_confined g t s (e ∷ es) n w h =
-    by (exports_confined g t s es n w h) (exports_confined g t s es) (g.exports s e)
-  where
-    by : IfDone (root_exports g t s es n w) IsConfinedFinish
-        → ((m : ℕ) (v : World) → AreConfined v.log → IfDone (root_exports g t s es m v) IsConfinedFinish)
-        → (b : Bool) → IfDone
-        (if b then exporting n (exported_value t s e) w (root_exports g t s es n w) (root_exports g t s es)
-        else fault (unsupported NotBuilt) (place.Export n)) IsConfinedFinish
-    by skip each true = exporting_confined n (exported_value t s e) w _ (root_exports g t s es) h skip each
-    by skip each false = tt
+exports_confined t s [] n w h = h
+exports_confined t s (e ∷ es) n w h =
+    exporting_confined n (exported_value t s e) w _ (root_exports t s es) h (exports_confined t s es n w h)
+    (exports_confined t s es)

@@ -4,7 +4,7 @@ use Rattle.std.proofs.Common.{if◌then◌else◌, length}
 use Rattle.std.specs.Prelude.{All, slice_get}
 use Rattle.std.specs.List.{fold, list_all}
 use Rattle.pc_entity.specs.Lists.{map_all}
-use Rattle.pc_types.specs.declared.error.Unsupported.TheVariants.{ComponentImport, NotBuilt}
+use Rattle.pc_types.specs.declared.error.Unsupported.TheVariants.{ComponentImport}
 use Rattle.pc_types.specs.declared.parsed.Entity.{Entity}
 use Rattle.pc_types.specs.declared.parsed.TypeTable.{TypeTable}
 use Rattle.pc_types.specs.Table.{is_instance}
@@ -12,7 +12,6 @@ use Rattle.pc_types.specs.TypeTree.{Identity, Path, imported}
 use Rattle.pc_spec_plan.specs.Log.{needed}
 use Rattle.pc_parsed.specs.declared.payload.ExternName.{ExternName}
 use Rattle.pc_spec_reading.specs.Components.{Call, read_call}
-use Rattle.pc_spec_reading.specs.Guard.{Guard}
 use Rattle.pc_spec_reading.specs.Imports.{give, host_value, import_resources, importing, next_import, prepare}
 use Rattle.pc_spec_reading.specs.Imports.{resource_path, with_imported}
 use Rattle.pc_spec_reading.specs.Item
@@ -20,7 +19,7 @@ use Rattle.pc_spec_reading.specs.Item.{ArgumentOf, ExportOf, Items, and_item, ex
 use Rattle.pc_spec_reading.specs.Items.{argument_value, is_typed_argument}
 use Rattle.pc_spec_reading.specs.Outcome.{Fault, Outcome, at_item, bad_type, done, fault, invalid, over}
 use Rattle.pc_spec_reading.specs.Outcome.{past, unsupported}
-use Rattle.pc_spec_reading.specs.Reading.{prepare_all, prepared}
+use Rattle.pc_spec_reading.specs.Reading.{prepare_all}
 use Rattle.pc_spec_reading.specs.Resource.{ResourcePath, knowing, newly, resource_paths}
 use Rattle.pc_spec_reading.specs.Scope.{Moment, with_known}
 use Rattle.pc_spec_reading.specs.Types.{declared_tree, has_entry, is_defined_entity, names_entry}
@@ -111,16 +110,16 @@ module _ (t : TypeTable) where
       (all_some (IsSoundArgument now.world.log) (argument_value t now.scope)
       (argument_found now.world.log t now.scope sound.scope) args) (λ vs h. h)))
 
-module _ (g : Guard) (t : TypeTable) where
+module _ (t : TypeTable) where
   -- the imports of the root
   pub prepared_keep : (n : ℕ) (is : Items) (now : Moment) → IsSoundMoment now
-      → IfDone (prepare_all g t n is now) (Follows now)
-  unfolding prepare_all prepared
+      → IfDone (prepare_all t n is now) (Follows now)
+  unfolding prepare_all
   prepared_keep n no_items now sound = now_follows now sound
   prepared_keep n (and_item (Item.import_item name e) is) now sound =
-      then_done (Follows now) (Follows now) (at_item now.scope.component_instance n (prepared g t name e now)) _
-      (item_done (Follows now) now.scope.component_instance n (prepared g t name e now)
-      (held_ok (Follows now) (unsupported NotBuilt) (g.imports e) _ (prepare_keeps t name e now sound)))
-      (λ later first. onward now later first (prepare_all g t (n + 1) is later)
+      then_done (Follows now) (Follows now) (at_item now.scope.component_instance n (prepare t name e now)) _
+      (item_done (Follows now) now.scope.component_instance n (prepare t name e now)
+      (prepare_keeps t name e now sound))
+      (λ later first. onward now later first (prepare_all t (n + 1) is later)
       (prepared_keep (n + 1) is later first.sound))
   prepared_keep n (and_item i is) now sound = prepared_keep (n + 1) is now sound

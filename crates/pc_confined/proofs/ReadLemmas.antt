@@ -1,9 +1,8 @@
 -- A reading that is done is confined.
-use Rattle.std.proofs.Common.{ℕ, zero, suc, ◌+◌, Bool, true, false, List, [], Option, Ok, IfOk}
+use Rattle.std.proofs.Common.{ℕ, zero, suc, ◌+◌, Bool, true, false, List, [], Option}
 use Rattle.std.proofs.Common.{if◌then◌else◌}
 use Rattle.std.specs.Prelude.{All, nat_lt}
 use Rattle.std.proofs.lemmas.List.Elements.{All-nil}
-use Rattle.pc_types.specs.declared.error.Unsupported.TheVariants.{NotBuilt}
 use Rattle.pc_types.specs.declared.module_record.ModuleRecord.{ModuleRecord}
 use Rattle.pc_types.specs.declared.parsed.CoreKind.{CoreKind}
 use Rattle.pc_types.specs.declared.parsed.CoreKind.TheVariants as core
@@ -11,15 +10,14 @@ use Rattle.pc_types.specs.declared.parsed.TypeTable.{TypeTable}
 use Rattle.pc_types.specs.TypeTree.{Identity}
 use Rattle.pc_spec_plan.specs.Log.{Entry}
 use Rattle.pc_parsed.specs.Mark.{Mark}
-use Rattle.pc_spec_reading.specs.Components.{Call, read_return}
-use Rattle.pc_spec_reading.specs.Guard.{Guard}
+use Rattle.pc_spec_reading.specs.Components.{Call, read_return, read_call}
 use Rattle.pc_spec_reading.specs.Item
 use Rattle.pc_spec_reading.specs.Item.{ArgumentOf, ExportOf, Items, and_item, exports_in, no_items}
 use Rattle.pc_spec_reading.specs.Outcome.{Outcome, and_then, at_item, done, fault, over}
-use Rattle.pc_spec_reading.specs.Outcome.{past, unsupported}
-use Rattle.pc_spec_reading.specs.Reading.{Enter, Reading, Return, beginning, begun_in, called, enter_at, finishing}
+use Rattle.pc_spec_reading.specs.Outcome.{past}
+use Rattle.pc_spec_reading.specs.Reading.{Enter, Reading, Return, beginning, begun_in, enter_at, finishing}
 use Rattle.pc_spec_reading.specs.Reading.{instantiate, prepare_all, read_body, read_child, read_item, read_items}
-use Rattle.pc_spec_reading.specs.Reading.{read_root, reading_of, returning, root_exports, row}
+use Rattle.pc_spec_reading.specs.Reading.{read_root, reading_of, returning, root_exports}
 use Rattle.pc_spec_reading.specs.Rows.{read_row}
 use Rattle.pc_spec_reading.specs.Scope.{Moment, core_list, fresh}
 use Rattle.pc_spec_reading.specs.Total.{body_weight, prepared_weight}
@@ -32,7 +30,7 @@ use Rattle.pc_confined.proofs.RowLemmas.{return_keeps, row_keeps}
 use Rattle.pc_confined.proofs.ScopeLemmas.{now_follows}
 use Rattle.pc_confined.proofs.Sound.{AreConfined, AreSoundValues, Follows, Grows, IsConfinedEntry, IsSoundArgument}
 use Rattle.pc_confined.proofs.Sound.{IsSoundCore, IsSoundFunction, IsSoundInstance, IsSoundMoment, IsSoundScope}
-use Rattle.pc_confined.proofs.Steps.{IfDone, held_ok, item_done, then_done, then_ok}
+use Rattle.pc_confined.proofs.Steps.{IfDone, item_done, then_done}
 use Rattle.pc_confined.proofs.ValueLemmas.{exports_found}
 use Rattle.pc_confined.proofs.PrepareLemmas.{call_sound, onward, prepared_keep}
 
@@ -89,26 +87,18 @@ confined_then now (fault f p) h = tt
 confined_then now over h = tt
 confined_then now past h = tt
 
-module _ (g : Guard) (t : TypeTable) (ms : List ModuleRecord) where
-  -- an item that begins no component instance
-  guarded_keeps : (now : Moment) (i : Item.Item) → IsSoundMoment now → IfOk (row g t ms now i) (Follows now)
-  unfolding row
-  guarded_keeps now i sound =
-      held_ok (Follows now) (unsupported NotBuilt) (g.items i) _ (
-      then_ok (Follows now) (Follows now) (read_row t ms now i) _ (row_keeps t now sound ms i) (λ later h.
-      held_ok (Follows now) (unsupported NotBuilt) (g.moments later) (Ok later) h))
-
+module _ (t : TypeTable) (ms : List ModuleRecord) where
   module _ (enter : Enter) (child : IsSoundEnter enter) where
     -- an instantiation
     call_keeps : (n component : ℕ) (args : List ArgumentOf) (ty : ℕ) (now : Moment) → IsSoundMoment now
-        → IfDone (instantiate g t ms enter n component args ty now) (Follows now)
-    unfolding instantiate called
+        → IfDone (instantiate t ms enter n component args ty now) (Follows now)
+    unfolding instantiate
     call_keeps n component args ty now sound =
         let P : Call → Type 0 = λ (c : Call). All (IsSoundArgument now.world.log) c.arguments in
         let at = now.scope.component_instance in
-        then_done (Follows now) P (at_item at n (called g t now.scope component args ty)) _
-        (item_done P at n (called g t now.scope component args ty)
-        (held_ok P (unsupported NotBuilt) (g.calls args) _ (call_sound t now sound component args ty))) (λ c given.
+        then_done (Follows now) P (at_item at n (read_call t now.scope component args ty)) _
+        (item_done P at n (read_call t now.scope component args ty)
+        (call_sound t now sound component args ty)) (λ c given.
         then_done (Follows now) (Returns now.world.log) (enter c now.scope.known now.world) _
         (child c now.scope.known now.world sound.confined given) (λ r back. returned r back))
       where
@@ -128,40 +118,40 @@ module _ (g : Guard) (t : TypeTable) (ms : List ModuleRecord) where
             (return_keeps t one sound_one r.exports ty back.exports))
 
     row_done : (n : ℕ) (i : Item.Item) (now : Moment) → IsSoundMoment now
-        → IfDone (at_item now.scope.component_instance n (row g t ms now i)) (Follows now)
+        → IfDone (at_item now.scope.component_instance n (read_row t ms now i)) (Follows now)
     row_done n i now sound =
-        item_done (Follows now) now.scope.component_instance n (row g t ms now i) (guarded_keeps now i sound)
+        item_done (Follows now) now.scope.component_instance n (read_row t ms now i) (row_keeps t now sound ms i)
 
     -- an item
     item_keeps : (n : ℕ) (i : Item.Item) (now : Moment) → IsSoundMoment now
-        → IfDone (read_item g t ms enter n i now) (Follows now)
+        → IfDone (read_item t ms enter n i now) (Follows now)
     unfolding read_item
     item_keeps n (Item.instantiate_component_item a b c) now sound = call_keeps n a b c now sound
     item_keeps n i now sound = row_done n i now sound
 
     -- items
     items_keep : (n : ℕ) (is : Items) (now : Moment) → IsSoundMoment now
-        → IfDone (read_items g t ms enter n is now) (Follows now)
+        → IfDone (read_items t ms enter n is now) (Follows now)
     unfolding read_items
     items_keep n no_items now sound = now_follows now sound
     items_keep n (and_item i is) now sound =
-        then_done (Follows now) (Follows now) (read_item g t ms enter n i now) _ (item_keeps n i now sound)
-        (λ later first. onward now later first (read_items g t ms enter (n + 1) is later)
+        then_done (Follows now) (Follows now) (read_item t ms enter n i now) _ (item_keeps n i now sound)
+        (λ later first. onward now later first (read_items t ms enter (n + 1) is later)
         (items_keep (n + 1) is later first.sound))
 
   module _ (limit : ℕ) where
     -- a body
     body_keeps : (enter : Enter) → IsSoundEnter enter → (k : Component) (args : List (List ℕ × Value))
         (known : List (ℕ × Identity)) (w : World) → AreConfined w.log → All (IsSoundArgument w.log) args
-        → IfDone (read_child g t ms limit enter k args known w) (Returns w.log)
+        → IfDone (read_child t ms limit enter k args known w) (Returns w.log)
     unfolding read_body
     body_keeps enter child (closed body chain) args known w h given =
         begun_done (Returns w.log) limit (body_weight t ms body) w
-        (λ v. and_then (read_items g t ms enter 0 body (begun_in args known chain w.begun v)) (returning t body))
+        (λ v. and_then (read_items t ms enter 0 body (begun_in args known chain w.begun v)) (returning t body))
         (λ n total.
         let v : World = record w { begun = n; total = total } in
         let now : Moment = begun_in args known chain w.begun v in
-        then_done (Returns w.log) (Follows now) (read_items g t ms enter 0 body now) (returning t body)
+        then_done (Returns w.log) (Follows now) (read_items t ms enter 0 body now) (returning t body)
         (items_keep enter child 0 body now (record {
           confined = h;
           scope = fresh_sound w.log args known chain w.begun given;
@@ -172,37 +162,37 @@ module _ (g : Guard) (t : TypeTable) (ms : List ModuleRecord) where
         }))
 
     -- a child, however deep
-    child_keeps : (levels : ℕ) → IsSoundEnter (enter_at g t ms limit levels)
+    child_keeps : (levels : ℕ) → IsSoundEnter (enter_at t ms limit levels)
     unfolding enter_at
     child_keeps zero c known w h given = tt
     child_keeps (suc levels) c known w h given =
-        body_keeps (enter_at g t ms limit levels) (child_keeps levels) c.component c.arguments known w h given
+        body_keeps (enter_at t ms limit levels) (child_keeps levels) c.component c.arguments known w h given
 
     -- the root
     root_confined : (counted : Option ℕ) (body : Items)
-        → IfDone (read_root g t ms limit counted body) IsConfinedMoment
+        → IfDone (read_root t ms limit counted body) IsConfinedMoment
     unfolding read_root
     root_confined counted body =
         begun_done IsConfinedMoment limit (body_weight t ms body + prepared_weight t ms body) (new_world counted)
-        (λ v. and_then (prepare_all g t 0 body (begun_in [] [] outermost 0 v))
-        (read_items g t ms (enter_at g t ms limit limit) 0 body)) (λ n total.
+        (λ v. and_then (prepare_all t 0 body (begun_in [] [] outermost 0 v))
+        (read_items t ms (enter_at t ms limit limit) 0 body)) (λ n total.
         let v : World = record (new_world counted) { begun = n; total = total } in
         let now : Moment = begun_in [] [] outermost 0 v in
-        then_done IsConfinedMoment (Follows now) (prepare_all g t 0 body now) _
-        (prepared_keep g t 0 body now (record {
+        then_done IsConfinedMoment (Follows now) (prepare_all t 0 body now) _
+        (prepared_keep t 0 body now (record {
           confined = All-nil (IsConfinedEntry []);
           scope = fresh_sound [] [] [] outermost 0 (All-nil (IsSoundArgument []));
         })) (λ later first.
-        confined_then later (read_items g t ms (enter_at g t ms limit limit) 0 body later)
-        (items_keep (enter_at g t ms limit limit) (child_keeps limit) 0 body later first.sound)))
+        confined_then later (read_items t ms (enter_at t ms limit limit) 0 body later)
+        (items_keep (enter_at t ms limit limit) (child_keeps limit) 0 body later first.sound)))
 
     -- the whole
     pub reading_confined : (counted : Option ℕ) (body : Items)
-        → IfDone (reading_of g t ms limit counted body) (λ (r : Reading). AreConfined r.log)
+        → IfDone (reading_of t ms limit counted body) (λ (r : Reading). AreConfined r.log)
     unfolding reading_of finishing
     reading_confined counted body =
         let P : Reading → Type 0 = λ (r : Reading). AreConfined r.log in
-        then_done P IsConfinedMoment (read_root g t ms limit counted body) _
+        then_done P IsConfinedMoment (read_root t ms limit counted body) _
         (root_confined counted body) (λ now h.
-        then_done P IsConfinedFinish (root_exports g t now.scope (exports_in body) 0 now.world) _
-        (exports_confined g t now.scope (exports_in body) 0 now.world h) (λ f c. c))
+        then_done P IsConfinedFinish (root_exports t now.scope (exports_in body) 0 now.world) _
+        (exports_confined t now.scope (exports_in body) 0 now.world h) (λ f c. c))

@@ -12,7 +12,6 @@ ghost use Rattle.pc_spec_plan.specs.Machine.{State};
 ghost use Rattle.pc_spec_plan.specs.PlanView.{PlanView};
 ghost use Rattle.pc_parsed.specs.declared.payload.Payload.{Payload};
 ghost use Rattle.pc_parsed.specs.Mark.{Mark};
-ghost use Rattle.pc_spec_reading.specs.Guard.{Guard};
 ghost use Rattle.pc_spec_reading.specs.Item.{Items};
 ghost use Rattle.pc_spec_reading.specs.Outcome.{done};
 ghost use Rattle.pc_spec_reading.specs.Reading.{Reading, reading, reading_of};
@@ -20,10 +19,10 @@ ghost use Rattle.pc_spec_wiring.specs.Confined.{IsConfined, IsConfinedRun};
 ghost use Rattle.pc_spec_wiring.specs.Reached.{KeepsThreadsIn};
 ghost use Rattle.pc_confined.specs.Runs.{DoesAsTold};
 
-/// The log of a body that has been read is confined, whatever of the reading is let through.
+/// The log of a body that has been read is confined.
 pub fn readings_are_confined()
-    ensures { (g : Guard) (t : TypeTable) (ms : List ModuleRecord) (limit : ℕ) (counted : Option ℕ) (body : Items)
-        (r : Reading) → reading_of g t ms limit counted body ≡ done r → IsConfined r.log }
+    ensures { (t : TypeTable) (ms : List ModuleRecord) (limit : ℕ) (counted : Option ℕ) (body : Items)
+        (r : Reading) → reading_of t ms limit counted body ≡ done r → IsConfined r.log }
 {}
 
 /// So is the log of a list of payloads.

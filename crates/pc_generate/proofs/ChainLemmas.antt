@@ -15,7 +15,6 @@ use Rattle.pc_spec_plan.specs.CoreValue.{CoreValue, Options}
 use Rattle.pc_spec_plan.specs.Log.{Entry, Instantiation, instances_of, instantiated, made, owned_of}
 use Rattle.pc_spec_reading.specs.Answer.{answer_from, answer_of, ending, or_fault}
 use Rattle.pc_spec_reading.specs.Components.{Call, add_child, is_definable, read_call, read_component, read_return}
-use Rattle.pc_spec_reading.specs.Guard.{everything}
 use Rattle.pc_spec_reading.specs.Instances.{alias_in, alias_member, missing_name, read_alias}
 use Rattle.pc_spec_reading.specs.Item
 use Rattle.pc_spec_reading.specs.Item.{ArgumentOf, exports_in}
@@ -23,10 +22,10 @@ use Rattle.pc_spec_reading.specs.Items.{argument_value, value_at}
 use Rattle.pc_spec_reading.specs.Member.{a_value, member}
 use Rattle.pc_spec_reading.specs.Nest.{root_of}
 use Rattle.pc_spec_reading.specs.Nodes.{Finish}
-use Rattle.pc_spec_reading.specs.Outcome.{Outcome, after, and_then, at_item, done, found, invalid}
-use Rattle.pc_spec_reading.specs.Reading.{Enter, Reading, Return, begun_in, called, enter_at, finishing, instantiate}
+use Rattle.pc_spec_reading.specs.Outcome.{Outcome, and_then, at_item, done, found, invalid}
+use Rattle.pc_spec_reading.specs.Reading.{Enter, Reading, Return, begun_in, enter_at, finishing, instantiate}
 use Rattle.pc_spec_reading.specs.Reading.{prepare_all, read_item, read_items, read_root, reading, reading_of, result_of}
-use Rattle.pc_spec_reading.specs.Reading.{root_exports, row}
+use Rattle.pc_spec_reading.specs.Reading.{root_exports}
 use Rattle.pc_spec_reading.specs.Resource.{newly, registered, resource_paths, walk}
 use Rattle.pc_spec_reading.specs.Rows.{read_row}
 use Rattle.pc_spec_reading.specs.Scope.{Moment, Scope, add_value}
@@ -73,29 +72,28 @@ pub record IsAt (k : ℕ) (now : Moment) : Type 0 where
 module _ (enter : Enter) where
   -- an item, and then others
   item_then : (n : ℕ) (i : Item.Item) (is : Item.Items) (now next : Moment) (o : Outcome Moment)
-      → read_item everything table two_modules enter n i now ≡ done next
-      → read_items everything table two_modules enter (n + 1) is next ≡ o
-      → read_items everything table two_modules enter n (Item.and_item i is) now ≡ o
+      → read_item table two_modules enter n i now ≡ done next
+      → read_items table two_modules enter (n + 1) is next ≡ o
+      → read_items table two_modules enter n (Item.and_item i is) now ≡ o
   unfolding read_items
   item_then n i is now next o first others =
-      ap (λ r. and_then r (read_items everything table two_modules enter (n + 1) is)) first ∙ others
+      ap (λ r. and_then r (read_items table two_modules enter (n + 1) is)) first ∙ others
 
   -- the function of an instance
   alias_reads : (n k : ℕ) (now : Moment) (last : Instance) (g : Function) → slice_get now.scope.instances k ≡ Some last
       → member last f ≡ Some (a_value (func_value g))
-      → read_item everything table two_modules enter n (Item.alias_item item.Func k f) now
+      → read_item table two_modules enter n (Item.alias_item item.Func k f) now
       ≡ done (add_value now (func_value g))
-  unfolding read_item row everything read_row read_alias
+  unfolding read_item read_row read_alias
   alias_reads n k now last g at has =
-      ap (λ o. at_item now.scope.component_instance n (after (found invalid o (alias_in now item.Func f)) Ok)) at
-      ∙ ap (λ o. at_item now.scope.component_instance n
-      (after (found (missing_name last) o (alias_member now item.Func)) Ok)) has
+      ap (λ o. at_item now.scope.component_instance n (found invalid o (alias_in now item.Func f))) at
+      ∙ ap (λ o. at_item now.scope.component_instance n (found (missing_name last) o (alias_member now item.Func))) has
 
   -- an instance of a component that gives something
   instance_reads : (n component : ℕ) (args : List ArgumentOf) (now : Moment) (c : Call) (r : Return)
-      → called everything table now.scope component args 2 ≡ Ok c
+      → read_call table now.scope component args 2 ≡ Ok c
       → enter c now.scope.known now.world ≡ done r
-      → read_item everything table two_modules enter n (Item.instantiate_component_item component args 2) now
+      → read_item table two_modules enter n (Item.instantiate_component_item component args 2) now
       ≡ done (add_value (record now { world = r.world })
       (instance_value (made_instance (pack_values r.exports) instance_tree)))
   unfolding table read_item instantiate read_return registered walk newly resource_paths add_child tree_if type_tree
@@ -109,9 +107,9 @@ module _ (enter : Enter) where
 -- the second component with a function
 call_is : (s : Scope) (k : ℕ) (c : Component) (g : Function) → slice_get s.components 1 ≡ Some c
     → slice_get s.funcs k ≡ Some g
-    → called everything table s 1 (argument k ∷ []) 2
+    → read_call table s 1 (argument k ∷ []) 2
     ≡ Ok (record { component = c; arguments = (f, func_value g) ∷ [] })
-unfolding called everything read_call argument_value value_at table
+unfolding read_call argument_value value_at table
 call_is s k c g at has = rw (at, has) refl
 
 -- the second component may be entered, whatever there is so far
@@ -141,7 +139,7 @@ link_below b d old new a i more all lowers is =
 -- the links are read
 links_read : (limit : ℕ) (enter : Enter) → MayEnter limit enter → (n k left total : ℕ) (now : Moment) → IsAt k now
     → now.world.begun + left ≤ limit → now.world.total ≡ Some total → total + 160 * left < 4294967295
-    → (later : Moment) × (read_items everything table two_modules enter n (link_items k left) now ≡ done later)
+    → (later : Moment) × (read_items table two_modules enter n (link_items k left) now ≡ done later)
     × IsAt (k + left) later
 unfolding read_items
 links_read limit enter may n k zero total now at below counts fits =
@@ -206,7 +204,7 @@ unfolding prepared_weight
 links_prepared k zero = refl
 links_prepared k (suc left) = links_prepared (k + 1) left
 
-links_prepare : (n k left : ℕ) (now : Moment) → prepare_all everything table n (link_items k left) now ≡ done now
+links_prepare : (n k left : ℕ) (now : Moment) → prepare_all table n (link_items k left) now ≡ done now
 unfolding prepare_all
 links_prepare n k zero now = refl
 links_prepare n k (suc left) now = links_prepare (n + 1 + 1) (k + 1) left now
@@ -231,17 +229,17 @@ defined_at w =
 -- the links of a root are read, when its first instance was made
 root_read : (limit levels n total : ℕ) (w : World) → limit ≡ suc levels → n + 2 ≤ limit → w.begun ≡ 1
     → w.total ≡ Some total → w.log ≡ [] → total + 72 + 160 * n < 4294967295
-    → (later : Moment) × (read_items everything table two_modules
-    (enter_at everything table two_modules limit limit) 0 (root_items n) (prepared_at w) ≡ done later)
+    → (later : Moment) × (read_items table two_modules
+    (enter_at table two_modules limit limit) 0 (root_items n) (prepared_at w) ≡ done later)
     × IsAt (0 + n) later
-unfolding read_items read_item row everything read_row read_component is_definable called read_call table argument_value
+unfolding read_items read_item read_row read_component is_definable read_call table argument_value
 root_read limit levels n total w is enough one counts empty fits =
-    let enter : Enter = enter_at everything table two_modules limit limit in
+    let enter : Enter = enter_at table two_modules limit limit in
     let now : Moment = defined_at w in
     let chain : Chain = inside [] no_components outermost in
     let call : Call = record { component = closed first_items chain; arguments = [] } in
     let (r, entered, gives, begun, grows, logs) = given w 72 (GrowsByInstance w) (enter call [] w)
-    (subst (λ l. Gives w 72 (GrowsByInstance w) (enter_at everything table two_modules limit l call [] w)) (sym is)
+    (subst (λ l. Gives w 72 (GrowsByInstance w) (enter_at table two_modules limit l call [] w)) (sym is)
     (first_gives limit levels chain [] w (lt-ltb w.begun limit (omega (arith, one, enough)))
     (ap (λ t. has_room (grown t 72)) counts ∙ lt-ltb (total + 72) 4294967295 (omega (arith, fits))))) in
     let log : r.world.log ≡ instantiated logs.0 w.begun ∷ [] =
@@ -266,7 +264,7 @@ root_read limit levels n total w is enough one counts empty fits =
       adapters = ap (λ (l : List (Entry Mark)). length (filter_map adapter_of l)) log;
     } in
     let may : MayEnter limit enter = λ chain known w ty v o below room all.
-    subst (λ l. Gives w 160 (GrowsByLink w) (enter_at everything table two_modules limit l (record {
+    subst (λ l. Gives w 160 (GrowsByLink w) (enter_at table two_modules limit l (record {
       component = closed second_items chain;
       arguments = (f, func_value (lifted_function ty v o)) ∷ [];
     }) known w)) (sym is) (second_gives limit levels chain known w ty v o below room all) in
@@ -285,27 +283,27 @@ root_weighs n = omega (arith, links_weigh 0 n, links_prepared 0 n)
 
 -- the reading of a root is done
 pub root_done : (limit levels n total : ℕ) → limit ≡ suc levels → n + 2 ≤ limit → total + 113 + 193 * n < 4294967295
-    → (r : Reading) × (reading_of everything table two_modules limit (Some total) (root_items n) ≡ done r)
+    → (r : Reading) × (reading_of table two_modules limit (Some total) (root_items n) ≡ done r)
     × HasLinks n r
 unfolding reading_of read_root prepare_all finishing root_exports
 root_done limit levels n total is enough fits =
-    let enter : Enter = enter_at everything table two_modules limit limit in
+    let enter : Enter = enter_at table two_modules limit limit in
     let weight : ℕ = body_weight table two_modules (root_items n) + prepared_weight table two_modules (root_items n) in
     let w : World = begun_world weight (new_world (Some total)) in
     let weighs : weight ≡ 40 + 33 * n = root_weighs n in
     let go : World → Outcome Moment = λ v.
-    and_then (prepare_all everything table 0 (root_items n) (prepared_at v))
-    (read_items everything table two_modules enter 0 (root_items n)) in
+    and_then (prepare_all table 0 (root_items n) (prepared_at v))
+    (read_items table two_modules enter 0 (root_items n)) in
     let starts = begins limit weight (new_world (Some total)) go (lt-ltb 0 limit (omega (arith, enough)))
     (lt-ltb (total + (1 + weight)) 4294967295 (omega (arith, weighs, fits))) in
-    let prepares = ap (λ o. and_then o (read_items everything table two_modules enter 0 (root_items n)))
+    let prepares = ap (λ o. and_then o (read_items table two_modules enter 0 (root_items n)))
     (links_prepare 3 0 n (prepared_at w)) in
     let (later, reads, at) = root_read limit levels n (total + (1 + weight)) w is enough (refl {a = 1})
     (refl {a = Some (total + (1 + weight))}) (refl {a = []})
     (omega (arith, weighs, fits)) in (
       result_of [] later.world,
-      ap (λ o. and_then o (finishing everything table (root_items n))) (starts ∙ prepares ∙ reads)
-          ∙ ap (λ es. and_then (root_exports everything table later.scope es 0 later.world)
+      ap (λ o. and_then o (finishing table (root_items n))) (starts ∙ prepares ∙ reads)
+          ∙ ap (λ es. and_then (root_exports table later.scope es 0 later.world)
           (λ (f : Finish). done (result_of f.0 f.1))) (links_export 0 n),
       record {
         begun = omega (arith, at.begun);
@@ -321,7 +319,7 @@ count_is n = omega (arith, rest_items 21 0 n, ap (sum_by record_entities) (modul
 
 -- what is answered where the reading is done
 done_is : (n total : ℕ) (r : Reading) → total < 4294967295
-    → option_map (reading_of everything table (modules_of (payloads n)) (n + 2) (Some total))
+    → option_map (reading_of table (modules_of (payloads n)) (n + 2) (Some total))
     (root_of None (payloads n)) ≡ Some (done r)
     → answer_from table None (n + 2) (Some total) (payloads n) ≡ Some (Ok r)
 unfolding answer_from reading
@@ -339,9 +337,9 @@ valid n few =
     let counts : counted table 0 (payloads n) ≡ 30 + 2 * n = count_is n in
     let (r, reads, links) = root_done (n + 2) (n + 1) n (counted table 0 (payloads n)) (omega arith) (omega arith)
     (omega (arith, counts, few)) in
-    let body = ap (option_map (reading_of everything table (modules_of (payloads n)) (n + 2)
+    let body = ap (option_map (reading_of table (modules_of (payloads n)) (n + 2)
     (Some (counted table 0 (payloads n))))) (root_is n)
-    ∙ ap (λ ms. Some (reading_of everything table ms (n + 2) (Some (counted table 0 (payloads n))) (root_items n)))
+    ∙ ap (λ ms. Some (reading_of table ms (n + 2) (Some (counted table 0 (payloads n))) (root_items n)))
     (modules_are n) ∙ ap Some reads in
     record {
       result_ = r;

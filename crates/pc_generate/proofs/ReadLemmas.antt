@@ -10,7 +10,6 @@ use Rattle.pc_spec_plan.specs.Log.{Entry, Instantiation, instantiated, made}
 use Rattle.pc_parsed.specs.Mark.{Mark, of_type}
 use Rattle.pc_spec_reading.specs.Arguments.{core_export, static_arguments}
 use Rattle.pc_spec_reading.specs.Functions.{lower_to, making, read_lift, read_lower}
-use Rattle.pc_spec_reading.specs.Guard.{everything}
 use Rattle.pc_spec_reading.specs.Imports.{read_import}
 use Rattle.pc_spec_reading.specs.Instances.{read_export}
 use Rattle.pc_spec_reading.specs.Items.{exported_value, exports_at, value_at}
@@ -18,7 +17,7 @@ use Rattle.pc_spec_reading.specs.Modules.{read_core_alias, read_core_exports, re
 use Rattle.pc_spec_reading.specs.Options.{options_of, the_options}
 use Rattle.pc_spec_reading.specs.Outcome.{Outcome, and_then, done, fault, over, past}
 use Rattle.pc_spec_reading.specs.Reading.{Return, beginning, begun_in, enter_at, read_body, read_item, read_items}
-use Rattle.pc_spec_reading.specs.Reading.{returning, row}
+use Rattle.pc_spec_reading.specs.Reading.{returning}
 use Rattle.pc_spec_reading.specs.Resource.{newly, registered, resource_paths, walk}
 use Rattle.pc_spec_reading.specs.Rows.{read_row}
 use Rattle.pc_spec_reading.specs.SameValues.{was_made}
@@ -111,14 +110,14 @@ module _ (limit levels : ℕ) (chain : Chain) (known : List (ℕ × Identity)) (
   -- the first component, when it has begun
   abbrev first_reads : World → Outcome Return
   first_reads v =
-      and_then (read_items everything table two_modules (enter_at everything table two_modules limit levels) 0
+      and_then (read_items table two_modules (enter_at table two_modules limit levels) 0
       first_items (begun_in [] known chain w.begun v)) (returning table first_items)
 
   -- the first component gives a function
   pub first_gives : nat_lt w.begun limit ≡ true → has_room (grown w.total 72) ≡ true
-      → Gives w 72 (GrowsByInstance w) (enter_at everything table two_modules limit (suc levels)
+      → Gives w 72 (GrowsByInstance w) (enter_at table two_modules limit (suc levels)
       (record { component = closed first_items chain; arguments = [] }) known w)
-  unfolding table everything enter_at read_body read_items read_item row read_row read_module read_core_instance
+  unfolding table enter_at read_body read_items read_item read_row read_module read_core_instance
       read_core_alias read_lift read_export core_export static_arguments tree_if type_tree signature_at options_of
       the_options value_at exported_value exports_at body_weight item_weight
   first_gives below room =
@@ -139,24 +138,24 @@ module _ (limit levels : ℕ) (chain : Chain) (known : List (ℕ × Identity)) (
     -- it goes on when the adapter was made
     abbrev second_reads : Moment → Outcome Return
     second_reads now =
-        and_then (read_items everything table two_modules (enter_at everything table two_modules limit levels) 2
+        and_then (read_items table two_modules (enter_at table two_modules limit levels) 2
         lowered_items (add_core now core.Func lowered)) (returning table second_items)
 
     -- the second component, when it has begun
     abbrev second_begun : World → Outcome Return
     second_begun u =
-        and_then (read_items everything table two_modules (enter_at everything table two_modules limit levels) 0
+        and_then (read_items table two_modules (enter_at table two_modules limit levels) 0
         second_items (begun_in ((f, func_value (lifted_function ty v o)) ∷ []) known chain w.begun u))
         (returning table second_items)
 
     -- the second component gives a function
     pub second_gives : nat_lt w.begun limit ≡ true → has_room (grown w.total 160) ≡ true
-        → AllBelow w.begun w.log → Gives w 160 (GrowsByLink w) (enter_at everything table two_modules limit (suc levels)
+        → AllBelow w.begun w.log → Gives w 160 (GrowsByLink w) (enter_at table two_modules limit (suc levels)
         (record {
           component = closed second_items chain;
           arguments = (f, func_value (lifted_function ty v o)) ∷ [];
         }) known w)
-    unfolding table everything enter_at read_body read_items read_item row read_row read_module read_core_instance
+    unfolding table enter_at read_body read_items read_item read_row read_module read_core_instance
         read_core_alias read_core_exports read_import read_lift read_lower lower_to read_export core_export
         static_arguments tree_if type_tree signature_at options_of the_options value_at exported_value exports_at
         registered walk newly resource_paths body_weight item_weight

@@ -6,6 +6,7 @@ use Rattle.pc_types_lists.specs.Types.{Types}
 use Rattle.pc_spec_plan.specs.ExportNode.{NamedNode}
 use Rattle.pc_spec_plan.specs.PlanView as plan
 use Rattle.pc_parsed.specs.Mark.{Mark}
+use Rattle.pc_spec_reading.specs.Reading.{Reading}
 use Rattle.pc_spec_reading.specs.World.{World}
 use Rattle.pc_dfg.specs.declared.dfg.ComponentDfg.{ComponentDfg}
 use Rattle.pc_dfg.specs.Grows as graph
@@ -22,6 +23,7 @@ use Rattle.pc_inline_state.proofs.FitsLemmas.{fits_grown}
 use Rattle.pc_inline_state.proofs.StateLemmas.{types_refl}
 use Rattle.pc_inline_exports.proofs.GrownLemmas.{names_still}
 use Rattle.pc_inline_canon.proofs.WorldLemmas.{world_still}
+use Rattle.pc_inline.specs.Widths.{AreWide}
 
 module _ (g : ComponentDfg) (futures streams errors : ℕ) where
   -- the graph with these counts
@@ -81,15 +83,17 @@ module _ (g : ComponentDfg) (futures streams errors : ℕ) where
   same_slots plan.post_return = refl
 
   pub counted_items : (ms : List ModuleRecord) → HasItems ms g → HasItems ms counted
-  counted_items ms = items_same ms g counted counted_grows refl same_slots refl refl
+  counted_items ms = items_same ms g counted counted_grows refl same_slots refl refl refl
 
   pub counted_plain : IsPlain g → IsPlain counted
   counted_plain p = record {
-    adapters = p.adapters;
     adapter_modules = p.adapter_modules;
     adapter_partitionings = p.adapter_partitionings;
     unsafe_intrinsics = p.unsafe_intrinsics;
   }
+
+  pub counted_widths : (ms : List ModuleRecord) (r : Reading) → AreWide ms r g → AreWide ms r counted
+  counted_widths ms r w = record { lift = w.lift; lower = w.lower }
 
   module _ (types : Types) where
     pub counted_holds : (t : TypeTable) → HoldsTypes types t g → HoldsTypes types t counted
@@ -98,7 +102,7 @@ module _ (g : ComponentDfg) (futures streams errors : ℕ) where
     pub counted_world : (w : World) → WorldStands types g w → WorldStands types counted w
     counted_world w s =
         world_still types types g counted (types_refl types) counted_grows counted_fits refl refl refl refl refl refl
-        refl refl refl w s
+        refl refl refl refl w s
 
     pub counted_exports : (t : TypeTable) (nodes : List (NamedNode Mark)) → ExportsStand t types g nodes
         → ExportsStand t types counted nodes

@@ -22,13 +22,14 @@ use Rattle.pc_inline_state.specs.Points.{Follows, IsPoint, Steps}
 use Rattle.pc_inline_stack.specs.Reads.{AreItems, Prepared, SoFar}
 use Rattle.pc_inline_items.specs.StepsLocal.{PreparesLocal, prepare_row}
 use Rattle.pc_inline_state.specs.Tables.{Keeps, tables_of}
-use Rattle.pc_inline_state.specs.Today.{built_prepare, built_prepare_all}
 use Rattle.pc_inline_items.proofs.LocalLemmas.{plain_is}
 use Rattle.pc_inline_stack.proofs.LoopAddsLemmas.{AddedSoFar}
 use Rattle.pc_inline.proofs.PrepareAllLemmas.{prepare_first, prepares_end}
 use Rattle.pc_inline_state.proofs.AddsLemmas.{adds_refl}
 use Rattle.pc_inline_stack.proofs.ReadLemmas.{read_all, read_fails, read_more, read_none}
 use Rattle.pc_inline.proofs.SkipLemmas.{skips_other}
+use Rattle.pc_spec_reading.specs.Imports.{prepare}
+use Rattle.pc_spec_reading.specs.Reading.{prepare_all}
 
 -- the error of an item at its place
 pub error_there : (e : ItemError) (there p : Place) (at : Error) → there ≡ p → at ≡ error_of e there → at ≡ error_of e p
@@ -38,7 +39,7 @@ module _ (t : TypeTable) (ms : List ModuleRecord) where
   -- an import is prepared
   pub import_prepares : (l : LocalInitializer) (name : ExternName) (e : Entity) (st : State) (f : Frame) (st' : State)
       (f' : Frame) (r : Result ⊤ ItemError) → plain_item l ≡ Some (import_item name e)
-      → Steps t ms (built_prepare t name e) st f st' f' r → PreparesLocal t ms l st f st' f' r
+      → Steps t ms (prepare t name e) st f st' f' r → PreparesLocal t ms l st f st' f' r
   unfolding PreparesLocal
   import_prepares l name e st f st' f' r is steps i stands =
       subst (λ k. Steps t ms (prepare_row t ms k) st f st' f' r)
@@ -57,7 +58,7 @@ module _ (t : TypeTable) (ms : List ModuleRecord) where
   module _ (ls : List LocalInitializer) (old : State) (f : Frame) (st : State) (g : Frame) (n : ℕ) where
     -- the imports among so many items were prepared
     abbrev pub PreparedSoFar : Type 0
-    PreparedSoFar = SoFar t ms (built_prepare_all t) ls n old f st g
+    PreparedSoFar = SoFar t ms (prepare_all t) ls n old f st g
 
     -- and the types and entries that these may need were added, and no resource was declared
     pub record ItemsPrepared : Type 0 where
@@ -75,9 +76,9 @@ module _ (t : TypeTable) (ms : List ModuleRecord) where
 
       -- an item is prepared
       pub item_prepared : PreparedSoFar → PreparesLocal t ms l st g st' g' (Ok tt)
-          → Keeps (tables_of st) (tables_of st') → SoFar t ms (built_prepare_all t) ls (n + 1) old f st' g'
+          → Keeps (tables_of st) (tables_of st') → SoFar t ms (prepare_all t) ls (n + 1) old f st' g'
       item_prepared far steps keeps =
-          read_more t ms (built_prepare_all t) ls n old f st g far are l at (prepare_row t ms)
+          read_more t ms (prepare_all t) ls n old f st g far are l at (prepare_row t ms)
           (prepare_first t ms n) st' g' (prepare_steps (Ok tt) steps) keeps
           same
 
@@ -86,19 +87,19 @@ module _ (t : TypeTable) (ms : List ModuleRecord) where
           → said ≡ error_of e (place.Reading g'.component_instance.0 n) → Prepared t ms ls old f st' g' (Err said)
       item_unprepared far e steps said is =
           subst (λ x. Prepared t ms ls old f st' g' (Err x)) (sym is)
-          (read_fails t ms (built_prepare_all t) ls n old f st g far are l at (prepare_row t ms)
+          (read_fails t ms (prepare_all t) ls n old f st g far are l at (prepare_row t ms)
           (prepare_first t ms n) st' g' e (prepare_steps (Err e) steps) same)
 
     -- all imports were prepared
     pub items_prepared : PreparedSoFar → length ls ≤ n → (r : ⊤) → Prepared t ms ls old f st g (Ok r)
     items_prepared far end r =
-        read_all t ms (built_prepare_all t) ls old f st g n far end (prepares_end t ms n) r
+        read_all t ms (prepare_all t) ls old f st g n far end (prepares_end t ms n) r
 
   -- nothing was prepared yet
   pub none_prepared : (ls : List LocalInitializer) (st : State) (f : Frame) → IsPoint t ms st f
       → st.graph.resources ≡ [] → ItemsPrepared ls st f st f 0
   none_prepared ls st f here none = record {
-    prepared = read_none t ms (built_prepare_all t) ls st f here;
+    prepared = read_none t ms (prepare_all t) ls st f here;
     adds = adds_refl t 0 (tables_of st);
     undeclared = none;
   }

@@ -1,5 +1,5 @@
 -- Where nothing was read yet but that the root has begun.
-use Rattle.std.proofs.Common.{◌≡◌, ◌<◌, ℕ, List, [], Option, Some, length, refl, sym, ap, subst, arith}
+use Rattle.std.proofs.Common.{◌≡◌, ◌<◌, ℕ, List, [], Some, length, refl, sym, ap, subst, arith}
 use Rattle.std.specs.Prelude.{slice_get}
 use Rattle.std.proofs.lemmas.Option.{none-some}
 use Rattle.pc_types_lists.specs.Types.{Resources, Types}
@@ -18,12 +18,15 @@ use Rattle.pc_dfg.specs.Ordered.{IsOrdered}
 use Rattle.pc_dfg.specs.Pushed.{with_component_instance}
 use Rattle.pc_local.specs.Sound.{AreSoundBodies}
 use Rattle.pc_inline_state.specs.declared.frame.Frame.{Frame}
+use Rattle.pc_inline_state.specs.declared.instance_module.InstanceModule.{InstanceModule}
 use Rattle.pc_inline_state.specs.declared.state.State.{State}
 use Rattle.pc_inline_state.specs.Frames.{neither}
 use Rattle.pc_inline_state.specs.Fresh.{IsFresh}
+use Rattle.pc_inline_state.specs.Instances.{HaveWidths, InstancesStand}
 use Rattle.pc_inline_state.specs.KnowsSame.{KnowsSame}
 use Rattle.pc_inline_state.specs.Members.{AreEarlier}
 use Rattle.pc_inline_state.specs.Points.{IsSoundState, PointStands}
+use Rattle.pc_inline_state.specs.Tables.{Tables, tables_of}
 use Rattle.pc_inline_state.specs.Typed.{no_resources}
 use Rattle.pc_inline_state.specs.Worlds.{AreUsed, HasItems, HoldsTypes, IsPlain, WorldStands}
 use Rattle.pc_spec_reading.specs.Asked.{paths_needed}
@@ -50,13 +53,13 @@ first_items ms = record {
   slots = λ k n d at. absurd (no_slot k n d at);
   hosts = λ i r args at. absurd (none-some _ at);
   destructors = λ n x d at has. absurd (none-some x at);
+  adapters = λ n x at. absurd (none-some x at);
   exports = λ n ty o d at. absurd (none-some _ at);
   statics = λ n ty m at. absurd (none-some _ at);
 }
 
 first_plain : IsPlain first_graph
-first_plain =
-    record { adapters = refl; adapter_modules = refl; adapter_partitionings = refl; unsafe_intrinsics = refl }
+first_plain = record { adapter_modules = refl; adapter_partitionings = refl; unsafe_intrinsics = refl }
 
 first_holds : (types : Types) (t : TypeTable) → HoldsTypes types t first_graph
 first_holds types t = record {
@@ -85,11 +88,27 @@ first_done types = record {
   import_types = tt;
   imports = refl;
   imported_resources = tt;
+  resources_apart = λ i j x at also. absurd (none-some x at);
   resources = refl;
   intrinsics = intrinsics_kept types empty_graph [] (no_intrinsics types) types first_graph (types_refl types).signatures
       refl;
-  no_adapters = refl;
+  adapters = record { as_many = refl; each = λ k v at. absurd (none-some v at) };
   begun = refl;
+}
+
+-- no core instance is made
+first_instances : (ms : List ModuleRecord) (b : Tables) → b.graph ≡ first_graph → InstancesStand ms b []
+first_instances ms b graph = record {
+  as_many = sym (ap (λ (g : ComponentDfg). length g.instances) graph);
+  each = λ n m at. absurd (none-some m at);
+}
+
+-- and no adapter has a memory
+first_widths : (t : TypeTable) (ms : List ModuleRecord) (modules : List InstanceModule)
+    → HaveWidths t ms modules first_graph
+first_widths t ms modules = record {
+  lift = λ n x at. absurd (none-some x at);
+  lower = λ n x at. absurd (none-some x at);
 }
 
 -- the component instance in which nothing was read, with what was converted for it
@@ -134,6 +153,10 @@ first_sound t ms old fresh bodies g graph ordered = record {
   bodies = bodies;
   members = subst (λ ds. AreEarlier ds old.instances) (sym fresh.definitions)
       (subst (AreEarlier []) (sym fresh.instances) none_earlier);
+  instances = subst (InstancesStand ms (tables_of (record old { graph = g }))) (sym fresh.runtime_instances)
+      (first_instances ms (tables_of (record old { graph = g })) graph);
+  widths = subst (HaveWidths t ms old.runtime_instances.items) (sym graph)
+      (first_widths t ms old.runtime_instances.items);
 }
 
 -- and is where the reading begins

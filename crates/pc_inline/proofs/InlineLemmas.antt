@@ -15,9 +15,11 @@ use Rattle.pc_types_builder.specs.Plain.{Layers}
 use Rattle.pc_types_builder.specs.Converted.{AreConverted}
 use Rattle.pc_parsed.specs.declared.payload.ExternName.{ExternName}
 use Rattle.pc_parsed.specs.declared.payload.ItemKind.{ItemKind}
+use Rattle.pc_spec_reading.specs.Answer.{IsPast}
 use Rattle.pc_spec_reading.specs.Item.{Items, exports_in}
 use Rattle.pc_spec_reading.specs.Nodes.{Finish}
 use Rattle.pc_spec_reading.specs.Outcome.{Outcome, and_then, done}
+use Rattle.pc_spec_reading.specs.Reading.{enter_at, prepare_all, read_root, reading_of, root_exports}
 use Rattle.pc_spec_reading.specs.Scope.{Moment, Scope}
 use Rattle.pc_spec_reading.specs.Section.{named_item}
 use Rattle.pc_spec_reading.specs.World.{World, full, grown, has_room}
@@ -35,8 +37,7 @@ use Rattle.pc_inline_state.specs.declared.definition.DefinitionId.{DefinitionId}
 use Rattle.pc_inline_state.specs.declared.frame.Frame.{Frame}
 use Rattle.pc_inline_state.specs.declared.state.State.{State}
 use Rattle.pc_inline_stack.specs.Begins.{Begins}
-use Rattle.pc_inline.specs.Roots.{BeginsBody, InlinesBody, InlinesRoot, IsBuiltEnd}
-use Rattle.pc_inline.specs.Roots.{IsLong, RootBegun, RootStarts, first_total}
+use Rattle.pc_inline.specs.Roots.{BeginsBody, InlinesBody, InlinesRoot, IsRootEnd, RootBegun, RootStarts, first_total}
 use Rattle.pc_inline_state.specs.Fits.{Fits, FitsBefore}
 use Rattle.pc_inline_state.specs.Fresh.{IsFresh}
 use Rattle.pc_inline_stack.specs.Driving.{EndsRun, Runs, reading_from}
@@ -44,7 +45,6 @@ use Rattle.pc_inline_exports.specs.Exporting.{ExportsEnd, MakesExports, RootStan
 use Rattle.pc_inline_state.specs.Points.{IsPoint, PointStands}
 use Rattle.pc_inline_stack.specs.Reads.{AreItems, Ends, Passes, Prepared}
 use Rattle.pc_inline_state.specs.Tables.{Keeps, tables_of}
-use Rattle.pc_inline_state.specs.Today.{built_enter, built_exports, built_prepare_all, built_reading, built_root}
 use Rattle.pc_inline_state.specs.Worlds.{HasNoExports}
 use Rattle.pc_inline_state.proofs.GrowthLemmas.{graph_grown}
 use Rattle.pc_inline.proofs.FreshLemmas.{first_frame, first_point}
@@ -84,7 +84,7 @@ module _ (t : TypeTable) (ms : List ModuleRecord) (limit : ℕ) where
 
     -- no root begins
     pub unbegun : (body : Items) (e : Error) → Begins limit old.graph g (Err e)
-        → IsBuiltEnd t ms limit body (record old { graph = g }) e
+        → IsRootEnd t ms limit body (record old { graph = g }) e
     unfolding Begins
     unbegun body error.TooManyInstances begins =
         reading_over t ms limit body
@@ -113,7 +113,7 @@ module _ (t : TypeTable) (ms : List ModuleRecord) (limit : ℕ) (bodies : List T
   abbrev pub IsRead : Translation → State → Frame → Type 0
   IsRead root st f =
       Each root (λ body. (now : Moment) × PointStands t ms st f now × (now.world.total ≡ None)
-      × (built_root t ms limit None body ≡ done now) × (0 < limit))
+      × (read_root t ms limit None body ≡ done now) × (0 < limit))
 
   module _ (root : Translation) (old : State) (f : Frame) (st : State) (g : Frame) (ls : List LocalInitializer)
       (is : ls ≡ root.initializers) (among : old.bodies.now ≡ bodies) (below : 0 < limit)
@@ -124,7 +124,7 @@ module _ (t : TypeTable) (ms : List ModuleRecord) (limit : ℕ) (bodies : List T
         (subst (λ xs. ItemsStand bodies no_names xs body) (sym is) stands.items)
 
     starts : (body : Items) → BodyStands bodies no_names root body → (r : ⊤) → Prepared t ms ls old f st g (Ok r)
-        → (counted total : Option ℕ) → built_root t ms limit counted body ≡ from_start t ms limit body total
+        → (counted total : Option ℕ) → read_root t ms limit counted body ≡ from_start t ms limit body total
         → RootStarts t ms limit body counted total st g
     unfolding Passes Ends
     starts body stands r prepared counted total reads =
@@ -148,7 +148,7 @@ module _ (t : TypeTable) (ms : List ModuleRecord) (limit : ℕ) (bodies : List T
           within = below;
           uncounted = starts body stands r prepared None None (root_begins t ms limit body below);
           counted = λ n. elim (counted_begins t ms limit body below n)
-              as (λ _. IsLong t ms limit body n
+              as (λ _. IsPast t ms limit n body
               ⊎ ((first_total t ms body n < full)
               × RootStarts t ms limit body (Some n) (Some (first_total t ms body n)) st g)) [
                 | inl long ↦ inl long
@@ -159,20 +159,20 @@ module _ (t : TypeTable) (ms : List ModuleRecord) (limit : ℕ) (bodies : List T
 
     -- or they weren't
     pub root_unprepared : (e : Error) → Prepared t ms ls old f st g (Err e)
-        → Each root (λ body. IsBuiltEnd t ms limit body st e)
+        → Each root (λ body. IsRootEnd t ms limit body st e)
     unfolding Passes
     root_unprepared e prepared body stands =
         root_fails t ms limit body below st g (from_start t ms limit body None) e (root_begins t ms limit body below)
-        (ends_then t ms limit body st g (built_prepare_all t 0 body first_moment) (reading_from t ms limit body) e
+        (ends_then t ms limit body st g (prepare_all t 0 body first_moment) (reading_from t ms limit body) e
         (prepared body first_moment (items_there body stands) at))
 
   -- an error at the beginning is that of each body
   pub begins_end : (root : Translation) (st : State) (r : Result Frame Error) (e : Error) → IsErrAnd r (λ x. x ≡ e)
-      → Each root (λ body. IsBuiltEnd t ms limit body st e) → Each root (λ body. BeginsBody t ms limit body st r)
+      → Each root (λ body. IsRootEnd t ms limit body st e) → Each root (λ body. BeginsBody t ms limit body st r)
   unfolding BeginsBody
   begins_end root st (Ok x) e is each = absurd is
   begins_end root st (Err x) e is each =
-      subst (λ y. Each root (λ body. IsBuiltEnd t ms limit body st y)) (sym is) each
+      subst (λ y. Each root (λ body. IsRootEnd t ms limit body st y)) (sym is) each
 
   module _ (root : Translation) (old : State) (f : Frame)
       (begun : Each root (λ body. BeginsBody t ms limit body old (Ok f))) where
@@ -204,7 +204,7 @@ module _ (t : TypeTable) (ms : List ModuleRecord) (limit : ℕ) (bodies : List T
       root_is_read g runs body stands =
           let start = (has_begun body stands).uncounted in
           let ends = runs body start.now (items_here body stands) start.stands start.is_total in
-          let grows = items_grow t ms (built_enter t ms limit limit) (child_grows t ms limit limit) body 0 start.now
+          let grows = items_grow t ms (enter_at t ms limit limit) (child_grows t ms limit limit) body 0 start.now
           ends.0 ends.1 in (
             ends.0,
             ends.2,
@@ -215,7 +215,7 @@ module _ (t : TypeTable) (ms : List ModuleRecord) (limit : ℕ) (bodies : List T
 
       -- or they weren't
       pub root_unread : (e : Error) → Runs t ms limit root.initializers old f st (Err e)
-          → Each root (λ body. IsBuiltEnd t ms limit body st e)
+          → Each root (λ body. IsRootEnd t ms limit body st e)
       unfolding Runs EndsRun
       root_unread e runs body stands =
           let start = (has_begun body stands).uncounted in
@@ -233,8 +233,8 @@ module _ (t : TypeTable) (ms : List ModuleRecord) (limit : ℕ) (bodies : List T
 
     module _ (st : State) (g : Frame) where
       ends_root : (body : Items) (now : Moment) (nodes : ℕ) (o : Outcome Finish)
-          → built_reading t ms limit body ≡ and_then o (finish t ms limit body) → 0 < limit
-          → (4294967295 ≤ 8 * nodes → (n : ℕ) → IsLong t ms limit body n) → (r : Result ⊤ Error)
+          → reading_of t ms limit None body ≡ and_then o (finish t ms limit body) → 0 < limit
+          → (4294967295 ≤ 8 * nodes → (n : ℕ) → IsPast t ms limit n body) → (r : Result ⊤ Error)
           → ExportsEnd t ms st g now.scope now.world nodes o r → InlinesBody t ms limit body st r
       unfolding InlinesBody
       ends_root body now nodes o is below many (Ok end) ends =
@@ -243,33 +243,33 @@ module _ (t : TypeTable) (ms : List ModuleRecord) (limit : ℕ) (bodies : List T
           exports_fail t ms limit body st g now.scope now.world nodes o is below many e ends
 
       -- the root exports, and is instantiated; so many nodes are too much from every total on
-      pub root_exports : (es : List (ExternName × ItemKind × ℕ)) → es ≡ root.exports → (r : Result ⊤ Error)
+      pub root_exported : (es : List (ExternName × ItemKind × ℕ)) → es ≡ root.exports → (r : Result ⊤ Error)
           → (made : MakesExports t ms es old f st g r)
-          → Each root (λ body. 4294967295 ≤ 8 * made.nodes → (n : ℕ) → IsLong t ms limit body n)
+          → Each root (λ body. 4294967295 ≤ 8 * made.nodes → (n : ℕ) → IsPast t ms limit n body)
           → InlinesRoot t ms limit bodies root st r
-      root_exports es are r made many body stands =
+      root_exported es are r made many body stands =
           let here = is_read body stands in
           let now = here.0 in
           let total = here.2 in
           let ends = made.exports now.scope now.world (ap has_room total)
           (root_stands t ms old f now here.1) in
           let named = ap (map named_item) are ∙ stands.exports in
-          let is : built_exports t now.scope (exports_in body) 0 now.world
+          let is : root_exports t now.scope (exports_in body) 0 now.world
           ≡ if_room (grown now.world.total (8 * made.nodes)) ends.0 =
-          subst (λ xs. built_exports t now.scope xs 0 now.world
+          subst (λ xs. root_exports t now.scope xs 0 now.world
           ≡ if_room (grown now.world.total (8 * made.nodes)) ends.0) named ends.1 in
-          let whole : built_exports t now.scope (exports_in body) 0 now.world ≡ ends.0 =
+          let whole : root_exports t now.scope (exports_in body) 0 now.world ≡ ends.0 =
           is ∙ ap (λ total. if_room (grown total (8 * made.nodes)) ends.0) total in
           ends_root body now made.nodes ends.0 (reading_ends t ms limit body None now here.3 ends.0 whole) here.4
           (many body stands) r ends.2
 
   -- an error is that of each body
   pub each_ends : (root : Translation) (st : State) (r : Result ⊤ Error) (e : Error) → IsErrAnd r (λ x. x ≡ e)
-      → Each root (λ body. IsBuiltEnd t ms limit body st e) → InlinesRoot t ms limit bodies root st r
+      → Each root (λ body. IsRootEnd t ms limit body st e) → InlinesRoot t ms limit bodies root st r
   unfolding InlinesBody
   each_ends root st (Ok x) e is each = absurd is
   each_ends root st (Err x) e is each =
-      subst (λ y. Each root (λ body. IsBuiltEnd t ms limit body st y)) (sym is) each
+      subst (λ y. Each root (λ body. IsRootEnd t ms limit body st y)) (sym is) each
 
   -- the error of the beginning is that of the root
   pub begins_fail : (root : Translation) (st : State) (r : Result ⊤ Error) (e : Error) → IsErrAnd r (λ x. x ≡ e)

@@ -1,5 +1,5 @@
 -- What a root gives, from what its steps give.
-use Rattle.std.proofs.Common.{◌≡◌, ◌<◌, ◌≤◌, ℕ, List, [], length, map, true, Option, Result, Ok, Err, refl, sym}
+use Rattle.std.proofs.Common.{◌≡◌, ◌<◌, ◌≤◌, ℕ, List, [], length, map, true, Result, Ok, Err, refl, sym}
 use Rattle.std.proofs.Common.{subst}
 use Rattle.std.specs.Prelude.{⊤}
 use Rattle.std.specs.Result.{IsErrAnd}
@@ -37,7 +37,7 @@ use Rattle.pc_inline_state.specs.Tables.{Keeps, tables_of}
 use Rattle.pc_inline_state.specs.Worlds.{HasNoExports}
 use Rattle.pc_inline.proofs.FreshLemmas.{first_frame}
 use Rattle.pc_inline.proofs.InlineLemmas.{Each, IsRead, begins_end, begins_fail, begun_below, begun_point, each_ends}
-use Rattle.pc_inline.proofs.InlineLemmas.{export_point, graph_keeps, has_begun, root_begun, root_exports, root_is_read}
+use Rattle.pc_inline.proofs.InlineLemmas.{export_point, graph_keeps, has_begun, root_begun, root_exported, root_is_read}
 use Rattle.pc_inline.proofs.InlineLemmas.{root_items, root_unprepared, root_unread, run_point, unbegun}
 use Rattle.pc_inline.proofs.RootFewLemmas.{begun_graph, begun_none, begun_prepared, few_begun, few_exported, few_failed}
 use Rattle.pc_inline.proofs.RootFewLemmas.{few_unbegun, few_unread, most_more, nodes_long}
@@ -177,7 +177,7 @@ module _ (t : TypeTable) (ms : List ModuleRecord) (limit : ℕ) (root : Translat
           );
           few = few_exported t ms limit old.bodies.now root old.types st f begun.keeps.bodies has begun.most st' g
               counts es are end g' r made;
-          inlines = root_exports t ms limit old.bodies.now root st' g is_read end g' es are r made
+          inlines = root_exported t ms limit old.bodies.now root st' g is_read end g' es are r made
               (nodes_long t ms limit old.bodies.now root old.types st f begun.keeps.bodies has begun.most st' g counts
               es are end g' r made);
         }

@@ -3,6 +3,7 @@ mod CountLemmas
 mod PrepareAllLemmas
 mod RootLemmas
 mod FreshLemmas
+mod WidthLemmas
 mod EndLemmas
 mod SkipLemmas
 mod TotalLemmas

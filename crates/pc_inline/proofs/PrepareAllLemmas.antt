@@ -6,14 +6,13 @@ use Rattle.pc_spec_reading.specs.Item.{Item, Items, and_item, no_items}
 use Rattle.pc_spec_reading.specs.Outcome.{and_then, at_item, done}
 use Rattle.pc_spec_reading.specs.Scope.{Moment}
 use Rattle.pc_inline_items.specs.StepsLocal.{prepare_row}
-use Rattle.pc_inline_state.specs.Today.{built_prepare_all}
 use Rattle.pc_spec_reading.specs.Reading.{prepare_all}
 
 module _ (t : TypeTable) (ms : List ModuleRecord) where
   -- an item of the root, and the rest
   pub prepare_first : (n : ℕ) (i : Item) (is : Items) (now : Moment)
-      → built_prepare_all t n (and_item i is) now
-      ≡ and_then (at_item now.scope.component_instance n (prepare_row t ms i now)) (built_prepare_all t (n + 1) is)
+      → prepare_all t n (and_item i is) now
+      ≡ and_then (at_item now.scope.component_instance n (prepare_row t ms i now)) (prepare_all t (n + 1) is)
   unfolding prepare_all
   prepare_first n (Item.import_item a b) is now = refl
   prepare_first n Item.intrinsics_import is now = refl
@@ -38,6 +37,6 @@ module _ (t : TypeTable) (ms : List ModuleRecord) where
   prepare_first n (Item.export_item a) is now = refl
 
   -- the imports end where the items do
-  pub prepares_end : (n : ℕ) (now : Moment) → built_prepare_all t n no_items now ≡ done now
+  pub prepares_end : (n : ℕ) (now : Moment) → prepare_all t n no_items now ≡ done now
   unfolding prepare_all
   prepares_end n now = refl

@@ -20,7 +20,7 @@ use Rattle.pc_spec_reading.specs.Answer.{IsPast}
 use Rattle.pc_spec_reading.specs.Item.{Items, exports_in}
 use Rattle.pc_spec_reading.specs.Nodes.{Finish}
 use Rattle.pc_spec_reading.specs.Outcome.{Outcome, and_then, done, past}
-use Rattle.pc_spec_reading.specs.Reading.{reading_of, result_of}
+use Rattle.pc_spec_reading.specs.Reading.{reading_of, result_of, read_root, root_exports}
 use Rattle.pc_spec_reading.specs.Scope.{Moment, Scope}
 use Rattle.pc_spec_reading.specs.Section.{named_item}
 use Rattle.pc_spec_reading.specs.World.{World, full, grown, has_room}
@@ -34,11 +34,12 @@ use Rattle.pc_dfg.specs.Lists as list
 use Rattle.pc_dfg.specs.Lists.{ListName, entries_of}
 use Rattle.pc_dfg.specs.Numbers.{slots_of}
 use Rattle.pc_dfg.specs.Pushed.{with_component_instance}
+use Rattle.pc_inline_stack.specs.Totals.{HasTotal}
 use Rattle.pc_inline_state.specs.declared.frame.Frame.{Frame}
 use Rattle.pc_inline_state.specs.declared.state.State.{State}
-use Rattle.pc_inline_state.specs.Adds.{Adds, most_of_items, most_prepared_of, types_among}
+use Rattle.pc_inline_state.specs.Adds.{Adds, most_of_items, most_prepared_of, types_among, with_modules}
 use Rattle.pc_inline_stack.specs.Begins.{Begins}
-use Rattle.pc_inline.specs.Roots.{BegunHasFew, EndsWith, HasAtMost, HasFew, HasNothing, IsCrowded, IsLong}
+use Rattle.pc_inline.specs.Roots.{BegunHasFew, HasAtMost, HasFew, HasNothing, IsCrowded}
 use Rattle.pc_inline.specs.Roots.{IsLongOrHasFew}
 use Rattle.pc_inline_state.specs.Fresh.{IsFresh}
 use Rattle.pc_inline.specs.Roots.{RootBegun, RootHasFew, RootHasFewFrom, first_total}
@@ -50,12 +51,10 @@ use Rattle.pc_inline.specs.Inlines.{HasNoRoom}
 use Rattle.pc_inline_state.specs.Points.{IsFullSomewhere, full_closures, full_cores, full_definitions, full_exports}
 use Rattle.pc_inline_state.specs.Points.{PointStands, full_graph, full_instances, full_resources, full_types}
 use Rattle.pc_inline_state.specs.Tables.{Tables, tables_of}
-use Rattle.pc_inline_state.specs.Today.{built_exports, built_root, today}
 use Rattle.pc_inline_state.specs.Typed.{no_resources}
 use Rattle.pc_inline_state.specs.Gained.{AddsTables}
 use Rattle.pc_inline_state.proofs.AddsLemmas.{adds_refl}
 use Rattle.pc_inline_state.proofs.GainedLemmas.{tables_aside, tables_both}
-use Rattle.pc_inline.proofs.EndLemmas.{long_past}
 use Rattle.pc_inline.proofs.RootLemmas.{counted_begins, finish, long_root, reading_ends, root_stands}
 use Rattle.pc_inline_stack.proofs.WeightLemmas.{most_of_body, most_of_prepared, types_named}
 
@@ -151,7 +150,11 @@ module _ (t : TypeTable) (old : State) (fresh : IsFresh t old) (g : ComponentDfg
       record {
         types = adds.types;
         tables = adds.tables;
-        lists = λ l. let more = few.lists l in let nothing = none.0 l in omega (arith, more, nothing);
+        lists = λ l.
+            let more = few.lists l in
+            let nothing = none.0 l in
+            let no_adapters = none.0 list.adapters in
+            omega (arith, more, nothing, no_adapters);
         cores = let more = few.cores in let nothing = ap (λ cs. length cs) fresh.cores in omega (arith, more, nothing);
         definitions = let more = few.definitions in let nothing = ap (λ ds. length ds) fresh.definitions in
             omega (arith, more, nothing);
@@ -273,7 +276,7 @@ module _ (t : TypeTable) where
         ]
       where
         by : ((total : ℕ) × HasFew t n total old x) ⊎ HasNothing t limit old x
-            → ((total : ℕ) × OnOk {T = ⊤} (Err y) (EndsWith t ms limit body n total) × HasFew t n total old x)
+            → ((total : ℕ) × OnOk {T = ⊤} (Err y) (HasTotal t ms limit n body total) × HasFew t n total old x)
             ⊎ (OnOk {T = ⊤} (Err y) ⊥ × HasNothing t limit old x)
         by (inl h) = inl (h.0, tt, h.1)
         by (inr nothing) = inr (tt, nothing)
@@ -281,7 +284,7 @@ module _ (t : TypeTable) where
     -- where the items of a root have been read and this is the total, the code is there
     abbrev RanTo : Items → (counted total : ℕ) → State → Frame → Type 0
     RanTo body counted total st g =
-        (last : Moment) × (built_root t ms limit (Some counted) body ≡ done last) × (last.world.total ≡ Some total)
+        (last : Moment) × (read_root t ms limit (Some counted) body ≡ done last) × (last.world.total ≡ Some total)
         × PointStands t ms st g last
 
     -- what a root has whose items were read, or some of them: its total bounds what was added, and the types that it
@@ -300,7 +303,7 @@ module _ (t : TypeTable) where
       module _ (body : Items) (stands : BodyStands bodies no_names root body) where
         -- where it is done, that is its total
         total_at : (c : ℕ) (now : Moment) (total : ℕ)
-            → built_root t ms limit (Some c) body ≡ reading_from t ms limit body now → (r : Result Frame Error)
+            → read_root t ms limit (Some c) body ≡ reading_from t ms limit body now → (r : Result Frame Error)
             → EndsIn t ms limit st' total (reading_from t ms limit body now) r
             → IfOk r (RanTo body c total st')
         unfolding EndsIn
@@ -308,16 +311,16 @@ module _ (t : TypeTable) where
         total_at c now total reads (Err e) ends = tt
 
         has_run : (r : Result Frame Error) → Counts t ms limit root.initializers st f st' r → (c : ℕ)
-            → IsLong t ms limit body c ⊎ HasRun body c st' r
+            → IsPast t ms limit c body ⊎ HasRun body c st' r
         unfolding Counts
         has_run r counts c =
-            elim ((begun body stands).counted c) as (λ _. IsLong t ms limit body c ⊎ HasRun body c st' r) [
+            elim ((begun body stands).counted c) as (λ _. IsPast t ms limit c body ⊎ HasRun body c st' r) [
               | inl long ↦ inl long
               | inr room ↦
                   let start = room.1 in
                   let there = subst (λ bs. ItemsStand bs no_names root.initializers body) (sym among) stands.items in
                   elim (counts body start.now (first_total t ms body c) there start.stands start.is_total room.0)
-                  as (λ _. IsLong t ms limit body c ⊎ HasRun body c st' r) [
+                  as (λ _. IsPast t ms limit c body ⊎ HasRun body c st' r) [
                     | inl long ↦ inl (long_root t ms limit body c (start.reads ∙ long))
                     | inr k ↦
                         let le = enough body stands c in
@@ -359,7 +362,7 @@ module _ (t : TypeTable) where
             abbrev Ending : Type 0
             Ending =
                 (s : Scope) × (w : World) × (o : Outcome Finish) × (w.total ≡ Some h.total)
-                × (reading_of today t ms limit (Some n) body
+                × (reading_of t ms limit (Some n) body
                 ≡ and_then (if_room (Some (h.total + weight)) o) (finish t ms limit body))
                 × ExportsEnd t ms end g' s w made.nodes o r
 
@@ -371,9 +374,9 @@ module _ (t : TypeTable) where
                 let x = made.exports last.scope last.world (ap has_room total ∙ lt-ltb h.total full h.below)
                 (root_stands t ms st' g last h.ends.3) in
                 let named = ap (map named_item) are ∙ stands.exports in
-                let here : built_exports t last.scope (exports_in body) 0 last.world
+                let here : root_exports t last.scope (exports_in body) 0 last.world
                 ≡ if_room (grown last.world.total weight) x.0 =
-                subst (λ xs. built_exports t last.scope xs 0 last.world ≡ if_room (grown last.world.total weight) x.0)
+                subst (λ xs. root_exports t last.scope xs 0 last.world ≡ if_room (grown last.world.total weight) x.0)
                 named x.1 in
                 let counted = here ∙ ap (λ k. if_room (grown k weight) x.0) total in (
                   last.scope,
@@ -385,13 +388,13 @@ module _ (t : TypeTable) where
                 )
 
             -- the total is too much, or the reading ends in it as the exports do
-            room_after : IsLong t ms limit body n ⊎ ((h.total + weight < full)
-                × (reading_of today t ms limit (Some n) body ≡ and_then ending.2 (finish t ms limit body)))
+            room_after : IsPast t ms limit n body ⊎ ((h.total + weight < full)
+                × (reading_of t ms limit (Some n) body ≡ and_then ending.2 (finish t ms limit body)))
             room_after = by (nat_lt (h.total + weight) full) refl
               where
-                by : (b : Bool) → nat_lt (h.total + weight) full ≡ b → IsLong t ms limit body n
+                by : (b : Bool) → nat_lt (h.total + weight) full ≡ b → IsPast t ms limit n body
                     ⊎ ((h.total + weight < full)
-                    × (reading_of today t ms limit (Some n) body ≡ and_then ending.2 (finish t ms limit body)))
+                    × (reading_of t ms limit (Some n) body ≡ and_then ending.2 (finish t ms limit body)))
                 by false none =
                     inl (ending.4 ∙ ap (λ b. and_then (if b then ending.2 else past) (finish t ms limit body)) none)
                 by true room =
@@ -401,8 +404,8 @@ module _ (t : TypeTable) where
                     )
 
             ends_with : (q : Result ⊤ Error) (s : Scope) (w : World) (o : Outcome Finish) → w.total ≡ Some h.total
-                → reading_of today t ms limit (Some n) body ≡ and_then o (finish t ms limit body)
-                → ExportsEnd t ms end g' s w made.nodes o q → OnOk q (EndsWith t ms limit body n (h.total + weight))
+                → reading_of t ms limit (Some n) body ≡ and_then o (finish t ms limit body)
+                → ExportsEnd t ms end g' s w made.nodes o q → OnOk q (HasTotal t ms limit n body (h.total + weight))
             unfolding ExportsEnd
             ends_with (Ok x) s w o total reads ends = (
               result_of ends.exported ends.world,
@@ -439,11 +442,11 @@ module _ (t : TypeTable) where
 
         -- where there are so many nodes, the total is too much
         pub nodes_long : (body : Items) → BodyStands bodies no_names root body → 4294967295 ≤ 8 * made.nodes → (n : ℕ)
-            → IsLong t ms limit body n
+            → IsPast t ms limit n body
         nodes_long body stands many n =
-            elim (has_run body stands (Ok g) counts n) as (λ _. IsLong t ms limit body n) [
+            elim (has_run body stands (Ok g) counts n) as (λ _. IsPast t ms limit n body) [
               | inl long ↦ long
-              | inr h ↦ elim (room_after body stands n h) as (λ _. IsLong t ms limit body n) [
+              | inr h ↦ elim (room_after body stands n h) as (λ _. IsPast t ms limit n body) [
                 | inl long ↦ long
                 | inr room ↦ let below = room.0 in absurd (omega (arith, many, below))
               ]
@@ -485,9 +488,9 @@ pub no_room : (t : TypeTable) (ms : List ModuleRecord) (limit : ℕ) (body : Ite
     → IsCrowded t ms limit body st → HasNoRoom t ms limit body (types_held old)
 no_room t ms limit body old st builder few crowded counted start =
     elim crowded.0 as (λ _. IsPast t ms limit counted body) [
-      | inr long ↦ long_past t ms limit body counted (long counted)
+      | inr long ↦ long counted
       | inl is_full ↦ elim (few counted) as (λ _. IsPast t ms limit counted body) [
-        | inl long ↦ long_past t ms limit body counted long
+        | inl long ↦ long
         | inr h ↦ absurd (by is_full h)
       ]
     ]
@@ -510,10 +513,11 @@ no_room t ms limit body old st builder few crowded counted start =
     by is_full (inr nothing) = let none = nothing.0 in let some = crowded.1 in omega (arith, none, some)
 
 -- the counts of tables change no list
-pub counted_few : (g : ComponentDfg) (types : Types) (added : ℕ) → ((l : ListName) → length (entries_of g l) ≤ added)
-    → (l : ListName) → length (entries_of (counted_tables g types) l) ≤ added
+pub counted_few : (g : ComponentDfg) (types : Types) (added : ℕ) → ((l : ListName) → with_modules g l ≤ added)
+    → (l : ListName) → with_modules (counted_tables g types) l ≤ added
 counted_few g types added few l =
-    subst (λ k. k ≤ added) (sym (same_lists g g.num_runtime_component_instances (length types.future_tables)
+    subst (λ k. k + 32 * length g.adapters ≤ added)
+    (sym (same_lists g g.num_runtime_component_instances (length types.future_tables)
     (length types.stream_tables) (length types.error_context_tables) l)) (few l)
 
 -- the builder that is handed back has the types that were added, whichever resources were known before

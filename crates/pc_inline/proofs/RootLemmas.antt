@@ -9,24 +9,24 @@ use Rattle.pc_types.specs.declared.error.Error.{Error}
 use Rattle.pc_types.specs.declared.error.Error.TheVariants as error
 use Rattle.pc_types.specs.declared.module_record.ModuleRecord.{ModuleRecord}
 use Rattle.pc_types.specs.declared.parsed.TypeTable.{TypeTable}
+use Rattle.pc_spec_reading.specs.Answer.{IsPast}
 use Rattle.pc_spec_reading.specs.Item.{Items, exports_in}
 use Rattle.pc_spec_reading.specs.Nodes.{Finish}
 use Rattle.pc_spec_reading.specs.Outcome.{Outcome, and_then, done, over, past}
-use Rattle.pc_spec_reading.specs.Reading.{Reading, begun_in, result_of, read_root, reading_of, finishing}
+use Rattle.pc_spec_reading.specs.Reading.{Reading, begun_in, result_of, read_root, reading_of, finishing, prepare_all}
+use Rattle.pc_spec_reading.specs.Reading.{root_exports}
 use Rattle.pc_spec_reading.specs.Scope.{Moment, Scope}
 use Rattle.pc_spec_reading.specs.Value.{outermost}
 use Rattle.pc_spec_reading.specs.World.{World, full, new_world}
 use Rattle.pc_dfg.specs.declared.dfg.ComponentDfg.{ComponentDfg}
 use Rattle.pc_inline_state.specs.declared.frame.Frame.{Frame}
 use Rattle.pc_inline_state.specs.declared.state.State.{State}
-use Rattle.pc_inline.specs.Roots.{IsBuiltEnd, IsCrowded, IsLong, RootRead, first_total}
+use Rattle.pc_inline.specs.Roots.{IsCrowded, IsRootEnd, RootRead, first_total}
 use Rattle.pc_inline_stack.specs.Driving.{reading_from}
 use Rattle.pc_inline_exports.specs.Exporting.{ExportsEnd, RootStands}
 use Rattle.pc_inline_exports.specs.Exports.{ExportsStand, NameStands}
 use Rattle.pc_inline_state.specs.Points.{PointStands}
 use Rattle.pc_inline_stack.specs.Reads.{Ends}
-use Rattle.pc_inline_state.specs.Today.{built_exports, built_prepare_all, built_reading, built_result, built_root}
-use Rattle.pc_inline_state.specs.Today.{today}
 use Rattle.pc_inline_state.specs.Worlds.{WorldStands}
 
 -- the world in which the root begins, with this total
@@ -56,30 +56,31 @@ world_counted types g w total s = record {
   import_types = s.import_types;
   imports = s.imports;
   imported_resources = s.imported_resources;
+  resources_apart = s.resources_apart;
   resources = s.resources;
   intrinsics = s.intrinsics;
-  no_adapters = s.no_adapters;
+  adapters = s.adapters;
   begun = s.begun;
 }
 
 module _ (t : TypeTable) (ms : List ModuleRecord) (limit : ℕ) (body : Items) where
   -- what is read of a root that begins with a total
   abbrev pub from_start : Option ℕ → Outcome Moment
-  from_start total = and_then (built_prepare_all t 0 body (moment_with total)) (reading_from t ms limit body)
+  from_start total = and_then (prepare_all t 0 body (moment_with total)) (reading_from t ms limit body)
 
   -- the reading of a root that is this outcome, where its total begins so
-  reading_then : (counted : Option ℕ) (o : Outcome Moment) → built_root t ms limit counted body ≡ o
-      → reading_of today t ms limit counted body ≡ and_then o (built_result t body)
+  reading_then : (counted : Option ℕ) (o : Outcome Moment) → read_root t ms limit counted body ≡ o
+      → reading_of t ms limit counted body ≡ and_then o (finishing t body)
   unfolding reading_of
-  reading_then counted o is = ap (λ x. and_then x (built_result t body)) is
+  reading_then counted o is = ap (λ x. and_then x (finishing t body)) is
 
   -- the same where no total is counted
-  pub reading_is : (o : Outcome Moment) → built_root t ms limit None body ≡ o
-      → built_reading t ms limit body ≡ and_then o (built_result t body)
+  pub reading_is : (o : Outcome Moment) → read_root t ms limit None body ≡ o
+      → reading_of t ms limit None body ≡ and_then o (finishing t body)
   reading_is o is = reading_then None o is
 
   -- where the total is too much before the root exports, it is
-  pub long_root : (n : ℕ) → built_root t ms limit (Some n) body ≡ past → IsLong t ms limit body n
+  pub long_root : (n : ℕ) → read_root t ms limit (Some n) body ≡ past → IsPast t ms limit n body
   long_root n is = reading_then (Some n) past is
 
   -- what the root means when so many of its exports have been reached
@@ -87,46 +88,46 @@ module _ (t : TypeTable) (ms : List ModuleRecord) (limit : ℕ) (body : Items) w
   finish f = done (result_of f.0 f.1)
 
   -- where the exports of the root end so
-  pub result_is : (now : Moment) (o : Outcome Finish) → built_exports t now.scope (exports_in body) 0 now.world ≡ o
-      → built_result t body now ≡ and_then o finish
+  pub result_is : (now : Moment) (o : Outcome Finish) → root_exports t now.scope (exports_in body) 0 now.world ≡ o
+      → finishing t body now ≡ and_then o finish
   unfolding finishing
   result_is now o is = ap (λ x. and_then x finish) is
 
   -- the reading where its total begins so, its items were read and its exports end so
-  pub reading_ends : (counted : Option ℕ) (now : Moment) → built_root t ms limit counted body ≡ done now
-      → (o : Outcome Finish) → built_exports t now.scope (exports_in body) 0 now.world ≡ o
-      → reading_of today t ms limit counted body ≡ and_then o finish
+  pub reading_ends : (counted : Option ℕ) (now : Moment) → read_root t ms limit counted body ≡ done now
+      → (o : Outcome Finish) → root_exports t now.scope (exports_in body) 0 now.world ≡ o
+      → reading_of t ms limit counted body ≡ and_then o finish
   reading_ends counted now is o ends = reading_then counted (done now) is ∙ result_is now o ends
 
   module _ (below : 0 < limit) where
     -- the reading of a root that begins
-    pub root_begins : built_root t ms limit None body ≡ from_start None
+    pub root_begins : read_root t ms limit None body ≡ from_start None
     unfolding read_root
     root_begins = rw (lt-ltb 0 limit below) refl
 
-    root_past : (n : ℕ) → nat_lt (first_total t ms body n) full ≡ false → built_root t ms limit (Some n) body ≡ past
+    root_past : (n : ℕ) → nat_lt (first_total t ms body n) full ≡ false → read_root t ms limit (Some n) body ≡ past
     unfolding read_root
     root_past n none = rw (lt-ltb 0 limit below, none) refl
 
     root_counts : (n : ℕ) → nat_lt (first_total t ms body n) full ≡ true
-        → built_root t ms limit (Some n) body ≡ from_start (Some (first_total t ms body n))
+        → read_root t ms limit (Some n) body ≡ from_start (Some (first_total t ms body n))
     unfolding read_root
     root_counts n room = rw (lt-ltb 0 limit below, room) refl
 
     -- the same where the total is counted and isn't too much already
-    pub counted_begins : (n : ℕ) → IsLong t ms limit body n
+    pub counted_begins : (n : ℕ) → IsPast t ms limit n body
         ⊎ ((first_total t ms body n < full)
-        × (built_root t ms limit (Some n) body ≡ from_start (Some (first_total t ms body n))))
+        × (read_root t ms limit (Some n) body ≡ from_start (Some (first_total t ms body n))))
     counted_begins n = by (nat_lt (first_total t ms body n) full) refl
       where
-        by : (b : Bool) → nat_lt (first_total t ms body n) full ≡ b → IsLong t ms limit body n
+        by : (b : Bool) → nat_lt (first_total t ms body n) full ≡ b → IsPast t ms limit n body
             ⊎ ((first_total t ms body n < full)
-            × (built_root t ms limit (Some n) body ≡ from_start (Some (first_total t ms body n))))
+            × (read_root t ms limit (Some n) body ≡ from_start (Some (first_total t ms body n))))
         by false none = inl (long_root n (root_past n none))
         by true room = inr (ltb-true (first_total t ms body n) full room, root_counts n room)
 
   -- no root begins where the limit is 0
-  pub reading_over : limit ≤ 0 → built_reading t ms limit body ≡ over
+  pub reading_over : limit ≤ 0 → reading_of t ms limit None body ≡ over
   unfolding reading_of read_root
   reading_over none =
       let is : limit ≡ 0 = omega (arith, none) in
@@ -151,7 +152,7 @@ module _ (t : TypeTable) (ms : List ModuleRecord) (limit : ℕ) (body : Items) w
 
   -- and one of the reading
   pub root_fails : 0 < limit → (st : State) (f : Frame) (o : Outcome Moment) (e : Error)
-      → built_root t ms limit None body ≡ o → Ends t ms st f o (Err e) → IsBuiltEnd t ms limit body st e
+      → read_root t ms limit None body ≡ o → Ends t ms st f o (Err e) → IsRootEnd t ms limit body st e
   unfolding Ends
   root_fails below st f o (error.Invalid p) is ends = reading_is _ (is ∙ ends)
   root_fails below st f o (error.BadType p) is ends = reading_is _ (is ∙ ends)
@@ -167,10 +168,10 @@ module _ (t : TypeTable) (ms : List ModuleRecord) (limit : ℕ) (body : Items) w
   root_fails below st f o (error.BadOptions p) is ends = absurd ends
 
   module _ (st : State) (f : Frame) (s : Scope) (w : World) (nodes : ℕ) (o : Outcome Finish)
-      (is : built_reading t ms limit body ≡ and_then o finish) where
+      (is : reading_of t ms limit None body ≡ and_then o finish) where
     -- an error of the exports is one of the reading, where so many nodes are too much from every total on
-    pub exports_fail : 0 < limit → (4294967295 ≤ 8 * nodes → (n : ℕ) → IsLong t ms limit body n) → (e : Error)
-        → ExportsEnd t ms st f s w nodes o (Err e) → IsBuiltEnd t ms limit body st e
+    pub exports_fail : 0 < limit → (4294967295 ≤ 8 * nodes → (n : ℕ) → IsPast t ms limit n body) → (e : Error)
+        → ExportsEnd t ms st f s w nodes o (Err e) → IsRootEnd t ms limit body st e
     unfolding ExportsEnd
     exports_fail below many (error.Unsupported u p) ends = is ∙ ap (λ x. and_then x finish) ends
     exports_fail below many error.TooMany ends = elim ends as (λ _. IsCrowded t ms limit body st) [

@@ -15,21 +15,22 @@ use Rattle.pc_spec_reading.specs.Item.{Items}
 use Rattle.pc_local.specs.declared.item.Translation.{Translation}
 use Rattle.pc_local.specs.Standing.{BodyStands, no_names}
 use Rattle.pc_dfg.specs.declared.dfg.ComponentDfg.{ComponentDfg}
-use Rattle.pc_dfg.specs.Lists.{entries_of}
 use Rattle.pc_inline_state.specs.declared.state.State.{State}
-use Rattle.pc_inline.specs.Roots.{EndsWith, HasAtMost, HasFew, HasNothing, InlinesBody, InlinesRoot, IsBuiltEnd}
+use Rattle.pc_inline.specs.Roots.{HasAtMost, HasFew, HasNothing, InlinesBody, InlinesRoot, IsRootEnd}
 use Rattle.pc_inline.specs.Roots.{IsLongOrHasFew, RootHasFew, RootHasFewFrom, RootRead}
 use Rattle.pc_inline_state.specs.Fresh.{counted_tables}
+use Rattle.pc_inline_state.specs.Adds.{with_modules}
 use Rattle.pc_inline_state.specs.Gained.{AddsTables}
 use Rattle.pc_inline_state.specs.Tables.{Keeps, tables_of}
-use Rattle.pc_inline_stack.specs.Totals.{CountsGraph, GainsFew}
+use Rattle.pc_inline_stack.specs.Totals.{CountsGraph, GainsFew, HasTotal}
 use Rattle.pc_inline_state.specs.Typed.{no_resources}
 use Rattle.pc_inline.specs.Inlines.{Inlines, IsFault, StandsForReading}
 use Rattle.pc_inline_state.proofs.GainedLemmas.{tables_more, tables_none}
 use Rattle.pc_inline.proofs.CountLemmas.{counted_exports, counted_holds, counted_items, counted_ordered, counted_plain}
-use Rattle.pc_inline.proofs.CountLemmas.{counted_numbers, counted_world}
-use Rattle.pc_inline.proofs.EndLemmas.{done_today, end_today, long_past, total_is}
+use Rattle.pc_inline.proofs.CountLemmas.{counted_numbers, counted_widths, counted_world}
+use Rattle.pc_inline.proofs.EndLemmas.{end_is}
 use Rattle.pc_inline.proofs.RootFewLemmas.{counted_few, no_room, run_adds, run_tables}
+use Rattle.pc_inline.proofs.WidthLemmas.{are_wide}
 
 -- types keep their numbers in the builder that is handed back, whichever resources were known before
 pub run_keeps : (old taken new : Types) (st st' : State) → taken ≡ record old { resources = no_resources }
@@ -56,8 +57,7 @@ module _ (t : TypeTable) (ms : List ModuleRecord) (limit : ℕ) where
       let errors = length st.types.error_context_tables in
       record {
         result = read.result;
-        outcome = done_today t ms limit body read.result read.outcome;
-        built = read.outcome;
+        outcome = read.outcome;
         stands = record {
           world = counted_world g futures streams errors st.types _ read.world;
           exports = counted_exports g futures streams errors st.types t _ read.exports;
@@ -65,6 +65,8 @@ module _ (t : TypeTable) (ms : List ModuleRecord) (limit : ℕ) where
           ordered = counted_ordered g futures streams errors read.sound.ordered;
           items = counted_items g futures streams errors ms read.sound.items;
           plain = counted_plain g futures streams errors read.sound.plain;
+          widths = counted_widths g futures streams errors ms read.result
+              (are_wide t ms st read.result read.sound read.world);
           held = counted_holds g futures streams errors st.types t read.sound.held;
           future_tables = refl;
           stream_tables = refl;
@@ -108,9 +110,9 @@ module _ (t : TypeTable) (ms : List ModuleRecord) (limit : ℕ) where
         → InlinesRoot t given limit bodies root st (Err e) → Inlines t ms limit body old types (Err e)
     unfolding Inlines InlinesBody
     fails_here old e builder few inlines =
-        end_today t ms limit body st (types_held old)
+        end_is t ms limit body st (types_held old)
         (no_room t ms limit body old st (subst IsBuilder now builder) (few_here old (Err e) few)) e
-        (subst (λ xs. IsBuiltEnd t xs limit body st e) same
+        (subst (λ xs. IsRootEnd t xs limit body st e) same
         (inlines body (stands_among bodies listed among root body stands)))
 
     module _ (old taken : Types) (first : State) (forgot : taken ≡ record old { resources = no_resources })
@@ -160,11 +162,11 @@ module _ (t : TypeTable) (ms : List ModuleRecord) (limit : ℕ) where
           → CountsGraph t ms limit counted body old types g
       counts_here g is end few counted =
           elim (here first.types (Ok end) few counted) as (λ _. CountsGraph t ms limit counted body old types g) [
-            | inl long ↦ inl (long_past t ms limit body counted long)
+            | inl long ↦ inl long
             | inr h ↦ by h
           ]
         where
-          by : ((total : ℕ) × EndsWith t ms limit body counted total
+          by : ((total : ℕ) × HasTotal t ms limit counted body total
               × HasFew t counted total first.types (tables_of st))
               ⊎ (⊥ × HasNothing t limit first.types (tables_of st)) → CountsGraph t ms limit counted body old types g
           by (inr nothing) = absurd nothing.0
@@ -173,12 +175,12 @@ module _ (t : TypeTable) (ms : List ModuleRecord) (limit : ℕ) where
               let most = h.2.most in
               inr (record {
                 total = total;
-                is_total = total_is t ms limit body counted total h.1;
+                is_total = h.1;
                 below = h.2.below;
                 added = h.2.added;
                 few = h.2.few;
                 types = adds_here h.2.added most.types;
-                lists = λ l. subst (λ x. length (entries_of x l) ≤ h.2.added) (sym is)
+                lists = λ l. subst (λ x. with_modules x l ≤ h.2.added) (sym is)
                     (counted_few st.graph st.types h.2.added most.lists l);
                 resources = subst (λ (x : ComponentDfg). length x.imported_resources + length x.resources ≤ h.2.added)
                     (sym is) most.resources;
@@ -204,7 +206,7 @@ module _ (t : TypeTable) (ms : List ModuleRecord) (limit : ℕ) where
               added = adds.0;
               types = adds_here adds.0 adds.1.types;
               tables = tables_within adds.0 adds.1;
-              few = inl (long_past t ms limit body counted long);
+              few = inl long;
             }
             | inr h ↦ by h
           ]

@@ -1,4 +1,4 @@
--- How the total of a reading grows as far as it is built.
+-- How the total of a reading grows.
 use Rattle.std.proofs.Common.{◌≡◌, ◌≤◌, ◌+◌, ℕ, zero, suc, Bool, true, false, List, [], ◌∷◌, Option, None, Some, Result}
 use Rattle.std.proofs.Common.{Ok, Err, refl, sym, subst, ◌∙◌, if◌then◌else◌, arith}
 use Rattle.std.specs.Prelude.{IfOk, length, nat_lt}
@@ -9,7 +9,7 @@ use Rattle.pc_types.specs.declared.parsed.Entity.{Entity}
 use Rattle.pc_types.specs.declared.parsed.TypeTable.{TypeTable}
 use Rattle.pc_types.specs.TypeTree.{Identity}
 use Rattle.pc_parsed.specs.declared.payload.ExternName.{ExternName}
-use Rattle.pc_spec_reading.specs.Components.{Call, read_return}
+use Rattle.pc_spec_reading.specs.Components.{Call, read_return, read_call}
 use Rattle.pc_spec_reading.specs.Imports.{give, host_value, import_resources, importing, next_import, prepare}
 use Rattle.pc_spec_reading.specs.Item.{ArgumentOf, Item, Items, and_item, exports_in, import_item}
 use Rattle.pc_spec_reading.specs.Item.{instantiate_component_item, no_items}
@@ -18,15 +18,14 @@ use Rattle.pc_spec_reading.specs.Outcome.{Fault, Outcome, and_then, at_item, bad
 use Rattle.pc_spec_reading.specs.Outcome.{past}
 use Rattle.pc_spec_reading.specs.Outcome.{unsupported}
 use Rattle.pc_spec_reading.specs.Reading.{Enter, Return, beginning, begun_in, instantiate, returning, read_item}
-use Rattle.pc_spec_reading.specs.Reading.{read_items, read_body, read_child, enter_at, prepared, prepare_all}
+use Rattle.pc_spec_reading.specs.Reading.{read_items, read_body, read_child, enter_at, prepare_all}
 use Rattle.pc_spec_reading.specs.Resource.{ResourcePath, newly, resource_paths}
+use Rattle.pc_spec_reading.specs.Rows.{read_row}
 use Rattle.pc_spec_reading.specs.Scope.{Moment}
 use Rattle.pc_spec_reading.specs.Total.{body_weight}
 use Rattle.pc_spec_reading.specs.Types.{declared_tree, is_defined_entity, names_entry}
 use Rattle.pc_spec_reading.specs.Value.{Component, Value, closed}
 use Rattle.pc_spec_reading.specs.World.{World, grown, has_room}
-use Rattle.pc_inline_state.specs.Today.{built_enter, built_item, built_items, built_prepare}
-use Rattle.pc_inline_state.specs.Today.{built_prepare_all, built_row, today, built_call}
 use Rattle.pc_inline_stack.proofs.RowLemmas.{return_keeps, row_keeps}
 
 -- what goes on and is done was done before
@@ -99,11 +98,11 @@ module _ (t : TypeTable) (ms : List ModuleRecord) where
 
   module _ (enter : Enter) (child : ChildGrows enter) where
     instance_grows : (n component : ℕ) (args : List ArgumentOf) (ty : ℕ) (now last : Moment)
-        → instantiate today t ms enter n component args ty now ≡ done last → Grows now last
+        → instantiate t ms enter n component args ty now ≡ done last → Grows now last
     unfolding instantiate
     instance_grows n component args ty now last is =
         let c = now.scope.component_instance in
-        let called = then_done (at_item c n (built_call t now.scope component args ty)) _ last is in
+        let called = then_done (at_item c n (read_call t now.scope component args ty)) _ last is in
         let entered = then_done (enter called.0 now.scope.known now.world) _ last called.2 in
         let back = item_done c n (read_return t (record now { world = entered.0.world }) entered.0.exports ty) last
         entered.2 in
@@ -112,25 +111,25 @@ module _ (t : TypeTable) (ms : List ModuleRecord) where
         (child called.0 now.scope.known now.world entered.0 entered.1)
 
     row_grows : (n : ℕ) (i : Item) (now last : Moment)
-        → at_item now.scope.component_instance n (built_row t ms now i) ≡ done last → Grows now last
+        → at_item now.scope.component_instance n (read_row t ms now i) ≡ done last → Grows now last
     row_grows n i now last is =
         subst (HasGrown now.world.total)
         (sym (row_keeps t ms now last i (item_done now.scope.component_instance n _ last is)).total)
         (grown_refl now.world.total)
 
-    item_grows : (n : ℕ) (i : Item) (now last : Moment) → built_item t ms enter n i now ≡ done last → Grows now last
+    item_grows : (n : ℕ) (i : Item) (now last : Moment) → read_item t ms enter n i now ≡ done last → Grows now last
     unfolding read_item
     item_grows n (instantiate_component_item component args ty) now last is =
         instance_grows n component args ty now last is
     item_grows n i now last is = row_grows n i now last is
 
     -- the items of a body
-    pub items_grow : (is : Items) (n : ℕ) (now last : Moment) → built_items t ms enter n is now ≡ done last
+    pub items_grow : (is : Items) (n : ℕ) (now last : Moment) → read_items t ms enter n is now ≡ done last
         → Grows now last
     unfolding read_items
     items_grow no_items n now last is = subst (Grows now) (same_done now last is) (grown_refl now.world.total)
     items_grow (and_item i is) n now last read =
-        let next = then_done (built_item t ms enter n i now) (built_items t ms enter (n + 1) is) last read in
+        let next = then_done (read_item t ms enter n i now) (read_items t ms enter (n + 1) is) last read in
         grown_trans now.world.total next.0.world.total last.world.total (item_grows n i now next.0 next.1)
         (items_grow is (n + 1) next.0 last next.2)
 
@@ -140,27 +139,27 @@ module _ (t : TypeTable) (ms : List ModuleRecord) where
     returned body last r is = same_done _ r is
 
     body_grows : (enter : Enter) → ChildGrows enter → (k : Component) (args : List (List ℕ × Value))
-        (known : List (ℕ × Identity)) (w : World) (r : Return) → read_child today t ms limit enter k args known w
+        (known : List (ℕ × Identity)) (w : World) (r : Return) → read_child t ms limit enter k args known w
         ≡ done r
         → HasGrown w.total r.world.total
     unfolding read_body
     body_grows enter child (closed body chain) args known w r is =
         let begins = begins_grow limit (body_weight t ms body) w (λ v.
-        and_then (built_items t ms enter 0 body (begun_in args known chain w.begun v)) (returning t body)) r is
+        and_then (read_items t ms enter 0 body (begun_in args known chain w.begun v)) (returning t body)) r is
         in
         let v = begins.0 in
-        let read = then_done (built_items t ms enter 0 body (begun_in args known chain w.begun v))
+        let read = then_done (read_items t ms enter 0 body (begun_in args known chain w.begun v))
         (returning t body) r begins.2 in
         let grows = items_grow enter child body 0 (begun_in args known chain w.begun v) read.0 read.1 in
         grown_trans w.total v.total r.world.total begins.1
         (subst (λ (x : Return). HasGrown v.total x.world.total) (returned body read.0 r read.2) grows)
 
     -- a child, however deep
-    pub child_grows : (levels : ℕ) → ChildGrows (built_enter t ms limit levels)
+    pub child_grows : (levels : ℕ) → ChildGrows (enter_at t ms limit levels)
     unfolding enter_at
     child_grows zero c known w r is = absurd (not_over r is)
     child_grows (suc levels) c known w r is =
-        body_grows (built_enter t ms limit levels) (child_grows levels) c.component c.arguments known w r is
+        body_grows (enter_at t ms limit levels) (child_grows levels) c.component c.arguments known w r is
 
 -- the total and how many component instances began are as before
 abbrev pub IsCountedAs : Moment → Moment → Type 0
@@ -196,9 +195,9 @@ module _ (t : TypeTable) (ms : List ModuleRecord) where
       counts_found now (unsupported ComponentImport) (host_value (next_import next) e tree) _ (λ v. same))
 
   -- an import that is prepared
-  prepare_counts : (name : ExternName) (e : Entity) (now last : Moment) → built_prepare t name e now ≡ Ok last
+  prepare_counts : (name : ExternName) (e : Entity) (now last : Moment) → prepare t name e now ≡ Ok last
       → IsCountedAs now last
-  unfolding prepared today prepare
+  unfolding prepare
   prepare_counts name e now last is =
       subst (λ r. IfOk r (IsCountedAs now)) is
       (counts_held now bad_type (names_entry t e) _ (by (is_defined_entity t e)))
@@ -212,13 +211,13 @@ module _ (t : TypeTable) (ms : List ModuleRecord) where
           given_counts name e now brought (resources_count now (length now.world.imports) (resource_paths t e))
 
   -- the imports of a root
-  pub prepared_counts : (is : Items) (n : ℕ) (now last : Moment) → built_prepare_all t n is now ≡ done last
+  pub prepared_counts : (is : Items) (n : ℕ) (now last : Moment) → prepare_all t n is now ≡ done last
       → IsCountedAs now last
   unfolding prepare_all
   prepared_counts no_items n now last is = subst (IsCountedAs now) (same_done now last is) (refl, refl)
   prepared_counts (and_item (import_item name e) is) n now last read =
       let c = now.scope.component_instance in
-      let next = then_done (at_item c n (built_prepare t name e now)) (built_prepare_all t (n + 1) is) last read
+      let next = then_done (at_item c n (prepare t name e now)) (prepare_all t (n + 1) is) last read
       in
       let one = prepare_counts name e now next.0 (item_done c n _ next.0 next.1) in
       let rest = prepared_counts is (n + 1) next.0 last next.2 in

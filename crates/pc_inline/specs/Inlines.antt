@@ -3,20 +3,18 @@ use Rattle.std.specs.Prelude.{◌≡◌, ◌≤◌, ◌+◌, ℕ, List, length, 
 use Rattle.pc_types_lists.specs.Types.{Types, types_held}
 use Rattle.pc_types.specs.declared.error.Error.{Error}
 use Rattle.pc_types.specs.declared.error.Error.TheVariants as error
-use Rattle.pc_types.specs.declared.error.Unsupported.TheVariants.{NotBuilt}
 use Rattle.pc_types.specs.declared.module_record.ModuleRecord.{ModuleRecord}
 use Rattle.pc_types.specs.declared.parsed.TypeTable.{TypeTable}
 use Rattle.pc_spec_reading.specs.Answer.{IsPast}
 use Rattle.pc_spec_reading.specs.Item.{Items}
-use Rattle.pc_spec_reading.specs.Outcome.{Outcome, bad_type, done, fault, invalid, over, unknown_intrinsic, unsupported}
+use Rattle.pc_spec_reading.specs.Outcome.{bad_type, done, fault, invalid, over, unknown_intrinsic, unsupported}
 use Rattle.pc_spec_reading.specs.Reading.{Reading, reading_of}
 use Rattle.pc_spec_reading.specs.World.{World}
 use Rattle.pc_dfg.specs.declared.dfg.ComponentDfg.{ComponentDfg}
 use Rattle.pc_dfg.specs.Ordered.{IsOrdered}
 use Rattle.pc_inline_exports.specs.Exports.{ExportsStand, NumbersExports}
-use Rattle.pc_inline_state.specs.Today.{built_reading}
 use Rattle.pc_inline_state.specs.Worlds.{HasItems, HoldsTypes, IsPlain, WorldStands}
-use Rattle.pc_spec_reading.specs.Guard.{everything}
+use Rattle.pc_inline.specs.Widths.{AreWide}
 
 -- the world at the end of a reading; no total is counted
 abbrev pub last_world : Reading → World
@@ -32,7 +30,7 @@ last_world r = record {
 -- a graph stands for a reading, with the types that the builder holds
 pub record GraphStands (t : TypeTable) (ms : List ModuleRecord) (types : Types) (g : ComponentDfg) (r : Reading)
     : Type 0 where
-  -- its side effects, imports and trampolines are those of the reading
+  -- its side effects, imports, adapters and trampolines are those of the reading
   pub world : WorldStands types g (last_world r)
   -- and so are its exports
   pub exports : ExportsStand t types g r.nodes
@@ -41,6 +39,8 @@ pub record GraphStands (t : TypeTable) (ms : List ModuleRecord) (types : Types) 
   pub ordered : IsOrdered g
   pub items : HasItems ms g
   pub plain : IsPlain g
+  -- the flags of its adapters say whether their memories have 64 bits
+  pub widths : AreWide ms r g
   -- the types and signatures that it names are there
   pub held : HoldsTypes types t g
   -- it counts the tables that the builder holds
@@ -52,9 +52,7 @@ pub record GraphStands (t : TypeTable) (ms : List ModuleRecord) (types : Types) 
 pub record StandsForReading (t : TypeTable) (ms : List ModuleRecord) (limit : ℕ) (body : Items) (types : Types)
     (g : ComponentDfg) : Type 0 where
   pub result : Reading
-  pub outcome : reading_of everything t ms limit None body ≡ done result
-  -- so it is as far as it is built: each item was
-  pub built : built_reading t ms limit body ≡ done result
+  pub outcome : reading_of t ms limit None body ≡ done result
   pub stands : GraphStands t ms types g result
 
 -- the total of the reading is too much, wherever it begins that counts the types that were held before, and the core
@@ -63,20 +61,13 @@ abbrev pub HasNoRoom : TypeTable → List ModuleRecord → (limit : ℕ) → Ite
 HasNoRoom t ms limit body held =
     (counted : ℕ) → length t.core_funcs + held ≤ counted → IsPast t ms limit counted body
 
--- the reading ends so, and as far as it is built it does too
-abbrev pub EndsAs : TypeTable → List ModuleRecord → (limit : ℕ) → Items → Outcome Reading → Type 0
-EndsAs t ms limit body o = (built_reading t ms limit body ≡ o) × (reading_of everything t ms limit None body ≡ o)
-
--- the reading ends with this fault at its place; or as far as it is built it ends where something isn't built. So many
--- types were held before
+-- the reading ends with this fault at its place. So many types were held before
 abbrev pub IsFault : TypeTable → List ModuleRecord → (limit : ℕ) → Items → (held : ℕ) → Error → Type 0
-IsFault t ms limit body held (error.Invalid p) = EndsAs t ms limit body (fault invalid p)
-IsFault t ms limit body held (error.BadType p) = EndsAs t ms limit body (fault bad_type p)
-IsFault t ms limit body held (error.UnknownIntrinsic p) = EndsAs t ms limit body (fault unknown_intrinsic p)
-IsFault t ms limit body held (error.Unsupported NotBuilt p) =
-    built_reading t ms limit body ≡ fault (unsupported NotBuilt) p
-IsFault t ms limit body held (error.Unsupported u p) = EndsAs t ms limit body (fault (unsupported u) p)
-IsFault t ms limit body held error.TooManyInstances = EndsAs t ms limit body over
+IsFault t ms limit body held (error.Invalid p) = reading_of t ms limit None body ≡ fault invalid p
+IsFault t ms limit body held (error.BadType p) = reading_of t ms limit None body ≡ fault bad_type p
+IsFault t ms limit body held (error.UnknownIntrinsic p) = reading_of t ms limit None body ≡ fault unknown_intrinsic p
+IsFault t ms limit body held (error.Unsupported u p) = reading_of t ms limit None body ≡ fault (unsupported u) p
+IsFault t ms limit body held error.TooManyInstances = reading_of t ms limit None body ≡ over
 IsFault t ms limit body held error.TooMany = HasNoRoom t ms limit body held
 IsFault t ms limit body held error.NoMemory = Unit {0}
 IsFault t ms limit body held e = ⊥

@@ -28,13 +28,12 @@ use Rattle.pc_inline_state.specs.Points.{Goes, PointStands, StepsItem}
 use Rattle.pc_inline_state.specs.Prepares.{Converts}
 use Rattle.pc_inline_state.specs.Refused.{LacksRoomOr}
 use Rattle.pc_inline_state.specs.Tables.{Tables}
-use Rattle.pc_inline_state.specs.Today.{built_row}
 use Rattle.pc_inline_state.specs.Typed.{IsSignature}
 use Rattle.pc_inline_state.proofs.AddsLemmas.{adds_both, core_few}
 use Rattle.pc_inline_canon.specs.Callees.{AddsIntrinsic}
 use Rattle.pc_inline_canon.proofs.FrameLemmas.{converted_point}
 use Rattle.pc_inline_canon.proofs.PassedLemmas.{steps_lacking, steps_passed}
-use Rattle.pc_inline_canon.proofs.StepLemmas.{row_goes, row_stuck, steps_on, steps_stuck}
+use Rattle.pc_inline_canon.proofs.StepLemmas.{steps_on, steps_stuck}
 
 module _ (t : TypeTable) (ms : List ModuleRecord) (access : Access) (signature n : ℕ) where
   abbrev slot : Item
@@ -46,10 +45,10 @@ module _ (t : TypeTable) (ms : List ModuleRecord) (access : Access) (signature n
       → StepsItem t ms slot st f st' f' r
   unfolding read_row read_context signature_at
   slot_lacks st f st' f' r e is lacks =
-      steps_passed t ms (λ now. built_row t ms now slot) st f st' f' r e is
-      (steps_lacking t ms (λ now. built_row t ms now slot) st f st' f' item_fault.BadType
+      steps_passed t ms (λ now. read_row t ms now slot) st f st' f' r e is
+      (steps_lacking t ms (λ now. read_row t ms now slot) st f st' f' item_fault.BadType
       (slice_get t.core_funcs signature ≡ None) e lacks
-      (λ now at none. row_stuck t ms now slot bad_type (missing now none)))
+      (λ now at none. missing now none))
     where
       missing : (now : Moment) → slice_get t.core_funcs signature ≡ None → read_row t ms now slot ≡ Err bad_type
       missing now none = rw (none) refl
@@ -68,8 +67,8 @@ module _ (t : TypeTable) (ms : List ModuleRecord) (access : Access) (signature n
     pub slot_misses : i ≡ None → StepsItem t ms slot st f mid f (Err (item_error.Fault item_fault.Invalid))
     unfolding read_row read_context signature_at
     slot_misses none =
-        steps_stuck t ms (λ now. built_row t ms now slot) st f mid f item_fault.Invalid
-        (λ now at. row_stuck t ms now slot invalid (missing now))
+        steps_stuck t ms (λ now. read_row t ms now slot) st f mid f item_fault.Invalid
+        (λ now at. missing now)
       where
         missing : (now : Moment) → read_row t ms now slot ≡ Err invalid
         missing now = rw (is_signature.1, sym is_place, none) refl
@@ -82,21 +81,21 @@ module _ (t : TypeTable) (ms : List ModuleRecord) (access : Access) (signature n
 
       -- it is a core function
       slot_goes : (end : State) (id : CoreId) → AddsIntrinsic t ms mid end x core_type id → (now : Moment)
-          → PointStands t ms st f now → Goes t ms end (with_core_id f core.Func id) (built_row t ms now slot)
+          → PointStands t ms st f now → Goes t ms end (with_core_id f core.Func id) (read_row t ms now slot)
       unfolding AddsIntrinsic
       slot_goes end id adds now at =
           let went = adds f now is_signature.0 (at_mid now at) is_signature.2 in
           record {
             now = add_intrinsic now (intrinsic_place x) is_signature.0;
             stands = went;
-            done = row_goes t ms now _ slot (slot_read now) went.world.no_adapters;
+            done = slot_read now;
           }
 
       pub slot_steps : (end : State) (id : CoreId) → AddsIntrinsic t ms mid end x core_type id → (f' : Frame)
           → f' ≡ with_core_id f core.Func id → (r : ⊤) → StepsItem t ms slot st f end f' (Ok r)
       slot_steps end id adds f' same r =
           subst (λ g. StepsItem t ms slot st f end g (Ok r)) (sym same)
-          (steps_on t ms (λ now. built_row t ms now slot) st f end (with_core_id f core.Func id) r
+          (steps_on t ms (λ now. read_row t ms now slot) st f end (with_core_id f core.Func id) r
           (λ now at. slot_goes end id adds now at))
 
 -- a core signature, and then a core item

@@ -53,6 +53,7 @@ use Rattle.pc_inline_state.specs.Stands.{CoreStands, ItemStands}
 use Rattle.pc_inline_state.specs.Tables.{Keeps, is_trampoline, tables_of}
 use Rattle.pc_inline_state.specs.Worlds.{EffectStands, HasTrampoline, IsDeclared, IsSigned, WorldStands}
 use Rattle.pc_inline_state.proofs.AddsPushLemmas.{changes_few}
+use Rattle.pc_inline_state.proofs.InstanceLemmas.{instances_kept, widths_kept}
 use Rattle.pc_inline_state.proofs.KnowsLemmas.{knows_grown}
 use Rattle.pc_inline_state.proofs.StateLemmas.{types_refl}
 use Rattle.pc_inline_state.proofs.ZipLemmas.{zip_more}
@@ -118,7 +119,7 @@ module _ (t : TypeTable) (ms : List ModuleRecord) (st : State) (ts : List Signed
         (λ w' is. subst (λ u. HasTrampoline st.types with_it u) (same v w' is)
         (record { trampoline = n; stands = stands n.0 at }))
         (changes_few st.graph.trampolines ts x put.0)
-        (world.imports ∙ sym (paths-push w.log e)) refl (none_more refl) refl refl refl refl
+        (world.imports ∙ sym (paths-push w.log e)) refl (none_more refl) refl refl refl refl refl
       where
         same : (a b : CoreValue Mark) → declared a ≡ declared b → a ≡ b
         same a b is = cc
@@ -129,9 +130,9 @@ module _ (t : TypeTable) (ms : List ModuleRecord) (st : State) (ts : List Signed
     declared_point ordered f now point = record {
       sound = record {
         ordered = ordered point.sound.ordered;
-        items = items_same ms st.graph with_it keeps.graph refl (slots_same st.graph ts) refl refl point.sound.items;
+        items = items_same ms st.graph with_it keeps.graph refl (slots_same st.graph ts) refl refl refl
+            point.sound.items;
         plain = record {
-          adapters = point.sound.plain.adapters;
           adapter_modules = point.sound.plain.adapter_modules;
           adapter_partitionings = point.sound.plain.adapter_partitionings;
           unsafe_intrinsics = point.sound.plain.unsafe_intrinsics;
@@ -142,6 +143,9 @@ module _ (t : TypeTable) (ms : List ModuleRecord) (st : State) (ts : List Signed
         table = point.sound.table;
         bodies = point.sound.bodies;
         members = point.sound.members;
+        instances = instances_kept ms (tables_of st) (tables_of next) keeps refl st.runtime_instances.items
+            point.sound.instances;
+        widths = widths_kept t ms st.runtime_instances.items st.graph with_it refl point.sound.widths;
       };
       here = knows_grown st.graph st.types.resources now.scope point.here with_it keeps.fits;
       converted = point.converted;

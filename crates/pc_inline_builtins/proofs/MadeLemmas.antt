@@ -1,6 +1,6 @@
 -- The step of a builtin: its core signature, its parts one after the other, and its trampoline.
 use Rattle.std.proofs.Common.{◌≡◌, ◌≤◌, ◌+◌, ℕ, arith, List, [], All, Option, None, Some, Result, Ok, Err, map, refl, sym, ap, subst}
-use Rattle.std.proofs.Common.{◌∙◌}
+use Rattle.std.proofs.Common.{◌*◌, ◌∙◌}
 use Rattle.std.specs.Prelude.{⊤, option_map, slice_get}
 use Rattle.std.specs.List.{AllZip}
 use Rattle.std.specs.Result.{IsErrAnd}
@@ -41,7 +41,6 @@ use Rattle.pc_inline_state.specs.Prepares.{Converts, Prepares}
 use Rattle.pc_inline_state.specs.Refused.{LacksRoomOr}
 use Rattle.pc_inline_state.specs.Stands.{ItemStands}
 use Rattle.pc_inline_state.specs.Tables.{Keeps, Tables, tables_of}
-use Rattle.pc_inline_state.specs.Today.{built_row}
 use Rattle.pc_inline_state.specs.Typed.{IsSignature}
 use Rattle.pc_inline_state.proofs.AddsLemmas.{adds_both, adds_each, each_trans}
 use Rattle.pc_inline_state.proofs.StateLemmas.{converts_prepares, keeps_trans}
@@ -49,7 +48,7 @@ use Rattle.pc_inline_state.proofs.ZipLemmas.{both_more}
 use Rattle.pc_inline_canon.proofs.ConvertedLemmas.{lower_keeps}
 use Rattle.pc_inline_canon.proofs.FrameLemmas.{converted_point, core_framed, framed_point}
 use Rattle.pc_inline_canon.proofs.PassedLemmas.{steps_lacking, steps_passed}
-use Rattle.pc_inline_canon.proofs.StepLemmas.{row_goes, row_stuck, steps_on}
+use Rattle.pc_inline_canon.proofs.StepLemmas.{steps_on}
 use Rattle.pc_inline_canon.proofs.WorldLemmas.{point_kept}
 use Rattle.pc_inline_builtins.specs.declared.builtin.Builtin.{Builtin}
 use Rattle.pc_inline_builtins.specs.Made.{Answers, Declares, Part, PartStands, Yields, built}
@@ -97,8 +96,8 @@ module _ (t : TypeTable) (ms : List ModuleRecord) (b : Builtin) where
 
   -- the step is stuck where the row of the builtin is
   made_stuck : (i : Item) → IsRow i → (now : Moment) (k : Fault) → read_made t b now ≡ Err k
-      → built_row t ms now i ≡ Err k
-  made_stuck i row now k is = row_stuck t ms now i k (row now ∙ is)
+      → read_row t ms now i ≡ Err k
+  made_stuck i row now k is = row now ∙ is
 
   -- there is no such signature
   pub signature_lacks : (i : Item) → IsRow i → (st : State) (f : Frame) (st' : State) (f' : Frame) (r : Result ⊤ ItemError) (e : ItemError)
@@ -106,8 +105,8 @@ module _ (t : TypeTable) (ms : List ModuleRecord) (b : Builtin) where
       → StepsItem t ms i st f st' f' r
   unfolding read_made signature_at
   signature_lacks i row st f st' f' r e is lacks =
-      steps_passed t ms (λ now. built_row t ms now i) st f st' f' r e is
-      (steps_lacking t ms (λ now. built_row t ms now i) st f st' f' item_fault.BadType
+      steps_passed t ms (λ now. read_row t ms now i) st f st' f' r e is
+      (steps_lacking t ms (λ now. read_row t ms now i) st f st' f' item_fault.BadType
       (slice_get t.core_funcs b.core ≡ None) e lacks (λ now at none. made_stuck i row now bad_type (missing now none)))
     where
       missing : (now : Moment) → slice_get t.core_funcs b.core ≡ None → read_made t b now ≡ Err bad_type
@@ -146,9 +145,9 @@ module _ (t : TypeTable) (ms : List ModuleRecord) (b : Builtin) where
           → StepsItem t ms i st f mid' g r
       unfolding Steps
       first_lacks i row r e is yields =
-          steps_passed t ms (λ now. built_row t ms now i) st f mid' g r e is
+          steps_passed t ms (λ now. read_row t ms now i) st f mid' g r e is
           (λ now at. stuck_as t ms mid' g (Both (PartStands (tables_of mid'))) (read_first t now.scope b.first)
-          (built_row t ms now i) e
+          (read_row t ms now i) e
           (λ k stuck. made_stuck i row now k (reads_on now ∙ rw (stuck) refl))
           (yields now.scope (first_point now at).here))
 
@@ -179,11 +178,11 @@ module _ (t : TypeTable) (ms : List ModuleRecord) (b : Builtin) where
               → StepsItem t ms i st f last g r
           unfolding Steps
           second_lacks i row r e is yields' =
-              steps_passed t ms (λ now. built_row t ms now i) st f last g r e is
+              steps_passed t ms (λ now. read_row t ms now i) st f last g r e is
               (λ now at.
               let one = first_at now at in
               stuck_as t ms last g (Both (PartStands (tables_of last))) (read_second now.scope signature b.second)
-              (built_row t ms now i) e
+              (read_row t ms now i) e
               (λ k stuck. made_stuck i row now k (reads_on now ∙ rw (one.1, stuck) refl))
               (yields' now signature (first_point now at) still_signed))
 
@@ -223,7 +222,7 @@ module _ (t : TypeTable) (ms : List ModuleRecord) (b : Builtin) where
               made_goes : (i : Item) → IsRow i → (end : State) (id : CoreId)
                   → Declares t ms last end b.kind f.component_instance core_type ps id → (now : Moment)
                   → PointStands t ms st f now
-                  → Goes t ms end (with_core_id g core.Func id) (built_row t ms now i)
+                  → Goes t ms end (with_core_id g core.Func id) (read_row t ms now i)
               unfolding Declares
               made_goes i row end id declares now at =
                   let at' = second_point now at in
@@ -243,8 +242,7 @@ module _ (t : TypeTable) (ms : List ModuleRecord) (b : Builtin) where
                         went.0
                         refl refl refl
                         (core_framed ms (tables_of end) g now.scope went.0.frame core.Func id v went.1);
-                    done = row_goes t ms now next i (row now ∙ reads_on now ∙ rw (one.1, two.1) refl)
-                        went.0.world.no_adapters;
+                    done = row now ∙ reads_on now ∙ rw (one.1, two.1) refl;
                   }
 
               -- so the step goes on
@@ -253,7 +251,7 @@ module _ (t : TypeTable) (ms : List ModuleRecord) (b : Builtin) where
                   → f' ≡ with_core_id g core.Func id → (r : ⊤) → StepsItem t ms i st f end f' (Ok r)
               made_steps i row end id declares f' is r =
                   subst (λ x. StepsItem t ms i st f end x (Ok r)) (sym is)
-                  (steps_on t ms (λ now. built_row t ms now i) st f end (with_core_id g core.Func id) r
+                  (steps_on t ms (λ now. read_row t ms now i) st f end (with_core_id g core.Func id) r
                   (λ now at. made_goes i row end id declares now at))
 
 module _ (t : TypeTable) (st : State) (before : Layers) (mid mid' : State) (after : Layers)
@@ -279,7 +277,7 @@ module _ (t : TypeTable) (n : ℕ) (a b c : Tables) (signature : Adds t 0 a b) (
       adds_both t n 4 (4 + n) a c x (omega arith) (adds_both t 0 n n a b c (omega arith) signature first)
       (adds_each t in_options 0 0 4 c x le (omega arith) (omega arith) second)
     where
-      le : (l : ListName) → in_options l ≤ 4
+      le : (l : ListName) → in_options l + 32 * in_options list.adapters ≤ 4
       le list.options = omega arith
       le (list.slots k) = omega arith
       le l = omega arith
@@ -291,7 +289,8 @@ module _ (t : TypeTable) (n : ℕ) (a b c : Tables) (signature : Adds t 0 a b) (
       (adds_each t (λ l. in_options l + in_trampolines l) 1 0 4 c y le (omega arith) (omega arith)
       (each_trans in_options in_trampolines 0 0 1 0 c x y second trampoline))
     where
-      le : (l : ListName) → in_options l + in_trampolines l ≤ 4
+      le : (l : ListName) → in_options l + in_trampolines l
+          + 32 * (in_options list.adapters + in_trampolines list.adapters) ≤ 4
       le list.options = omega arith
       le list.trampolines = omega arith
       le (list.slots k) = omega arith

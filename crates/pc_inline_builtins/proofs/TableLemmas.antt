@@ -35,6 +35,7 @@ use Rattle.pc_inline_state.specs.Worlds.{slot_kind}
 use Rattle.pc_inline_state.proofs.AddsPushLemmas.{Lists, changes_few, from_rest}
 use Rattle.pc_inline_state.proofs.FitsLemmas.{fits_grown}
 use Rattle.pc_inline_state.proofs.GrowthLemmas.{graph_crowded, graph_grown}
+use Rattle.pc_inline_state.proofs.InstanceLemmas.{instances_kept, widths_kept}
 use Rattle.pc_inline_canon.proofs.CoreInstanceLemmas.{item_held}
 use Rattle.pc_inline_canon.proofs.ItemLemmas.{items_kept, types_held, used_kept}
 use Rattle.pc_inline_canon.proofs.MemoryLemmas.{map_at, map_from}
@@ -92,9 +93,8 @@ module _ (t : TypeTable) (ms : List ModuleRecord) (st : State) (h : ComponentDfg
         keeps = graph_grown (tables_of st) tabled tabled_grows fits;
         sound = λ s. record {
           ordered = subst IsOrdered rest (ordered (item_held ms st.graph core.Table (table_def x) is) s.ordered);
-          items = items_kept ms st.graph tabled tabled_grows refl (tabled_slots is) refl refl s.items;
+          items = items_kept ms st.graph tabled tabled_grows refl (tabled_slots is) refl refl refl s.items;
           plain = record {
-            adapters = s.plain.adapters;
             adapter_modules = s.plain.adapter_modules;
             adapter_partitionings = s.plain.adapter_partitionings;
             unsafe_intrinsics = s.plain.unsafe_intrinsics;
@@ -105,11 +105,15 @@ module _ (t : TypeTable) (ms : List ModuleRecord) (st : State) (h : ComponentDfg
           table = s.table;
           bodies = s.bodies;
           members = s.members;
+          instances = instances_kept ms (tables_of st) (tables_of (record st { graph = tabled }))
+              (graph_grown (tables_of st) tabled tabled_grows fits) refl st.runtime_instances.items s.instances;
+          widths = widths_kept t ms st.runtime_instances.items st.graph tabled refl s.widths;
         };
         resources = refl;
         side_effects = refl;
         instances = refl;
         trampolines = refl;
+        adapters = refl;
         imports = refl;
         imported_resources = refl;
         declared_resources = refl;

@@ -18,6 +18,7 @@ use Rattle.pc_inline_state.specs.declared.error.ItemError.{ItemError}
 use Rattle.pc_inline_state.specs.declared.state.State.{State}
 use Rattle.pc_inline_state.specs.Lists.{with_core_id}
 use Rattle.pc_inline_state.specs.Points.{PointStands}
+use Rattle.pc_inline_state.specs.Slots.{IsThere, OptionsThere}
 use Rattle.pc_inline_state.specs.Tables.{Tables, tables_of}
 use Rattle.pc_inline_canon.specs.declared.callee.Callee.{Callee}
 use Rattle.pc_inline_canon.specs.declared.callee.Callee.TheVariants as callee
@@ -25,10 +26,17 @@ use Rattle.pc_inline_canon.specs.Callees.{AddsIntrinsic, HeldCallee, IsCallee, L
 use Rattle.pc_inline_canon.specs.Hosts.{Lowers}
 use Rattle.pc_inline_canon.proofs.FrameLemmas.{core_framed, framed_point}
 
--- the path of a callee of the host is held
-pub path_held : (b : Tables) (c : Callee) (p : PathId) → c ≡ callee.Host p → HeldCallee b c → p.0 < length b.paths
-unfolding HeldCallee
-path_held b c p is held = subst (HeldCallee b) is held
+module _ (ms : List ModuleRecord) (b : Tables) (c : Callee) where
+  -- the path of a callee of the host is held
+  pub path_held : (p : PathId) → c ≡ callee.Host p → HeldCallee ms b c → p.0 < length b.paths
+  unfolding HeldCallee
+  path_held p is held = subst (HeldCallee ms b) is held
+
+  -- and the core function and the options of one that was lifted are
+  pub lifted_held : (ty : TypeFuncIndex) (fn : CoreId) (o : Options) → c ≡ callee.Lifted ty fn o → HeldCallee ms b c
+      → IsThere ms b core.Func fn × OptionsThere ms b o
+  unfolding HeldCallee
+  lifted_held ty fn o is held = subst (HeldCallee ms b) is held
 
 module _ (t : TypeTable) (ms : List ModuleRecord) (old new : State) (ty : TypeFuncIndex) (o : Options) where
   host_done : (p : PathId) (r : Result CoreId ItemError)
@@ -58,6 +66,12 @@ module _ (t : TypeTable) (ms : List ModuleRecord) (old new : State) (ty : TypeFu
         → IfOk r (LowersTo t ms old new c ty o)
     host_lowers p is lowers =
         subst (λ (k : Callee). IfOk r (LowersTo t ms old new k ty o)) (sym is) (host_done p r lowers)
+
+    -- a function that was lifted
+    pub lifted_lowers : (lift_ty : TypeFuncIndex) (fn : CoreId) (lift : Options) → c ≡ callee.Lifted lift_ty fn lift
+        → IfOk r (LowersTo t ms old new (callee.Lifted lift_ty fn lift) ty o) → IfOk r (LowersTo t ms old new c ty o)
+    lifted_lowers lift_ty fn lift is lowers =
+        subst (λ (k : Callee). IfOk r (LowersTo t ms old new k ty o)) (sym is) lowers
 
     -- an unsafe intrinsic
     pub intrinsic_lowers : (i : UnsafeIntrinsic) → c ≡ callee.Intrinsic i

@@ -5,7 +5,7 @@ use Rattle.pc_types.specs.declared.parsed.TypeTable.{TypeTable}
 use Rattle.pc_types_lists.specs.Adds.{most_types}
 use Rattle.pc_inline_state.specs.declared.frame.Change.{Change}
 use Rattle.pc_inline_state.specs.declared.state.State.{State}
-use Rattle.pc_inline_state.specs.Adds.{Adds, most_converted}
+use Rattle.pc_inline_state.specs.Adds.{Adds, most_converted, most_lowered}
 use Rattle.pc_inline_state.specs.AddsEach.{AddsEach, nowhere}
 use Rattle.pc_inline_state.specs.Prepares.{Converts}
 use Rattle.pc_inline_state.specs.Tables.{Keeps, Tables, tables_of}
@@ -19,13 +19,16 @@ module _ (t : TypeTable) (a b : Tables) where
   pub types_few : Adds t (most_types t) a b → Adds t (most_converted t 1) a b
   types_few h = adds_weaken t (most_types t) (most_converted t 1) a b (omega arith) h
 
-  -- and then what a host function adds that is lowered
-  pub lower_adds : (x : Tables) → Adds t (most_types t) a b → Adds t 4 b x → Adds t (most_converted t 1) a x
-  lower_adds x h k = adds_both t (most_types t) 4 (most_converted t 1) a b x (omega arith) h k
+  pub types_lowered : Adds t (most_types t) a b → Adds t (most_lowered t) a b
+  types_lowered h = adds_weaken t (most_types t) (most_lowered t) a b (omega arith) h
+
+  -- and then what a function adds that is lowered
+  pub lower_adds : (x : Tables) → Adds t (most_types t) a b → Adds t 36 b x → Adds t (most_lowered t) a x
+  lower_adds x h k = adds_both t (most_types t) 36 (most_lowered t) a b x (omega arith) h k
 
   -- or the definition of a lifted function
   pub lift_adds : (x : Tables) → Adds t (most_types t) a b → AddsEach nowhere 0 1 b x → Adds t (most_converted t 1) a x
-  lift_adds x h k = lower_adds x h (definition_few t b x k)
+  lift_adds x h k = adds_both t (most_types t) 4 (most_converted t 1) a b x (omega arith) h (definition_few t b x k)
 
 -- what is kept after that is kept from the start
 pub lower_keeps : (t : TypeTable) (st mid : State) (before after : Layers) (x : Tables)

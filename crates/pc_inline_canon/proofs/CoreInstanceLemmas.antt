@@ -12,7 +12,7 @@ use Rattle.pc_dfg.specs.declared.instance.Instance.{Instance}
 use Rattle.pc_dfg.specs.Held.{IsHeld}
 use Rattle.pc_dfg.specs.Numbers.{slots_of}
 use Rattle.pc_dfg.specs.Pushed.{with_instance}
-use Rattle.pc_inline_state.specs.Tables.{IsItem, is_entity, is_intrinsic, is_named, is_trampoline}
+use Rattle.pc_inline_state.specs.Tables.{IsItem, is_adapter, is_entity, is_intrinsic, is_named, is_trampoline}
 
 -- what is found in a list with one item more was there, or is that item
 pub found_in_push : {A : Type 0} (xs : List A) (y : A) (p : ℕ) (x : A) → slice_get (xs ++ y ∷ []) p ≡ Some x
@@ -29,6 +29,7 @@ item_held ms g k d (is_entity {i = i} is has) = slice_get_within g.instances i.0
 item_held ms g k d (is_named {i = i} host) = slice_get_within g.instances i.0 _ host.made
 item_held ms g k d (is_trampoline below) = below
 item_held ms g k d (is_intrinsic signed) = tt
+item_held ms g k d (is_adapter below) = below
 
 -- the slots of a graph with one core instance more
 pub same_slots : (g : ComponentDfg) (x : Instance) (owner : RuntimeComponentInstanceIndex) (k : plan.SlotKind)

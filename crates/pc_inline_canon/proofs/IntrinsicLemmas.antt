@@ -29,6 +29,7 @@ use Rattle.pc_inline_state.specs.declared.state.State.{State}
 use Rattle.pc_inline_state.specs.Lists.{with_core_id}
 use Rattle.pc_inline_state.specs.Points.{PointStands}
 use Rattle.pc_inline_state.specs.Tables.{Keeps, is_intrinsic, tables_of}
+use Rattle.pc_inline_state.proofs.InstanceLemmas.{instances_kept, widths_kept}
 use Rattle.pc_inline_state.proofs.IntrinsicLemmas.{intrinsics_added}
 use Rattle.pc_inline_state.proofs.KnowsLemmas.{knows_grown}
 use Rattle.pc_inline_state.proofs.StateLemmas.{types_refl}
@@ -78,9 +79,8 @@ module _ (st : State) (i : UnsafeIntrinsic) (s : ModuleInternedTypeIndex) (cores
         ordered = ordered at.sound.ordered;
         items = items_same ms st.graph signing keeps.graph refl
             (signed_slots st.graph (intrinsic_place i) (first_signature (slice_get st.graph.unsafe_intrinsics (intrinsic_place i)) s)) refl refl
-            at.sound.items;
+            refl at.sound.items;
         plain = record {
-          adapters = at.sound.plain.adapters;
           adapter_modules = at.sound.plain.adapter_modules;
           adapter_partitionings = at.sound.plain.adapter_partitionings;
           unsafe_intrinsics = places;
@@ -91,12 +91,15 @@ module _ (st : State) (i : UnsafeIntrinsic) (s : ModuleInternedTypeIndex) (cores
         table = at.sound.table;
         bodies = at.sound.bodies;
         members = at.sound.members;
+        instances = instances_kept ms (tables_of st) (tables_of signed_to) keeps refl st.runtime_instances.items
+            at.sound.instances;
+        widths = widths_kept t ms st.runtime_instances.items st.graph signing refl at.sound.widths;
       };
       here = knows_grown st.graph st.types.resources now.scope at.here signing keeps.fits;
       converted = at.converted;
       frame = frame_kept ms (tables_of st) (tables_of signed_to) keeps f now.scope at.frame;
       world = world_moved st.types st.types st.graph signing (types_refl st.types) keeps.graph keeps.fits refl refl refl
-          refl refl refl refl refl now.world at.world _
+          refl refl refl refl refl refl now.world at.world _
           (intrinsics_added st.types st.graph now.world.intrinsics at.world.intrinsics (intrinsic_place i) s signature
           held (subst (λ n. intrinsic_place i < n) (sym at.sound.plain.unsafe_intrinsics) (place_below i)));
       unexported = record { exports = at.unexported.exports; items = at.unexported.items };

@@ -12,6 +12,7 @@ use Rattle.pc_types.specs.TypeTree.{Path}
 use Rattle.pc_types_lists.specs.Types.{Types}
 use Rattle.pc_spec_plan.specs.PlanView as plan
 use Rattle.pc_spec_reading.specs.SameTypes.{same_path}
+use Rattle.pc_dfg.specs.declared.adapter.Adapter.{Adapter}
 use Rattle.pc_dfg.specs.declared.core_def.CoreDef.{CoreDef}
 use Rattle.pc_dfg.specs.declared.dfg.ComponentDfg.{ComponentDfg}
 use Rattle.pc_dfg.specs.declared.export.Export.TheVariants as export
@@ -24,8 +25,9 @@ use Rattle.pc_dfg.proofs.AllLemmas.{all_more}
 use Rattle.pc_dfg.proofs.GrowLemmas.{within}
 use Rattle.pc_inline_state.specs.Fits.{FitsBefore, path_of}
 use Rattle.pc_inline_state.specs.Tables.{IsItem}
-use Rattle.pc_inline_state.specs.Worlds.{AreUsed, HasItems, HoldsModule, HoldsTypes, slot_kind}
+use Rattle.pc_inline_state.specs.Worlds.{AreUsed, HasItems, HoldsItems, HoldsModule, HoldsTypes, slot_kind}
 use Rattle.pc_inline_state.proofs.StateLemmas.{module_grows, types_refl}
+use Rattle.pc_inline_canon.proofs.AdapterKeptLemmas.{adapters_items_kept}
 use Rattle.pc_inline_canon.proofs.KeptLemmas.{is_item_kept}
 
 module _ (ms : List ModuleRecord) (g h : ComponentDfg) (grows : graph.Grows g h) where
@@ -43,12 +45,13 @@ module _ (ms : List ModuleRecord) (g h : ComponentDfg) (grows : graph.Grows g h)
       (λ (a : Argument). (k : CoreKind) × IsItem ms h k a.1.1)
       (λ a x. (x.0, is_item_kept ms g h grows x.0 a.1.1 x.1)) args all
 
-  -- each definition is an item, where slots alone are more, with items in them
-  pub items_kept : h.instances ≡ g.instances
+  -- each definition is an item, where slots alone are more, with items in them, and adapters, which hold items
+  pub items_with : h.instances ≡ g.instances
       → ((k : plan.SlotKind) (n : ℕ) (d : CoreDef) → slice_get (slots_of h k) n ≡ Some d
       → (slice_get (slots_of g k) n ≡ Some d) ⊎ IsItem ms g (slot_kind k) d)
-      → h.resources ≡ g.resources → h.export_items ≡ g.export_items → HasItems ms g → HasItems ms h
-  items_kept instances slots resources exports items = record {
+      → h.resources ≡ g.resources → h.export_items ≡ g.export_items
+      → ((n : ℕ) (x : Adapter) → slice_get h.adapters n ≡ Some x → HoldsItems ms h x) → HasItems ms g → HasItems ms h
+  items_with instances slots resources exports adapters items = record {
     modules = λ i m args at.
         let old = items.modules i m args
         (subst (λ xs. slice_get xs i ≡ Some (source.Static m args)) instances at) in
@@ -62,15 +65,26 @@ module _ (ms : List ModuleRecord) (g h : ComponentDfg) (grows : graph.Grows g h)
         (items.hosts i r args (subst (λ xs. slice_get xs i ≡ Some (source.Import r args)) instances at));
     destructors = λ n x d at has. is_item_kept ms g h grows core.Func d
         (items.destructors n x d (subst (λ xs. slice_get xs n ≡ Some x) resources at) has);
+    adapters = adapters;
     exports = λ n ty o d at. is_item_kept ms g h grows core.Func d
         (items.exports n ty o d (subst (λ xs. slice_get xs n ≡ Some (export.LiftedFunction ty d o)) exports at));
     statics = λ n ty m at. items.statics n ty m
         (subst (λ xs. slice_get xs n ≡ Some (export.ModuleStatic ty m)) exports at);
   }
 
+  -- the same where adapters are as they were
+  pub items_kept : h.instances ≡ g.instances
+      → ((k : plan.SlotKind) (n : ℕ) (d : CoreDef) → slice_get (slots_of h k) n ≡ Some d
+      → (slice_get (slots_of g k) n ≡ Some d) ⊎ IsItem ms g (slot_kind k) d)
+      → h.resources ≡ g.resources → h.export_items ≡ g.export_items → h.adapters ≡ g.adapters → HasItems ms g
+      → HasItems ms h
+  items_kept instances slots resources exports adapters items =
+      items_with instances slots resources exports (adapters_items_kept ms g h grows adapters items.adapters) items
+
   -- the same where slots are as they were
   pub items_same : h.instances ≡ g.instances → ((k : plan.SlotKind) → slots_of h k ≡ slots_of g k)
-      → h.resources ≡ g.resources → h.export_items ≡ g.export_items → HasItems ms g → HasItems ms h
+      → h.resources ≡ g.resources → h.export_items ≡ g.export_items → h.adapters ≡ g.adapters → HasItems ms g
+      → HasItems ms h
   items_same instances slots =
       items_kept instances (λ k n d at. inl (subst (λ xs. slice_get xs n ≡ Some d) (slots k) at))
 

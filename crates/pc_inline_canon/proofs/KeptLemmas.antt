@@ -1,20 +1,16 @@
 -- What numbers stand for they stand for when the tables have grown.
-use Rattle.std.proofs.Common.{◌≡◌, ℕ, Bool, true, List, Option, Some, sym, subst, ◌∙◌, arith}
+use Rattle.std.proofs.Common.{◌≡◌, ℕ, List, Option, Some, sym, subst, ◌∙◌, arith}
 use Rattle.std.specs.Prelude.{slice_get}
 use Rattle.pc_entity.specs.Lists.{value_of}
 use Rattle.pc_types.specs.declared.module_record.ModuleRecord.{ModuleRecord}
 use Rattle.pc_types.specs.declared.parsed.CoreKind.{CoreKind}
 use Rattle.pc_types.specs.declared.parsed.CoreKind.TheVariants as core
-use Rattle.pc_types.specs.declared.parsed.DeclType.{DeclType}
 use Rattle.pc_types.specs.declared.parsed.TypeTable.{TypeTable as Table}
-use Rattle.pc_types.specs.declared.types.TypeDef.{TypeDef}
 use Rattle.pc_types.specs.declared.types.TypeDef.TheVariants as type
 use Rattle.pc_types.specs.IntrinsicType.{intrinsic_place}
 use Rattle.pc_types.specs.Table.{is_instance, is_module}
-use Rattle.pc_types.specs.TypeTree.{Path, TypeTree, tree_of}
 use Rattle.pc_types_lists.specs.Types.{Types}
 use Rattle.pc_types_lists.specs.Types as builder
-use Rattle.pc_types_builder.proofs.TreeLemmas.{tree_keeps}
 use Rattle.pc_dfg.specs.declared.ids.InstanceId.{InstanceId}
 use Rattle.pc_numbers.specs.declared.entity_index.EntityIndex.{EntityIndex}
 use Rattle.pc_spec_plan.specs.CoreValue as value
@@ -23,7 +19,6 @@ use Rattle.pc_parsed.specs.Mark.{Mark}
 use Rattle.pc_spec_reading.specs.Item.{Lent, a_component, a_module}
 use Rattle.pc_spec_reading.specs.Scope as reading
 use Rattle.pc_spec_reading.specs.Scope.{CoreItem, Scope}
-use Rattle.pc_spec_reading.specs.Types.{has_entry}
 use Rattle.pc_spec_reading.specs.Value.{Chain, NamedValues, Value, component_value, func_value, instance_value, module_value}
 use Rattle.pc_local.specs.Standing.{BodyStands}
 use Rattle.pc_dfg.specs.declared.core_def.CoreDef.{CoreDef}
@@ -46,17 +41,18 @@ use Rattle.pc_inline_state.specs.declared.frame.Frame.{Frame}
 use Rattle.pc_inline_state.specs.Frames.{BagItemStands, ComponentStands, CoreInstanceStands, FrameStands, FuncStands}
 use Rattle.pc_inline_state.specs.declared.state.Member.{Member}
 use Rattle.pc_inline_state.specs.Frames.{InstanceStands, ModuleStands, bag_stands, host_stands, made_stands}
-use Rattle.pc_inline_state.specs.Stands.{Captured, CoreStands, DefinitionStands, IsHostType, IsTableTree, IsType}
+use Rattle.pc_inline_state.specs.Stands.{Captured, CoreStands, DefinitionStands}
 use Rattle.pc_inline_state.specs.Stands.{ItemStands, MaybeStands, MembersStand, ModelStands, OptionsStand, Stands}
 use Rattle.pc_inline_state.specs.Stands.{and_member, captures_more, captures_none, gc_stands, linear_stands, no_members}
 use Rattle.pc_inline_state.specs.Stands.{none_stands, options_stand, some_stands, stands, stands_component, stands_host}
 use Rattle.pc_inline_state.specs.Stands.{stands_host_instance, stands_host_module, stands_instance, stands_intrinsic}
 use Rattle.pc_inline_state.specs.Stands.{stands_intrinsics, stands_lifted, stands_static, stands_type}
-use Rattle.pc_inline_state.specs.Tables.{HasEntity, IsHostInstance, IsItem, Keeps, Tables, is_entity, is_intrinsic}
-use Rattle.pc_inline_state.specs.Tables.{is_named, is_trampoline}
+use Rattle.pc_inline_state.specs.Tables.{HasEntity, IsHostInstance, IsItem, Keeps, Tables, is_adapter, is_entity}
+use Rattle.pc_inline_state.specs.Tables.{is_intrinsic, is_named, is_trampoline}
 use Rattle.pc_inline_state.specs.Fits.{Fits, FitsBefore}
 use Rattle.pc_inline_state.specs.Holds.{Numbered, number_of, whole_of}
 use Rattle.pc_inline_state.specs.Slots.{EntryStands}
+pub use Rattle.pc_inline_state.proofs.TypeKeptLemmas.{host_type_kept, table_tree_kept, type_kept}
 use Rattle.pc_inline_canon.proofs.MarkLemmas.{options_twice, still, value_twice}
 use Rattle.pc_inline_state.proofs.ZipLemmas.{both_more, zip_more}
 
@@ -115,6 +111,7 @@ module _ (ms : List ModuleRecord) (g h : ComponentDfg) (grows : graph.Grows g h)
   is_item_kept k d (is_trampoline {t = t} below) = is_trampoline (within g h grows list.trampolines t.0 below)
   is_item_kept k d (is_intrinsic {s = s} {i = i} signed) =
       is_intrinsic (grows.signatures (intrinsic_place i) s signed)
+  is_item_kept k d (is_adapter {a = a} below) = is_adapter (within g h grows list.adapters a.0 below)
 
 module _ (ms : List ModuleRecord) (b c : Tables) (keeps : Keeps b c) where
   -- a core item by number
@@ -146,47 +143,24 @@ module _ (ms : List ModuleRecord) (b c : Tables) (keeps : Keeps b c) where
       (maybe_kept core.Func o.callback x callback) (maybe_kept core.Func o.post_return y post_return)
       (model_kept o.data_model m model)
 
-  -- a type
-  pub type_kept : (d : TypeDef) (tree : TypeTree) → IsType ms b d tree → IsType ms c d tree
-  type_kept d tree is who fits = tree_keeps b.types c.types keeps.types who d tree (is who (keeps.fits who fits))
-
-  -- the type of what the host gives at a path
-  pub host_type_kept : (path : Path) (tree : TypeTree) → IsHostType ms b path tree → IsHostType ms c path tree
-  host_type_kept path tree x = record {
-    import = x.import;
-    there = kept b.graph c.graph keeps.graph list.import_types path.import x.import x.there;
-    whole = x.whole;
-    typed = type_kept x.import.1.ty x.whole x.typed;
-    along = x.along;
-  }
-
-  -- the tree of an entry of the type table
-  pub table_tree_kept : (test : DeclType → Bool) (n : ℕ) (tree : TypeTree) → IsTableTree ms b test n tree
-      → IsTableTree ms c test n tree
-  table_tree_kept test n tree x = record {
-    there = subst (λ (t : Table). has_entry t test n ≡ true) (sym keeps.table) x.there;
-    known = x.known;
-    component_instance = x.component_instance;
-    is = subst (λ (t : Table). tree_of x.known x.component_instance t n ≡ Some tree) (sym keeps.table) x.is;
-  }
-
   mutual
     -- an entry of the table of definitions
     pub definition_kept : (d : Definition) (v : Value) → DefinitionStands ms b d v → DefinitionStands ms c d v
     definition_kept d v (stands_host {p = p} {ty = ty} {path = path} {tree = tree} held given is_func) =
-        stands_host (keeps.paths p.0 path held) (host_type_kept path tree given)
-        (type_kept (type.ComponentFunc ty) tree is_func)
+        stands_host (keeps.paths p.0 path held) (host_type_kept ms b c keeps path tree given)
+        (type_kept ms b c keeps (type.ComponentFunc ty) tree is_func)
     definition_kept d v (stands_lifted {ty = ty} {func = f} {o = o} {tree = tree} {v = w} {os = os} is_func func
         options) =
-        stands_lifted (type_kept (type.ComponentFunc ty) tree is_func) (item_kept core.Func f w func)
+        stands_lifted (type_kept ms b c keeps (type.ComponentFunc ty) tree is_func) (item_kept core.Func f w func)
         (options_kept o os options)
     definition_kept d v stands_intrinsic = stands_intrinsic
     definition_kept d v (stands_static {ty = ty} {tree = tree} handed_in tabled i typed) =
-        stands_static handed_in (table_tree_kept is_module ty tree tabled) i (type_kept (type.Module i) tree typed)
-    definition_kept d v (stands_host_module {p = p} {ty = ty} {entry = entry} {path = path} {tree = tree} held tabled
-        typed) =
-        stands_host_module (keeps.paths p.0 path held) (table_tree_kept is_module entry tree tabled)
-        (type_kept (type.Module ty) tree typed)
+        stands_static handed_in (table_tree_kept ms b c keeps is_module ty tree tabled) i
+        (type_kept ms b c keeps (type.Module i) tree typed)
+    definition_kept d v (stands_host_module {p = p} {ty = ty} {entry = entry} {path = path} {tree = tree} held given
+        tabled typed) =
+        stands_host_module (keeps.paths p.0 path held) (host_type_kept ms b c keeps path tree given)
+        (table_tree_kept ms b c keeps is_module entry tree tabled) (type_kept ms b c keeps (type.Module ty) tree typed)
     definition_kept d v (stands_component {s = s} {k = k} {tr = tr} {inner = inner} {body = body} {closure = closure}
         {chain = chain} there body_stands leaving held modules components) =
         stands_component (subst (λ bs. slice_get bs s.0 ≡ Some tr) (sym keeps.bodies) there)
@@ -195,13 +169,14 @@ module _ (ms : List ModuleRecord) (b c : Tables) (keeps : Keeps b c) where
         (captured_kept a_component closure.components inner.components chain components)
     definition_kept d v (stands_host_instance {p = p} {ty = ty} {entry = entry} {path = path} {tree = tree} held given
         tabled typed) =
-        stands_host_instance (keeps.paths p.0 path held) (host_type_kept path tree given)
-        (table_tree_kept is_instance entry tree tabled) (type_kept (type.ComponentInstance ty) tree typed)
+        stands_host_instance (keeps.paths p.0 path held) (host_type_kept ms b c keeps path tree given)
+        (table_tree_kept ms b c keeps is_instance entry tree tabled)
+        (type_kept ms b c keeps (type.ComponentInstance ty) tree typed)
     definition_kept d v (stands_instance {n = n} {ty = ty} {es = es} {vs = vs} {tree = tree} held members typed) =
         stands_instance (keeps.instances n.0 es held) (members_kept es vs members)
-        (type_kept (type.ComponentInstance ty) tree typed)
+        (type_kept ms b c keeps (type.ComponentInstance ty) tree typed)
     definition_kept d v stands_intrinsics = stands_intrinsics
-    definition_kept d v (stands_type {d = e} {tree = tree} typed) = stands_type (type_kept e tree typed)
+    definition_kept d v (stands_type {d = e} {tree = tree} typed) = stands_type (type_kept ms b c keeps e tree typed)
 
     -- a definition by number
     pub stands_kept : (n : DefinitionId) (v : Value) → Stands ms b n v → Stands ms c n v
@@ -229,7 +204,8 @@ module _ (ms : List ModuleRecord) (b c : Tables) (keeps : Keeps b c) where
   instance_kept x i (made_stands {i = n} {m = m} {args = args} made) =
       made_stands (kept b.graph c.graph keeps.graph list.instances n.0 (source.Static m args) made)
   instance_kept x i (host_stands {i = n} {entry = entry} {tree = tree} host tabled) =
-      host_stands (host_made_kept b.graph c.graph keeps.graph n host) (table_tree_kept is_module entry tree tabled)
+      host_stands (host_made_kept b.graph c.graph keeps.graph n host)
+      (table_tree_kept ms b c keeps is_module entry tree tabled)
   instance_kept x i (bag_stands {xs = xs} {items = items} same) =
       bag_stands (λ name. both_more (BagItemStands ms b) (BagItemStands ms c) bag_kept (value_of name xs)
       (value_of name items) (same name))

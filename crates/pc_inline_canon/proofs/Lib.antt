@@ -1,6 +1,7 @@
 -- What the functions of this crate rest on, and those of the crates above: the public ones are theirs too.
 pub mod MarkLemmas
 pub mod KeptLemmas
+pub mod AdapterKeptLemmas
 pub mod WorldLemmas
 pub mod RoomLemmas
 mod WrittenLemmas
@@ -31,3 +32,14 @@ pub mod GotLemmas
 pub mod ConvertedLemmas
 mod CalleeLemmas
 mod IntrinsicLemmas
+-- adapters: equal ones have one number, and the graph has those that the log of the reading makes
+mod SameMarkLemmas
+pub mod NumberLemmas
+mod OnceLemmas
+pub mod ToldLemmas
+mod MadeLemmas
+mod SideLemmas
+mod SideMeansLemmas
+mod MakingLemmas
+mod AdapterLemmas
+mod LiftedLemmas

@@ -39,7 +39,6 @@ use Rattle.pc_inline_state.specs.Prepares.{Converts}
 use Rattle.pc_inline_state.specs.Refused.{LacksRoomOr}
 use Rattle.pc_inline_state.specs.Stands.{ItemStands, OptionsStand, stands_lifted}
 use Rattle.pc_inline_state.specs.Tables.{tables_of}
-use Rattle.pc_inline_state.specs.Today.{built_row}
 use Rattle.pc_inline_state.specs.Typed.{AreOfFunction, HasNoFunction}
 use Rattle.pc_inline_canon.specs.Written.{options_in}
 use Rattle.pc_inline_canon.proofs.DefinitionLemmas.{definition_added}
@@ -49,7 +48,7 @@ use Rattle.pc_inline_canon.proofs.OptionLemmas.{options_in_stand}
 use Rattle.pc_inline_canon.proofs.PassedLemmas.{steps_lacking, steps_passed}
 use Rattle.pc_inline_state.proofs.MembersLemmas.{no_instance}
 use Rattle.pc_inline_state.proofs.StateLemmas.{definition_prepares}
-use Rattle.pc_inline_canon.proofs.StepLemmas.{row_goes, row_stuck, steps_on, steps_stuck}
+use Rattle.pc_inline_canon.proofs.StepLemmas.{steps_on, steps_stuck}
 use Rattle.pc_inline_canon.proofs.TypeLemmas.{FunctionThere, function_there, no_function}
 use Rattle.pc_inline_canon.proofs.WorldLemmas.{point_kept}
 use Rattle.pc_inline_state.proofs.ZipLemmas.{both_missing, both_there, zip_at}
@@ -59,15 +58,14 @@ module _ (t : TypeTable) (ms : List ModuleRecord) (func ty core : ℕ) (opts : L
   lift = lift_item func ty core opts
 
   abbrev reads : Moment → Result Moment Fault
-  reads now = built_row t ms now lift
+  reads now = read_row t ms now lift
 
   -- there is no such type or signature
   lift_untyped : (now : Moment) → HasNoFunction t ty core → reads now ≡ Err bad_type
   unfolding read_row read_lift
-  lift_untyped now none = row_stuck t ms now lift bad_type
-      (no_function t now.scope ty core (λ tree s. found invalid (slice_get now.scope.core_funcs func)
+  lift_untyped now none = no_function t now.scope ty core (λ tree s. found invalid (slice_get now.scope.core_funcs func)
       (λ (v : CoreValue Mark). found invalid (options_of now.scope s opts)
-      (λ (o : value.Options Mark). Ok (add_value now (func_value (lifted_function tree v o)))))) none)
+      (λ (o : value.Options Mark). Ok (add_value now (func_value (lifted_function tree v o)))))) none
 
   -- what a lift makes of a moment in which all is there
   lift_read : (now : Moment) (tree : TypeTree) (s : CoreFuncSig) (v : CoreValue Mark) (o : value.Options Mark)
@@ -114,7 +112,7 @@ module _ (t : TypeTable) (ms : List ModuleRecord) (func ty core : ℕ) (opts : L
           (zip_at (ItemStands ms (tables_of st') kind.Func) f.core_funcs now.scope.core_funcs func
           still.frame.core_funcs)
           none in
-          row_stuck t ms now lift invalid (rw (there.is_tree, there.is_signature, missing) refl)
+          rw (there.is_tree, there.is_signature, missing) refl
 
       module _ (id : CoreId) (found_it : slice_get f.core_funcs func ≡ Some id) where
         function : (v : CoreValue Mark) × (slice_get now.scope.core_funcs func ≡ Some v)
@@ -135,7 +133,7 @@ module _ (t : TypeTable) (ms : List ModuleRecord) (func ty core : ℕ) (opts : L
         lift_unsound none =
             let missing = both_missing (OptionsStand ms (tables_of st')) (options_in g i opts)
             (options_of now.scope there.signature opts) options_stand none in
-            row_stuck t ms now lift invalid (rw (there.is_tree, there.is_signature, function.1, missing) refl)
+            rw (there.is_tree, there.is_signature, function.1, missing) refl
 
         -- the function was lifted
         lift_goes : (o : Options) → options_in g i opts ≡ Some o → (key : DefinitionId)
@@ -160,9 +158,8 @@ module _ (t : TypeTable) (ms : List ModuleRecord) (func ty core : ℕ) (opts : L
               stands = framed_point t ms end g (record g { funcs = f.funcs ++ key ∷ [] }) now
                   (with_value now.scope (func_value x)) at_end refl refl refl
                   (func_framed ms (tables_of end) g now.scope at_end.frame key x is);
-              done = row_goes t ms now next lift
-                  (lift_read now there.tree there.signature function.0 os.0 there.is_tree there.is_signature function.1
-                  os.1) at.world.no_adapters;
+              done = lift_read now there.tree there.signature function.0 os.0 there.is_tree there.is_signature
+                  function.1 os.1;
             }
 
     -- the steps of these

@@ -1,14 +1,12 @@
--- The step of a lower: of a host function or of an intrinsic, or of a lifted function, which isn't built yet.
-use Rattle.std.proofs.Common.{◌≡◌, ◌||◌, ℕ, Bool, true, false, true≢false, List, [], ◌∷◌, None, Some}
+-- The step of a lower: of a host function, of a lifted function or of an intrinsic.
+use Rattle.std.proofs.Common.{◌≡◌, ℕ, Bool, true, false, List, None, Some}
 use Rattle.std.proofs.Common.{Result, Ok, Err, if◌then◌else◌, refl, sym, ap, subst, ◌∙◌}
 use Rattle.std.specs.Prelude.{⊤, slice_get, option_and_then}
-use Rattle.std.specs.List.{list_all, list_any}
+use Rattle.std.specs.List.{list_all}
 use Rattle.std.specs.Result.{IsErrAnd}
-use Rattle.std.proofs.lemmas.List.Folds.{list_any-append}
 use Rattle.std.proofs.lemmas.Option.{none-some, same_Some, slice_get_within}
 use Rattle.pc_numbers.specs.declared.module_entity.ModuleInternedTypeIndex.{ModuleInternedTypeIndex}
 use Rattle.pc_types_builder.specs.Plain.{Layers}
-use Rattle.pc_types.specs.declared.error.Unsupported.TheVariants.{NotBuilt}
 use Rattle.pc_types.specs.declared.module_record.ModuleRecord.{ModuleRecord}
 use Rattle.pc_types.specs.declared.parsed.CoreFuncSig.{CoreFuncSig}
 use Rattle.pc_types.specs.declared.parsed.CoreKind.TheVariants as kind
@@ -18,21 +16,16 @@ use Rattle.pc_types.specs.Table.{is_func}
 use Rattle.pc_types.specs.IntrinsicType.{intrinsic_place}
 use Rattle.pc_types.specs.TypeTree.{TypeTree}
 use Rattle.pc_spec_plan.specs.CoreValue as value
-use Rattle.pc_spec_plan.specs.CoreValue.{CoreValue, adapter}
-use Rattle.pc_spec_plan.specs.Log as log
-use Rattle.pc_spec_plan.specs.Log.{Entry, made}
 use Rattle.pc_parsed.specs.declared.canon.CanonOption.{CanonOption}
-use Rattle.pc_parsed.specs.Mark.{Mark, of_type}
-use Rattle.pc_spec_reading.specs.Functions.{lower_to, making, read_lower}
+use Rattle.pc_parsed.specs.Mark.{Mark}
+use Rattle.pc_spec_reading.specs.Functions.{lower_to, read_lower}
 use Rattle.pc_spec_reading.specs.Item.{Item, lower_item}
 use Rattle.pc_spec_reading.specs.Options.{options_of}
-use Rattle.pc_spec_reading.specs.Outcome.{Fault, bad_type, found, invalid, unsupported}
+use Rattle.pc_spec_reading.specs.Outcome.{Fault, bad_type, found, invalid}
 use Rattle.pc_spec_reading.specs.Rows.{read_row}
-use Rattle.pc_spec_reading.specs.SameValues.{makes, was_made}
-use Rattle.pc_spec_reading.specs.Scope.{Moment, add_core, add_entry}
+use Rattle.pc_spec_reading.specs.Scope.{Moment}
 use Rattle.pc_spec_reading.specs.Types.{signature_at, tree_if}
-use Rattle.pc_spec_reading.specs.Value.{Function, Value, func_value, host_function, intrinsic_function}
-use Rattle.pc_spec_reading.specs.Value.{lifted_function}
+use Rattle.pc_spec_reading.specs.Value.{Function, Value, func_value, host_function, intrinsic_function, lifted_function}
 use Rattle.pc_inline_state.specs.declared.definition.CoreId.{CoreId}
 use Rattle.pc_inline_state.specs.declared.definition.Definition.{Definition}
 use Rattle.pc_inline_state.specs.declared.definition.DefinitionId.{DefinitionId}
@@ -52,7 +45,6 @@ use Rattle.pc_inline_state.specs.Stands.{DefinitionStands, OptionsStand, Stands,
 use Rattle.pc_inline_state.specs.Stands.{stands_host_instance, stands_host_module, stands_instance, stands_intrinsic}
 use Rattle.pc_inline_state.specs.Stands.{stands_intrinsics, stands_lifted, stands_static, stands_type}
 use Rattle.pc_inline_state.specs.Tables.{Tables, tables_of}
-use Rattle.pc_inline_state.specs.Today.{built_row, is_made, today}
 use Rattle.pc_inline_state.specs.Typed.{AreOfFunction, HasNoFunction}
 use Rattle.pc_inline_canon.specs.declared.callee.Callee.{Callee}
 use Rattle.pc_inline_canon.specs.declared.callee.Callee.TheVariants as callee
@@ -61,67 +53,41 @@ use Rattle.pc_inline_canon.specs.Written.{is_sound_in, options_in, picked_option
 use Rattle.pc_inline_canon.proofs.FrameLemmas.{converted_point}
 use Rattle.pc_inline_canon.proofs.OptionLemmas.{options_in_stand}
 use Rattle.pc_inline_canon.proofs.PassedLemmas.{steps_lacking, steps_passed}
-use Rattle.pc_inline_canon.proofs.StepLemmas.{row_goes, row_stuck, steps_on, steps_stuck}
-use Rattle.pc_inline_canon.proofs.ThereLemmas.{options_there}
+use Rattle.pc_inline_canon.proofs.StepLemmas.{steps_on, steps_stuck}
+use Rattle.pc_inline_canon.proofs.ThereLemmas.{item_there, options_there}
 use Rattle.pc_inline_canon.proofs.TypeLemmas.{FunctionThere, function_there, no_function}
 use Rattle.pc_inline_state.proofs.ZipLemmas.{both_missing, both_there, zip_at}
-use Rattle.pc_spec_reading.specs.Reading.{row}
-
--- a lower that makes an adapter isn't built
-row_adapts : (t : TypeTable) (ms : List ModuleRecord) (now next : Moment) (i : Item) → read_row t ms now i ≡ Ok next
-    → list_any is_made next.world.log ≡ true → built_row t ms now i ≡ Err (unsupported NotBuilt)
-unfolding row today
-row_adapts t ms now next i goes some = rw (goes, some) refl
-
--- a test that follows from another
-any_more : {A : Type 0} (p q : A → Bool) → ((x : A) → p x ≡ true → q x ≡ true) → (xs : List A)
-    → list_any p xs ≡ true → list_any q xs ≡ true
-any_more p q more [] h = h
-any_more {A} p q more (x ∷ xs) h = by (p x) refl h (any_more p q more xs)
-  where
-    or_true : (b : Bool) → (b || true) ≡ true
-    or_true true = refl
-    or_true false = refl
-
-    by : (b : Bool) → p x ≡ b → (b || list_any p xs) ≡ true → (list_any p xs ≡ true → list_any q xs ≡ true)
-        → (q x || list_any q xs) ≡ true
-    by true is h later = rw (more x is) refl
-    by false is h later = rw (later h) (or_true (q x))
-
--- where this adapter was made, one was
-made_some : (v : CoreValue Mark) (e : Entry Mark) → makes v e ≡ true → is_made e ≡ true
-made_some v (log.instantiated i c) h = h
-made_some v (log.declared_resource rep d c) h = h
-made_some v (log.declared w) h = h
-made_some v (log.made w) h = refl
-made_some v (log.needed p) h = h
-
--- an adapter that is made where none was makes one
-making_some : (now : Moment) (v : CoreValue Mark) → list_any is_made now.world.log ≡ false
-    → list_any is_made (making now v).world.log ≡ true
-unfolding making was_made
-making_some now v none = by (list_any (makes v) now.world.log) refl
-  where
-    by : (b : Bool) → list_any (makes v) now.world.log ≡ b
-        → list_any is_made (if b then now else add_entry now (made v)).world.log ≡ true
-    by true is = absurd (true≢false (sym (any_more (makes v) is_made (made_some v) now.world.log is) ∙ none))
-    by false is = list_any-append is_made now.world.log (made v ∷ []) ∙ rw none refl
 
 module _ (ms : List ModuleRecord) (b : Tables) where
-  -- a function of the host is the callee by its path, and an intrinsic the one that it is
+  -- a function is the callee that its definition says, which is held
   callee_entry : (d : Definition) (v : Value) (x : Function) → DefinitionStands ms b d v → v ≡ func_value x
-      → (c : Callee) → callee_of d ≡ Some c → IsCallee b c x × HeldCallee b c
+      → (c : Callee) → callee_of d ≡ Some c → IsCallee ms b c x × HeldCallee ms b c
   unfolding IsCallee HeldCallee
   callee_entry d v x (stands_host {p = p} {path = path} held given typed) is c here =
       let same : host_function path ≡ x = cc in
-      subst (λ (k : Callee). IsCallee b k x × HeldCallee b k) (same_Some (callee.Host p) c here)
+      subst (λ (k : Callee). IsCallee ms b k x × HeldCallee ms b k) (same_Some (callee.Host p) c here)
       ((path, held, sym same), slice_get_within b.paths p.0 path held)
+  callee_entry d v x (stands_lifted {ty = ty} {func = fn} {o = o} {tree = tree} {v = w} {os = os} typed func options) is
+      c here =
+      let same : lifted_function tree w os ≡ x = cc in
+      subst (λ (k : Callee). IsCallee ms b k x × HeldCallee ms b k) (same_Some (callee.Lifted ty fn o) c here) (
+        record {
+          tree = tree;
+          callee = w;
+          options = os;
+          typed = typed;
+          func_stands = func;
+          options_stand = options;
+          is = sym same;
+        },
+        (item_there ms b kind.Func fn w func, options_there ms b o os options),
+      )
   callee_entry d v x (stands_intrinsic {i = i}) is c here =
       let same : intrinsic_function (intrinsic_place i) ≡ x = cc in
-      subst (λ (k : Callee). IsCallee b k x × HeldCallee b k) (same_Some (callee.Intrinsic i) c here) (sym same, tt)
-  callee_entry d v x (stands_lifted ty func options) is c here = absurd (none-some c here)
+      subst (λ (k : Callee). IsCallee ms b k x × HeldCallee ms b k) (same_Some (callee.Intrinsic i) c here)
+      (sym same, tt)
   callee_entry d v x (stands_static handed_in tabled j typed) is c here = absurd (none-some c here)
-  callee_entry d v x (stands_host_module held tabled typed) is c here = absurd (none-some c here)
+  callee_entry d v x (stands_host_module held given tabled typed) is c here = absurd (none-some c here)
   callee_entry d v x (stands_component tr body leaving closure modules components) is c here =
       absurd (none-some c here)
   callee_entry d v x (stands_host_instance held given tabled typed) is c here = absurd (none-some c here)
@@ -130,31 +96,28 @@ module _ (ms : List ModuleRecord) (b : Tables) where
   callee_entry d v x (stands_type typed) is c here = absurd (none-some c here)
 
   callee_is : (n : DefinitionId) (x : Function) → Stands ms b n (func_value x) → (c : Callee)
-      → option_and_then callee_of (slice_get b.definitions n.0) ≡ Some c → IsCallee b c x × HeldCallee b c
+      → option_and_then callee_of (slice_get b.definitions n.0) ≡ Some c → IsCallee ms b c x × HeldCallee ms b c
   callee_is n x (stands {d = d} held entry) c here =
       callee_entry d (func_value x) x entry refl c (sym (ap (option_and_then callee_of) held) ∙ here)
 
-  -- a function that is no callee was lifted
-  lifted_entry : (d : Definition) (v : Value) (x : Function) → DefinitionStands ms b d v → v ≡ func_value x
-      → callee_of d ≡ None
-      → (tree : TypeTree) × (callee : CoreValue Mark) × (o : value.Options Mark) × (x ≡ lifted_function tree callee o)
-  lifted_entry d v x (stands_host held given typed) is none = absurd (none-some _ (sym none))
-  lifted_entry d v x stands_intrinsic is none = absurd (none-some _ (sym none))
-  lifted_entry d v x (stands_lifted {tree = tree} {v = w} {os = os} ty func options) is none = (tree, w, os, cc)
-  lifted_entry d v x (stands_static handed_in tabled j typed) is none = absurd (let k : ⊥ = cc in k)
-  lifted_entry d v x (stands_host_module held tabled typed) is none = absurd (let k : ⊥ = cc in k)
-  lifted_entry d v x (stands_component tr body leaving closure modules components) is none =
-      absurd (let k : ⊥ = cc in k)
-  lifted_entry d v x (stands_host_instance held given tabled typed) is none = absurd (let k : ⊥ = cc in k)
-  lifted_entry d v x (stands_instance held among typed) is none = absurd (let k : ⊥ = cc in k)
-  lifted_entry d v x stands_intrinsics is none = absurd (let k : ⊥ = cc in k)
-  lifted_entry d v x (stands_type typed) is none = absurd (let k : ⊥ = cc in k)
+  -- so each function is one
+  callee_there : (d : Definition) (v : Value) (x : Function) → DefinitionStands ms b d v → v ≡ func_value x
+      → callee_of d ≡ None → ⊥
+  callee_there d v x (stands_host held given typed) is none = none-some _ (sym none)
+  callee_there d v x (stands_lifted typed func options) is none = none-some _ (sym none)
+  callee_there d v x stands_intrinsic is none = none-some _ (sym none)
+  callee_there d v x (stands_static handed_in tabled j typed) is none = cc
+  callee_there d v x (stands_host_module held given tabled typed) is none = cc
+  callee_there d v x (stands_component tr body leaving closure modules components) is none = cc
+  callee_there d v x (stands_host_instance held given tabled typed) is none = cc
+  callee_there d v x (stands_instance held among typed) is none = cc
+  callee_there d v x stands_intrinsics is none = cc
+  callee_there d v x (stands_type typed) is none = cc
 
-  lifted_is : (n : DefinitionId) (x : Function) → Stands ms b n (func_value x)
-      → option_and_then callee_of (slice_get b.definitions n.0) ≡ None
-      → (tree : TypeTree) × (callee : CoreValue Mark) × (o : value.Options Mark) × (x ≡ lifted_function tree callee o)
-  lifted_is n x (stands {d = d} held entry) none =
-      lifted_entry d (func_value x) x entry refl (sym (ap (option_and_then callee_of) held) ∙ none)
+  is_callee : (n : DefinitionId) (x : Function) → Stands ms b n (func_value x)
+      → option_and_then callee_of (slice_get b.definitions n.0) ≡ None → ⊥
+  is_callee n x (stands {d = d} held entry) none =
+      callee_there d (func_value x) x entry refl (sym (ap (option_and_then callee_of) held) ∙ none)
 
 -- options are under the signature for which they are
 core_type_in : (f : Frame) (i : ModuleInternedTypeIndex) (os : List CanonOption) (o : Options)
@@ -171,15 +134,14 @@ module _ (t : TypeTable) (ms : List ModuleRecord) (func ty core : ℕ) (opts : L
   lower = lower_item func ty core opts
 
   abbrev reads : Moment → Result Moment Fault
-  reads now = built_row t ms now lower
+  reads now = read_row t ms now lower
 
   -- there is no such type or signature
   lower_untyped : (now : Moment) → HasNoFunction t ty core → reads now ≡ Err bad_type
   unfolding read_row read_lower
-  lower_untyped now none = row_stuck t ms now lower bad_type
-      (no_function t now.scope ty core (λ tree s. found invalid (slice_get now.scope.funcs func)
+  lower_untyped now none = no_function t now.scope ty core (λ tree s. found invalid (slice_get now.scope.funcs func)
       (λ (x : Function). found invalid (options_of now.scope s opts)
-      (λ (o : value.Options Mark). Ok (lower_to now x tree s o)))) none)
+      (λ (o : value.Options Mark). Ok (lower_to now x tree s o)))) none
 
   -- what a lower makes of a moment in which all is there
   lower_read : (now : Moment) (tree : TypeTree) (s : CoreFuncSig) (x : Function) (o : value.Options Mark)
@@ -224,7 +186,7 @@ module _ (t : TypeTable) (ms : List ModuleRecord) (func ty core : ℕ) (opts : L
           let missing = both_missing (FuncStands ms (tables_of st')) (slice_get f.funcs func)
           (slice_get now.scope.funcs func)
           (zip_at (FuncStands ms (tables_of st')) f.funcs now.scope.funcs func still.frame.funcs) none in
-          row_stuck t ms now lower invalid (rw (there.is_tree, there.is_signature, missing) refl)
+          rw (there.is_tree, there.is_signature, missing) refl
 
       module _ (id : DefinitionId) (found_it : slice_get f.funcs func ≡ Some id) where
         function : (x : Function) × (slice_get now.scope.funcs func ≡ Some x) × FuncStands ms (tables_of st') id x
@@ -242,26 +204,13 @@ module _ (t : TypeTable) (ms : List ModuleRecord) (func ty core : ℕ) (opts : L
         lower_unsound none =
             let missing = both_missing (OptionsStand ms (tables_of st')) (options_in g i opts)
             (options_of now.scope there.signature opts) options_stand none in
-            row_stuck t ms now lower invalid (rw (there.is_tree, there.is_signature, function.1, missing) refl)
+            rw (there.is_tree, there.is_signature, function.1, missing) refl
 
         module _ (o : Options) (sound : options_in g i opts ≡ Some o) where
           options : (os : value.Options Mark) × (options_of now.scope there.signature opts ≡ Some os)
               × OptionsStand ms (tables_of st') o os
           options = both_there (OptionsStand ms (tables_of st')) (options_in g i opts)
               (options_of now.scope there.signature opts) o options_stand sound
-
-          -- what is lowered was lifted, which isn't built
-          lower_unbuilt : option_and_then callee_of (slice_get st'.definitions id.0) ≡ None
-              → reads now ≡ Err (unsupported NotBuilt)
-          unfolding lower_to
-          lower_unbuilt none =
-              let x = lifted_is ms (tables_of st') id function.0 function.2 none in
-              let a = adapter (of_type x.0) x.2 (of_type there.tree) options.0 x.1 in
-              row_adapts t ms now (add_core (making now a) kind.Func a) lower
-              (lower_read now there.tree there.signature function.0 options.0 there.is_tree there.is_signature
-              function.1
-              options.1 ∙ ap (λ y. Ok (lower_to now y there.tree there.signature options.0)) x.3)
-              (making_some now a at.world.no_adapters)
 
           -- it was lowered
           lower_goes : (c : Callee) → option_and_then callee_of (slice_get st'.definitions id.0) ≡ Some c
@@ -277,16 +226,15 @@ module _ (t : TypeTable) (ms : List ModuleRecord) (func ty core : ℕ) (opts : L
               record {
                 now = next;
                 stands = went;
-                done = row_goes t ms now next lower
-                    (lower_read now there.tree there.signature function.0 options.0 there.is_tree there.is_signature
-                    function.1 options.1) went.world.no_adapters;
+                done = lower_read now there.tree there.signature function.0 options.0 there.is_tree there.is_signature
+                    function.1 options.1;
               }
 
     -- what the call that lowers asks for
     pub lower_ready : ((now : Moment) × PointStands t ms st f now) → (id : DefinitionId)
         → slice_get f.funcs func ≡ Some id → (o : Options) → options_in g i opts ≡ Some o → (c : Callee)
         → option_and_then callee_of (slice_get st'.definitions id.0) ≡ Some c
-        → IsSoundState t ms st' × HeldCallee (tables_of st') c × OptionsThere ms (tables_of st') o
+        → IsSoundState t ms st' × HeldCallee ms (tables_of st') c × OptionsThere ms (tables_of st') o
     lower_ready point id found_it o sound c is =
         let now = point.0 in
         let at = point.1 in
@@ -296,6 +244,13 @@ module _ (t : TypeTable) (ms : List ModuleRecord) (func ty core : ℕ) (opts : L
           (callee_is ms (tables_of st') id x.0 x.2 c is).1,
           options_there ms (tables_of st') o os.0 os.2,
         )
+
+    -- and what it is called with is there
+    pub lower_callee : ((now : Moment) × PointStands t ms st f now) → (id : DefinitionId)
+        → slice_get f.funcs func ≡ Some id → option_and_then callee_of (slice_get st'.definitions id.0) ≡ None → ⊥
+    lower_callee point id found_it none =
+        let x = function point.0 point.1 id found_it in
+        is_callee ms (tables_of st') id x.0 x.2 none
 
     -- the steps of these
     pub lower_misses : slice_get f.funcs func ≡ None
@@ -309,12 +264,6 @@ module _ (t : TypeTable) (ms : List ModuleRecord) (func ty core : ℕ) (opts : L
           steps_stuck t ms reads st f st' g item_fault.Invalid (λ now at. lower_unsound now at id found_it none)
 
       module _ (o : Options) (sound : options_in g i opts ≡ Some o) where
-        pub lower_adapts : option_and_then callee_of (slice_get st'.definitions id.0) ≡ None
-            → StepsItem t ms lower st f st' g (Err (item_error.Fault (item_fault.Unsupported NotBuilt)))
-        lower_adapts none =
-            steps_stuck t ms reads st f st' g (item_fault.Unsupported NotBuilt)
-            (λ now at. lower_unbuilt now at id found_it o sound none)
-
         pub lower_steps : (c : Callee) → option_and_then callee_of (slice_get st'.definitions id.0) ≡ Some c
             → (end : State) (key : CoreId) → LowersTo t ms st' end c n o key → (f' : Frame)
             → f' ≡ with_core_id g kind.Func key → (r : ⊤) → StepsItem t ms lower st f end f' (Ok r)

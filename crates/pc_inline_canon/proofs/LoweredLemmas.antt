@@ -58,6 +58,7 @@ use Rattle.pc_inline_state.specs.Tables.{Keeps, Tables, is_trampoline, tables_of
 use Rattle.pc_inline_state.specs.Fits.{Fits, FitsBefore}
 use Rattle.pc_inline_state.specs.Holds.{Holds, Numbered}
 use Rattle.pc_inline_state.specs.Worlds.{EffectStands, HasTrampoline, IsDeclared, IsSigned, WorldStands}
+use Rattle.pc_inline_state.proofs.InstanceLemmas.{instances_kept, widths_kept}
 use Rattle.pc_inline_state.proofs.AddsPushLemmas.{changes_few}
 use Rattle.pc_inline_state.proofs.FitsLemmas.{fits_grown}
 use Rattle.pc_inline_state.proofs.GrowthLemmas.{graph_grown}
@@ -199,7 +200,7 @@ module _ (t : TypeTable) (ms : List ModuleRecord) (st : State) (ts : List Signed
         (λ w' is. subst (λ x. HasTrampoline st.types lowered_in x) (same v w' is)
         (record { trampoline = n; stands = lowered_stands n.0 at }))
         (changes_few st.graph.trampolines ts lowering_of put.0)
-        (stands.imports ∙ sym (paths-push w.log e)) refl (none_more refl) refl refl refl refl
+        (stands.imports ∙ sym (paths-push w.log e)) refl (none_more refl) refl refl refl refl refl
       where
         same : (a b : CoreValue Mark) → declared a ≡ declared b → a ≡ b
         same a b is = cc
@@ -213,9 +214,8 @@ module _ (t : TypeTable) (ms : List ModuleRecord) (st : State) (ts : List Signed
     lowered_point ordered signed put n at f now point = record {
       sound = record {
         ordered = ordered point.sound.ordered;
-        items = items_same ms st.graph lowered_in grows refl (lowered_slots st.graph ts) refl refl point.sound.items;
+        items = items_same ms st.graph lowered_in grows refl (lowered_slots st.graph ts) refl refl refl point.sound.items;
         plain = record {
-          adapters = point.sound.plain.adapters;
           adapter_modules = point.sound.plain.adapter_modules;
           adapter_partitionings = point.sound.plain.adapter_partitionings;
           unsafe_intrinsics = point.sound.plain.unsafe_intrinsics;
@@ -226,6 +226,9 @@ module _ (t : TypeTable) (ms : List ModuleRecord) (st : State) (ts : List Signed
         table = point.sound.table;
         bodies = point.sound.bodies;
         members = point.sound.members;
+        instances = instances_kept ms (tables_of st) (tables_of lowered_to) lowered_keeps refl
+            st.runtime_instances.items point.sound.instances;
+        widths = widths_kept t ms st.runtime_instances.items st.graph lowered_in refl point.sound.widths;
       };
       here = knows_grown st.graph st.types.resources now.scope point.here lowered_in fits;
       converted = point.converted;

@@ -43,12 +43,14 @@ use Rattle.pc_inline_state.specs.Points.{IsSoundState, PointStands}
 use Rattle.pc_inline_state.specs.Stands.{CoreStands}
 use Rattle.pc_inline_state.specs.Tables.{IsItem, Keeps, tables_of}
 use Rattle.pc_inline_state.specs.Worlds.{EffectStands, HasItems, WorldStands, slot_kind}
+use Rattle.pc_inline_state.proofs.InstanceLemmas.{instances_kept, widths_kept}
 use Rattle.pc_inline_state.proofs.GrowthLemmas.{graph_grown}
 use Rattle.pc_inline_state.proofs.KnowsLemmas.{knows_grown}
 use Rattle.pc_inline_state.proofs.StateLemmas.{types_refl}
 use Rattle.pc_inline_state.proofs.ZipLemmas.{zip_more, zip_push}
 use Rattle.pc_inline_canon.proofs.CoreInstanceLemmas.{found_in_push, item_held}
 use Rattle.pc_inline_canon.proofs.ItemLemmas.{arguments_more, host_arguments_more, types_held, used_kept}
+use Rattle.pc_inline_canon.proofs.AdapterKeptLemmas.{adapters_items_kept}
 use Rattle.pc_inline_canon.proofs.KeptLemmas.{frame_kept, is_item_kept}
 use Rattle.pc_inline_canon.proofs.LogLemmas.{declared_on, paths-push, trace-push, world_on}
 use Rattle.pc_inline_canon.proofs.MarkLemmas.{maybe_twice, still}
@@ -164,6 +166,7 @@ module _ (t : TypeTable) (ms : List ModuleRecord) (st : State) (x : Resource)
           | inl before ↦ items.destructors n y d before has
           | inr last ↦ item d (ap (λ (z : Resource). z.dtor) last ∙ has)
         ]);
+    adapters = adapters_items_kept ms st.graph after grows refl items.adapters;
     exports = λ n ty o d at. is_item_kept ms st.graph after grows core.Func d (items.exports n ty o d at);
     statics = items.statics;
   }
@@ -176,7 +179,6 @@ module _ (t : TypeTable) (ms : List ModuleRecord) (st : State) (x : Resource)
       ordered = ordered (resource_held ms st.graph x item begun) s.ordered;
       items = resource_items item s.items;
       plain = record {
-        adapters = s.plain.adapters;
         adapter_modules = s.plain.adapter_modules;
         adapter_partitionings = s.plain.adapter_partitionings;
         unsafe_intrinsics = s.plain.unsafe_intrinsics;
@@ -187,6 +189,9 @@ module _ (t : TypeTable) (ms : List ModuleRecord) (st : State) (x : Resource)
       table = s.table;
       bodies = s.bodies;
       members = s.members;
+      instances = instances_kept ms (tables_of st) (tables_of declaring) resource_keeps refl st.runtime_instances.items
+          s.instances;
+      widths = widths_kept t ms st.runtime_instances.items st.graph after refl s.widths;
     }
 
     module _ (v : MaybeValue Mark) (means : DestructorMeans st.types st.graph x.dtor v) where
@@ -213,6 +218,7 @@ module _ (t : TypeTable) (ms : List ModuleRecord) (st : State) (x : Resource)
           (λ d is. absurd (let k : ⊥ = cc in k))
           (omega arith)
           (stands.imports ∙ sym (paths-push w.log e)) refl (length-append st.graph.resources (x ∷ [])) refl refl refl refl
+          refl
 
       -- so it is where the reading is then, but for what is known
       pub resource_point : (f : Frame) (now : Moment) → f.component_instance ≡ x.instance → PointStands t ms st f now

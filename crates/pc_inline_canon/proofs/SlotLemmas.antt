@@ -33,6 +33,7 @@ use Rattle.pc_inline_state.specs.Tables.{IsItem, Tables, tables_of}
 use Rattle.pc_inline_state.specs.Worlds.{HoldsTypes, slot_kind}
 use Rattle.pc_inline_canon.proofs.CoreInstanceLemmas.{found_in_push, item_held}
 use Rattle.pc_inline_state.specs.Fits.{FitsBefore}
+use Rattle.pc_inline_state.proofs.InstanceLemmas.{instances_kept, widths_kept}
 use Rattle.pc_inline_state.proofs.FitsLemmas.{fits_grown}
 use Rattle.pc_inline_state.proofs.GrowthLemmas.{graph_crowded, graph_grown}
 use Rattle.pc_inline_canon.proofs.ItemLemmas.{items_kept, modules_held, used_kept}
@@ -104,9 +105,8 @@ module _ (t : TypeTable) (ms : List ModuleRecord) (st : State) (memories : List 
     keeps = graph_grown (tables_of st) slotted grows (fits_grown st.graph slotted grows refl refl);
     sound = λ s. record {
       ordered = ordered s.ordered;
-      items = items_kept ms st.graph slotted grows refl slots refl refl s.items;
+      items = items_kept ms st.graph slotted grows refl slots refl refl refl s.items;
       plain = record {
-        adapters = s.plain.adapters;
         adapter_modules = s.plain.adapter_modules;
         adapter_partitionings = s.plain.adapter_partitionings;
         unsafe_intrinsics = s.plain.unsafe_intrinsics;
@@ -120,11 +120,16 @@ module _ (t : TypeTable) (ms : List ModuleRecord) (st : State) (memories : List 
       table = s.table;
       bodies = s.bodies;
       members = s.members;
+      instances = instances_kept ms (tables_of st) (tables_of (record st { graph = slotted }))
+          (graph_grown (tables_of st) slotted grows (fits_grown st.graph slotted grows refl refl)) refl
+          st.runtime_instances.items s.instances;
+      widths = widths_kept t ms st.runtime_instances.items st.graph slotted refl s.widths;
     };
     resources = refl;
     side_effects = refl;
     instances = refl;
     trampolines = refl;
+    adapters = refl;
     imports = refl;
     imported_resources = refl;
     declared_resources = refl;

@@ -1,15 +1,12 @@
 -- How the step of an item ends: where its row is stuck, where there is no room, and where it goes on.
-use Rattle.std.proofs.Common.{◌≡◌, false, List, Result, Ok, Err, refl, sym, subst}
+use Rattle.std.proofs.Common.{◌≡◌, List, Result, Ok, Err, sym, subst}
 use Rattle.std.specs.Prelude.{⊤}
-use Rattle.std.specs.List.{list_any}
 use Rattle.std.specs.Result.{IsErrAnd}
 use Rattle.pc_dfg.specs.declared.push_error.PushError.{PushError}
 use Rattle.pc_dfg.specs.declared.push_error.PushError.TheVariants as push_error
 use Rattle.pc_types.specs.declared.module_record.ModuleRecord.{ModuleRecord}
 use Rattle.pc_types.specs.declared.parsed.TypeTable.{TypeTable}
-use Rattle.pc_spec_reading.specs.Item.{Item}
 use Rattle.pc_spec_reading.specs.Outcome.{Fault}
-use Rattle.pc_spec_reading.specs.Rows.{read_row}
 use Rattle.pc_spec_reading.specs.Scope.{Moment}
 use Rattle.pc_inline_state.specs.declared.error.ItemError.{ItemError}
 use Rattle.pc_inline_state.specs.declared.error.ItemError.TheVariants as item_error
@@ -20,22 +17,9 @@ use Rattle.pc_inline_state.specs.Faults.{fault_of, of_push_error}
 use Rattle.pc_inline_state.specs.Points.{Follows, Goes, IsFullSomewhere, PointStands, Steps}
 use Rattle.pc_inline_state.specs.Refused.{LacksRoom}
 use Rattle.pc_inline_state.specs.Tables.{tables_of}
-use Rattle.pc_inline_state.specs.Today.{built_row, is_made, today}
 use Rattle.pc_inline_state.proofs.RefusedLemmas.{push_lacks}
-use Rattle.pc_spec_reading.specs.Reading.{row}
 
 module _ (t : TypeTable) (ms : List ModuleRecord) where
-  -- a row that is stuck
-  pub row_stuck : (now : Moment) (i : Item) (k : Fault) → read_row t ms now i ≡ Err k → built_row t ms now i ≡ Err k
-  unfolding row today
-  row_stuck now i k stuck = rw (stuck) refl
-
-  -- a row that goes on to a moment in which no adapter was made
-  pub row_goes : (now next : Moment) (i : Item) → read_row t ms now i ≡ Ok next
-      → list_any is_made next.world.log ≡ false → built_row t ms now i ≡ Ok next
-  unfolding row today
-  row_goes now next i goes none = rw (goes, none) refl
-
   module _ (reads : Moment → Result Moment Fault) (st : State) (f : Frame) (st' : State) (f' : Frame) where
     -- the step ends with the fault of the reading
     pub steps_stuck : (k : ItemFault) → ((now : Moment) → PointStands t ms st f now → reads now ≡ Err (fault_of k))

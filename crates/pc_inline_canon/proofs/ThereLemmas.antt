@@ -66,7 +66,7 @@ module _ (ms : List ModuleRecord) (b : Tables) where
   lifted_as d v ty fn o x (stands_host held given typed) is value = absurd (let x : ⊥ = cc in x)
   lifted_as d v ty fn o x stands_intrinsic is value = absurd (let x : ⊥ = cc in x)
   lifted_as d v ty fn o x (stands_static handed_in tabled i typed) is value = absurd (let x : ⊥ = cc in x)
-  lifted_as d v ty fn o x (stands_host_module held tabled typed) is value = absurd (let x : ⊥ = cc in x)
+  lifted_as d v ty fn o x (stands_host_module held given tabled typed) is value = absurd (let x : ⊥ = cc in x)
   lifted_as d v ty fn o x (stands_component tr body leaving closure modules components) is value =
       absurd (let x : ⊥ = cc in x)
   lifted_as d v ty fn o x (stands_host_instance held given tabled typed) is value = absurd (let x : ⊥ = cc in x)

@@ -55,12 +55,13 @@ known_path (x ∷ is) (suc r) p at =
 -- the graph so far does what the log says with one path more, once the path is one of its host items
 pub needed_world : (types : Types) (g h : ComponentDfg) → graph.Grows g h → FitsBefore g h → (p : Path)
     → h.side_effects ≡ g.side_effects → h.instances ≡ g.instances → h.trampolines ≡ g.trampolines
-    → h.imported_resources ≡ g.imported_resources → h.resources ≡ g.resources → h.import_types ≡ g.import_types
-    → h.num_runtime_component_instances ≡ g.num_runtime_component_instances
+    → h.adapters ≡ g.adapters → h.imported_resources ≡ g.imported_resources → h.resources ≡ g.resources
+    → h.import_types ≡ g.import_types → h.num_runtime_component_instances ≡ g.num_runtime_component_instances
     → h.unsafe_intrinsics ≡ g.unsafe_intrinsics
     → map path_of h.imports ≡ with_path (map path_of g.imports) p → (w : World) → WorldStands types g w
     → WorldStands types h (logging w (needed p))
-needed_world types g h grows fits p effects instances trampolines imported resources import_types begun intrinsics paths w s =
+needed_world types g h grows fits p effects instances trampolines adapters imported resources import_types begun intrinsics
+    paths w s =
     world_on types g h grows fits w (needed p) s
     (subst (λ es. AllZip (EffectStands types h) es (trace (w.log ++ needed p ∷ []))) (sym effects)
     (subst (AllZip (EffectStands types h) g.side_effects) (sym (trace-push w.log (needed p) ∙ append-nil (trace w.log)))
@@ -73,7 +74,7 @@ needed_world types g h grows fits p effects instances trampolines imported resou
     (λ v is. absurd (let k : ⊥ = cc in k))
     (few (ap length trampolines))
     (paths ∙ ap (λ ps. with_path ps p) s.imports ∙ sym (paths-push w.log (needed p))) imported
-    (none_more (ap length resources)) import_types begun intrinsics refl
+    (none_more (ap length resources)) import_types begun intrinsics refl adapters
   where
     few : {a b : ℕ} → a ≡ b → a ≤ b + 0
     few is = omega (arith, is)

@@ -23,6 +23,7 @@ use Rattle.pc_inline_state.specs.Points.{IsSoundState}
 use Rattle.pc_inline_state.specs.Tables.{tables_of}
 use Rattle.pc_inline_state.specs.Fits.{FitsBefore, path_of}
 use Rattle.pc_inline_state.specs.Worlds.{WorldStands}
+use Rattle.pc_inline_state.proofs.InstanceLemmas.{instances_kept, widths_kept}
 use Rattle.pc_inline_state.proofs.FitsLemmas.{fits_grown, fits_refl}
 use Rattle.pc_inline_state.proofs.GrowthLemmas.{graph_grown}
 use Rattle.pc_inline_state.proofs.KnowsLemmas.{knows_grown}
@@ -48,7 +49,7 @@ module _ (t : TypeTable) (ms : List ModuleRecord) (st : State) (n : ℕ) (r : Ru
       let there = sound.used.numbers n p r held at in
       let world : (w : World) → WorldStands st.types st.graph w → WorldStands st.types st.graph (logging w (needed p)) =
       needed_world st.types st.graph st.graph (grows_refl st.graph) (fits_refl st.graph) p refl refl refl refl refl refl
-      refl refl (path_known st.graph.imports r.0 p there) in
+      refl refl refl (path_known st.graph.imports r.0 p there) in
       record {
         path = there;
         paths = path_known st.graph.imports r.0 p there;
@@ -87,14 +88,13 @@ module _ (t : TypeTable) (ms : List ModuleRecord) (st : State) (n : ℕ) (r : Ru
       used_first ordered number set same sound held unused below =
           let world : (w : World) → WorldStands st.types st.graph w
           → WorldStands st.types imported (logging w (needed (path_of i))) =
-          needed_world st.types st.graph imported grows fits (path_of i) refl refl refl refl refl refl refl refl
+          needed_world st.types st.graph imported grows fits (path_of i) refl refl refl refl refl refl refl refl refl
           (path_new st.graph.imports i (sound.used.others n (path_of i) held unused)) in
           let sound_then : IsSoundState t ms st → IsSoundState t ms using_it = λ s. record {
             ordered = ordered s.ordered;
             items = items_same ms st.graph imported grows refl (imported_slots st.graph imported.imports) refl refl
-                s.items;
+                refl s.items;
             plain = record {
-              adapters = s.plain.adapters;
               adapter_modules = s.plain.adapter_modules;
               adapter_partitionings = s.plain.adapter_partitionings;
               unsafe_intrinsics = s.plain.unsafe_intrinsics;
@@ -106,6 +106,9 @@ module _ (t : TypeTable) (ms : List ModuleRecord) (st : State) (n : ℕ) (r : Ru
             table = s.table;
             bodies = s.bodies;
             members = s.members;
+            instances = instances_kept ms (tables_of st) (tables_of using_it)
+                (graph_grown (tables_of st) imported grows fits) refl st.runtime_instances.items s.instances;
+            widths = widths_kept t ms st.runtime_instances.items st.graph imported refl s.widths;
           } in
           record {
             path = ap (slice_get imported.imports) number ∙ slice_get-append_seam st.graph.imports i [];

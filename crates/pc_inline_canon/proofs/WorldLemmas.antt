@@ -36,6 +36,7 @@ use Rattle.pc_inline_state.specs.Holds.{Numbered, number_of, whole_of}
 use Rattle.pc_inline_state.specs.KnowsSame.{KnowsSame}
 use Rattle.pc_inline_state.specs.Worlds.{EffectStands, HasTrampoline, ImportStands, IntrinsicsStand, IsDeclared}
 use Rattle.pc_inline_state.specs.Worlds.{WorldStands, path_of}
+use Rattle.pc_inline_canon.proofs.AdapterKeptLemmas.{adapters_still}
 use Rattle.pc_inline_canon.proofs.KeptLemmas.{core_kept, frame_kept}
 use Rattle.pc_inline_canon.proofs.MarkLemmas.{entry_twice, holds_still, still}
 use Rattle.pc_inline_state.proofs.IntrinsicLemmas.{intrinsics_kept}
@@ -100,35 +101,39 @@ module _ (old new : Types) (g h : ComponentDfg) (types : builder.KeepsTypes old 
 
   -- a graph that does no more than before, with these intrinsics
   pub world_moved : h.side_effects ≡ g.side_effects → h.instances ≡ g.instances → h.trampolines ≡ g.trampolines
-      → h.imports ≡ g.imports → h.imported_resources ≡ g.imported_resources → h.resources ≡ g.resources
-      → h.import_types ≡ g.import_types → h.num_runtime_component_instances ≡ g.num_runtime_component_instances
+      → h.adapters ≡ g.adapters → h.imports ≡ g.imports → h.imported_resources ≡ g.imported_resources
+      → h.resources ≡ g.resources → h.import_types ≡ g.import_types
+      → h.num_runtime_component_instances ≡ g.num_runtime_component_instances
       → (w : World) → WorldStands old g w → (added : List AddedIntrinsic) → IntrinsicsStand new h added
       → WorldStands new h (record w { intrinsics = added })
-  world_moved effects instances trampolines imports imported resources import_types begun w s added stand = record {
-    effects = subst (λ es. AllZip (EffectStands new h) es (trace w.log)) (sym effects)
-        (zip_more (EffectStands old g) (EffectStands new h) effect_still g.side_effects (trace w.log) s.effects);
-    order = s.order ∙ ap length (sym instances);
-    are_declared = λ k x at. declared_still w.log k x
-        (s.are_declared k x (subst (λ ts. slice_get ts k ≡ Some x) trampolines at));
-    trampolines = λ v entry. trampoline_still v (s.trampolines v entry);
-    few_trampolines = subst (λ ts. length ts ≤ count_by is_declared w.log) (sym trampolines) s.few_trampolines;
-    import_types = subst (λ is. AllZip (ImportStands new h) is w.imports) (sym import_types)
-        (zip_more (ImportStands old g) (ImportStands new h) import_still g.import_types w.imports s.import_types);
-    imports = ap (map path_of) imports ∙ s.imports;
-    imported_resources = imported_same g h grows imported w.imported_resources s.imported_resources;
-    resources = ap length resources ∙ s.resources;
-    intrinsics = stand;
-    no_adapters = s.no_adapters;
-    begun = s.begun ∙ sym begun;
-  }
+  world_moved effects instances trampolines adapters imports imported resources import_types begun w s added stand
+      = record {
+        effects = subst (λ es. AllZip (EffectStands new h) es (trace w.log)) (sym effects)
+            (zip_more (EffectStands old g) (EffectStands new h) effect_still g.side_effects (trace w.log) s.effects);
+        order = s.order ∙ ap length (sym instances);
+        are_declared = λ k x at. declared_still w.log k x
+            (s.are_declared k x (subst (λ ts. slice_get ts k ≡ Some x) trampolines at));
+        trampolines = λ v entry. trampoline_still v (s.trampolines v entry);
+        few_trampolines = subst (λ ts. length ts ≤ count_by is_declared w.log) (sym trampolines) s.few_trampolines;
+        import_types = subst (λ is. AllZip (ImportStands new h) is w.imports) (sym import_types)
+            (zip_more (ImportStands old g) (ImportStands new h) import_still g.import_types w.imports s.import_types);
+        imports = ap (map path_of) imports ∙ s.imports;
+        imported_resources = imported_same g h grows imported w.imported_resources s.imported_resources;
+        resources_apart = s.resources_apart;
+        resources = ap length resources ∙ s.resources;
+        intrinsics = stand;
+        adapters = adapters_still old new g h types grows fits adapters w.log s.adapters;
+        begun = s.begun ∙ sym begun;
+      }
 
   -- the same where it has signatures for no more intrinsics
   pub world_still : h.side_effects ≡ g.side_effects → h.instances ≡ g.instances → h.trampolines ≡ g.trampolines
-      → h.imports ≡ g.imports → h.imported_resources ≡ g.imported_resources → h.resources ≡ g.resources
-      → h.import_types ≡ g.import_types → h.num_runtime_component_instances ≡ g.num_runtime_component_instances
+      → h.adapters ≡ g.adapters → h.imports ≡ g.imports → h.imported_resources ≡ g.imported_resources
+      → h.resources ≡ g.resources → h.import_types ≡ g.import_types
+      → h.num_runtime_component_instances ≡ g.num_runtime_component_instances
       → h.unsafe_intrinsics ≡ g.unsafe_intrinsics → (w : World) → WorldStands old g w → WorldStands new h w
-  world_still effects instances trampolines imports imported resources import_types begun same w s =
-      world_moved effects instances trampolines imports imported resources import_types begun w s w.intrinsics
+  world_still effects instances trampolines adapters imports imported resources import_types begun same w s =
+      world_moved effects instances trampolines adapters imports imported resources import_types begun w s w.intrinsics
       (intrinsics_kept old g w.intrinsics s.intrinsics new h types.signatures same)
 
 -- a point is where it was while nothing is done
@@ -141,7 +146,7 @@ point_kept t ms old new p f now at = record {
   converted = converted_kept old.types new.types p.keeps.types p.resources t f.converted at.converted;
   frame = frame_kept ms (tables_of old) (tables_of new) p.keeps f now.scope at.frame;
   world = world_still old.types new.types old.graph new.graph p.keeps.types p.keeps.graph p.keeps.fits p.side_effects
-      p.instances p.trampolines p.imports p.imported_resources p.declared_resources p.import_types p.begun
+      p.instances p.trampolines p.adapters p.imports p.imported_resources p.declared_resources p.import_types p.begun
       p.unsafe_intrinsics now.world at.world;
   unexported = record {
     exports = p.exports ∙ at.unexported.exports;

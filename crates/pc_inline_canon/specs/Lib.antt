@@ -1,4 +1,5 @@
 -- What the contracts of this crate say.
 pub mod Callees
 pub mod Hosts
+pub mod Sides
 pub mod Written

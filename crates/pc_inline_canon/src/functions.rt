@@ -2,8 +2,9 @@
 
 ghost use Rattle.std.specs.Prelude.{◌≡◌};
 ghost use Rattle.pc_spec_reading.specs.Item.{lift_item, lower_item};
-ghost use Rattle.pc_inline_state.specs.Adds.{Adds, most_converted};
+ghost use Rattle.pc_inline_state.specs.Adds.{Adds, most_converted, most_lowered};
 ghost use Rattle.pc_inline_state.specs.Points.{IsInput, IsPoint, StepsItem};
+ghost use Rattle.pc_inline_state.specs.Ready.{IsReady};
 ghost use Rattle.pc_inline_state.specs.Tables.{Keeps, tables_of};
 ghost use Rattle.pc_inline_state.specs.Trails.{Trails};
 
@@ -12,7 +13,6 @@ use crate::lower::lower;
 use crate::options::options_in;
 use pc_inline_state::{Context, Definition, Frame, ItemError, ItemFault, State, at};
 use pc_parsed::CanonOption;
-use pc_types::Unsupported;
 
 /// A core function, lifted.
 #[tactic(auto, using(crate::proofs::ConvertedLemmas::types_few))]
@@ -47,8 +47,8 @@ pub fn step_lift(
     Ok(())
 }
 
-/// A function, lowered. That of a lifted function isn't built yet.
-#[tactic(auto, using(crate::proofs::ConvertedLemmas::types_few))]
+/// A function, lowered.
+#[tactic(auto, using(crate::proofs::ConvertedLemmas::types_lowered))]
 pub fn step_lower(
     context: &Context<'_>,
     state: &mut State<'_>,
@@ -59,9 +59,10 @@ pub fn step_lower(
     opts: &[CanonOption],
 ) -> Result<(), ItemError>
     requires input { IsInput context.now.table.now context.now.modules }
+    requires ready { IsReady context.now }
     requires here { IsPoint context.now.table.now context.now.modules state.old frame.old }
     ensures keeps { Keeps (tables_of state.old) (tables_of state.new) }
-    ensures adds { Adds context.now.table.now (most_converted context.now.table.now 1)
+    ensures adds { Adds context.now.table.now (most_lowered context.now.table.now)
         (tables_of state.old) (tables_of state.new) }
     ensures trail { Trails frame.old.changes state.old.types.resources frame.new.changes state.new.types.resources }
     ensures same { frame.new.component_instance ≡ frame.old.component_instance }
@@ -76,7 +77,7 @@ pub fn step_lower(
         return Err(ItemError::Fault(ItemFault::Invalid));
     };
     let Some(callee) = callee_of(state, func) else {
-        return Err(ItemError::Fault(ItemFault::Unsupported(Unsupported::NotBuilt)));
+        unreachable!()
     };
     let id = lower(context, state, callee, ty, options)?;
     frame.core_funcs.push(id)?;

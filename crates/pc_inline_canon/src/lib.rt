@@ -1,10 +1,11 @@
 //! Canonical functions: lifts and lowers, with their options.
 //!
 //! An option names a core item of the component instance, and an entry of options in the graph holds the slots of those
-//! that are written. A lift is kept until something exports it; a lowering is a trampoline at once, and that of an unsafe
-//! intrinsic is the intrinsic itself.
+//! that are written. A lift is kept until something exports or lowers it; the lowering of a host function is a trampoline
+//! at once, that of a lifted function is an adapter, and that of an unsafe intrinsic is the intrinsic itself.
 #![tactic(auto)]
 
+mod adapters;
 mod callee;
 mod functions;
 mod intrinsics;

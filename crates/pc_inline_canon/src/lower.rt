@@ -7,10 +7,12 @@ ghost use Rattle.pc_inline_state.specs.AddsEach.{AddsEach, in_imports};
 ghost use Rattle.pc_inline_canon.specs.Callees.{HeldCallee, LowersTo};
 ghost use Rattle.pc_inline_canon.specs.Hosts.{Lowers, Uses};
 ghost use Rattle.pc_inline_state.specs.Points.{IsSoundState};
+ghost use Rattle.pc_inline_state.specs.Ready.{IsReady};
 ghost use Rattle.pc_inline_state.specs.Refused.{LacksRoom};
 ghost use Rattle.pc_inline_state.specs.Slots.{OptionsThere};
 ghost use Rattle.pc_inline_state.specs.Tables.{Keeps, tables_of};
 
+use crate::adapters::lower_lifted;
 use crate::callee::Callee;
 use crate::intrinsics::add_intrinsic;
 use crate::slots::options_entry;
@@ -85,10 +87,11 @@ pub(crate) fn lower(
     options: Options,
 ) -> Result<CoreId, ItemError>
     requires sound { IsSoundState context.now.table.now context.now.modules state.old }
-    requires there { HeldCallee (tables_of state.old) callee }
+    requires ready { IsReady context.now }
+    requires there { HeldCallee context.now.modules (tables_of state.old) callee }
     requires options { OptionsThere context.now.modules (tables_of state.old) options }
     ensures keeps { Keeps (tables_of state.old) (tables_of state.new) }
-    ensures adds { Adds context.now.table.now 4 (tables_of state.old) (tables_of state.new) }
+    ensures adds { Adds context.now.table.now 36 (tables_of state.old) (tables_of state.new) }
     ensures resources { state.new.types.resources ≡ state.old.types.resources }
     ensures lowers { IfOk result (LowersTo context.now.table.now context.now.modules state.old state.new
         callee ty options) }
@@ -96,6 +99,11 @@ pub(crate) fn lower(
 {
     match callee {
         Callee::Host(path) => lower_host(context, state, path, ty, options),
+        Callee::Lifted {
+            ty: lift_ty,
+            func,
+            options: lift,
+        } => lower_lifted(context, state, (lift_ty, func, lift), ty, options),
         Callee::Intrinsic(intrinsic) => add_intrinsic(state, intrinsic, options.core_type),
     }
 }

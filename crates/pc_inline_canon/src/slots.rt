@@ -26,7 +26,7 @@ use pc_inline_state::{Context, CoreId, DataModel, ItemError, Options, State};
 use std::alloc::Global;
 
 /// A definition of a memory, as a memory.
-fn memory_of(alloc: Global, def: &CoreDef) -> Result<CoreExport<MemoryIndex>, NoMemory>
+pub(crate) fn memory_of(alloc: Global, def: &CoreDef) -> Result<CoreExport<MemoryIndex>, NoMemory>
     requires memory { is_memory def.now ≡ true }
     ensures { IfOk result (λ memory. memory_def memory ≡ def.now) }
 {
@@ -47,7 +47,11 @@ fn memory_of(alloc: Global, def: &CoreDef) -> Result<CoreExport<MemoryIndex>, No
 }
 
 /// The definition of a core item of the table, once more.
-fn definition(context: &Context<'_>, state: &State<'_>, id: CoreId) -> Result<CoreDef, NoMemory>
+pub(crate) fn definition(
+    context: &Context<'_>,
+    state: &State<'_>,
+    id: CoreId,
+) -> Result<CoreDef, NoMemory>
     requires there { (k : CoreKind) × IsThere context.now.modules (tables_of state.now) k id }
     ensures { IfOk result (λ def. slice_get state.now.cores id.0 ≡ Some def) }
 {

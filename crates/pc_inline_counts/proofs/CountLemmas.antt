@@ -82,7 +82,8 @@ module _ (ms : List ModuleRecord) (b : Tables) (sound : table_fault b.table ≡ 
   definition_takes instances d v stands_intrinsic lists w total types =
       refused_takes _ (unsupported ReexportedIntrinsic) w total
   definition_takes instances d v (stands_static handed_in tabled i typed) lists w total types = leaf_takes _ w total
-  definition_takes instances d v (stands_host_module {path = path} held tabled typed) lists w total types =
+  definition_takes instances d v (stands_host_module {path = path} held given tabled typed) lists w total
+      types =
       host_leaf_takes path _ w total
   definition_takes instances d v (stands_component there body leaving held modules components) lists w total types =
       refused_takes _ (unsupported ExportedComponent) w total
@@ -276,7 +277,7 @@ counted_since ms old b counts made same d v is j exported =
     by e x (stands_lifted typed func options) k found = absurd (none-some k found)
     by e x stands_intrinsic k found = absurd (none-some k found)
     by e x (stands_static handed_in tabled i typed) k found = absurd (none-some k found)
-    by e x (stands_host_module held tabled typed) k found = absurd (none-some k found)
+    by e x (stands_host_module held given tabled typed) k found = absurd (none-some k found)
     by e x (stands_component there body leaving held modules components) k found = absurd (none-some k found)
     by e x (stands_host_instance held given tabled typed) k found = absurd (none-some k found)
     by e x (stands_instance {n = n} {es = es} held stand typed) k found =

@@ -52,7 +52,6 @@ use Rattle.pc_inline_state.specs.Members.{AreEarlier}
 use Rattle.pc_inline_state.specs.Points.{IsInput}
 use Rattle.pc_inline_state.specs.Definitions.{exports_of}
 use Rattle.pc_inline_state.specs.Tables.{Keeps, Tables, tables_of}
-use Rattle.pc_inline_state.specs.Today.{built_exports, today}
 use Rattle.pc_inline_state.specs.Worlds.{HasNoExports}
 use Rattle.pc_inline_state.proofs.AddsLemmas.{adds_both, adds_refl, adds_weaken}
 use Rattle.pc_inline_state.proofs.StateLemmas.{keeps_refl, keeps_trans}
@@ -316,16 +315,16 @@ module _ (t : TypeTable) (ms : List ModuleRecord) where
   module _ (s : Scope) (e : ExternName × ItemKind × ℕ) (rest : List ExportOf) (n : ℕ) where
     -- what is read of the exports behind one with its node
     abbrev behind_node : ExportNode Mark → World → Outcome Finish
-    behind_node y v = and_then (built_exports t s rest (n + 1) v) (in_front (node_named e.0 y))
+    behind_node y v = and_then (root_exports t s rest (n + 1) v) (in_front (node_named e.0 y))
 
     missing_here : (w : World) → value_at t s e.1 e.2 ≡ None
-        → built_exports t s (named_item e ∷ rest) n w ≡ built_exports t s rest n w
-    unfolding root_exports today exported_value
+        → root_exports t s (named_item e ∷ rest) n w ≡ root_exports t s rest n w
+    unfolding root_exports exported_value
     missing_here w none = rw none refl
 
     value_here : (w : World) (v : Value) → value_at t s e.1 e.2 ≡ Some v
-        → built_exports t s (named_item e ∷ rest) n w ≡ at_export n (value_node v w) behind_node
-    unfolding root_exports today exported_value
+        → root_exports t s (named_item e ∷ rest) n w ≡ at_export n (value_node v w) behind_node
+    unfolding root_exports exported_value
     value_here w v there = rw there refl
 
   module _ (es : List (ExternName × ItemKind × ℕ)) (old : State) (f : Frame) where
@@ -354,8 +353,8 @@ module _ (t : TypeTable) (ms : List ModuleRecord) where
             as_many = ap length none.items;
             last = λ n e at. absurd (none-some e (subst (λ xs. slice_get xs n ≡ Some e) none.exports at));
           },
-          behind_none (built_exports t s (map named_item es) 0 w)
-              ∙ sym (room_is (grown w.total 0) (and_then (built_exports t s (map named_item es) 0 w) (behind t ms []))
+          behind_none (root_exports t s (map named_item es) 0 w)
+              ∙ sym (room_is (grown w.total 0) (and_then (root_exports t s (map named_item es) 0 w) (behind t ms []))
               (subst (λ o. has_room o ≡ true) (grown_none w.total) room)),
         );
       },
@@ -373,8 +372,8 @@ module _ (t : TypeTable) (ms : List ModuleRecord) where
           keeps = keeps_refl (tables_of old);
           adds = adds_refl t (most_exported t 0 (types_among es)) (tables_of old);
           exports = λ s w room stands. (
-            built_exports t s (map named_item es) 0 w,
-            sym (room_is (grown w.total 0) (built_exports t s (map named_item es) 0 w)
+            root_exports t s (map named_item es) 0 w,
+            sym (room_is (grown w.total 0) (root_exports t s (map named_item es) 0 w)
                 (subst (λ o. has_room o ≡ true) (grown_none w.total) room)),
             tt,
           );
@@ -415,7 +414,7 @@ module _ (t : TypeTable) (ms : List ModuleRecord) where
               let last : here.0 ++ [] ≡ here.0 = append-nil here.0 in (
                 done (here.0, here.1),
                 here.5 ∙ ap (λ l. if_room (grown w.total (8 * nodes))
-                    (and_then (built_exports t s l n here.1) (behind t ms here.0))) all
+                    (and_then (root_exports t s l n here.1) (behind t ms here.0))) all
                     ∙ (λ j. if_room (grown w.total (8 * nodes)) (done (last j, here.1))),
                 record {
                   exported = here.0;
@@ -483,8 +482,8 @@ module _ (t : TypeTable) (ms : List ModuleRecord) where
       here_on : (s : Scope) (w : World) → has_room w.total ≡ true → RootStands t ms old f s w []
           → (exported : List (NamedNode Mark)) × (v : World) × (v.total ≡ grown w.total (8 * far.0))
           × RootStands t ms st g s v exported × NumbersExports st.graph exported
-          × (built_exports t s (map named_item es) 0 w ≡ if_room (grown w.total (8 * far.0))
-          (and_then (built_exports t s (named_item e ∷ rest) n v) (behind t ms exported)))
+          × (root_exports t s (map named_item es) 0 w ≡ if_room (grown w.total (8 * far.0))
+          (and_then (root_exports t s (named_item e ∷ rest) n v) (behind t ms exported)))
       here_on s w room root =
           let here = so_far.goes s w room root in (
             here.0,
@@ -493,7 +492,7 @@ module _ (t : TypeTable) (ms : List ModuleRecord) where
             here.3,
             here.4,
             here.5 ∙ ap (λ l. if_room (grown w.total (8 * far.0))
-                (and_then (built_exports t s l n here.1) (behind t ms here.0))) left,
+                (and_then (root_exports t s l n here.1) (behind t ms here.0))) left,
           )
 
       module _ (st2 : State) (g2 : Frame) (q : Result (Option Definition) ItemError)
@@ -565,7 +564,7 @@ module _ (t : TypeTable) (ms : List ModuleRecord) where
           adds = adds_all2;
           exports = λ s w room root.
               let here = here_on s w room root in
-              let o = and_then (built_exports t s (named_item e ∷ rest) n here.1) (behind t ms here.0) in (
+              let o = and_then (root_exports t s (named_item e ∷ rest) n here.1) (behind t ms here.0) in (
                 o,
                 here.5,
                 subst (λ y. ExportsEnd t ms st2 g2 s w far.0 o (Err y)) (sym is_r)
@@ -610,13 +609,13 @@ module _ (t : TypeTable) (ms : List ModuleRecord) where
               (o : Reached (ExportNode Mark)) → v.total ≡ grown w.total (8 * far.0) → value_at t s e.1 e.2 ≡ Some x
               → value_node x (roomy v) ≡ within_total (grown (roomy v).total (8 * k)) o
               → if_room (grown w.total (8 * far.0))
-              (and_then (built_exports t s (named_item e ∷ rest) n v) (behind t ms exported))
+              (and_then (root_exports t s (named_item e ∷ rest) n v) (behind t ms exported))
               ≡ if_room (grown w.total (8 * (far.0 + k)))
               (and_then (at_export n o (behind_node s e rest n)) (behind t ms exported))
           at_node k s w v exported x o total there reads =
               let end = and_then (at_export n o (behind_node s e rest n)) (behind t ms exported) in
               room_same (grown w.total (8 * far.0))
-              (and_then (built_exports t s (named_item e ∷ rest) n v) (behind t ms exported))
+              (and_then (root_exports t s (named_item e ∷ rest) n v) (behind t ms exported))
               (if_room (grown w.total (8 * (far.0 + k))) end)
               (λ room.
               let same = roomy_same v (subst (λ y. has_room y ≡ true) (sym total) room) in
@@ -679,7 +678,7 @@ module _ (t : TypeTable) (ms : List ModuleRecord) where
                     here.5 ∙ at_node one.nodes s w here.1 here.0 x.0 y.0 here.2 x.1 y.1
                         ∙ room_same (grown w.total (8 * nodes st3 (Ok tt) one))
                         (and_then (at_export n y.0 (behind_node s e rest n)) (behind t ms here.0))
-                        (and_then (built_exports t s rest (n + 1) last) (behind t ms (here.0 ++ named ∷ [])))
+                        (and_then (root_exports t s rest (n + 1) last) (behind t ms (here.0 ++ named ∷ [])))
                         (λ still.
                         let before = subst (λ o. has_room o ≡ true) (sym here.2)
                         (room_before w.total (8 * far.0) (8 * one.nodes)
@@ -688,8 +687,8 @@ module _ (t : TypeTable) (ms : List ModuleRecord) where
                         = made.total ∙ ap (λ (u : World). grown u.total (8 * one.nodes)) (roomy_same here.1 before)
                         ∙ total_twice one.nodes w here.1 here.2 in
                         ap (λ q. and_then (at_export n q (behind_node s e rest n)) (behind t ms here.0)) made.is
-                        ∙ behind_more here.0 named (built_exports t s rest (n + 1) made.world)
-                        ∙ (λ j. and_then (built_exports t s rest (n + 1) (record made.world { total = total j }))
+                        ∙ behind_more here.0 named (root_exports t s rest (n + 1) made.world)
+                        ∙ (λ j. and_then (root_exports t s rest (n + 1) (record made.world { total = total j }))
                         (behind t ms (here.0 ++ named ∷ [])))),
                   );
             },

@@ -107,7 +107,7 @@ module _ (ms : List ModuleRecord) (st : State) where
   value_view d v stands_intrinsic is = absurd (let no : ⊥ = cc in no)
   value_view d v stands_intrinsics is = absurd (let no : ⊥ = cc in no)
   value_view d v (stands_static handed_in tabled i typed) is = absurd (let no : ⊥ = cc in no)
-  value_view d v (stands_host_module held tabled typed) is = absurd (let no : ⊥ = cc in no)
+  value_view d v (stands_host_module held given tabled typed) is = absurd (let no : ⊥ = cc in no)
   value_view d v (stands_component there body leaving held modules components) is = absurd (let no : ⊥ = cc in no)
   value_view d v (stands_type typed) is = absurd (let no : ⊥ = cc in no)
   value_view d v (stands_host_instance {p = p} {ty = ty} {entry = entry} {path = path} {tree = tree} held given tabled

@@ -1,5 +1,5 @@
 -- The calls for one node: what it needs, and its item.
-use Rattle.std.proofs.Common.{◌≡◌, ◌<◌, ◌≤◌, ◌+◌, ◌∙◌, ℕ, List, length, Result, Ok, Err, Some, refl, sym}
+use Rattle.std.proofs.Common.{◌≡◌, ◌<◌, ◌≤◌, ◌+◌, ◌*◌, ◌∙◌, ℕ, List, length, Result, Ok, Err, Some, refl, sym}
 use Rattle.std.proofs.Common.{ap, subst, arith}
 use Rattle.std.specs.Result.{IsErr, IsErrAnd}
 use Rattle.std.proofs.lemmas.Option.{slice_get_within}
@@ -70,7 +70,8 @@ one_few t a b x h k =
     adds_each t (λ l. in_leaf l + in_export_items l) 0 0 4 a x le (omega arith) (omega arith)
     (each_trans in_leaf in_export_items 0 0 0 0 a b x h k)
   where
-    le : (l : ListName) → in_leaf l + in_export_items l ≤ 4
+    le : (l : ListName)
+        → in_leaf l + in_export_items l + 32 * (in_leaf list.adapters + in_export_items list.adapters) ≤ 4
     le list.options = omega arith
     le list.imports = omega arith
     le list.export_items = omega arith
@@ -80,7 +81,7 @@ one_few t a b x h k =
 leaf_few : (t : TypeTable) (a b : Tables) → AddsEach in_leaf 0 0 a b → Adds t 4 a b
 leaf_few t a b h = adds_each t in_leaf 0 0 4 a b le (omega arith) (omega arith) h
   where
-    le : (l : ListName) → in_leaf l ≤ 4
+    le : (l : ListName) → in_leaf l + 32 * in_leaf list.adapters ≤ 4
     le list.options = omega arith
     le list.imports = omega arith
     le (list.slots k) = omega arith

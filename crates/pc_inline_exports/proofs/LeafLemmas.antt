@@ -69,9 +69,10 @@ world_total types g w total s = record {
   import_types = s.import_types;
   imports = s.imports;
   imported_resources = s.imported_resources;
+  resources_apart = s.resources_apart;
   resources = s.resources;
   intrinsics = s.intrinsics;
-  no_adapters = s.no_adapters;
+  adapters = s.adapters;
   begun = s.begun;
 }
 
@@ -82,8 +83,8 @@ module _ (t : TypeTable) (ms : List ModuleRecord) where
   work_prepared old new p w s = record {
     sound = p.sound s.sound;
     world = world_still old.types new.types old.graph new.graph p.keeps.types p.keeps.graph p.keeps.fits
-        p.side_effects p.instances p.trampolines p.imports p.imported_resources p.declared_resources p.import_types
-        p.begun p.unsafe_intrinsics w s.world;
+        p.side_effects p.instances p.trampolines p.adapters p.imports p.imported_resources p.declared_resources
+        p.import_types p.begun p.unsafe_intrinsics w s.world;
   }
 
   -- whatever total is counted

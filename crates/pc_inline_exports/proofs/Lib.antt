@@ -3,7 +3,7 @@ mod WithinLemmas
 mod NamesLemmas
 pub mod GrownLemmas
 pub mod PushLemmas
-mod ViewLemmas
+pub mod ViewLemmas
 mod LeafLemmas
 mod InstanceLemmas
 mod ClimbLemmas

@@ -25,7 +25,7 @@ use Rattle.pc_spec_reading.specs.World.{World, grown, has_room}
 use Rattle.pc_dfg.specs.declared.dfg.ComponentDfg.{ComponentDfg}
 use Rattle.pc_dfg.specs.Grows as graph
 use Rattle.pc_dfg.specs.Lists as list
-use Rattle.pc_dfg.specs.Lists.{ListName, NamedExport, entries_of}
+use Rattle.pc_dfg.specs.Lists.{ListName, NamedExport}
 use Rattle.pc_dfg.specs.Numbers.{slots_of}
 use Rattle.pc_dfg.specs.Ordered.{IsOrdered}
 use Rattle.pc_inline_state.specs.declared.definition.Definition.{Definition}
@@ -34,7 +34,7 @@ use Rattle.pc_inline_state.specs.declared.error.ItemError.TheVariants as item_er
 use Rattle.pc_inline_state.specs.declared.error.ItemFault.TheVariants as item_fault
 use Rattle.pc_inline_state.specs.declared.frame.Frame.{Frame}
 use Rattle.pc_inline_state.specs.declared.state.State.{State}
-use Rattle.pc_inline_state.specs.Adds.{Adds}
+use Rattle.pc_inline_state.specs.Adds.{Adds, with_modules}
 use Rattle.pc_inline_state.specs.Faults.{error_of}
 use Rattle.pc_inline_state.specs.Stands.{DefinitionStands}
 use Rattle.pc_inline_state.specs.Tables.{Keeps, Tables, tables_of}
@@ -55,7 +55,8 @@ some_size (node.instance ty nodes) = omega arith
 some_size x = omega arith
 
 -- an export under its name is one entry more among the exports, and no other
-adds_named : (t : TypeTable) (n : ℕ) (a b : Tables) (ys : List NamedExport) → length ys ≤ length a.graph.exports + n
+adds_named : (t : TypeTable) (n : ℕ) (a b : Tables) (ys : List NamedExport)
+    → length ys + 32 * length b.graph.adapters ≤ length a.graph.exports + 32 * length a.graph.adapters + n
     → Adds t n a b → Adds t n a (record b { graph = record b.graph { exports = ys } })
 unfolding slots_of
 adds_named t n a b ys few h = record {
@@ -74,8 +75,7 @@ adds_named t n a b ys few h = record {
   later = h.later;
 }
   where
-    each : (l : ListName)
-        → length (entries_of (record b.graph { exports = ys }) l) ≤ length (entries_of a.graph l) + n
+    each : (l : ListName) → with_modules (record b.graph { exports = ys }) l ≤ with_modules a.graph l + n
     each list.exports = few
     each (list.slots plan.memory) = h.entries.lists (list.slots plan.memory)
     each l = h.entries.lists l
@@ -158,8 +158,8 @@ module _ (t : TypeTable) (ms : List ModuleRecord) (name : ExternName) (number : 
       subst (λ h. ExportsOne t ms name number d old (record mid { graph = h }) r) (sym same) (exports_unfed r is)
 
   module _ (item : ExportIndex) (was : q ≡ Ok item) (reachable : IsReachable t ms old d) where
-    -- there is a node somewhere, so one node counts at least
-    some_nodes : 1 ≤ 4 * reach.nodes
+    -- there is a node somewhere, so one node counts at least, and no adapter with it
+    some_nodes : 1 + 32 * length mid.graph.adapters ≤ 32 * length old.graph.adapters + 4 * reach.nodes
     unfolding NodeEnds
     some_nodes =
         let w = record reachable.world { total = None } in
@@ -216,7 +216,8 @@ module _ (t : TypeTable) (ms : List ModuleRecord) (name : ExternName) (number : 
       exports_named =
           let same : record mid.graph { exports = g.exports } ≡ g = sym rest in
           let long = length-append mid.graph.exports (entry ∷ []) in
-          let few : length g.exports ≤ length old.graph.exports + 4 * reach.nodes
+          let few : length g.exports + 32 * length mid.graph.adapters
+          ≤ length old.graph.exports + 32 * length old.graph.adapters + 4 * reach.nodes
           = rw (put, long, reach.exports) (omega (arith, some_nodes)) in
           record {
             nodes = reach.nodes;

@@ -37,7 +37,9 @@ use Rattle.pc_inline_state.specs.Worlds.{HasItems, HoldsModule, HoldsTypes}
 use Rattle.pc_inline_state.proofs.AddsPushLemmas.{Lists, from_rest}
 use Rattle.pc_inline_state.proofs.FitsLemmas.{fits_grown}
 use Rattle.pc_inline_state.proofs.GrowthLemmas.{graph_grown}
+use Rattle.pc_inline_state.proofs.InstanceLemmas.{instances_kept, widths_kept}
 use Rattle.pc_inline_state.proofs.StateLemmas.{module_grows, types_refl}
+use Rattle.pc_inline_canon.proofs.AdapterKeptLemmas.{adapters_items_kept}
 use Rattle.pc_inline_canon.proofs.CoreInstanceLemmas.{found_in_push}
 use Rattle.pc_inline_canon.proofs.ItemLemmas.{arguments_more, host_arguments_more, used_kept}
 use Rattle.pc_inline_canon.proofs.KeptLemmas.{is_item_kept}
@@ -77,6 +79,7 @@ module _ (t : TypeTable) (ms : List ModuleRecord) (st : State) (e : Export) wher
             (h.slots k n d (subst (λ l. slice_get l n ≡ Some d) (same_slots k) at));
         hosts = λ i r args at. host_arguments_more ms st.graph exported grows _ (h.hosts i r args at);
         destructors = λ n y d at has. is_item_kept ms st.graph exported grows core.Func d (h.destructors n y d at has);
+        adapters = adapters_items_kept ms st.graph exported grows refl h.adapters;
         exports = λ n u p d at. is_item_kept ms st.graph exported grows core.Func d
             (elim (found_in_push st.graph.export_items e n (export.LiftedFunction u d p) at)
             as (λ _. IsItem ms st.graph core.Func d) [
@@ -108,7 +111,6 @@ module _ (t : TypeTable) (ms : List ModuleRecord) (st : State) (e : Export) wher
           ordered = ordered;
           items = after_items s.sound.items;
           plain = record {
-            adapters = s.sound.plain.adapters;
             adapter_modules = s.sound.plain.adapter_modules;
             adapter_partitionings = s.sound.plain.adapter_partitionings;
             unsafe_intrinsics = s.sound.plain.unsafe_intrinsics;
@@ -119,10 +121,13 @@ module _ (t : TypeTable) (ms : List ModuleRecord) (st : State) (e : Export) wher
           table = s.sound.table;
           bodies = s.sound.bodies;
           members = s.sound.members;
+          instances = instances_kept ms (tables_of st) (tables_of after) after_keeps refl st.runtime_instances.items
+              s.sound.instances;
+          widths = widths_kept t ms st.runtime_instances.items st.graph exported refl s.sound.widths;
         };
         world =
             world_still st.types st.types st.graph exported (types_refl st.types) grows fits refl refl refl refl refl
-            refl refl refl refl w s.world;
+            refl refl refl refl refl w s.world;
       }
 
       -- the item is its node

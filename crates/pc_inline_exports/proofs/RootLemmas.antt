@@ -29,6 +29,7 @@ use Rattle.pc_inline_state.specs.Prepares.{Converts}
 use Rattle.pc_inline_state.specs.Tables.{Keeps, tables_of}
 use Rattle.pc_inline_state.proofs.FitsLemmas.{fits_grown}
 use Rattle.pc_inline_state.proofs.GrowthLemmas.{graph_grown}
+use Rattle.pc_inline_state.proofs.InstanceLemmas.{instances_kept, widths_kept}
 use Rattle.pc_inline_state.proofs.KnowsLemmas.{converted_kept, knows_grown}
 use Rattle.pc_inline_state.proofs.StateLemmas.{converts_prepares, types_refl}
 use Rattle.pc_inline_state.proofs.ZipLemmas.{zip_push}
@@ -127,9 +128,8 @@ module _ (t : TypeTable) (ms : List ModuleRecord) (st : State) (e : NamedExport)
     root_named f s w nodes root ordered x is = record {
       sound = record {
         ordered = ordered;
-        items = items_same ms st.graph named grows refl same_slots refl refl root.sound.items;
+        items = items_same ms st.graph named grows refl same_slots refl refl refl root.sound.items;
         plain = record {
-          adapters = root.sound.plain.adapters;
           adapter_modules = root.sound.plain.adapter_modules;
           adapter_partitionings = root.sound.plain.adapter_partitionings;
           unsafe_intrinsics = root.sound.plain.unsafe_intrinsics;
@@ -140,13 +140,16 @@ module _ (t : TypeTable) (ms : List ModuleRecord) (st : State) (e : NamedExport)
         table = root.sound.table;
         bodies = root.sound.bodies;
         members = root.sound.members;
+        instances = instances_kept ms (tables_of st) (tables_of after_name) name_keeps refl st.runtime_instances.items
+            root.sound.instances;
+        widths = widths_kept t ms st.runtime_instances.items st.graph named refl root.sound.widths;
       };
       here = knows_grown st.graph st.types.resources s root.here named name_fits;
       converted = root.converted;
       frame = frame_kept ms (tables_of st) (tables_of after_name) name_keeps f s root.frame;
       world =
           world_still st.types st.types st.graph named (types_refl st.types) grows name_fits refl refl refl refl refl
-          refl refl refl refl w root.world;
+          refl refl refl refl refl w root.world;
       exports = zip_push (NameStands t st.types named) st.graph.exports nodes e x
           (names_still t st.types st.types st.graph named (types_refl st.types) grows name_fits st.graph.exports nodes
           root.exports)

@@ -49,7 +49,7 @@ pub one_item : (t : TypeTable) (old new : State) → AddsEach in_export_items 0 
 one_item t old new h =
     adds_each t in_export_items 0 0 4 (tables_of old) (tables_of new) le (omega arith) (omega arith) h
   where
-    le : (l : ListName) → in_export_items l ≤ 4
+    le : (l : ListName) → in_export_items l + 32 * in_export_items list.adapters ≤ 4
     le list.export_items = omega arith
     le (list.slots k) = omega arith
     le l = omega arith

@@ -92,7 +92,7 @@ module _ (ms : List ModuleRecord) (st : State) where
       one_tree st.types who i.1.ty h.import_type whole (s.typed who fits) (is who fits)
 
   -- the type of what the host gives at a path is the one that the reading finds there
-  type_given : (w : World) → WorldStands st.types st.graph w → (path : Path) (t : TypeTree)
+  pub type_given : (w : World) → WorldStands st.types st.graph w → (path : Path) (t : TypeTree)
       → IsHostType ms (tables_of st) path t → type_at w.imports path ≡ Some t
   unfolding type_at
   type_given w world path t given =
@@ -162,7 +162,7 @@ module _ (ms : List ModuleRecord) (st : State) where
       }
   func_value p ty d v (stands_lifted typed func options) same = absurd (let no : ⊥ = cc in no)
   func_value p ty d v (stands_static handed_in tabled i typed) same = absurd (let no : ⊥ = cc in no)
-  func_value p ty d v (stands_host_module held tabled typed) same = absurd (let no : ⊥ = cc in no)
+  func_value p ty d v (stands_host_module held given tabled typed) same = absurd (let no : ⊥ = cc in no)
   func_value p ty d v stands_intrinsic same = absurd (let no : ⊥ = cc in no)
   func_value p ty d v stands_intrinsics same = absurd (let no : ⊥ = cc in no)
   func_value p ty d v (stands_component there body leaving held modules components) same =
@@ -205,7 +205,7 @@ module _ (ms : List ModuleRecord) (st : State) where
   module_value p ty entry d v (stands_lifted typed func options) same = absurd (let no : ⊥ = cc in no)
   module_value p ty entry d v (stands_static handed_in tabled i typed) same = absurd (let no : ⊥ = cc in no)
   module_value p ty entry d v (stands_host_module {p =
-      q} {ty = u} {entry = n} {path = path} {tree = tree} held tabled typed) same =
+      q} {ty = u} {entry = n} {path = path} {tree = tree} held given tabled typed) same =
       let one : q ≡ p = cc in
       let two : u ≡ ty = cc in
       record {
@@ -269,7 +269,7 @@ module _ (ms : List ModuleRecord) (st : State) where
         typed = typed;
         reads = λ w. ap (λ (k : StaticModuleIndex). leaf (node.static_module k.0 (of_type tree)) w) one;
       }
-  static_value m ty d v (stands_host_module held tabled typed) same = absurd (let no : ⊥ = cc in no)
+  static_value m ty d v (stands_host_module held given tabled typed) same = absurd (let no : ⊥ = cc in no)
   static_value m ty d v stands_intrinsic same = absurd (let no : ⊥ = cc in no)
   static_value m ty d v stands_intrinsics same = absurd (let no : ⊥ = cc in no)
   static_value m ty d v (stands_component there body leaving held modules components) same =
@@ -315,7 +315,7 @@ module _ (ms : List ModuleRecord) (st : State) where
         reads = λ w. refl;
       }
   lifted_value ty func opts d v (stands_static handed_in tabled i typed) same = absurd (let no : ⊥ = cc in no)
-  lifted_value ty func opts d v (stands_host_module held tabled typed) same = absurd (let no : ⊥ = cc in no)
+  lifted_value ty func opts d v (stands_host_module held given tabled typed) same = absurd (let no : ⊥ = cc in no)
   lifted_value ty func opts d v stands_intrinsic same = absurd (let no : ⊥ = cc in no)
   lifted_value ty func opts d v stands_intrinsics same = absurd (let no : ⊥ = cc in no)
   lifted_value ty func opts d v (stands_component there body leaving held modules components) same =
@@ -349,7 +349,7 @@ module _ (ms : List ModuleRecord) (st : State) where
   type_is d f v (stands_host held given typed) same = absurd (let no : ⊥ = cc in no)
   type_is d f v (stands_lifted typed func options) same = absurd (let no : ⊥ = cc in no)
   type_is d f v (stands_static handed_in tabled i typed) same = absurd (let no : ⊥ = cc in no)
-  type_is d f v (stands_host_module held tabled typed) same = absurd (let no : ⊥ = cc in no)
+  type_is d f v (stands_host_module held given tabled typed) same = absurd (let no : ⊥ = cc in no)
   type_is d f v stands_intrinsic same = absurd (let no : ⊥ = cc in no)
   type_is d f v stands_intrinsics same = absurd (let no : ⊥ = cc in no)
   type_is d f v (stands_component there body leaving held modules components) same = absurd (let no : ⊥ = cc in no)
@@ -392,7 +392,7 @@ module _ (ms : List ModuleRecord) (st : State) where
   refused_is d v (stands_lifted typed func options) u same w = absurd (none-some u same)
   refused_is d v stands_intrinsic u same w = ap (λ x. refused (unsupported x)) (same_Some _ u same)
   refused_is d v (stands_static handed_in tabled i typed) u same w = absurd (none-some u same)
-  refused_is d v (stands_host_module held tabled typed) u same w = absurd (none-some u same)
+  refused_is d v (stands_host_module held given tabled typed) u same w = absurd (none-some u same)
   refused_is d v (stands_component there body leaving held modules components) u same w =
       ap (λ x. refused (unsupported x)) (same_Some _ u same)
   refused_is d v (stands_host_instance held given tabled typed) u same w = absurd (none-some u same)

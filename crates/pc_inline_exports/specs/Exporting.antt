@@ -16,6 +16,7 @@ use Rattle.pc_parsed.specs.Mark.{Mark}
 use Rattle.pc_spec_plan.specs.ExportNode.{NamedNode}
 use Rattle.pc_spec_reading.specs.Nodes.{Finish}
 use Rattle.pc_spec_reading.specs.Outcome.{Outcome, and_then, done, fault, past, unsupported}
+use Rattle.pc_spec_reading.specs.Reading.{root_exports}
 use Rattle.pc_spec_reading.specs.Scope.{Scope}
 use Rattle.pc_spec_reading.specs.Section.{named_item}
 use Rattle.pc_spec_reading.specs.World.{World, grown, has_room}
@@ -27,7 +28,6 @@ use Rattle.pc_inline_state.specs.KnowsSame.{KnowsSame}
 use Rattle.pc_inline_state.specs.Named.{export_name}
 use Rattle.pc_inline_state.specs.Points.{IsFullSomewhere, IsSoundState}
 use Rattle.pc_inline_state.specs.Tables.{Keeps, tables_of}
-use Rattle.pc_inline_state.specs.Today.{built_exports}
 use Rattle.pc_inline_state.specs.Worlds.{WorldStands}
 use Rattle.pc_inline_exports.specs.Exports.{NameStands, NumbersExports}
 
@@ -81,7 +81,7 @@ module _ (t : TypeTable) (ms : List ModuleRecord) where
     pub adds : Adds t (most_exported t nodes (types_among es)) (tables_of old) (tables_of new)
     pub exports : (s : Scope) (w : World) → has_room w.total ≡ true → RootStands old f s w []
         → (o : Outcome Finish)
-        × (built_exports t s (map named_item es) 0 w ≡ if_room (grown w.total (8 * nodes)) o)
+        × (root_exports t s (map named_item es) 0 w ≡ if_room (grown w.total (8 * nodes)) o)
         × ExportsEnd new g s w nodes o r
 
   -- the exports of the root so far, up to the ith, of which so many are there and have so many nodes
@@ -96,5 +96,5 @@ module _ (t : TypeTable) (ms : List ModuleRecord) where
     pub goes : (s : Scope) (w : World) → has_room w.total ≡ true → RootStands old f s w []
         → (exported : List (NamedNode Mark)) × (v : World) × (v.total ≡ grown w.total (8 * nodes))
         × RootStands st g s v exported × NumbersExports st.graph exported
-        × (built_exports t s (map named_item es) 0 w ≡ if_room (grown w.total (8 * nodes))
-        (and_then (built_exports t s (map named_item (drop i es)) n v) (behind exported)))
+        × (root_exports t s (map named_item es) 0 w ≡ if_room (grown w.total (8 * nodes))
+        (and_then (root_exports t s (map named_item (drop i es)) n v) (behind exported)))

@@ -83,7 +83,7 @@ module _ (ms : List ModuleRecord) (b : Tables) where
       module_value (host_module path (module_of imports exports)),
       refl,
       subst (λ x. DefinitionStands ms b x (module_value (host_module path (module_of imports exports))))
-          (same_Some _ d is) (stands_host_module held declared typed),
+          (same_Some _ d is) (stands_host_module held host declared typed),
     )
     member_value m tree component_member host d is = absurd (none-some d is)
     member_value m tree (type_member {tree = plain} kind typed) host d is = (

@@ -33,6 +33,7 @@ use Rattle.pc_inline_state.specs.Points.{IsSoundState}
 use Rattle.pc_inline_state.specs.Tables.{Keeps, Tables, tables_of}
 use Rattle.pc_inline_state.proofs.AddsLemmas.{each_refl, each_trans, each_weaken}
 use Rattle.pc_inline_state.proofs.GrowthLemmas.{graph_grown}
+use Rattle.pc_inline_state.proofs.InstanceLemmas.{instances_kept, widths_kept}
 use Rattle.pc_inline_state.proofs.StateLemmas.{keeps_refl, keeps_trans}
 use Rattle.pc_inline_state.proofs.ZipLemmas.{zip_more}
 use Rattle.pc_inline_imports.specs.Brings.{AllHeld, Brings, in_brought, path_at}
@@ -73,9 +74,8 @@ module _ (t : TypeTable) (ms : List ModuleRecord) (st : State) (is : List (List 
     pub other_sound : IsOrdered other → IsSoundState t ms (record st { graph = other })
     other_sound ordered = record {
       ordered = ordered;
-      items = items_same ms st.graph other grows refl other_slots refl refl sound.items;
+      items = items_same ms st.graph other grows refl other_slots refl refl refl sound.items;
       plain = record {
-        adapters = sound.plain.adapters;
         adapter_modules = sound.plain.adapter_modules;
         adapter_partitionings = sound.plain.adapter_partitionings;
         unsafe_intrinsics = sound.plain.unsafe_intrinsics;
@@ -86,6 +86,9 @@ module _ (t : TypeTable) (ms : List ModuleRecord) (st : State) (is : List (List 
       table = sound.table;
       bodies = sound.bodies;
       members = sound.members;
+      instances = instances_kept ms (tables_of st) (tables_of (record st { graph = other }))
+          (graph_grown (tables_of st) other grows fits) refl st.runtime_instances.items sound.instances;
+      widths = widths_kept t ms st.runtime_instances.items st.graph other refl sound.widths;
     }
 
 -- a host item is used, and a resource comes by it

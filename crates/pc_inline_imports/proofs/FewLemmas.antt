@@ -96,7 +96,7 @@ module _ (t : TypeTable) where
   resources_below e = entity_below (paths_from t [] t.types) (paths_below [] t.types tt) e
 
 -- the number at the end of a path
-abbrev number_at : ResourcePath → ℕ
+abbrev pub number_at : ResourcePath → ℕ
 number_at p = p.number
 
 -- the same number stands among paths as among their numbers
@@ -135,6 +135,12 @@ below_any m (x ∷ xs) h q is = by (q == x.number) refl is (below_any m xs h.1 q
         → (list_any (λ n. q == n) (map number_at xs) ≡ true → q < m) → q < m
     by true same is rest = subst (λ n. n < m) (sym (eqb-true q x.number same)) h.0
     by false other is rest = rest is
+
+-- the resources of an entity, each once, have different numbers
+pub numbers_once : (t : TypeTable) (e : Entity)
+    → IsDistinct ◌==◌ (map number_at (each_once same_number (resource_paths t e)))
+unfolding IsDistinct
+numbers_once t e = (once_apart (length t.types) [] (resource_paths t e) tt tt (resources_below t e)).0
 
 -- an entity leads to no more resources than the table has entries, each once
 pub once_few : (t : TypeTable) (e : Entity) → length (each_once same_number (resource_paths t e)) ≤ length t.types

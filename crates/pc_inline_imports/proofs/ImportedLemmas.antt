@@ -1,22 +1,24 @@
 -- The reading's moment after the resources of an import became known.
-use Rattle.std.proofs.Common.{◌≡◌, ◌≤◌, ◌+◌, ◌⊎◌, inl, inr, ℕ, false, List, [], ◌∷◌, ◌++◌, map}
-use Rattle.std.proofs.Common.{refl, sym, ap, ◌∙◌, arith}
-use Rattle.std.specs.Prelude.{Contains, count_by, filter}
-use Rattle.std.specs.List.{filter_map, fold, list_any}
+use Rattle.std.proofs.Common.{◌≡◌, ◌≤◌, ◌+◌, ◌⊎◌, inl, inr, ℕ, List, [], ◌∷◌, ◌++◌, length, map, Some}
+use Rattle.std.proofs.Common.{refl, sym, ap, subst, ◌∙◌, arith}
+use Rattle.std.specs.Prelude.{Contains, count_by, filter, slice_get}
+use Rattle.std.specs.List.{filter_map, fold}
 use Rattle.std.proofs.lemmas.List.{append-nil, append_assoc}
 use Rattle.std.proofs.lemmas.List.Elements.{Contains-append_cases, Contains-push_cases, filter-append, filter_map-append}
-use Rattle.std.proofs.lemmas.List.Folds.{list_any-append}
 use Rattle.std.proofs.lemmas.List.Sums.{fold-append, sum_by-append}
 use Rattle.pc_types.specs.TypeTree.{Identity, imported}
+use Rattle.pc_types_lists.specs.Types.{Types}
 use Rattle.pc_spec_plan.specs.CoreValue.{CoreValue}
 use Rattle.pc_spec_plan.specs.Log.{Entry, declared, instances_of, is_effect, needed, owned_of, trace}
+use Rattle.pc_spec_adapt.specs.Needs.{adapters_of, made_adapter}
 use Rattle.pc_parsed.specs.Mark.{Mark}
 use Rattle.pc_spec_reading.specs.Asked.{is_declared, needed_path, paths_needed, with_path}
 use Rattle.pc_spec_reading.specs.Imports.{import_resources, importing, resource_path}
 use Rattle.pc_spec_reading.specs.Resource.{ResourcePath, knowing, newly}
 use Rattle.pc_spec_reading.specs.Scope.{Moment}
 use Rattle.pc_spec_reading.specs.World.{is_declaration}
-use Rattle.pc_inline_state.specs.Today.{is_made}
+use Rattle.pc_dfg.specs.declared.dfg.ComponentDfg.{ComponentDfg}
+use Rattle.pc_inline_state.specs.Worlds.{AdaptersStand}
 
 module _ (i : ℕ) where
   -- what is known when the resources at these paths became known in order
@@ -76,9 +78,9 @@ module _ (i : ℕ) where
   all_needed [] = refl
   all_needed (p ∷ ps) = λ j. resource_path i p ∷ all_needed ps j
 
-  none_made : (ps : List ResourcePath) → list_any is_made (map needs ps) ≡ false
-  none_made [] = refl
-  none_made (p ∷ ps) = none_made ps
+  no_adapters : (ps : List ResourcePath) → filter_map made_adapter (map needs ps) ≡ []
+  no_adapters [] = refl
+  no_adapters (p ∷ ps) = no_adapters ps
 
   none_counted : (ps : List ResourcePath) → count_by is_declaration (map needs ps) ≡ 0
   none_counted [] = refl
@@ -117,9 +119,19 @@ module _ (i : ℕ) where
         ∙ fold-append with_path [] (filter_map needed_path log) (filter_map needed_path (map needs ps))
         ∙ ap (fold with_path (fold with_path [] (filter_map needed_path log))) (all_needed ps)
 
-    -- no adapter was made
-    pub same_made : list_any is_made log ≡ false → list_any is_made (log ++ map needs ps) ≡ false
-    same_made none = list_any-append is_made log (map needs ps) ∙ rw (none, none_made ps) refl
+    -- and the adapters
+    same_adapters : adapters_of (log ++ map needs ps) ≡ adapters_of log
+    same_adapters =
+        filter_map-append made_adapter log (map needs ps) ∙ ap (λ vs. adapters_of log ++ vs) (no_adapters ps)
+        ∙ append-nil (adapters_of log)
+
+    -- which stand as they stood
+    pub adapters_needed : (types : Types) (g : ComponentDfg) → AdaptersStand types g log
+        → AdaptersStand types g (log ++ map needs ps)
+    adapters_needed types g s = record {
+      as_many = s.as_many ∙ ap length (sym same_adapters);
+      each = λ k v at. s.each k v (subst (λ vs. slice_get vs k ≡ Some v) same_adapters at);
+    }
 
     -- no resource was declared
     pub same_declarations : count_by is_declaration (log ++ map needs ps) ≡ count_by is_declaration log

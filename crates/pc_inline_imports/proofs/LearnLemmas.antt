@@ -42,6 +42,7 @@ use Rattle.pc_inline_state.specs.Tables.{Keeps, tables_of}
 use Rattle.pc_inline_state.proofs.AddsLemmas.{adds_both}
 use Rattle.pc_inline_state.proofs.FitsLemmas.{fits_refl}
 use Rattle.pc_inline_state.proofs.GainedLemmas.{tables_aside, tables_none}
+use Rattle.pc_inline_state.proofs.InstanceLemmas.{instances_kept}
 use Rattle.pc_inline_state.proofs.StateLemmas.{converts_prepares, keeps_trans}
 use Rattle.pc_inline_state.proofs.ZipLemmas.{zip_length}
 use Rattle.pc_inline_imports.specs.Given.{IsEntityType}
@@ -175,6 +176,9 @@ module _ (t : TypeTable) (a : State) (k : Resources) where
     table = s.table;
     bodies = s.bodies;
     members = s.members;
+    instances = instances_kept ms (tables_of a) (tables_of knowing_so) known_keeps refl a.runtime_instances.items
+        s.instances;
+    widths = s.widths;
   }
 
 module _ (t : TypeTable) (a : State) (f : Frame) (b : State) (g : Frame) (r : Registers t a f b g) where

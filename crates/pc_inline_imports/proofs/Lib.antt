@@ -5,6 +5,7 @@ mod EntityLemmas
 mod LearnLemmas
 mod BringLemmas
 mod GiveLemmas
+mod ApartLemmas
 mod ImportedLemmas
 mod MomentLemmas
 mod TrimLemmas

@@ -8,6 +8,7 @@ use Rattle.std.proofs.lemmas.List.Elements.{Contains-append_left}
 use Rattle.std.proofs.lemmas.Option.{none-some, same_Some}
 use Rattle.pc_entity.proofs.Growing.{slice_get-append_seam}
 use Rattle.pc_entity.specs.FirstValues.{with_first}
+use Rattle.pc_entity.specs.Lists.{AreDistinct}
 use Rattle.pc_numbers.specs.declared.runtime.ResourceIndex.{ResourceIndex}
 use Rattle.pc_numbers.specs.declared.runtime.RuntimeImportIndex.{RuntimeImportIndex}
 use Rattle.pc_types.specs.declared.error.Unsupported.TheVariants.{ComponentImport}
@@ -17,7 +18,7 @@ use Rattle.pc_types.specs.declared.parsed.Entity.{Entity}
 use Rattle.pc_types.specs.declared.parsed.Entity.TheVariants as entity
 use Rattle.pc_types.specs.declared.parsed.TypeTable.{TypeTable}
 use Rattle.pc_types.specs.declared.types.ComponentExtern.{ComponentExtern}
-use Rattle.pc_types.specs.Table.{is_instance, is_module}
+use Rattle.pc_types.specs.Table.{is_instance, is_module, table_fault}
 use Rattle.pc_types.specs.TypeTree.{Identity, TypeTree, identity_of, imported, tree_of}
 use Rattle.pc_types_lists.specs.Adds.{AddsTypes, most_types}
 use Rattle.pc_types_lists.specs.Known.{resource_of}
@@ -33,7 +34,6 @@ use Rattle.pc_parsed.specs.declared.payload.ExternName.{ExternName}
 use Rattle.pc_spec_reading.specs.Asked.{import_path, is_declared, with_path}
 use Rattle.pc_spec_reading.specs.Imports.{give, host_value, import_resources, next_import, prepare, resource_path}
 use Rattle.pc_spec_reading.specs.Imports.{with_given}
-use Rattle.pc_spec_reading.specs.Reading.{prepared}
 use Rattle.pc_spec_reading.specs.Resource.{ResourcePath, newly, resource_paths}
 use Rattle.pc_spec_reading.specs.Scope.{Moment, Scope}
 use Rattle.pc_spec_reading.specs.Types.{declared_tree, has_entry, is_defined_entity, names_entry, type_tree}
@@ -44,14 +44,14 @@ use Rattle.pc_spec_reading.specs.World.{HostImport, World}
 use Rattle.pc_dfg.specs.declared.dfg.ComponentDfg.{ComponentDfg}
 use Rattle.pc_dfg.specs.Grows as graph
 use Rattle.pc_dfg.specs.Lists as list
-use Rattle.pc_dfg.specs.Lists.{ListName, entries_of}
+use Rattle.pc_dfg.specs.Lists.{ListName}
 use Rattle.pc_dfg.specs.Means.{HasPath}
 use Rattle.pc_dfg.proofs.GrowLemmas.{kept}
 use Rattle.pc_inline_paths.specs.declared.path_id.PathId.{PathId}
 use Rattle.pc_inline_state.specs.declared.definition.DefinitionId.{DefinitionId}
 use Rattle.pc_inline_state.specs.declared.frame.Frame.{Frame}
 use Rattle.pc_inline_state.specs.declared.state.State.{State}
-use Rattle.pc_inline_state.specs.Adds.{Adds, most_converted}
+use Rattle.pc_inline_state.specs.Adds.{Adds, most_converted, with_modules}
 use Rattle.pc_inline_state.specs.AddsEach.{AddsEach}
 use Rattle.pc_inline_state.specs.Fits.{FitsBefore, path_of}
 use Rattle.pc_inline_state.specs.Gained.{AddsTables}
@@ -63,12 +63,12 @@ use Rattle.pc_inline_state.specs.Points.{Goes, PointStands}
 use Rattle.pc_inline_state.specs.Stands.{DefinitionStands, IsHostType, IsTableTree, IsType, stands, stands_host}
 use Rattle.pc_inline_state.specs.Stands.{stands_host_instance, stands_host_module, stands_type}
 use Rattle.pc_inline_state.specs.Tables.{Keeps, Tables, tables_of}
-use Rattle.pc_inline_state.specs.Today.{built_prepare, today}
 use Rattle.pc_inline_state.specs.Worlds.{EffectStands, ImportStands, WorldStands}
 use Rattle.pc_inline_state.proofs.FitsLemmas.{fits_refl}
 use Rattle.pc_inline_state.proofs.KnowsLemmas.{entry_here, knows_in}
 use Rattle.pc_inline_state.proofs.ZipLemmas.{both_more, zip_length, zip_more, zip_push}
 use Rattle.pc_inline_state.proofs.IntrinsicLemmas.{intrinsics_kept}
+use Rattle.pc_inline_canon.proofs.AdapterKeptLemmas.{adapters_still}
 use Rattle.pc_inline_canon.proofs.FrameLemmas.{converted_point}
 use Rattle.pc_inline_canon.proofs.KeptLemmas.{frame_kept}
 use Rattle.pc_inline_canon.proofs.WorldLemmas.{declared_still, effect_still, import_still, trampoline_still}
@@ -76,12 +76,13 @@ use Rattle.pc_inline_imports.specs.declared.learn.Learnt.{Learnt}
 use Rattle.pc_inline_imports.specs.Given.{IsEntityType, entity_number, host_definition, import_of, is_component_entity}
 use Rattle.pc_inline_imports.specs.Learns.{Learns, registered}
 use Rattle.pc_inline_imports.specs.Brings.{AllBelow, Gives, in_given, path_with}
+use Rattle.pc_inline_imports.proofs.ApartLemmas.{resources_apart}
 use Rattle.pc_inline_imports.proofs.ArgumentLemmas.{argument_given}
 use Rattle.pc_inline_imports.proofs.BringLemmas.{zip_append}
 use Rattle.pc_inline_imports.proofs.LearnLemmas.{found_within}
-use Rattle.pc_inline_imports.proofs.ImportedLemmas.{as_many, declared_before, knowing_all, more_needed, needs}
-use Rattle.pc_inline_imports.proofs.ImportedLemmas.{resources_imported, same_declarations, same_effects}
-use Rattle.pc_inline_imports.proofs.ImportedLemmas.{same_instances, same_made, with_resources}
+use Rattle.pc_inline_imports.proofs.ImportedLemmas.{adapters_needed, as_many, declared_before, knowing_all}
+use Rattle.pc_inline_imports.proofs.ImportedLemmas.{more_needed, needs, resources_imported, same_declarations}
+use Rattle.pc_inline_imports.proofs.ImportedLemmas.{same_effects, same_instances, with_resources}
 
 -- the names of a path
 abbrev names_of_path : ResourcePath → List (List ℕ)
@@ -182,14 +183,15 @@ module _ (old new : Types) (g h : ComponentDfg) (types : builder.KeepsTypes old 
   }
 
   world_given : h.side_effects ≡ g.side_effects → h.instances ≡ g.instances → h.trampolines ≡ g.trampolines
-      → h.resources ≡ g.resources → h.num_runtime_component_instances ≡ g.num_runtime_component_instances
+      → h.adapters ≡ g.adapters → h.resources ≡ g.resources → h.num_runtime_component_instances ≡ g.num_runtime_component_instances
       → h.unsafe_intrinsics ≡ g.unsafe_intrinsics → h.import_types ≡ g.import_types ++ x ∷ []
       → ImportStands new h x import → map path_of h.imports ≡ fold with_path (map path_of g.imports) (map (resource_path i) ps)
       → (more : List RuntimeImportIndex) → h.imported_resources ≡ g.imported_resources ++ more
       → AllZip (λ (r : RuntimeImportIndex). HasPath h r.0) more (map (resource_path i) ps)
+      → AreDistinct (w.imported_resources ++ map (resource_path i) ps)
       → WorldStands new h given_world
-  world_given effects instances trampolines resources begun intrinsics import_types stands_import imports more came
-      beside =
+  world_given effects instances trampolines adapters resources begun intrinsics import_types stands_import imports more
+      came beside apart =
       record {
         effects = subst (λ es. AllZip (EffectStands new h) es (trace (w.log ++ map (needs i) ps))) (sym effects)
             (subst (AllZip (EffectStands new h) g.side_effects) (sym (same_effects i w.log ps))
@@ -222,9 +224,11 @@ module _ (old new : Types) (g h : ComponentDfg) (types : builder.KeepsTypes old 
             (zip_more (λ (r : RuntimeImportIndex). HasPath g r.0) (λ (r : RuntimeImportIndex). HasPath h r.0)
             (λ r p there. kept g h grows list.imports r.0 (record { 0 = p.import }, p.names) there)
             g.imported_resources w.imported_resources stands_so.imported_resources) beside);
+        resources_apart = apart;
         resources = ap length resources ∙ stands_so.resources ∙ sym (same_declarations i w.log ps);
         intrinsics = intrinsics_kept old g w.intrinsics stands_so.intrinsics new h types.signatures intrinsics;
-        no_adapters = same_made i w.log ps stands_so.no_adapters;
+        adapters = adapters_needed i w.log ps new h
+            (adapters_still old new g h types grows fits adapters w.log stands_so.adapters);
         begun = stands_so.begun ∙ sym begun;
       }
 
@@ -279,7 +283,8 @@ module _ (t : TypeTable) (ms : List ModuleRecord) (b : Tables) (table : b.table 
     refl,
     subst (λ d. DefinitionStands ms b (host_definition id (entity.Module n) d)
         (module_value (host_module (import_path i) tree))) (sym is.kind.1)
-        (stands_host_module held (table_tree is_module n named has) (subst (λ d. IsType ms b d tree) is.kind.1 typed)),
+        (stands_host_module held (host_type typed) (table_tree is_module n named has)
+        (subst (λ d. IsType ms b d tree) is.kind.1 typed)),
   )
   value_given (entity.Type_ n) named no_component is has typed = (type_value tree, refl, stands_type typed)
   value_given (entity.Component n) named no_component is has typed = absurd (true≢false no_component)
@@ -298,11 +303,11 @@ module _ (t : TypeTable) (name : ExternName) (e : Entity) where
 
   module _ (named : names_entry t e ≡ true) (given : is_defined_entity t e ≡ false) (now : Moment) where
     -- an import is given for where its resources are known
-    prepares_as : built_prepare t name e now
+    prepares_as : prepare t name e now
         ≡ give t name e (with_resources (length now.world.imports) now (newly now.scope.known (resource_paths t e)))
-    unfolding prepared today prepare
+    unfolding prepare
     prepares_as =
-        let first : built_prepare t name e now
+        let first : prepare t name e now
         ≡ give t name e (import_resources now (length now.world.imports) (resource_paths t e)) =
         rw (named, given) refl in
         first ∙ ap (give t name e) (resources_imported (length now.world.imports) now (resource_paths t e))
@@ -354,7 +359,7 @@ module _ (t : TypeTable) (ms : List ModuleRecord) (e : Entity) (st : State) (f :
 
   -- a component is refused
   pub component_refused : (name : ExternName) → names_entry t e ≡ true → is_defined_entity t e ≡ false
-      → is_component_entity e ≡ true → built_prepare t name e now ≡ Err (unsupported ComponentImport)
+      → is_component_entity e ≡ true → prepare t name e now ≡ Err (unsupported ComponentImport)
   component_refused name named given component =
       let knows = knows_learnt st.graph (fits_refl st.graph)
       (λ k p here. absurd (none-some p (ap (λ ps. slice_get ps k) (sym (no_resources t now.scope.known e component)) ∙ here))) in
@@ -374,7 +379,8 @@ module _ (t : TypeTable) (ms : List ModuleRecord) (e : Entity) (st : State) (f :
 
   module _ (name : ExternName) (id : DefinitionId) (st2 : State) (gives : Gives t ms name e l st1 st2 id)
       (keeps : Keeps (tables_of st) (tables_of st2)) (named : names_entry t e ≡ true)
-      (given : is_defined_entity t e ≡ false) (no_component : is_component_entity e ≡ false) where
+      (given : is_defined_entity t e ≡ false) (no_component : is_component_entity e ≡ false)
+      (no_fault : table_fault t ≡ None) where
     graph_same : st1.graph ≡ st.graph
     graph_same = ap (λ (s : State). s.graph) learns.state
 
@@ -443,7 +449,7 @@ module _ (t : TypeTable) (ms : List ModuleRecord) (e : Entity) (st : State) (f :
     next = with_given moment name tree.0 value.0
 
     -- the reading gives the same
-    reads_so : built_prepare t name e now ≡ Ok next
+    reads_so : prepare t name e now ≡ Ok next
     reads_so =
         prepares_as t name e named given now
         ∙ ap (λ i. give t name e (with_resources i now fresh)) (sym place_is)
@@ -462,12 +468,15 @@ module _ (t : TypeTable) (ms : List ModuleRecord) (e : Entity) (st : State) (f :
         ∙ ap (λ (g : ComponentDfg). g.side_effects) graph_same)
         (ap (λ (s : State). s.graph.instances) gives.rest ∙ ap (λ (g : ComponentDfg). g.instances) graph_same)
         (ap (λ (s : State). s.graph.trampolines) gives.rest ∙ ap (λ (g : ComponentDfg). g.trampolines) graph_same)
+        (ap (λ (s : State). s.graph.adapters) gives.rest ∙ ap (λ (g : ComponentDfg). g.adapters) graph_same)
         (ap (λ (s : State). s.graph.resources) gives.rest ∙ ap (λ (g : ComponentDfg). g.resources) graph_same)
         (ap (λ (s : State). s.graph.num_runtime_component_instances) gives.rest
         ∙ ap (λ (g : ComponentDfg). g.num_runtime_component_instances) graph_same)
         (ap (λ (s : State). s.graph.unsafe_intrinsics) gives.rest
         ∙ ap (λ (g : ComponentDfg). g.unsafe_intrinsics) graph_same)
         imports_more import_stands imports_are gives.more came beside
+        (resources_apart st.graph st.paths st.used.items at.sound.used t no_fault e now.scope.known
+        st.graph.imported_resources now.world.imported_resources at.world.imported_resources at.world.resources_apart)
 
     abbrev framed : Frame
     framed = record f {
@@ -498,7 +507,7 @@ module _ (t : TypeTable) (ms : List ModuleRecord) (e : Entity) (st : State) (f :
 
     -- the import was prepared as it is read
     pub given_goes : (g : Frame) → g ≡ record f1 { arguments = with_first f1.arguments (name.name, id) }
-        → Goes t ms st2 g (built_prepare t name e now)
+        → Goes t ms st2 g (prepare t name e now)
     given_goes g is = record {
       now = next;
       stands = subst (λ (x : Frame). PointStands t ms st2 x next) (sym (is
@@ -552,11 +561,12 @@ module _ (t : TypeTable) (ms : List ModuleRecord) (e : Entity) (st : State) (f :
             (subst (λ n. AddsTables t n st.types st1.types) (sym each.begun) learns.tables);
         entries = record {
           lists = λ k.
-              let same : length (entries_of st1.graph k) ≡ length (entries_of st.graph k) =
-              ap (λ (g : ComponentDfg). length (entries_of g k)) graph_same in
+              let same : with_modules st1.graph k ≡ with_modules st.graph k =
+              ap (λ (g : ComponentDfg). with_modules g k) graph_same in
               let le = each.lists k in
+              let none : length x.graph.adapters ≤ length st1.graph.adapters + 0 = each.lists list.adapters in
               let few = few_enough k (length l.found) learns.few in
-              omega (arith, same, le, few);
+              omega (arith, same, le, none, few);
           cores = let same = ap (λ (s : State). length s.cores) learns.state in let le = each.cores in
               omega (arith, same, le);
           definitions = let same = ap (λ (s : State). length s.definitions) learns.state in let le = each.definitions in
@@ -579,21 +589,21 @@ module _ (t : TypeTable) (ms : List ModuleRecord) (e : Entity) (st : State) (f :
 
 -- the entity names no entry of its kind
 pub prepare_untyped : (t : TypeTable) (name : ExternName) (e : Entity) (now : Moment) → names_entry t e ≡ false
-    → built_prepare t name e now ≡ Err bad_type
-unfolding prepared today prepare
+    → prepare t name e now ≡ Err bad_type
+unfolding prepare
 prepare_untyped t name e now isnt = rw isnt refl
 
 -- a defined type is given nothing for
 prepare_defined : (t : TypeTable) (name : ExternName) (e : Entity) (now : Moment) → names_entry t e ≡ true
-    → is_defined_entity t e ≡ true → built_prepare t name e now ≡ Ok now
-unfolding prepared today prepare
+    → is_defined_entity t e ≡ true → prepare t name e now ≡ Ok now
+unfolding prepare
 prepare_defined t name e now named defined = rw (named, defined) refl
 
 -- and converted
 pub defined_goes : (t : TypeTable) (ms : List ModuleRecord) (st : State) (f : Frame) (st' : State)
     (done : Layers) → Converts t st f.converted st' done → (name : ExternName) (e : Entity)
     → names_entry t e ≡ true → is_defined_entity t e ≡ true → (now : Moment) → PointStands t ms st f now
-    → Goes t ms st' (record f { converted = done }) (built_prepare t name e now)
+    → Goes t ms st' (record f { converted = done }) (prepare t name e now)
 defined_goes t ms st f st' done converts name e named defined now at = record {
   now = now;
   stands = converted_point t ms st f st' done converts now at;

@@ -6,7 +6,7 @@ ghost use Rattle.pc_inline_state.specs.Adds.{Adds, most_converted};
 ghost use Rattle.pc_inline_state.specs.Points.{IsInput, IsPoint, Steps};
 ghost use Rattle.pc_inline_state.specs.Ready.{IsReady};
 ghost use Rattle.pc_inline_state.specs.Tables.{Keeps, tables_of};
-ghost use Rattle.pc_inline_state.specs.Today.{built_prepare};
+ghost use Rattle.pc_spec_reading.specs.Imports.{prepare};
 
 use crate::bring::push_given;
 use crate::entity::{entity_type, is_component, is_defined_entity, names_entry};
@@ -35,7 +35,7 @@ fn give(
     ensures same { frame.new.component_instance ≡ frame.old.component_instance }
     ensures undeclared { OnOk result (state.new.graph.resources ≡ []) }
     ensures steps { Steps context.now.table.now context.now.modules
-        (built_prepare context.now.table.now name.now entity)
+        (prepare context.now.table.now name.now entity)
         state.old frame.old state.new frame.new result }
 {
     let learnt = learn(context, state, frame, entity)?;
@@ -66,7 +66,7 @@ pub fn prepare(
     ensures same { frame.new.component_instance ≡ frame.old.component_instance }
     ensures undeclared { OnOk result (state.new.graph.resources ≡ []) }
     ensures steps { Steps context.now.table.now context.now.modules
-        (built_prepare context.now.table.now name.now entity)
+        (prepare context.now.table.now name.now entity)
         state.old frame.old state.new frame.new result }
 {
     if !names_entry(context.table, entity) {

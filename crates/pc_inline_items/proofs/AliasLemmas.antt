@@ -37,9 +37,8 @@ use Rattle.pc_inline_state.specs.Points.{Follows, PointStands, Steps, StepsItem}
 use Rattle.pc_inline_state.specs.Stands.{DefinitionStands, MembersStand, Stands, stands, stands_host_instance}
 use Rattle.pc_inline_state.specs.Stands.{stands_instance, stands_intrinsics}
 use Rattle.pc_inline_state.specs.Tables.{tables_of}
-use Rattle.pc_inline_state.specs.Today.{built_row}
 use Rattle.pc_inline_state.proofs.ZipLemmas.{both_missing, both_there, zip_at}
-use Rattle.pc_inline_canon.proofs.StepLemmas.{row_stuck, steps_stuck}
+use Rattle.pc_inline_canon.proofs.StepLemmas.{steps_stuck}
 use Rattle.pc_inline_items.specs.declared.source.InstanceSource.{InstanceSource}
 use Rattle.pc_inline_items.specs.declared.source.InstanceSource.TheVariants as source
 use Rattle.pc_inline_items.specs.Aliases.{HostAlias}
@@ -176,7 +175,7 @@ module _ (t : TypeTable) (ms : List ModuleRecord) (st : State) (f : Frame) (k : 
   alias = alias_item k n name
 
   abbrev reads : Moment → Result Moment Fault
-  reads now = built_row t ms now alias
+  reads now = read_row t ms now alias
 
   alias_none : (now : Moment) → slice_get now.scope.instances n ≡ None → read_row t ms now alias ≡ Err invalid
   unfolding read_row read_alias
@@ -191,9 +190,8 @@ module _ (t : TypeTable) (ms : List ModuleRecord) (st : State) (f : Frame) (k : 
   pub instance_misses : (st' : State) (f' : Frame) → slice_get f.instances n ≡ None
       → StepsItem t ms alias st f st' f' (Err (item_error.Fault item_fault.Invalid))
   instance_misses st' f' none = steps_stuck t ms reads st f st' f' item_fault.Invalid (λ now at.
-      row_stuck t ms now alias invalid
-      (alias_none now (both_missing (InstanceStands ms (tables_of st)) _ _
-      (zip_at (InstanceStands ms (tables_of st)) f.instances now.scope.instances n at.frame.instances) none)))
+      alias_none now (both_missing (InstanceStands ms (tables_of st)) _ _
+      (zip_at (InstanceStands ms (tables_of st)) f.instances now.scope.instances n at.frame.instances) none))
 
   module _ (id : DefinitionId) (there : slice_get f.instances n ≡ Some id) where
     -- the instance

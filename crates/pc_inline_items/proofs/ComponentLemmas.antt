@@ -39,7 +39,6 @@ use Rattle.pc_inline_state.specs.Points.{Follows, Goes, PointStands}
 use Rattle.pc_inline_state.specs.Stands.{Captured, Stands, stands_component}
 use Rattle.pc_inline_items.specs.StepsLocal.{StepsLocal}
 use Rattle.pc_inline_state.specs.Tables.{Tables, tables_of}
-use Rattle.pc_inline_state.specs.Today.{built_row}
 use Rattle.pc_inline_items.proofs.CaptureLemmas.{all_captured, all_definable, body_has, captured_leads, names_of_kind}
 use Rattle.pc_inline_items.proofs.CaptureLemmas.{none_definable, one_missing, variable_missing, variable_there}
 use Rattle.pc_inline_canon.proofs.DefinitionLemmas.{definition_added}
@@ -47,7 +46,6 @@ use Rattle.pc_inline_canon.proofs.FrameLemmas.{component_framed, framed_point}
 use Rattle.pc_inline_canon.proofs.KeptLemmas.{captured_kept}
 use Rattle.pc_inline_state.proofs.MembersLemmas.{no_instance}
 use Rattle.pc_inline_state.proofs.StateLemmas.{closure_prepares, definition_prepares, prepares_trans}
-use Rattle.pc_inline_canon.proofs.StepLemmas.{row_goes, row_stuck}
 use Rattle.pc_inline_canon.proofs.WorldLemmas.{point_kept}
 use Rattle.pc_inline_state.proofs.ZipLemmas.{zip_at}
 
@@ -173,7 +171,7 @@ lacking_definable k c n body chain leaves none =
 
 module _ (t : TypeTable) (ms : List ModuleRecord) (body : Items) where
   abbrev reads : Moment → Result Moment Fault
-  reads now = built_row t ms now (component_item body)
+  reads now = read_row t ms now (component_item body)
 
   -- a body that can be defined
   defined_read : (now : Moment) → is_definable (chain_of now.scope) zero body ≡ true
@@ -185,7 +183,7 @@ module _ (t : TypeTable) (ms : List ModuleRecord) (body : Items) where
   -- one that can't
   undefined_read : (now : Moment) → is_definable (chain_of now.scope) zero body ≡ false → reads now ≡ Err invalid
   unfolding read_row read_component
-  undefined_read now none = row_stuck t ms now (component_item body) invalid (rw (none) refl)
+  undefined_read now none = rw (none) refl
 
 module _ (t : TypeTable) (ms : List ModuleRecord) (k : Option ClosureId) (s : StaticComponentIndex)
     (vars : ClosedOverVars) (st : State) (f : Frame) where
@@ -294,8 +292,7 @@ module _ (t : TypeTable) (ms : List ModuleRecord) (k : Option ClosureId) (s : St
           now = next;
           stands = framed_point t ms end f with_it now (with_value now.scope v) at_end refl refl refl
               (component_framed ms c f now.scope at_end.frame key (closed body chain) is);
-          done = row_goes t ms now next (component_item body) (defined_read t ms body now definable)
-              at.world.no_adapters;
+          done = defined_read t ms body now definable;
         }
 
     -- it is a component of the component instance

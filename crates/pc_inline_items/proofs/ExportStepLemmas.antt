@@ -10,7 +10,7 @@ use Rattle.pc_parsed.specs.declared.payload.ItemKind.TheVariants as kind
 use Rattle.pc_spec_reading.specs.Instances.{read_export}
 use Rattle.pc_spec_reading.specs.Item.{Item, export_item}
 use Rattle.pc_spec_reading.specs.Items.{value_at}
-use Rattle.pc_spec_reading.specs.Outcome.{Fault, bad_type, invalid}
+use Rattle.pc_spec_reading.specs.Outcome.{Fault, invalid}
 use Rattle.pc_spec_reading.specs.Rows.{read_row}
 use Rattle.pc_spec_reading.specs.Scope.{Moment, add_value}
 use Rattle.pc_spec_reading.specs.Value.{Value, type_value}
@@ -25,9 +25,8 @@ use Rattle.pc_inline_state.specs.Lists.{item_ids, with_item_id}
 use Rattle.pc_inline_state.specs.Points.{Goes, PointStands, StepsItem}
 use Rattle.pc_inline_state.specs.Stands.{Stands}
 use Rattle.pc_inline_state.specs.Tables.{tables_of}
-use Rattle.pc_inline_state.specs.Today.{built_row}
 use Rattle.pc_inline_state.proofs.ZipLemmas.{both_missing, both_there}
-use Rattle.pc_inline_canon.proofs.StepLemmas.{row_goes, row_stuck, steps_on, steps_stuck}
+use Rattle.pc_inline_canon.proofs.StepLemmas.{steps_on, steps_stuck}
 use Rattle.pc_inline_items.specs.Members.{is_typed}
 use Rattle.pc_inline_items.proofs.ItemLemmas.{item_goes, item_kind, item_there}
 use Rattle.pc_inline_items.proofs.MemberLemmas.{type_found, typed_same}
@@ -38,14 +37,14 @@ module _ (t : TypeTable) (ms : List ModuleRecord) (st : State) (f : Frame) (name
   export = export_item (record { name = name; kind = k; index = n })
 
   abbrev reads : Moment → Result Moment Fault
-  reads now = built_row t ms now export
+  reads now = read_row t ms now export
 
   -- the number of a type isn't held
   pub export_untyped : (f' : Frame) → is_typed t k n ≡ false
       → StepsItem t ms export st f st f' (Err (item_error.Fault item_fault.BadType))
   unfolding read_row read_export
   export_untyped f' none = steps_stuck t ms reads st f st f' item_fault.BadType (λ now at.
-      row_stuck t ms now export bad_type (rw (typed_same t k n ∙ none) refl))
+      rw (typed_same t k n ∙ none) refl)
 
   module _ (typed : is_typed t k n ≡ true) where
     export_none : (now : Moment) → value_at t now.scope k n ≡ None → read_row t ms now export ≡ Err invalid
@@ -64,8 +63,7 @@ module _ (t : TypeTable) (ms : List ModuleRecord) (st : State) (f : Frame) (name
         record {
           now = now;
           stands = at;
-          done = row_goes t ms now now export
-              (export_some now (type_value x.0) (ap (λ j. value_at t now.scope j n) is ∙ x.1)) at.world.no_adapters;
+          done = export_some now (type_value x.0) (ap (λ j. value_at t now.scope j n) is ∙ x.1);
         })
 
     module _ (other : is_type_kind k ≡ false) where
@@ -77,8 +75,7 @@ module _ (t : TypeTable) (ms : List ModuleRecord) (st : State) (f : Frame) (name
       pub export_misses : (f' : Frame) → slice_get (item_ids f k) n ≡ None
           → StepsItem t ms export st f st f' (Err (item_error.Fault item_fault.Invalid))
       export_misses f' none = steps_stuck t ms reads st f st f' item_fault.Invalid (λ now at.
-          row_stuck t ms now export invalid
-          (export_none now (both_missing (Stands ms (tables_of st)) _ _ (there now at) none)))
+          export_none now (both_missing (Stands ms (tables_of st)) _ _ (there now at) none))
 
       export_goes : (id : DefinitionId) → slice_get (item_ids f k) n ≡ Some id → (now : Moment)
           → PointStands t ms st f now → Goes t ms st (with_item_id f k id) (reads now)

@@ -18,31 +18,28 @@ use Rattle.pc_inline_state.specs.declared.error.ItemError.TheVariants as item_er
 use Rattle.pc_inline_state.specs.declared.frame.Frame.{Frame}
 use Rattle.pc_inline_state.specs.declared.state.Member.{Member}
 use Rattle.pc_inline_state.specs.declared.state.State.{State}
-use Rattle.pc_inline_state.specs.Faults.{fault_of}
 use Rattle.pc_inline_state.specs.KnowsSame.{KnowsSame}
 use Rattle.pc_inline_state.specs.Points.{Follows, PointStands}
 use Rattle.pc_inline_state.specs.Refused.{LacksRoom}
 use Rattle.pc_inline_state.specs.Stands.{MembersStand, Stands, and_member, no_members, stands}
 use Rattle.pc_inline_state.specs.TakesPath.{SoundWithPaths}
 use Rattle.pc_inline_state.specs.Tables.{Keeps, Tables, tables_of}
-use Rattle.pc_inline_state.specs.Today.{built_row}
 use Rattle.pc_inline_state.specs.Worlds.{HasNoExports, WorldStands}
 use Rattle.pc_inline_canon.proofs.KeptLemmas.{frame_kept}
-use Rattle.pc_inline_canon.proofs.StepLemmas.{row_goes, row_stuck}
 
 module _ (t : TypeTable) (ms : List ModuleRecord) (st : State) (f : Frame) where
   -- a row does what a part of it does that it comes to
   pub follows_row : (now : Moment) (i : Item) (reads : Result Moment Fault)
       → read_row t ms now i ≡ reads → (r : Result ⊤ ItemError) → Follows t ms st f reads r
-      → Follows t ms st f (built_row t ms now i) r
+      → Follows t ms st f (read_row t ms now i) r
   unfolding Follows
   follows_row now i reads row (Ok x) h = record {
     now = h.now;
     stands = h.stands;
-    done = row_goes t ms now h.now i (row ∙ h.done) h.stands.world.no_adapters;
+    done = row ∙ h.done;
   }
   follows_row now i reads row (Err (item_error.Fault k)) h =
-      row_stuck t ms now i (fault_of k) (row ∙ h)
+      row ∙ h
   follows_row now i reads row (Err item_error.TooMany) h = h
   follows_row now i reads row (Err item_error.NoMemory) h = h
 

@@ -38,9 +38,7 @@ use Rattle.pc_inline_state.specs.Stands.{stands_component, stands_host, stands_h
 use Rattle.pc_inline_state.specs.Stands.{stands_instance, stands_intrinsic, stands_intrinsics, stands_lifted}
 use Rattle.pc_inline_state.specs.Stands.{stands_static, stands_type}
 use Rattle.pc_inline_state.specs.Tables.{Tables, tables_of}
-use Rattle.pc_inline_state.specs.Today.{built_row}
 use Rattle.pc_inline_canon.proofs.FrameLemmas.{component_framed, framed_point, func_framed, made_framed, module_framed}
-use Rattle.pc_inline_canon.proofs.StepLemmas.{row_goes}
 use Rattle.pc_inline_state.proofs.ZipLemmas.{zip_at}
 
 -- one item more leaves the component instance where it is
@@ -139,11 +137,11 @@ item_point t ms st f now at k id v x is =
 pub item_goes : (t : TypeTable) (ms : List ModuleRecord) (st : State) (f : Frame) (now : Moment)
     → PointStands t ms st f now → (k : ItemKind) (id : DefinitionId) (v : Value) → Stands ms (tables_of st) id v
     → is_of_kind k v ≡ true → (i : Item) → read_row t ms now i ≡ Ok (add_value now v)
-    → Goes t ms st (with_item_id f k id) (built_row t ms now i)
+    → Goes t ms st (with_item_id f k id) (read_row t ms now i)
 item_goes t ms st f now at k id v x is i row = record {
   now = add_value now v;
   stands = item_point t ms st f now at k id v x is;
-  done = row_goes t ms now (add_value now v) i row at.world.no_adapters;
+  done = row;
 }
 
 of_kind : {A : Type 0} (k : ItemKind) (value : A → Value) → ((x : A) → is_of_kind k (value x) ≡ true) → (o : Option A)
@@ -174,8 +172,8 @@ module _ (ms : List ModuleRecord) (b : Tables) where
   kind_entry k d v stands_intrinsic = refl
   kind_entry kind.Module d v (stands_static below declared i typed) = refl
   kind_entry k d v (stands_static below declared i typed) = refl
-  kind_entry kind.Module d v (stands_host_module held declared typed) = refl
-  kind_entry k d v (stands_host_module held declared typed) = refl
+  kind_entry kind.Module d v (stands_host_module held host declared typed) = refl
+  kind_entry k d v (stands_host_module held host declared typed) = refl
   kind_entry kind.Component d v (stands_component tr body leaving closure modules components) = refl
   kind_entry k d v (stands_component tr body leaving closure modules components) = refl
   kind_entry kind.Instance d v (stands_host_instance held host declared typed) = refl

@@ -7,7 +7,6 @@ use Rattle.pc_types.specs.declared.module_record.ModuleRecord.{ModuleRecord}
 use Rattle.pc_types.specs.declared.parsed.TypeTable.{TypeTable}
 use Rattle.pc_parsed.specs.declared.payload.ItemKind.{ItemKind}
 use Rattle.pc_spec_reading.specs.Item.{Item, instantiate_component_item}
-use Rattle.pc_spec_reading.specs.Outcome.{invalid}
 use Rattle.pc_spec_reading.specs.Rows.{read_row}
 use Rattle.pc_spec_reading.specs.Section.{argument_of}
 use Rattle.pc_local.specs.declared.item.LocalInitializer.{LocalInitializer}
@@ -24,9 +23,8 @@ use Rattle.pc_inline_state.specs.declared.error.ItemFault.TheVariants as item_fa
 use Rattle.pc_inline_state.specs.Points.{Follows, Steps, StepsItem}
 use Rattle.pc_inline_state.specs.Refused.{LacksRoom}
 use Rattle.pc_inline_items.specs.StepsLocal.{StepsLocal}
-use Rattle.pc_inline_state.specs.Today.{built_row}
 use Rattle.pc_inline_canon.proofs.PassedLemmas.{passed_lacking, passed_unfed}
-use Rattle.pc_inline_canon.proofs.StepLemmas.{row_stuck, steps_stuck}
+use Rattle.pc_inline_canon.proofs.StepLemmas.{steps_stuck}
 
 -- one of two that are Some
 one_item : (x : Option Item) (i j : Item) → x ≡ Some i → x ≡ Some j → i ≡ j
@@ -48,7 +46,7 @@ module _ (t : TypeTable) (ms : List ModuleRecord) (k : Option ClosureId) (st : S
       → StepsLocal t ms k l st f st' f' r
   unfolding StepsLocal Steps
   local_plain l i is h names j stands now at enclosed =
-      subst (λ x. Follows t ms st' f' (built_row t ms now x) r) (plain_is st.bodies.now names l i j is stands)
+      subst (λ x. Follows t ms st' f' (read_row t ms now x) r) (plain_is st.bodies.now names l i j is stands)
       (h now at)
 
   -- want of memory, which was handed on
@@ -56,14 +54,14 @@ module _ (t : TypeTable) (ms : List ModuleRecord) (k : Option ClosureId) (st : S
       → StepsLocal t ms k l st f st' f' r
   unfolding StepsLocal Steps
   local_unfed l is names i stands now at enclosed =
-      passed_unfed t ms (λ now. built_row t ms now i) st f st' f' r is now at
+      passed_unfed t ms (λ now. read_row t ms now i) st f st' f' r is now at
 
   -- want of room likewise
   pub local_crowded : (l : LocalInitializer) (e : ItemError) → IsErrAnd r (λ x. x ≡ e) → LacksRoom st' e
       → StepsLocal t ms k l st f st' f' r
   unfolding StepsLocal Steps
   local_crowded l e is lacks names i stands now at enclosed =
-      passed_lacking t ms (λ now. built_row t ms now i) st f st' f' r e is lacks now at
+      passed_lacking t ms (λ now. read_row t ms now i) st f st' f' r e is lacks now at
 
 -- the instantiation of a component has no row
 pub local_instantiated : (t : TypeTable) (ms : List ModuleRecord) (k : Option ClosureId) (st : State) (f : Frame)
@@ -74,6 +72,6 @@ unfolding plain_item read_row
 local_instantiated t ms k st f st' f' l component args ty is =
     local_plain t ms k st f st' f' (Err (item_error.Fault item_fault.Invalid)) l
     (instantiate_component_item component (map argument_of args) ty) (ap plain_item is)
-    (steps_stuck t ms (λ now. built_row t ms now (instantiate_component_item component (map argument_of args) ty))
+    (steps_stuck t ms (λ now. read_row t ms now (instantiate_component_item component (map argument_of args) ty))
     st f st' f' item_fault.Invalid
-    (λ now at. row_stuck t ms now (instantiate_component_item component (map argument_of args) ty) invalid refl))
+    (λ now at. refl))

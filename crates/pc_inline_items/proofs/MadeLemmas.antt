@@ -21,7 +21,7 @@ use Rattle.pc_parsed.specs.declared.payload.ItemKind.{ItemKind}
 use Rattle.pc_spec_reading.specs.Instances.{read_component_exports}
 use Rattle.pc_spec_reading.specs.Item.{Item, component_exports_item}
 use Rattle.pc_spec_reading.specs.Items.{exported_value, exports_at}
-use Rattle.pc_spec_reading.specs.Outcome.{bad_type, found, invalid}
+use Rattle.pc_spec_reading.specs.Outcome.{bad_type, found}
 use Rattle.pc_spec_reading.specs.Rows.{read_row}
 use Rattle.pc_spec_reading.specs.Scope.{Moment, add_value}
 use Rattle.pc_spec_reading.specs.Section.{named_item}
@@ -49,7 +49,7 @@ use Rattle.pc_inline_state.proofs.StateLemmas.{prepares_trans}
 use Rattle.pc_inline_canon.proofs.DefinitionLemmas.{definition_added}
 use Rattle.pc_inline_canon.proofs.FrameLemmas.{converted_point, framed_point, made_framed}
 use Rattle.pc_inline_canon.proofs.KeptLemmas.{members_kept, type_kept}
-use Rattle.pc_inline_canon.proofs.StepLemmas.{row_stuck, steps_stuck}
+use Rattle.pc_inline_canon.proofs.StepLemmas.{steps_stuck}
 use Rattle.pc_inline_canon.proofs.TreeLemmas.{instance_tree}
 use Rattle.pc_inline_canon.proofs.WorldLemmas.{point_kept}
 use Rattle.pc_inline_items.specs.Made.{made_of}
@@ -175,7 +175,7 @@ module _ (t : TypeTable) (ms : List ModuleRecord) (xs : List (ExternName × Item
       → StepsItem t ms from_items st f st' f' (Err (item_error.Fault item_fault.BadType))
   unfolding read_row read_component_exports tree_if
   exports_untyped st f st' f' none = steps_stuck t ms _ st f st' f' item_fault.BadType (λ now at.
-      row_stuck t ms now from_items bad_type (rw (none) refl))
+      rw (none) refl)
 
   module _ (sound : table_fault t ≡ None) (has : has_entry t is_instance ty ≡ true) where
     -- the number of a type is missing
@@ -184,7 +184,7 @@ module _ (t : TypeTable) (ms : List ModuleRecord) (xs : List (ExternName × Item
     unfolding read_row read_component_exports
     exports_unheld st f st' f' none = steps_stuck t ms _ st f st' f' item_fault.BadType (λ now at.
         let tree = instance_tree t sound now.scope ty has in
-        row_stuck t ms now from_items bad_type (rw (tree.1, exports_typed t xs ∙ none) refl))
+        rw (tree.1, exports_typed t xs ∙ none) refl)
 
     module _ (typed : are_typed t xs ≡ true) where
       -- an item is missing
@@ -194,7 +194,7 @@ module _ (t : TypeTable) (ms : List ModuleRecord) (xs : List (ExternName × Item
       exports_miss st f st' f' missing = steps_stuck t ms _ st f st' f' item_fault.Invalid (λ now at.
           let tree = instance_tree t sound now.scope ty has in
           let none = exports_lack t ms (tables_of st) f now.scope at.frame sound xs typed missing in
-          row_stuck t ms now from_items invalid (rw (tree.1, exports_typed t xs ∙ typed, none) refl))
+          rw (tree.1, exports_typed t xs ∙ typed, none) refl)
 
       -- none is
       made_row : (now : Moment) (vs : List NamedValue)

@@ -30,11 +30,9 @@ use Rattle.pc_inline_state.specs.Points.{Follows, PointStands}
 use Rattle.pc_inline_state.specs.Stands.{Stands}
 use Rattle.pc_inline_items.specs.StepsLocal.{StepsLocal}
 use Rattle.pc_inline_state.specs.Tables.{Tables, tables_of}
-use Rattle.pc_inline_state.specs.Today.{built_row}
 use Rattle.pc_inline_items.proofs.ComponentLemmas.{component_missing, component_there, module_missing, module_there}
 use Rattle.pc_inline_items.proofs.ComponentLemmas.{packed_of}
 use Rattle.pc_inline_canon.proofs.FrameLemmas.{component_framed, framed_point, module_framed}
-use Rattle.pc_inline_canon.proofs.StepLemmas.{row_goes, row_stuck}
 
 -- what an outer alias names is what the chain of the scope lends
 outer_lent : (s : Scope) (k : Lent) (c n : ℕ) → outer_of s k c n ≡ lent_in (chain_of s) k c n
@@ -79,10 +77,10 @@ module _ (t : TypeTable) (ms : List ModuleRecord) (j : Lent) (c n : ℕ) where
 
   -- of what isn't
   outer_unread : (now : Moment) → lent_in (chain_of now.scope) j c n ≡ None
-      → built_row t ms now (outer_item j c n) ≡ Err invalid
+      → read_row t ms now (outer_item j c n) ≡ Err invalid
   unfolding read_row read_outer
   outer_unread now none =
-      row_stuck t ms now (outer_item j c n) invalid (rw (outer_lent now.scope j c n ∙ none) refl)
+      rw (outer_lent now.scope j c n ∙ none) refl
 
 module _ (t : TypeTable) (ms : List ModuleRecord) (k : Option ClosureId) (st : State) (f : Frame) where
   abbrev b : Tables
@@ -92,7 +90,7 @@ module _ (t : TypeTable) (ms : List ModuleRecord) (k : Option ClosureId) (st : S
     -- the step is that of an outer alias of a module, which the variable reads
     module_steps : ((names : Names) (c n : ℕ) → Reads names.modules (module_variable v) c n → (now : Moment)
         → PointStands t ms st f now → IsEnclosed ms b names k now.scope.chain
-        → Follows t ms st' f' (built_row t ms now (outer_item a_module c n)) r)
+        → Follows t ms st' f' (read_row t ms now (outer_item a_module c n)) r)
         → StepsLocal t ms k (local.AliasModule v) st f st' f' r
     unfolding StepsLocal plain_item
     module_steps each names i (stands_plain is) = absurd (none-some i is)
@@ -102,7 +100,7 @@ module _ (t : TypeTable) (ms : List ModuleRecord) (k : Option ClosureId) (st : S
     -- of a component
     component_steps : ((names : Names) (c n : ℕ) → Reads names.components (component_variable v) c n → (now : Moment)
         → PointStands t ms st f now → IsEnclosed ms b names k now.scope.chain
-        → Follows t ms st' f' (built_row t ms now (outer_item a_component c n)) r)
+        → Follows t ms st' f' (read_row t ms now (outer_item a_component c n)) r)
         → StepsLocal t ms k (local.AliasComponent v) st f st' f' r
     unfolding StepsLocal plain_item
     component_steps each names i (stands_plain is) = absurd (none-some i is)
@@ -143,8 +141,7 @@ module _ (t : TypeTable) (ms : List ModuleRecord) (k : Option ClosureId) (st : S
         now = add_value now value;
         stands = framed_point t ms st f (record f { modules = f.modules ++ id ∷ [] }) now (with_value now.scope value)
             at refl refl refl (module_framed ms b f now.scope at.frame id m.0 (subst (Stands ms b id) m.1 x.2));
-        done = row_goes t ms now (add_value now value) (outer_item a_module c n)
-            (outer_read t ms a_module c n now value lent) at.world.no_adapters;
+        done = outer_read t ms a_module c n now value lent;
       })
 
   -- the component likewise
@@ -164,6 +161,5 @@ module _ (t : TypeTable) (ms : List ModuleRecord) (k : Option ClosureId) (st : S
         stands = framed_point t ms st f (record f { components = f.components ++ id ∷ [] }) now
             (with_value now.scope value) at refl refl refl
             (component_framed ms b f now.scope at.frame id m.0 (subst (Stands ms b id) m.1 x.2));
-        done = row_goes t ms now (add_value now value) (outer_item a_component c n)
-            (outer_read t ms a_component c n now value lent) at.world.no_adapters;
+        done = outer_read t ms a_component c n now value lent;
       })

@@ -15,7 +15,7 @@ use Rattle.pc_spec_reading.specs.Imports.{is_of_entity, read_import, take_if}
 use Rattle.pc_spec_reading.specs.Instances.{is_of_kind}
 use Rattle.pc_spec_reading.specs.Item.{Item, import_item}
 use Rattle.pc_spec_reading.specs.Member.{resource_at}
-use Rattle.pc_spec_reading.specs.Outcome.{Fault, after, bad_type, invalid}
+use Rattle.pc_spec_reading.specs.Outcome.{Fault, after}
 use Rattle.pc_spec_reading.specs.Resource.{registered, resource_paths}
 use Rattle.pc_spec_reading.specs.Rows.{read_row}
 use Rattle.pc_spec_reading.specs.Scope.{Moment, add_value, with_known}
@@ -33,11 +33,10 @@ use Rattle.pc_inline_state.specs.Lists.{with_item_id}
 use Rattle.pc_inline_state.specs.Points.{Follows, PointStands, Steps, StepsItem}
 use Rattle.pc_inline_state.specs.Stands.{Stands}
 use Rattle.pc_inline_state.specs.Tables.{Keeps, tables_of}
-use Rattle.pc_inline_state.specs.Today.{built_row}
 use Rattle.pc_inline_state.proofs.ZipLemmas.{both_missing, both_there}
 use Rattle.pc_inline_canon.proofs.KeptLemmas.{stands_kept}
 use Rattle.pc_inline_canon.proofs.PassedLemmas.{steps_passed}
-use Rattle.pc_inline_canon.proofs.StepLemmas.{row_goes, row_stuck, steps_on, steps_stuck}
+use Rattle.pc_inline_canon.proofs.StepLemmas.{steps_on, steps_stuck}
 use Rattle.pc_inline_resources.specs.Registers.{taken}
 use Rattle.pc_inline_items.specs.Kinds.{kind_of}
 use Rattle.pc_inline_items.proofs.ItemLemmas.{item_point, stands_kind}
@@ -69,7 +68,7 @@ module _ (t : TypeTable) (ms : List ModuleRecord) (st : State) (f : Frame) (name
       → StepsItem t ms import st f st' f' (Err (item_error.Fault item_fault.BadType))
   unfolding read_row read_import
   import_untyped st' f' isnt = steps_stuck t ms _ st f st' f' item_fault.BadType (λ now at.
-      row_stuck t ms now import bad_type (rw (isnt) refl))
+      rw (isnt) refl)
 
   module _ (typed : names_entry t e ≡ true) where
     -- what the row makes of an argument, or of none
@@ -87,14 +86,14 @@ module _ (t : TypeTable) (ms : List ModuleRecord) (st : State) (f : Frame) (name
       pub import_absent : (st' : State) (f' : Frame) → is_plain_type t e ≡ false
           → StepsItem t ms import st f st' f' (Err (item_error.Fault item_fault.Invalid))
       import_absent st' f' other = steps_stuck t ms _ st f st' f' item_fault.Invalid (λ now at.
-          row_stuck t ms now import invalid (untaken now at ∙ rw (other) refl))
+          untaken now at ∙ rw (other) refl)
 
       -- none is needed
       pub import_plain : is_plain_type t e ≡ true → (r : ⊤) → StepsItem t ms import st f st f (Ok r)
       import_plain plain r = steps_on t ms _ st f st f r (λ now at. record {
         now = now;
         stands = at;
-        done = row_goes t ms now now import (untaken now at ∙ rw (plain) refl) at.world.no_adapters;
+        done = untaken now at ∙ rw (plain) refl;
       })
 
     module _ (id : DefinitionId) (there : value_of name.name f.arguments ≡ Some id) where
@@ -110,7 +109,7 @@ module _ (t : TypeTable) (ms : List ModuleRecord) (st : State) (f : Frame) (name
       import_other st' f' isnt = steps_stuck t ms _ st f st' f' item_fault.Invalid (λ now at.
           let v = argument now at in
           let other = kind_same e v.0 ∙ sym (stands_kind ms (tables_of st) (kind_of e) id v.0 v.2) ∙ isnt in
-          row_stuck t ms now import invalid (taken_row now ∙ ap (take_if t now e) v.1 ∙ rw (other) refl))
+          taken_row now ∙ ap (take_if t now e) v.1 ∙ rw (other) refl)
 
       module _ (does : is_some_and (definitions.is_of_kind (kind_of e)) (slice_get st.definitions id.0) ≡ true)
           (st1 : State) (f1 : Frame) where
@@ -154,7 +153,6 @@ module _ (t : TypeTable) (ms : List ModuleRecord) (st : State) (f : Frame) (name
                 → StepsItem t ms import st f st1 f1 (Err y)
             by (item_error.Fault k) steps now at =
                 let v = argument now at in
-                row_stuck t ms now import (fault_of k)
                 (row_is now at ∙ stays now v.0 (fault_of k) (found_for now v.0) (steps v.0 v.2 now at))
             by item_error.TooMany steps now at = let v = argument now at in steps v.0 v.2 now at
             by item_error.NoMemory steps now at = tt
@@ -168,11 +166,9 @@ module _ (t : TypeTable) (ms : List ModuleRecord) (st : State) (f : Frame) (name
             let v = argument now at in
             let goes = steps v.0 v.2 now at in
             let next = add_value goes.now v.0 in
-            subst (λ g. Follows t ms st1 g (built_row t ms now import) (Ok r)) (sym framed) (record {
+            subst (λ g. Follows t ms st1 g (read_row t ms now import) (Ok r)) (sym framed) (record {
               now = next;
               stands = item_point t ms st1 f1 goes.now goes.stands (kind_of e) id v.0
                   (stands_kept ms (tables_of st) (tables_of st1) keeps id v.0 v.2) (is_kind now at);
-              done = row_goes t ms now next import
-                  (row_is now at ∙ goes_on now goes.now v.0 (found_for now v.0) goes.done)
-                  goes.stands.world.no_adapters;
+              done = row_is now at ∙ goes_on now goes.now v.0 (found_for now v.0) goes.done;
             })

@@ -1,6 +1,6 @@
 -- A graph with one core instance more, of a module that was handed in or of the host, against its log.
-use Rattle.std.proofs.Common.{◌≡◌, inl, inr, ℕ, List, [], ◌∷◌, length, ◌+◌, All, Some, refl, sym, ap, subst}
-use Rattle.std.proofs.Common.{◌∙◌, arith}
+use Rattle.std.proofs.Common.{◌≡◌, inl, inr, ℕ, List, [], ◌∷◌, ◌++◌, length, ◌+◌, All, Some, Vec, Global, refl, sym}
+use Rattle.std.proofs.Common.{ap, subst, ◌∙◌, arith}
 use Rattle.std.specs.Prelude.{slice_get}
 use Rattle.std.specs.List.{AllZip}
 use Rattle.std.proofs.lemmas.List.{length-append}
@@ -28,7 +28,9 @@ use Rattle.pc_dfg.specs.Held.{HasBegun, HeldInstance}
 use Rattle.pc_dfg.specs.Ordered.{IsOrdered}
 use Rattle.pc_dfg.specs.Pushed.{with_instance}
 use Rattle.pc_inline_state.specs.declared.frame.Frame.{Frame}
+use Rattle.pc_inline_state.specs.declared.instance_module.InstanceModule.{InstanceModule}
 use Rattle.pc_inline_state.specs.declared.state.State.{State}
+use Rattle.pc_inline_state.specs.Instances.{HaveWidths, InstancesStand, IsMadeOf}
 use Rattle.pc_inline_state.specs.Points.{IsSoundState, PointStands}
 use Rattle.pc_inline_state.specs.Tables.{IsItem, tables_of}
 use Rattle.pc_inline_state.specs.Fits.{Fits, FitsBefore}
@@ -36,9 +38,11 @@ use Rattle.pc_inline_state.specs.Holds.{Numbered, number_of, whole_of}
 use Rattle.pc_inline_state.specs.Worlds.{EffectStands, HasItems, WorldStands, slot_kind}
 use Rattle.pc_inline_state.proofs.FitsLemmas.{fits_grown}
 use Rattle.pc_inline_state.proofs.GrowthLemmas.{graph_grown}
+use Rattle.pc_inline_state.proofs.InstanceLemmas.{instances_pushed, widths_kept, widths_more}
 use Rattle.pc_inline_state.proofs.KnowsLemmas.{knows_grown}
 use Rattle.pc_inline_state.proofs.StateLemmas.{types_refl}
 use Rattle.pc_inline_state.proofs.ZipLemmas.{zip_more, zip_push}
+use Rattle.pc_inline_canon.proofs.AdapterKeptLemmas.{adapters_items_kept}
 use Rattle.pc_inline_canon.proofs.CoreInstanceLemmas.{found_in_push, same_slots}
 use Rattle.pc_inline_canon.proofs.ItemLemmas.{arguments_more, host_arguments_more, types_held, used_kept}
 use Rattle.pc_inline_canon.proofs.KeptLemmas.{frame_kept, is_item_kept}
@@ -66,9 +70,9 @@ module _ (t : TypeTable) (ms : List ModuleRecord) (st : State) (x : Instance) (o
   abbrev after : ComponentDfg
   after = with_instance st.graph x owner
 
-  -- the state with that graph
-  abbrev added : State
-  added = record st { graph = after }
+  -- the state with that graph, and these modules of its core instances
+  abbrev added : Vec InstanceModule Global → State
+  added modules = record st { graph = after; runtime_instances = modules }
 
   -- what fits it fitted before
   pub added_fits : FitsBefore st.graph after
@@ -94,19 +98,22 @@ module _ (t : TypeTable) (ms : List ModuleRecord) (st : State) (x : Instance) (o
           | inr last ↦ host_arguments_more ms st.graph after grows (host_arguments args) (usable.host r args last)
         ];
     destructors = λ n y d at has. is_item_kept ms st.graph after grows _ d (items.destructors n y d at has);
+    adapters = adapters_items_kept ms st.graph after grows refl items.adapters;
     exports = λ n ty o d at. is_item_kept ms st.graph after grows _ d (items.exports n ty o d at);
     statics = items.statics;
   }
 
   -- it is in order by itself
-  added_sound : IsUsable ms st.graph x → HasBegun st.graph owner.0
+  added_sound : (modules : Vec InstanceModule Global) (m : InstanceModule)
+      → modules.items ≡ st.runtime_instances.items ++ m ∷ []
+      → IsMadeOf ms (tables_of (added modules)) (length st.graph.instances) m → IsUsable ms st.graph x
+      → HasBegun st.graph owner.0
       → (HeldInstance st.graph x → HasBegun st.graph owner.0 → IsOrdered st.graph → IsOrdered after)
-      → IsSoundState t ms st → IsSoundState t ms added
-  added_sound usable begun ordered sound = record {
+      → IsSoundState t ms st → IsSoundState t ms (added modules)
+  added_sound modules m more made usable begun ordered sound = record {
     ordered = ordered usable.held begun sound.ordered;
     items = added_items usable sound.items;
     plain = record {
-      adapters = sound.plain.adapters;
       adapter_modules = sound.plain.adapter_modules;
       adapter_partitionings = sound.plain.adapter_partitionings;
       unsafe_intrinsics = sound.plain.unsafe_intrinsics;
@@ -117,6 +124,12 @@ module _ (t : TypeTable) (ms : List ModuleRecord) (st : State) (x : Instance) (o
     table = sound.table;
     bodies = sound.bodies;
     members = sound.members;
+    instances = subst (InstancesStand ms (tables_of (added modules))) (sym more)
+        (instances_pushed ms (tables_of st) (tables_of (added modules))
+        (graph_grown (tables_of st) after grows added_fits) x refl st.runtime_instances.items m made sound.instances);
+    widths = subst (λ is. HaveWidths t ms is after) (sym more)
+        (widths_more t ms st.runtime_instances.items (m ∷ []) after
+        (widths_kept t ms st.runtime_instances.items st.graph after refl sound.widths));
   }
 
   -- and does what the log says with the instantiation
@@ -141,20 +154,23 @@ module _ (t : TypeTable) (ms : List ModuleRecord) (st : State) (x : Instance) (o
       (declared_on st.types st.graph after grows added_fits w e world)
       (λ y is. absurd (let k : ⊥ = cc in k))
       (omega arith)
-      (world.imports ∙ sym (paths-push w.log e)) refl (omega arith) refl refl refl refl
+      (world.imports ∙ sym (paths-push w.log e)) refl (omega arith) refl refl refl refl refl
 
   -- so it is where the reading is then
-  pub added_point : (f : Frame) (now : Moment) (v : Instantiation Mark) → IsUsable ms st.graph x
-      → InstanceStands st.types after x v → f.component_instance ≡ owner
+  pub added_point : (modules : Vec InstanceModule Global) (m : InstanceModule)
+      → modules.items ≡ st.runtime_instances.items ++ m ∷ []
+      → IsMadeOf ms (tables_of (added modules)) (length st.graph.instances) m → (f : Frame) (now : Moment)
+      → (v : Instantiation Mark) → IsUsable ms st.graph x → InstanceStands st.types after x v
+      → f.component_instance ≡ owner
       → (HeldInstance st.graph x → HasBegun st.graph owner.0 → IsOrdered st.graph → IsOrdered after)
-      → PointStands t ms st f now → PointStands t ms added f (add_entry now (instantiated v owner.0))
-  added_point f now v usable stands here ordered at = record {
-    sound = added_sound usable
+      → PointStands t ms st f now → PointStands t ms (added modules) f (add_entry now (instantiated v owner.0))
+  added_point modules m more made f now v usable stands here ordered at = record {
+    sound = added_sound modules m more made usable
         (subst (λ (c : RuntimeComponentInstanceIndex). HasBegun st.graph c.0) here at.frame.begun) ordered at.sound;
     here = knows_grown st.graph st.types.resources now.scope at.here after added_fits;
     converted = at.converted;
-    frame = frame_kept ms (tables_of st) (tables_of added) (graph_grown (tables_of st) after grows added_fits) f
-        now.scope at.frame;
+    frame = frame_kept ms (tables_of st) (tables_of (added modules))
+        (graph_grown (tables_of st) after grows added_fits) f now.scope at.frame;
     world = added_world v stands now.world at.world;
     unexported = record { exports = at.unexported.exports; items = at.unexported.items };
   }

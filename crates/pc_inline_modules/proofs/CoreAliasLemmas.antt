@@ -29,7 +29,7 @@ use Rattle.pc_inline_state.specs.Stands.{ItemStands}
 use Rattle.pc_inline_state.specs.Tables.{tables_of}
 use Rattle.pc_inline_modules.proofs.ExportedLemmas.{found_in}
 use Rattle.pc_inline_canon.proofs.FrameLemmas.{core_framed, framed_point}
-use Rattle.pc_inline_canon.proofs.StepLemmas.{row_goes, row_stuck, steps_on, steps_stuck}
+use Rattle.pc_inline_canon.proofs.StepLemmas.{steps_on, steps_stuck}
 use Rattle.pc_inline_canon.proofs.WorldLemmas.{point_kept}
 use Rattle.pc_inline_state.proofs.ZipLemmas.{both_missing, both_there, zip_at}
 
@@ -83,9 +83,8 @@ module _ (t : TypeTable) (ms : List ModuleRecord) (input : IsInput t ms) (st : S
       → StepsItem t ms (core_alias_item k n name) st f st' f' (Err (item_error.Fault item_fault.Invalid))
   unfolding read_row read_core_alias
   alias_missing st' f' none = steps_stuck t ms _ st f st' f' item_fault.Invalid (λ now at.
-      row_stuck t ms now (core_alias_item k n name) invalid
-      (ap (λ o. found invalid o (λ (v : CoreValue Mark). Ok (add_core now k v)))
-      (both_missing _ _ _ (alias_found now at) none)))
+      ap (λ o. found invalid o (λ (v : CoreValue Mark). Ok (add_core now k v)))
+      (both_missing _ _ _ (alias_found now at) none))
 
   -- it has one, which gets a number
   pub alias_made : (st' : State) (f' : Frame) (x : CoreItem) (id : CoreId) (r : ⊤)
@@ -103,6 +102,5 @@ module _ (t : TypeTable) (ms : List ModuleRecord) (input : IsInput t ms) (st : S
         stands = subst (λ g. PointStands t ms st' g next) (sym is)
             (framed_point t ms st' f (with_core_id f k id) now (with_core now.scope k v.0) after (core_same f k id)
             (core_done f k id) (core_known now.scope k v.0) framed);
-        done = row_goes t ms now next (core_alias_item k n name)
-            (ap (λ o. found invalid o (λ (v : CoreValue Mark). Ok (add_core now k v))) v.1) at.world.no_adapters;
+        done = ap (λ o. found invalid o (λ (v : CoreValue Mark). Ok (add_core now k v))) v.1;
       })

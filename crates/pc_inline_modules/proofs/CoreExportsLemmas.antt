@@ -21,7 +21,7 @@ use Rattle.pc_inline_state.specs.Frames.{BagItemStands, Both, FrameStands, SameN
 use Rattle.pc_inline_state.specs.Points.{PointStands, StepsItem}
 use Rattle.pc_inline_state.specs.Tables.{Tables, tables_of}
 use Rattle.pc_inline_canon.proofs.FrameLemmas.{framed_point, instance_framed}
-use Rattle.pc_inline_canon.proofs.StepLemmas.{row_goes, row_stuck, steps_on, steps_stuck}
+use Rattle.pc_inline_canon.proofs.StepLemmas.{steps_on, steps_stuck}
 use Rattle.pc_inline_state.proofs.ZipLemmas.{both_missing, both_there}
 
 -- the bag that the code made of items, or nothing, is that of the reading
@@ -36,9 +36,8 @@ module _ (t : TypeTable) (ms : List ModuleRecord) (st : State) (f : Frame) (item
       (Err (item_error.Fault item_fault.Invalid))
   unfolding read_row read_core_exports
   bag_missing made = steps_stuck t ms _ st f st f item_fault.Invalid (λ now at.
-      row_stuck t ms now (core_exports_item items) invalid
-      (ap (λ o. found invalid o (λ (es : List (List ℕ × CoreItem)). Ok (add_core_instance now (bag es))))
-      (both_missing _ None _ (made ms (tables_of st) now.scope at.frame) refl)))
+      ap (λ o. found invalid o (λ (es : List (List ℕ × CoreItem)). Ok (add_core_instance now (bag es))))
+      (both_missing _ None _ (made ms (tables_of st) now.scope at.frame) refl))
 
   -- all of them are there
   pub bag_made : (xs : List (List ℕ × (CoreKind × CoreId))) (f' : Frame) (r : ⊤) → IsBag f items (Some xs)
@@ -54,7 +53,5 @@ module _ (t : TypeTable) (ms : List ModuleRecord) (st : State) (f : Frame) (item
         now = next;
         stands = subst (λ g. PointStands t ms st g next) (sym is)
             (framed_point t ms st f _ now (with_core_instance now.scope (bag es.0)) at refl refl refl stands);
-        done = row_goes t ms now next (core_exports_item items)
-            (ap (λ o. found invalid o (λ (es : List (List ℕ × CoreItem)). Ok (add_core_instance now (bag es)))) es.1)
-            at.world.no_adapters;
+        done = ap (λ o. found invalid o (λ (es : List (List ℕ × CoreItem)). Ok (add_core_instance now (bag es)))) es.1;
       })

@@ -1,6 +1,6 @@
 -- How the step of a core instance of a module of the host ends, against its row.
-use Rattle.std.proofs.Common.{◌≡◌, ◌≤◌, ◌<◌, ◌+◌, ℕ, List, [], ◌∷◌, ◌++◌, length, map, Option, Some, None, All, Ok, Err}
-use Rattle.std.proofs.Common.{refl, sym, ap, subst, ◌∙◌, arith}
+use Rattle.std.proofs.Common.{◌≡◌, ◌≤◌, ◌<◌, ◌+◌, ◌*◌, ℕ, List, [], ◌∷◌, ◌++◌, length, map, Option, Some, None, All, Ok}
+use Rattle.std.proofs.Common.{Err, Vec, Global, refl, sym, ap, subst, ◌∙◌, arith}
 use Rattle.std.specs.Prelude.{⊤, slice_get, option_and_then}
 use Rattle.std.specs.List.{AllZip}
 use Rattle.std.proofs.lemmas.List.Elements.{All-append, All-map}
@@ -41,23 +41,27 @@ use Rattle.pc_inline_state.specs.declared.error.ItemError.TheVariants as item_er
 use Rattle.pc_inline_state.specs.declared.error.ItemFault.TheVariants as item_fault
 use Rattle.pc_inline_state.specs.declared.frame.CoreInstance.TheVariants as instance
 use Rattle.pc_inline_state.specs.declared.frame.Frame.{Frame}
+use Rattle.pc_inline_state.specs.declared.instance_module.InstanceModule.{InstanceModule}
+use Rattle.pc_inline_state.specs.declared.instance_module.InstanceModule.TheVariants as of
 use Rattle.pc_inline_state.specs.declared.state.State.{State}
 use Rattle.pc_inline_state.specs.Adds.{Adds}
 use Rattle.pc_inline_state.specs.AddsEach.{AddsEach, everywhere, in_imports}
 use Rattle.pc_inline_state.specs.Fits.{Fits}
 use Rattle.pc_inline_state.specs.Frames.{Both, FrameStands, host_stands}
 use Rattle.pc_inline_state.specs.Holds.{Numbered, number_of, whole_of}
+use Rattle.pc_inline_state.specs.Instances.{made_of_import}
 use Rattle.pc_inline_state.specs.Points.{IsPoint, PointStands, StepsItem}
-use Rattle.pc_inline_state.specs.Stands.{IsTableTree}
+use Rattle.pc_inline_state.specs.Stands.{IsHostType, IsTableTree}
 use Rattle.pc_inline_state.specs.Tables.{IsItem, Keeps, Tables, tables_of}
 use Rattle.pc_inline_state.proofs.AddsLemmas.{adds_each, each_trans}
 use Rattle.pc_inline_state.proofs.GrowthLemmas.{graph_grown}
+use Rattle.pc_inline_state.proofs.TypeKeptLemmas.{host_type_kept, table_tree_kept}
 use Rattle.pc_inline_state.proofs.ZipLemmas.{both_missing, both_there, zip_more}
 use Rattle.pc_inline_canon.specs.Hosts.{Uses}
 use Rattle.pc_inline_canon.proofs.CoreInstanceLemmas.{item_held}
 use Rattle.pc_inline_canon.proofs.FrameLemmas.{framed_point, instance_framed}
-use Rattle.pc_inline_canon.proofs.KeptLemmas.{core_kept, is_item_kept, table_tree_kept}
-use Rattle.pc_inline_canon.proofs.StepLemmas.{row_goes, row_stuck, steps_on, steps_stuck}
+use Rattle.pc_inline_canon.proofs.KeptLemmas.{core_kept, is_item_kept}
+use Rattle.pc_inline_canon.proofs.StepLemmas.{steps_on, steps_stuck}
 use Rattle.pc_inline_modules.specs.declared.modules.ModuleSource.TheVariants as module_kind
 use Rattle.pc_inline_modules.specs.Given.{HostArgumentsStand, NamedStands}
 use Rattle.pc_inline_modules.specs.Sources.{module_source}
@@ -72,7 +76,7 @@ host_few t a b x h k =
     adds_each t (λ l. in_imports l + everywhere l) 0 0 4 a x le (omega arith) (omega arith)
     (each_trans in_imports everywhere 0 0 0 0 a b x h k)
   where
-    le : (l : ListName) → in_imports l + everywhere l ≤ 4
+    le : (l : ListName) → in_imports l + everywhere l + 32 * (in_imports list.adapters + everywhere list.adapters) ≤ 4
     le list.imports = omega arith
     le l = omega arith
 
@@ -80,7 +84,7 @@ host_few t a b x h k =
 pub use_few : (t : TypeTable) (a b : Tables) → AddsEach in_imports 0 0 a b → Adds t 4 a b
 use_few t a b h = adds_each t in_imports 0 0 4 a b le (omega arith) (omega arith) h
   where
-    le : (l : ListName) → in_imports l ≤ 4
+    le : (l : ListName) → in_imports l + 32 * in_imports list.adapters ≤ 4
     le list.imports = omega arith
     le l = omega arith
 
@@ -186,6 +190,7 @@ module _ (t : TypeTable) (ms : List ModuleRecord) (st : State) (f : Frame) (n : 
     pub path : Path
     pub tree : TypeTree
     pub held : slice_get st.paths q.0 ≡ Some path
+    pub given : IsHostType ms (tables_of st) path tree
     pub tabled : IsTableTree ms (tables_of st) is_module entry tree
     pub row : read_row t ms now (instantiate_module_item n args)
         ≡ found invalid (reading.host_arguments ms now.scope args tree)
@@ -201,9 +206,10 @@ module _ (t : TypeTable) (ms : List ModuleRecord) (st : State) (f : Frame) (n : 
         path = s.0;
         tree = s.1;
         held = s.2;
-        tabled = s.3;
+        given = s.3;
+        tabled = s.4;
         row = ap (λ o. found invalid o (instantiate_module t ms now args)) x.1
-            ∙ ap (instantiate_module t ms now args) s.4;
+            ∙ ap (instantiate_module t ms now args) s.5;
       }
 
   -- its path is one of the state
@@ -216,33 +222,34 @@ module _ (t : TypeTable) (ms : List ModuleRecord) (st : State) (f : Frame) (n : 
       → StepsItem t ms (instantiate_module_item n args) st f st' f' (Err (item_error.Fault item_fault.Invalid))
   host_stuck st' f' o none given = steps_stuck t ms _ st f st' f' item_fault.Invalid (λ now at.
       let x = host_there now at in
-      row_stuck t ms now (instantiate_module_item n args) invalid
-      (x.row ∙ ap (λ o. found invalid o (λ (vs : List (NamedArgument Mark)). Ok (add_host now x.path x.tree vs)))
-      (both_missing (HostArgumentsStand ms (tables_of st)) o _ (given now.scope x.tree at.frame x.tabled) none)))
+      x.row ∙ ap (λ o. found invalid o (λ (vs : List (NamedArgument Mark)). Ok (add_host now x.path x.tree vs)))
+      (both_missing (HostArgumentsStand ms (tables_of st)) o _ (given now.scope x.tree at.frame x.tabled) none))
 
   module _ (mid : State) (r : RuntimeImportIndex) (keeps : Keeps (tables_of st) (tables_of mid))
       (uses : (p : Path) → slice_get st.paths q.0 ≡ Some p → Uses t ms st mid p r)
       (instances : mid.graph.instances ≡ st.graph.instances) where
-    -- the core instance is made
-    pub host_made : (given : List (List ℕ × List (List ℕ × CoreDef))) (g : ComponentDfg) (f' : Frame) (i : InstanceId)
-        (done : ⊤) → (o : Option (List (List ℕ × List (List ℕ × CoreDef)))) → o ≡ Some given
+    -- the core instance is made, and its module is known
+    pub host_made : (given : List (List ℕ × List (List ℕ × CoreDef))) (g : ComponentDfg)
+        (modules : Vec InstanceModule Global) (f' : Frame) (i : InstanceId) (done : ⊤)
+        → (o : Option (List (List ℕ × List (List ℕ × CoreDef)))) → o ≡ Some given
         → IsHostGiven ms st f args entry o
         → g ≡ with_instance mid.graph (source.Import r given) f.component_instance → graph.Grows mid.graph g
         → (HeldInstance mid.graph (source.Import r given) → HasBegun mid.graph f.component_instance.0
         → IsOrdered mid.graph → IsOrdered g)
-        → i.0 ≡ length mid.graph.instances
+        → i.0 ≡ length mid.graph.instances → modules.items ≡ mid.runtime_instances.items ++ of.Import entry ∷ []
         → f' ≡ record f { core_instances = f.core_instances ++ instance.Host i entry ∷ [] }
-        → StepsItem t ms (instantiate_module_item n args) st f (record mid { graph = g }) f' (Ok done)
-    host_made given g f' i done o some is_given made grows ordered number framed =
-        subst (λ (h : ComponentDfg). StepsItem t ms (instantiate_module_item n args) st f (record mid { graph = h }) f'
-        (Ok done))
+        → StepsItem t ms (instantiate_module_item n args) st f
+        (record mid { graph = g; runtime_instances = modules }) f' (Ok done)
+    host_made given g modules f' i done o some is_given made grows ordered number named framed =
+        subst (λ (h : ComponentDfg). StepsItem t ms (instantiate_module_item n args) st f
+        (record mid { graph = h; runtime_instances = modules }) f' (Ok done))
         (sym made) (steps_on t ms _ st f _ f' done (λ now at.
         let x = host_there now at in
         let vs = both_there (HostArgumentsStand ms (tables_of st)) o _ given
         (is_given now.scope x.tree at.frame x.tabled) some in
         let used = uses x.path x.held in
         let h = with_instance mid.graph (source.Import r given) f.component_instance in
-        let st' = record mid { graph = h } in
+        let st' = record mid { graph = h; runtime_instances = modules } in
         let more = subst (graph.Grows mid.graph) made grows in
         let named_mid = zip_more (NamedStands ms (tables_of st)) (NamedStands ms (tables_of mid))
         (named_kept ms (tables_of st) (tables_of mid) keeps) (host_arguments given) vs.0 vs.2 in
@@ -251,22 +258,24 @@ module _ (t : TypeTable) (ms : List ModuleRecord) (st : State) (f : Frame) (n : 
         let named_end = zip_more (NamedStands ms (tables_of mid)) (NamedStands ms (tables_of st'))
         (named_kept ms (tables_of mid) (tables_of st') grown) (host_arguments given) vs.0 named_mid in
         let at_mid = used.stands f now at in
-        let after = added_point t ms mid (source.Import r given) f.component_instance more f
-        (add_entry now (needed x.path)) (of_host x.path vs.0)
+        let tabled = table_tree_kept ms (tables_of mid) (tables_of st') grown is_module entry x.tree
+        (table_tree_kept ms (tables_of st) (tables_of mid) keeps is_module entry x.tree x.tabled) in
+        let typed = host_type_kept ms (tables_of mid) (tables_of st') grown x.path x.tree
+        (host_type_kept ms (tables_of st) (tables_of mid) keeps x.path x.tree x.given) in
+        let here = slice_get-append_seam mid.graph.instances (source.Import r given) [] in
+        let after = added_point t ms mid (source.Import r given) f.component_instance more modules (of.Import entry)
+        named (made_of_import here used.path typed tabled) f (add_entry now (needed x.path)) (of_host x.path vs.0)
         (host_usable ms mid r given vs.0 x.path used.path named_mid)
         (host_does ms st' r given vs.0 x.path used.path named_end) refl
         (λ a c o. subst IsOrdered made (ordered a c o)) at_mid in
         let entered = subst (λ c. PointStands t ms st' f (add_entry (add_entry now (needed x.path))
         (instantiated (of_host x.path vs.0) c))) (sym at.frame.component_instance) after in
         let order : i.0 ≡ next_order now = number ∙ ap length instances ∙ sym at.world.order in
-        let tabled = table_tree_kept ms (tables_of mid) (tables_of st') grown is_module entry x.tree
-        (table_tree_kept ms (tables_of st) (tables_of mid) keeps is_module entry x.tree x.tabled) in
         let frame = instance_framed ms (tables_of st') f now.scope entered.frame (instance.Host i entry)
         (of_host_module i.0 x.tree) (host_stands (record {
           import = r;
           arguments = given;
-          made = ap (slice_get h.instances) number
-              ∙ slice_get-append_seam mid.graph.instances (source.Import r given) [];
+          made = ap (slice_get h.instances) number ∙ here;
         }) tabled) in
         record {
           now = add_host now x.path x.tree vs.0;
@@ -279,8 +288,6 @@ module _ (t : TypeTable) (ms : List ModuleRecord) (st : State) (f : Frame) (n : 
               })) order
               (framed_point t ms st' f (record f { core_instances = f.core_instances ++ instance.Host i entry ∷ [] }) _
               (with_core_instance now.scope (of_host_module i.0 x.tree)) entered refl refl refl frame));
-          done = row_goes t ms now (add_host now x.path x.tree vs.0) (instantiate_module_item n args)
-              (x.row
-              ∙ ap (λ o. found invalid o (λ (vs : List (NamedArgument Mark)). Ok (add_host now x.path x.tree vs))) vs.1)
-              entered.world.no_adapters;
+          done = x.row
+              ∙ ap (λ o. found invalid o (λ (vs : List (NamedArgument Mark)). Ok (add_host now x.path x.tree vs))) vs.1;
         }))

@@ -1,7 +1,7 @@
 -- How the step of a core instance of a handed-in module ends, against its row.
 use Rattle.std.proofs.Common.{◌≡◌, ℕ, Bool, true, false, List, [], ◌∷◌, ◌++◌, length, map, Option, Some, None, All}
 use Rattle.std.proofs.Common.{◌≤◌, ◌⊎◌, inl, inr, Ok, Err, Result}
-use Rattle.std.proofs.Common.{if◌then◌else◌, refl, sym, ap, subst, ◌∙◌}
+use Rattle.std.proofs.Common.{if◌then◌else◌, Vec, Global, refl, sym, ap, subst, ◌∙◌}
 use Rattle.std.specs.Prelude.{⊤, OnErr, OnOk, slice_get, option_and_then}
 use Rattle.std.specs.List.{AllZip}
 use Rattle.std.specs.Result.{IsErrAnd}
@@ -48,6 +48,8 @@ use Rattle.pc_inline_state.specs.declared.error.ItemError.TheVariants as item_er
 use Rattle.pc_inline_state.specs.declared.error.ItemFault.TheVariants as item_fault
 use Rattle.pc_inline_state.specs.declared.frame.CoreInstance.TheVariants as instance
 use Rattle.pc_inline_state.specs.declared.frame.Frame.{Frame}
+use Rattle.pc_inline_state.specs.declared.instance_module.InstanceModule.{InstanceModule}
+use Rattle.pc_inline_state.specs.declared.instance_module.InstanceModule.TheVariants as of
 use Rattle.pc_inline_state.specs.declared.state.State.{State}
 use Rattle.pc_inline_state.specs.Adds.{Adds}
 use Rattle.pc_inline_state.specs.Faults.{of_push_error}
@@ -55,6 +57,7 @@ use Rattle.pc_inline_state.specs.Fits.{Fits, FitsBefore}
 use Rattle.pc_inline_state.specs.Found.{ArgumentStands, ArgumentsStand}
 use Rattle.pc_inline_state.specs.Frames.{Both, FrameStands, ModuleStands, made_stands}
 use Rattle.pc_inline_state.specs.Holds.{Numbered, number_of, whole_of}
+use Rattle.pc_inline_state.specs.Instances.{made_of_static}
 use Rattle.pc_inline_state.specs.Points.{PointStands, Steps, StepsItem}
 use Rattle.pc_inline_state.specs.Stands.{CoreStands}
 use Rattle.pc_inline_state.specs.Tables.{IsItem, Keeps, Tables, tables_of}
@@ -67,7 +70,7 @@ use Rattle.pc_inline_state.proofs.ZipLemmas.{both_missing, both_there, zip_at, z
 use Rattle.pc_inline_canon.proofs.CoreInstanceLemmas.{item_held}
 use Rattle.pc_inline_canon.proofs.FrameLemmas.{framed_point, instance_framed}
 use Rattle.pc_inline_canon.proofs.KeptLemmas.{core_kept}
-use Rattle.pc_inline_canon.proofs.StepLemmas.{row_goes, row_stuck, steps_full, steps_on, steps_stuck}
+use Rattle.pc_inline_canon.proofs.StepLemmas.{steps_full, steps_on, steps_stuck}
 use Rattle.pc_inline_modules.specs.declared.modules.ModuleSource.TheVariants as module_kind
 use Rattle.pc_inline_modules.specs.Sources.{module_source}
 use Rattle.pc_inline_modules.proofs.AddedInstanceLemmas.{InstanceStands, IsUsable, added_point}
@@ -208,9 +211,8 @@ module _ (t : TypeTable) (ms : List ModuleRecord) (st : State) (f : Frame) (n : 
       → StepsItem t ms (instantiate_module_item n args) st f st' f' (Err (item_error.Fault item_fault.Invalid))
   unfolding read_row read_core_instance
   module_missing st' f' none = steps_stuck t ms _ st f st' f' item_fault.Invalid (λ now at.
-      row_stuck t ms now (instantiate_module_item n args) invalid
-      (ap (λ o. found invalid o (instantiate_module t ms now args))
-      (both_missing (ModuleStands ms (tables_of st)) _ _ (module_found now at) none)))
+      ap (λ o. found invalid o (instantiate_module t ms now args))
+      (both_missing (ModuleStands ms (tables_of st)) _ _ (module_found now at) none))
 
   module _ (id : DefinitionId) (at_n : slice_get f.modules n ≡ Some id) where
     -- the module of the reading, and what it is in the code
@@ -247,31 +249,34 @@ module _ (t : TypeTable) (ms : List ModuleRecord) (st : State) (f : Frame) (n : 
       pub module_stuck : (st' : State) (f' : Frame) (o : Option (List CoreDef)) → o ≡ None → IsGiven ms st f args m o
           → StepsItem t ms (instantiate_module_item n args) st f st' f' (Err (item_error.Fault item_fault.Invalid))
       module_stuck st' f' o none given = steps_stuck t ms _ st f st' f' item_fault.Invalid (λ now at.
-          row_stuck t ms now (instantiate_module_item n args) invalid
-          (module_row now at
+          module_row now at
           ∙ ap (λ o. found invalid o (λ (vs : List (CoreValue Mark)). Ok (add_static now m.0 vs)))
-          (both_missing (ArgumentsStand ms (tables_of st)) o _ (given now.scope at.frame) none)))
+          (both_missing (ArgumentsStand ms (tables_of st)) o _ (given now.scope at.frame) none))
 
-      -- the core instance is made
-      pub module_made : (ds : List CoreDef) (g : ComponentDfg) (f' : Frame) (i : InstanceId) (r : ⊤)
+      -- the core instance is made, and its module is known
+      pub module_made : (ds : List CoreDef) (g : ComponentDfg) (modules : Vec InstanceModule Global) (f' : Frame)
+          (i : InstanceId) (r : ⊤)
           → (o : Option (List CoreDef)) → o ≡ Some ds → IsGiven ms st f args m o
           → g ≡ with_instance st.graph (source.Static m ds) f.component_instance → graph.Grows st.graph g
           → (HeldInstance st.graph (source.Static m ds) → HasBegun st.graph f.component_instance.0
           → IsOrdered st.graph → IsOrdered g)
-          → i.0 ≡ length st.graph.instances
+          → i.0 ≡ length st.graph.instances → modules.items ≡ st.runtime_instances.items ++ of.Static m ∷ []
           → f' ≡ record f { core_instances = f.core_instances ++ instance.Made i m ∷ [] }
-          → StepsItem t ms (instantiate_module_item n args) st f (record st { graph = g }) f' (Ok r)
-      module_made ds g f' i r o some given made grows ordered number framed =
-          subst (λ (h : ComponentDfg). StepsItem t ms (instantiate_module_item n args) st f (record st { graph = h })
-          f' (Ok r))
+          → StepsItem t ms (instantiate_module_item n args) st f
+          (record st { graph = g; runtime_instances = modules }) f' (Ok r)
+      module_made ds g modules f' i r o some given made grows ordered number named framed =
+          subst (λ (h : ComponentDfg). StepsItem t ms (instantiate_module_item n args) st f
+          (record st { graph = h; runtime_instances = modules }) f' (Ok r))
           (sym made) (steps_on t ms _ st f _ f' r (λ now at.
           let vs = both_there (ArgumentsStand ms (tables_of st)) o _ ds (given now.scope at.frame) some in
           let x = given_record ms now.scope args (slice_get ms m.0) vs.0 vs.1 in
           let h = with_instance st.graph (source.Static m ds) f.component_instance in
-          let st' = record st { graph = h } in
+          let st' = record st { graph = h; runtime_instances = modules } in
           let count = zip_length (ArgumentStands ms (tables_of st)) ds vs.0 vs.2 ∙ x.2 in
           let more = subst (graph.Grows st.graph) made grows in
-          let after = added_point t ms st (source.Static m ds) f.component_instance more f now (of_static m.0 vs.0)
+          let here = slice_get-append_seam st.graph.instances (source.Static m ds) [] in
+          let after = added_point t ms st (source.Static m ds) f.component_instance more modules (of.Static m) named
+          (made_of_static here) f now (of_static m.0 vs.0)
           (static_usable ms st m ds vs.0 vs.2 x.0 x.1 count)
           (static_stands ms st m ds vs.0 vs.2 f.component_instance more) refl
           (λ a c o. subst IsOrdered made (ordered a c o)) at in
@@ -279,8 +284,7 @@ module _ (t : TypeTable) (ms : List ModuleRecord) (st : State) (f : Frame) (n : 
           (sym at.frame.component_instance) after in
           let order : i.0 ≡ next_order now = number ∙ sym at.world.order in
           let frame = instance_framed ms (tables_of st') f now.scope entered.frame (instance.Made i m)
-          (of_module i.0 m.0) (made_stands (ap (slice_get h.instances) number
-          ∙ slice_get-append_seam st.graph.instances (source.Static m ds) [])) in
+          (of_module i.0 m.0) (made_stands (ap (slice_get h.instances) number ∙ here)) in
           record {
             now = add_static now m.0 vs.0;
             stands = subst (λ fr. PointStands t ms st' fr (add_static now m.0 vs.0)) (sym framed)
@@ -291,8 +295,6 @@ module _ (t : TypeTable) (ms : List ModuleRecord) (st : State) (f : Frame) (n : 
                 })) order
                 (framed_point t ms st' f (record f { core_instances = f.core_instances ++ instance.Made i m ∷ [] }) _
                 (with_core_instance now.scope (of_module i.0 m.0)) entered refl refl refl frame));
-            done = row_goes t ms now (add_static now m.0 vs.0) (instantiate_module_item n args)
-                (module_row now at
-                ∙ ap (λ o. found invalid o (λ (vs : List (CoreValue Mark)). Ok (add_static now m.0 vs))) vs.1)
-                entered.world.no_adapters;
+            done = module_row now at
+                ∙ ap (λ o. found invalid o (λ (vs : List (CoreValue Mark)). Ok (add_static now m.0 vs))) vs.1;
           }))

@@ -31,14 +31,13 @@ use Rattle.pc_inline_state.specs.Points.{Goes, PointStands, StepsItem}
 use Rattle.pc_inline_state.specs.Prepares.{Converts}
 use Rattle.pc_inline_state.specs.Stands.{stands_static}
 use Rattle.pc_inline_state.specs.Tables.{Keeps, Tables, tables_of}
-use Rattle.pc_inline_state.specs.Today.{built_row}
 use Rattle.pc_inline_state.proofs.AddsLemmas.{adds_then, adds_weaken, definition_few}
 use Rattle.pc_inline_state.proofs.KnowsLemmas.{entry_here}
 use Rattle.pc_inline_state.proofs.MembersLemmas.{no_instance}
 use Rattle.pc_inline_state.proofs.StateLemmas.{converts_prepares, definition_prepares, keeps_trans}
 use Rattle.pc_inline_canon.proofs.DefinitionLemmas.{definition_added}
 use Rattle.pc_inline_canon.proofs.FrameLemmas.{converted_point, framed_point, module_framed}
-use Rattle.pc_inline_canon.proofs.StepLemmas.{row_goes, row_stuck, steps_on, steps_stuck}
+use Rattle.pc_inline_canon.proofs.StepLemmas.{steps_on, steps_stuck}
 use Rattle.pc_inline_canon.proofs.WorldLemmas.{point_kept}
 
 module _ (t : TypeTable) (a b : Tables) where
@@ -64,7 +63,7 @@ module _ (t : TypeTable) (ms : List ModuleRecord) (m : StaticModuleIndex) (ty : 
 
   -- how the reading reads it
   abbrev reads : Moment → Result Moment Fault
-  reads now = built_row t ms now module_
+  reads now = read_row t ms now module_
 
   -- what the item makes of a moment
   module_read : (now : Moment) (tree : TypeTree) → tree_if t is_module now.scope ty ≡ Some tree
@@ -75,7 +74,7 @@ module _ (t : TypeTable) (ms : List ModuleRecord) (m : StaticModuleIndex) (ty : 
   -- its type is none
   module_untyped : (now : Moment) → has_entry t is_module ty ≡ false → reads now ≡ Err bad_type
   unfolding read_row read_module tree_if
-  module_untyped now none = row_stuck t ms now module_ bad_type (rw (none) refl)
+  module_untyped now none = rw (none) refl
 
   -- its type is no module type
   pub module_misses : (st : State) (f : Frame) (st' : State) (f' : Frame) → has_entry t is_module ty ≡ false
@@ -124,7 +123,7 @@ module _ (t : TypeTable) (ms : List ModuleRecord) (m : StaticModuleIndex) (ty : 
           now = next;
           stands = framed_point t ms end g with_it now (with_value now.scope v) at_end refl refl refl
               (module_framed ms (tables_of end) g now.scope at_end.frame key (static_module m.0 x.0) is);
-          done = row_goes t ms now next module_ (module_read now x.0 there) at.world.no_adapters;
+          done = module_read now x.0 there;
         }
 
     -- it is a module of the component instance

@@ -11,7 +11,8 @@ use Rattle.pc_inline_paths.specs.declared.path_id.PathId.{PathId}
 use Rattle.pc_inline_state.specs.declared.definition.Definition.{Definition}
 use Rattle.pc_inline_state.specs.declared.definition.DefinitionId.{DefinitionId}
 use Rattle.pc_inline_state.specs.Frames.{ModuleStands}
-use Rattle.pc_inline_state.specs.Stands.{DefinitionStands, IsTableTree, stands, stands_component, stands_host}
+use Rattle.pc_inline_state.specs.Stands.{DefinitionStands, IsHostType, IsTableTree, stands, stands_component}
+use Rattle.pc_inline_state.specs.Stands.{stands_host}
 use Rattle.pc_inline_state.specs.Stands.{stands_host_instance, stands_host_module, stands_instance, stands_intrinsic}
 use Rattle.pc_inline_state.specs.Stands.{stands_intrinsics, stands_lifted, stands_static, stands_type}
 use Rattle.pc_inline_state.specs.Tables.{Tables}
@@ -24,7 +25,8 @@ module _ (ms : List ModuleRecord) (b : Tables) where
   pub data ModuleIs : Module → Option ModuleSource → Type 0 where
     is_static : {m : StaticModuleIndex} {tree : TypeTree} → ModuleIs (static_module m.0 tree) (Some (source.Static m))
     is_host : {p : PathId} {entry : ℕ} {path : Path} {tree : TypeTree} → slice_get b.paths p.0 ≡ Some path
-        → IsTableTree ms b is_module entry tree → ModuleIs (host_module path tree) (Some (source.Host p entry))
+        → IsHostType ms b path tree → IsTableTree ms b is_module entry tree
+        → ModuleIs (host_module path tree) (Some (source.Host p entry))
 
   -- the value that a definition has is this module
   entry_source : (d : Definition) (v : Value) (x : Module) → DefinitionStands ms b d v → v ≡ module_value x
@@ -40,9 +42,10 @@ module _ (ms : List ModuleRecord) (b : Tables) where
   entry_source d v x (stands_static {m = m} {tree = tree} handed_in tabled i typed) is =
       let same : static_module m.0 tree ≡ x = cc in
       subst (λ (y : Module). ModuleIs y (Some (source.Static m))) same is_static
-  entry_source d v x (stands_host_module {p = p} {entry = entry} {path = path} {tree = tree} held tabled typed) is =
+  entry_source d v x (stands_host_module {p = p} {entry = entry} {path = path} {tree = tree} held given tabled typed)
+      is =
       let same : host_module path tree ≡ x = cc in
-      subst (λ (y : Module). ModuleIs y (Some (source.Host p entry))) same (is_host held tabled)
+      subst (λ (y : Module). ModuleIs y (Some (source.Host p entry))) same (is_host held given tabled)
 
   -- a module by number
   pub module_is : (id : DefinitionId) (x : Module) → ModuleStands ms b id x
@@ -54,7 +57,7 @@ module _ (ms : List ModuleRecord) (b : Tables) where
   -- it is one of either kind
   pub no_source : (x : Module) (o : Option ModuleSource) → ModuleIs x o → o ≡ None → ⊥
   no_source x o (is_static {m = m}) none = none-some (source.Static m) (sym none)
-  no_source x o (is_host {p = p} {entry = entry} held tabled) none = none-some (source.Host p entry) (sym none)
+  no_source x o (is_host {p = p} {entry = entry} held given tabled) none = none-some (source.Host p entry) (sym none)
 
   -- one that was handed in
   pub static_source : (x : Module) (o : Option ModuleSource) (m : StaticModuleIndex) → ModuleIs x o
@@ -62,20 +65,21 @@ module _ (ms : List ModuleRecord) (b : Tables) where
   static_source x o m (is_static {m = n} {tree = tree}) is =
       let same : n ≡ m = cc in
       (tree, ap (λ (k : StaticModuleIndex). static_module k.0 tree) same)
-  static_source x o m (is_host held tabled) is = absurd (let k : ⊥ = cc in k)
+  static_source x o m (is_host held given tabled) is = absurd (let k : ⊥ = cc in k)
 
   -- one of the host
   pub host_source : (x : Module) (o : Option ModuleSource) (p : PathId) (entry : ℕ) → ModuleIs x o
       → o ≡ Some (source.Host p entry)
-      → (path : Path) × (tree : TypeTree) × (slice_get b.paths p.0 ≡ Some path) × IsTableTree ms b is_module entry tree
-      × (x ≡ host_module path tree)
+      → (path : Path) × (tree : TypeTree) × (slice_get b.paths p.0 ≡ Some path) × IsHostType ms b path tree
+      × IsTableTree ms b is_module entry tree × (x ≡ host_module path tree)
   host_source x o p entry is_static is = absurd (let k : ⊥ = cc in k)
-  host_source x o p entry (is_host {p = q} {entry = n} {path = path} {tree = tree} held tabled) is =
+  host_source x o p entry (is_host {p = q} {entry = n} {path = path} {tree = tree} held given tabled) is =
       let same_path : q ≡ p = cc in
       let same_entry : n ≡ entry = cc in (
         path,
         tree,
         subst (λ (k : PathId). slice_get b.paths k.0 ≡ Some path) same_path held,
+        given,
         subst (λ (k : ℕ). IsTableTree ms b is_module k tree) same_entry tabled,
         refl,
       )

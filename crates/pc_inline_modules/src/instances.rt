@@ -1,6 +1,6 @@
 //! Core instances of modules.
 
-ghost use Rattle.std.specs.Prelude.{◌≡◌, ◌<◌, ℕ, length, Some, option_and_then, slice_get};
+ghost use Rattle.std.specs.Prelude.{◌≡◌, ◌<◌, ◌∷◌, ◌++◌, [], ℕ, length, Some, option_and_then, slice_get, OnOk};
 ghost use Rattle.pc_spec_reading.specs.Item.{instantiate_module_item};
 ghost use Rattle.pc_inline_state.specs.Adds.{Adds};
 ghost use Rattle.pc_inline_state.specs.declared.definition.DefinitionId.{DefinitionId};
@@ -14,10 +14,21 @@ ghost use Rattle.pc_inline_modules.specs.Sources.{module_source};
 use crate::arguments::{host_arguments, module_arguments};
 use crate::modules::{ModuleSource, source_of};
 use pc_dfg::Instance;
-use pc_entity::{StaticModuleIndex, Text};
+use pc_entity::{NoMemory, StaticModuleIndex, Text};
 use pc_inline_canon::use_host;
 use pc_inline_paths::PathId;
-use pc_inline_state::{Context, CoreInstance, Frame, ItemError, ItemFault, State};
+use pc_inline_state::{Context, CoreInstance, Frame, InstanceModule, ItemError, ItemFault, State};
+
+/// One core instance more is made of this module.
+fn note_module(
+    modules: &mut Vec<InstanceModule>,
+    instance_module: InstanceModule,
+) -> Result<(), NoMemory>
+    ensures { OnOk result (modules.new.items ≡ modules.old.items ++ instance_module ∷ []) }
+{
+    modules.push(instance_module)?;
+    Ok(())
+}
 
 /// A core instance of a module that was handed in.
 fn instantiate_static(
@@ -44,6 +55,10 @@ fn instantiate_static(
     };
     let made = Instance::Static(core_module, defs);
     let instance = state.graph.push_instance(made, frame.component_instance)?;
+    note_module(
+        &mut state.runtime_instances,
+        InstanceModule::Static(core_module),
+    )?;
     frame.core_instances.push(CoreInstance::Made {
         instance,
         core_module,
@@ -79,6 +94,7 @@ fn instantiate_host(
     let import = use_host(context, state, path)?;
     let made = Instance::Import(import, given);
     let instance = state.graph.push_instance(made, frame.component_instance)?;
+    note_module(&mut state.runtime_instances, InstanceModule::Import(entry))?;
     frame
         .core_instances
         .push(CoreInstance::Host { instance, entry })?;

@@ -28,6 +28,7 @@ use Rattle.pc_inline_state.specs.Tables.{Keeps, tables_of}
 use Rattle.pc_inline_state.specs.Trails.{Trails, undone}
 use Rattle.pc_inline_state.proofs.AddsLemmas.{adds_refl}
 use Rattle.pc_inline_state.proofs.GainedLemmas.{tables_aside}
+use Rattle.pc_inline_state.proofs.InstanceLemmas.{instances_kept}
 use Rattle.pc_inline_state.proofs.StateLemmas.{keeps_refl}
 use Rattle.pc_inline_canon.proofs.KeptLemmas.{frame_kept}
 use Rattle.pc_inline_canon.proofs.WorldLemmas.{world_still}
@@ -152,6 +153,9 @@ module _ (st : State) (k : Resources) where
     table = s.table;
     bodies = s.bodies;
     members = s.members;
+    instances = instances_kept ms (tables_of st) (tables_of (knowing_in st k)) known_keeps refl
+        st.runtime_instances.items s.instances;
+    widths = s.widths;
   }
 
   -- a point at which other resources are known on both sides
@@ -183,7 +187,8 @@ module _ (st : State) (k : Resources) where
           begun = frame.begun;
         };
         world = world_still st.types (knowing_in st k).types st.graph st.graph (keeps_same st.types)
-            (grows_refl st.graph) (λ who fits. fits) refl refl refl refl refl refl refl refl refl now.world at.world;
+            (grows_refl st.graph) (λ who fits. fits) refl refl refl refl refl refl refl refl refl refl now.world
+            at.world;
         unexported = at.unexported;
       }
 

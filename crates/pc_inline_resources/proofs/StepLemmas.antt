@@ -36,10 +36,9 @@ use Rattle.pc_inline_state.specs.Faults.{fault_of}
 use Rattle.pc_inline_state.specs.KnowsSame.{IsResource}
 use Rattle.pc_inline_state.specs.Points.{Follows, PointStands, Steps, StepsItem}
 use Rattle.pc_inline_state.specs.Tables.{IsItem, Keeps, tables_of}
-use Rattle.pc_inline_state.specs.Today.{built_row}
 use Rattle.pc_inline_canon.proofs.ResourceLemmas.{DestructorMeans, none_means, resource_number, resource_point}
 use Rattle.pc_inline_canon.proofs.ResourceLemmas.{some_means}
-use Rattle.pc_inline_canon.proofs.StepLemmas.{row_goes, row_stuck, steps_stuck}
+use Rattle.pc_inline_canon.proofs.StepLemmas.{steps_stuck}
 use Rattle.pc_inline_resources.specs.Registers.{known_as}
 use Rattle.pc_inline_resources.specs.Walked.{DestructorStands, FindsDestructor, a_destructor, no_destructor}
 
@@ -65,7 +64,7 @@ module _ (t : TypeTable) (ms : List ModuleRecord) (id : ℕ) (rep : WasmValType)
 
   -- what the reading makes of a moment
   abbrev reads : Moment → Result Moment Fault
-  reads now = built_row t ms now this
+  reads now = read_row t ms now this
 
   -- its number is that of no resource type
   pub resource_untyped : (st' : State) (f' : Frame) → has_entry t is_resource id ≡ false
@@ -73,7 +72,7 @@ module _ (t : TypeTable) (ms : List ModuleRecord) (id : ℕ) (rep : WasmValType)
   unfolding read_row read_resource
   resource_untyped st' f' none =
       steps_stuck t ms reads st f st' f' item_fault.BadType
-      (λ now at. row_stuck t ms now this bad_type (stuck now))
+      (λ now at. stuck now)
     where
       stuck : (now : Moment) → read_row t ms now this ≡ Err bad_type
       stuck now = rw none refl
@@ -82,7 +81,7 @@ module _ (t : TypeTable) (ms : List ModuleRecord) (id : ℕ) (rep : WasmValType)
   undone : has_entry t is_resource id ≡ true → (now : Moment) → chosen now.scope.core_funcs index ≡ None
       → reads now ≡ Err invalid
   unfolding read_row read_resource
-  undone there now none = row_stuck t ms now this invalid stuck
+  undone there now none = stuck
     where
       stuck : read_row t ms now this ≡ Err invalid
       stuck = rw (there, none) refl
@@ -148,8 +147,7 @@ module _ (t : TypeTable) (ms : List ModuleRecord) (id : ℕ) (rep : WasmValType)
       goes : has_entry t is_resource id ≡ true → (now : Moment) (at : PointStands t ms st f now)
           → reads now ≡ Ok (add_resource now id rep (found_at now at).v)
       goes there now at =
-          row_goes t ms now (add_resource now id rep (found_at now at).v) this (read there now at)
-          (stands_logged now at).world.no_adapters
+          read there now at
 
       -- and so does the code, where the number is known then
       steps_there : has_entry t is_resource id ≡ true → (r : ResourceIndex)

@@ -174,7 +174,7 @@ module _ (ms : List ModuleRecord) (b : Tables) where
   definition_is d v stands_intrinsic = is_none (λ name. no_value)
   definition_is d v stands_intrinsics = is_none intrinsics_named
   definition_is d v (stands_static handed_in tabled i is) = is_none (λ name. no_value)
-  definition_is d v (stands_host_module held tabled is) = is_none (λ name. no_value)
+  definition_is d v (stands_host_module held host tabled is) = is_none (λ name. no_value)
   definition_is d v (stands_component there body leaving held modules components) = is_none (λ name. no_value)
   definition_is d v (stands_host_instance held host tabled is) =
       is_of_host (record { typed = is; declared = tabled })
@@ -216,7 +216,7 @@ module _ (ms : List ModuleRecord) (b : Tables) where
   definition_knows d v stands_intrinsic = neither
   definition_knows d v stands_intrinsics = neither
   definition_knows d v (stands_static handed_in tabled i is) = neither
-  definition_knows d v (stands_host_module held tabled is) = neither
+  definition_knows d v (stands_host_module held host tabled is) = neither
   definition_knows d v (stands_component there body leaving held modules components) = neither
   definition_knows d v (stands_host_instance held host tabled is) = neither
   definition_knows d v (stands_instance held exports is) = neither

@@ -28,6 +28,8 @@ use Rattle.pc_inline_state.proofs.GainedLemmas.{tables_none}
 use Rattle.pc_inline_state.proofs.FitsLemmas.{fits_grown}
 use Rattle.pc_inline_state.proofs.GrowthLemmas.{graph_grown}
 use Rattle.pc_inline_state.proofs.IntrinsicLemmas.{intrinsics_kept}
+use Rattle.pc_inline_state.proofs.InstanceLemmas.{instances_kept, widths_kept}
+use Rattle.pc_inline_canon.proofs.AdapterKeptLemmas.{adapters_items_kept, adapters_still}
 use Rattle.pc_inline_canon.proofs.KeptLemmas.{is_item_kept}
 use Rattle.pc_inline_state.proofs.StateLemmas.{module_grows, types_refl}
 use Rattle.pc_inline_canon.proofs.WorldLemmas.{declared_still, effect_still, import_still, imported_same}
@@ -56,6 +58,7 @@ module _ (g : ComponentDfg) (grows : graph.Grows g (begun_graph g)) where
         (λ a x. (x.0, is_item_kept ms g (begun_graph g) grows x.0 a.1.1 x.1)) (host_arguments args)
         (h.hosts i r args at);
     destructors = λ n x d at is. is_item_kept ms g (begun_graph g) grows _ d (h.destructors n x d at is);
+    adapters = adapters_items_kept ms g (begun_graph g) grows refl h.adapters;
     exports = λ n ty o d at. is_item_kept ms g (begun_graph g) grows _ d (h.exports n ty o d at);
     statics = λ n ty m at. h.statics n ty m at;
   }
@@ -88,14 +91,22 @@ module _ (g : ComponentDfg) (grows : graph.Grows g (begun_graph g)) where
             (import_still types types g (begun_graph g) still grows fits) g.import_types w.imports s.import_types;
         imports = s.imports;
         imported_resources = imported_same g (begun_graph g) grows refl w.imported_resources s.imported_resources;
+        resources_apart = s.resources_apart;
         resources = s.resources;
         intrinsics = intrinsics_kept types g w.intrinsics s.intrinsics types (begun_graph g) still.signatures refl;
-        no_adapters = s.no_adapters;
+        adapters = adapters_still types types g (begun_graph g) still grows fits refl w.log s.adapters;
         begun = ap (λ n. n + 1) one;
       }
 
   pub begun_unexported : HasNoExports g → HasNoExports (begun_graph g)
   begun_unexported h = record { exports = h.exports; items = h.items }
+
+-- its tables grew
+pub begun_keeps : (st : State) → graph.Grows st.graph (begun_graph st.graph)
+    → Keeps (tables_of st) (tables_of (record st { graph = begun_graph st.graph }))
+begun_keeps st grows =
+    graph_grown (tables_of st) (begun_graph st.graph) grows
+    (fits_grown st.graph (begun_graph st.graph) grows refl refl)
 
 -- it is in order
 pub begun_sound : (t : TypeTable) (ms : List ModuleRecord) (st : State) → graph.Grows st.graph (begun_graph st.graph)
@@ -105,7 +116,6 @@ begun_sound t ms st grows ordered s = record {
   ordered = ordered s.ordered;
   items = begun_items st.graph grows ms s.items;
   plain = record {
-    adapters = s.plain.adapters;
     adapter_modules = s.plain.adapter_modules;
     adapter_partitionings = s.plain.adapter_partitionings;
     unsafe_intrinsics = s.plain.unsafe_intrinsics;
@@ -127,14 +137,10 @@ begun_sound t ms st grows ordered s = record {
   table = s.table;
   bodies = s.bodies;
   members = s.members;
+  instances = instances_kept ms (tables_of st) (tables_of (record st { graph = begun_graph st.graph }))
+      (begun_keeps st grows) refl st.runtime_instances.items s.instances;
+  widths = widths_kept t ms st.runtime_instances.items st.graph (begun_graph st.graph) refl s.widths;
 }
-
--- its tables grew
-pub begun_keeps : (st : State) → graph.Grows st.graph (begun_graph st.graph)
-    → Keeps (tables_of st) (tables_of (record st { graph = begun_graph st.graph }))
-begun_keeps st grows =
-    graph_grown (tables_of st) (begun_graph st.graph) grows
-    (fits_grown st.graph (begun_graph st.graph) grows refl refl)
 
 begun_lists : (g : ComponentDfg) (l : ListName) → length (entries_of (begun_graph g) l) ≡ length (entries_of g l)
 unfolding slots_of

@@ -37,13 +37,11 @@ use Rattle.pc_inline_state.specs.Points.{IsPoint, PointStands}
 use Rattle.pc_inline_state.specs.Refused.{LacksRoom}
 use Rattle.pc_inline_state.specs.Stands.{Stands, stands, stands_component}
 use Rattle.pc_inline_state.specs.Tables.{Keeps, tables_of}
-use Rattle.pc_inline_state.specs.Today.{built_call, today}
 use Rattle.pc_inline_items.proofs.MemberLemmas.{arguments_all, arguments_lack, arguments_typed}
 use Rattle.pc_inline_stack.proofs.EnclosedLemmas.{child_enclosed}
 use Rattle.pc_inline_canon.proofs.FrameLemmas.{converted_framed}
 use Rattle.pc_inline_canon.proofs.KeptLemmas.{stands_kept}
 use Rattle.pc_inline_state.proofs.ZipLemmas.{both_missing, both_there, zip_at}
-use Rattle.pc_spec_reading.specs.Reading.{called}
 
 -- a component instance is still where it was
 pub stays_so : (t : TypeTable) (ms : List ModuleRecord) (st : State) (f : Frame) (st' : State) (f' : Frame)
@@ -91,8 +89,8 @@ call_made : (t : TypeTable) (s : Scope) (n : ℕ) (as_ : List ArgumentOf) (ty : 
     (vs : List (List ℕ × Value)) → list_all (is_typed_argument t) as_ ≡ true
     → has_entry t is_instance ty ≡ true → slice_get s.components n ≡ Some c
     → map_all (argument_value t s) as_ ≡ Some vs
-    → built_call t s n as_ ty ≡ Ok (record { component = c; arguments = vs })
-unfolding called today read_call
+    → read_call t s n as_ ty ≡ Ok (record { component = c; arguments = vs })
+unfolding read_call
 call_made t s n as_ ty c vs typed is at given = rw (typed, is, at, given) refl
 
 module _ (t : TypeTable) (ms : List ModuleRecord) (st : State) (f : Frame) (n : ℕ) (xs : List (List ℕ × ItemKind × ℕ))
@@ -103,7 +101,7 @@ module _ (t : TypeTable) (ms : List ModuleRecord) (st : State) (f : Frame) (n : 
   -- a type number isn't held
   pub call_mistyped : are_typed t xs ≡ false
       → Calls t ms n the_args ty st f st (Err (item_error.Fault item_fault.BadType))
-  unfolding Calls CallFollows called today read_call
+  unfolding Calls CallFollows read_call
   call_mistyped other now at = rw (arguments_typed t xs ∙ other) refl
 
   -- want of memory and full lists
@@ -127,14 +125,14 @@ module _ (t : TypeTable) (ms : List ModuleRecord) (st : State) (f : Frame) (n : 
     -- no instance type
     pub call_untyped : has_entry t is_instance ty ≡ false
         → Calls t ms n the_args ty st f st (Err (item_error.Fault item_fault.BadType))
-    unfolding Calls CallFollows called today read_call
+    unfolding Calls CallFollows read_call
     call_untyped other now at = rw (typed_all, other) refl
 
     module _ (typed : has_entry t is_instance ty ≡ true) where
       -- no such component
       pub call_missing : slice_get f.components n ≡ None
           → Calls t ms n the_args ty st f st (Err (item_error.Fault item_fault.Invalid))
-      unfolding Calls CallFollows called today read_call
+      unfolding Calls CallFollows read_call
       call_missing none now at =
           rw (
             typed_all,
@@ -147,7 +145,7 @@ module _ (t : TypeTable) (ms : List ModuleRecord) (st : State) (f : Frame) (n : 
         -- an argument is missing
         pub call_lacks : table_fault t ≡ None → are_there f xs ≡ false
             → Calls t ms n the_args ty st f st (Err (item_error.Fault item_fault.Invalid))
-        unfolding Calls CallFollows called today read_call
+        unfolding Calls CallFollows read_call
         call_lacks sound missing now at =
             let c = both_there _ _ _ id (zip_at (ComponentStands ms (tables_of st)) f.components now.scope.components n
             at.frame.components) there in

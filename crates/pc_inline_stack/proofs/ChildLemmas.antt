@@ -1,6 +1,6 @@
 -- A child begins and ends, wherever the reading began.
 use Rattle.std.proofs.Common.{◌≡◌, ◌<◌, ◌≤◌, ◌+◌, ◌⊎◌, ℕ, List, ◌∷◌, Some, Ok, Err, length}
-use Rattle.std.proofs.Common.{Option, map, sym, ap, subst, ◌∙◌, arith, inl, inr}
+use Rattle.std.proofs.Common.{map, sym, ap, subst, ◌∙◌, arith, inl, inr}
 use Rattle.std.specs.Prelude.{⊤, slice_get, unwrap_or}
 use Rattle.pc_numbers.specs.declared.runtime.RuntimeComponentInstanceIndex.{RuntimeComponentInstanceIndex}
 use Rattle.pc_types.specs.declared.error.Error.{Error}
@@ -33,7 +33,6 @@ use Rattle.pc_inline_state.specs.Points.{full_instances}
 use Rattle.pc_inline_stack.specs.Reads.{Ends}
 use Rattle.pc_inline_stack.specs.Stacks.{Driven, Failed, IsPast, Reached, instance_type_at, items_of}
 use Rattle.pc_inline_state.specs.Tables.{Keeps, tables_of}
-use Rattle.pc_inline_state.specs.Today.{built_call}
 use Rattle.pc_inline_state.proofs.AddsLemmas.{adds_refl, adds_trans}
 use Rattle.pc_inline_stack.proofs.BegunLemmas.{begun_adds, begun_graph, begun_keeps}
 use Rattle.pc_inline_stack.proofs.CurrentLemmas.{current_adds, current_keeps}
@@ -42,6 +41,7 @@ use Rattle.pc_inline_stack.proofs.EnterLemmas.{child_reached, for_arguments, gre
 use Rattle.pc_inline_stack.proofs.LeaveLemmas.{for_return, its_exports, leave_fails, left_goes}
 use Rattle.pc_inline_stack.proofs.MoveLemmas.{failed_after, some_reached}
 use Rattle.pc_inline_state.proofs.StateLemmas.{keeps_refl, keeps_trans}
+use Rattle.pc_spec_reading.specs.Components.{read_call}
 
 module _ (t : TypeTable) (ms : List ModuleRecord) (limit : ℕ) (root : Translation) (old : State) (f : Frame)
     (st : State)
@@ -81,7 +81,7 @@ module _ (t : TypeTable) (ms : List ModuleRecord) (limit : ℕ) (root : Translat
             stays
 
         reads : (is : Items) (first : Moment) (x : Reached t ms limit root is first st ks o driven.added)
-            → CallReads t ms (tables_of st') ty (built_call t x.reader.scope component (map argument_of args) ty) call
+            → CallReads t ms (tables_of st') ty (read_call t x.reader.scope component (map argument_of args) ty) call
         unfolding CallFollows
         reads is first x =
             call_follows t ms limit root is first st ks o driven.added x component args ty at st' (Ok call) calls

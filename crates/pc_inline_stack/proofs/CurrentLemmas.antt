@@ -1,5 +1,5 @@
 -- Other resources are known, or types are converted for another component instance: what waits knows what it knew.
-use Rattle.std.proofs.Common.{◌≡◌, ℕ, List, Option, refl, sym, ◌∙◌}
+use Rattle.std.proofs.Common.{◌≡◌, ℕ, List, refl, sym, ◌∙◌}
 use Rattle.pc_types.specs.declared.module_record.ModuleRecord.{ModuleRecord}
 use Rattle.pc_types.specs.declared.parsed.TypeTable.{TypeTable}
 use Rattle.pc_types_lists.specs.Known.{resource_of}
@@ -17,10 +17,11 @@ use Rattle.pc_inline_state.specs.declared.state.State.{State}
 use Rattle.pc_inline_stack.specs.Stacks.{Waits}
 use Rattle.pc_inline_state.specs.Adds.{Adds}
 use Rattle.pc_inline_state.specs.Points.{IsSoundState}
-use Rattle.pc_inline_state.specs.Tables.{Keeps, Tables}
+use Rattle.pc_inline_state.specs.Tables.{Keeps, Tables, tables_of}
 use Rattle.pc_inline_state.specs.Trails.{Trails}
 use Rattle.pc_inline_state.specs.Worlds.{WorldStands}
 use Rattle.pc_inline_state.proofs.GainedLemmas.{tables_aside}
+use Rattle.pc_inline_state.proofs.InstanceLemmas.{instances_kept}
 use Rattle.pc_inline_state.proofs.StateLemmas.{keeps_refl, module_grows}
 use Rattle.pc_inline_canon.proofs.WorldLemmas.{world_still}
 
@@ -83,6 +84,9 @@ current_sound t ms st r s = record {
   table = s.table;
   bodies = s.bodies;
   members = s.members;
+  instances = instances_kept ms (tables_of st) (record (tables_of st) { types = going_on_with st.types r })
+      (current_keeps (tables_of st) r) refl st.runtime_instances.items s.instances;
+  widths = s.widths;
 }
 
 -- the graph does what it did
@@ -90,7 +94,7 @@ pub current_world : (types : Types) (g : ComponentDfg) (r : Resources) (w : Worl
     → WorldStands types g w → WorldStands (going_on_with types r) g w
 current_world types g r w s =
     world_still types (going_on_with types r) g g (keeps_same types) (graph_growth.grows_refl g) (λ who fits. fits)
-    refl refl refl refl refl refl refl refl refl w s
+    refl refl refl refl refl refl refl refl refl refl w s
 
 -- what was converted stays so as the builder grows, whichever resources it goes on with
 pub converted_still : (old new : Types) → KeepsTypes old new → (k : Resources) (t : TypeTable)

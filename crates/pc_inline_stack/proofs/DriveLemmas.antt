@@ -7,6 +7,7 @@ use Rattle.pc_types.specs.declared.module_record.ModuleRecord.{ModuleRecord}
 use Rattle.pc_types.specs.declared.parsed.TypeTable.{TypeTable}
 use Rattle.pc_spec_reading.specs.Item.{Items}
 use Rattle.pc_spec_reading.specs.Outcome.{Outcome, done, past}
+use Rattle.pc_spec_reading.specs.Reading.{enter_at, read_items}
 use Rattle.pc_spec_reading.specs.Scope.{Moment}
 use Rattle.pc_local.specs.declared.item.Translation.{Translation}
 use Rattle.pc_local.specs.Standing.{ItemsStand, no_names}
@@ -20,7 +21,6 @@ use Rattle.pc_inline_stack.specs.Reads.{AreItems, Ends}
 use Rattle.pc_inline_stack.specs.Stacks.{Driven, Failed, Grew, HasRoom, IsPast, Reached, all_most_left}
 use Rattle.pc_inline_stack.specs.Stacks.{AllStand, child_stands, items_of, reads_on, resume, root_stands}
 use Rattle.pc_inline_stack.specs.Stacks.{Reader, Waiting}
-use Rattle.pc_inline_state.specs.Today.{built_enter, built_items}
 use Rattle.pc_inline_state.specs.Tables.{tables_of}
 use Rattle.pc_inline_state.proofs.AddsLemmas.{adds_refl}
 use Rattle.pc_inline_stack.proofs.EnclosedLemmas.{root_enclosed}
@@ -51,9 +51,10 @@ module _ (t : TypeTable) (ms : List ModuleRecord) (limit : ℕ) (root : Translat
         import_types = at.world.import_types;
         imports = at.world.imports;
         imported_resources = at.world.imported_resources;
+        resources_apart = at.world.resources_apart;
         resources = at.world.resources;
         intrinsics = at.world.intrinsics;
-        no_adapters = at.world.no_adapters;
+        adapters = at.world.adapters;
         begun = at.world.begun;
       };
       unexported = at.unexported;
@@ -89,7 +90,7 @@ module _ (t : TypeTable) (ms : List ModuleRecord) (limit : ℕ) (root : Translat
       });
       same =
           let whole : limit - 0 ≡ limit = omega arith in
-          ap (λ l. built_items t ms (built_enter t ms limit l) 0 is first) whole;
+          ap (λ l. read_items t ms (enter_at t ms limit l) 0 is first) whole;
       grew = root_grew first.world.total (all_most_left t old.bodies.now root [] root_open)
           (most_of_items t root.initializers) (omega arith) room;
     }

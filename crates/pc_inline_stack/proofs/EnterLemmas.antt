@@ -15,7 +15,7 @@ use Rattle.pc_types.specs.declared.module_record.ModuleRecord.{ModuleRecord}
 use Rattle.pc_types.specs.declared.parsed.TypeTable.{TypeTable}
 use Rattle.pc_types_builder.specs.Plain.{Layers}
 use Rattle.pc_types_builder.specs.Converted.{AreConverted}
-use Rattle.pc_types_lists.specs.Types.{Resources, Types}
+use Rattle.pc_types_lists.specs.Types.{Resources}
 use Rattle.pc_parsed.specs.declared.payload.ItemKind.{ItemKind}
 use Rattle.pc_spec_reading.specs.Item.{ArgumentOf, Items, and_item, exports_in, instantiate_component_item}
 use Rattle.pc_spec_reading.specs.Outcome.{Fault, Outcome, fault, over, past}
@@ -47,7 +47,6 @@ use Rattle.pc_inline_stack.specs.Stacks.{AllStand, CallerStands, Fails, Grew, Is
 use Rattle.pc_inline_stack.specs.Stacks.{Waiting, Waits, all_most_left, body_at, child_stands, items_of, reads_on}
 use Rattle.pc_inline_stack.specs.Stacks.{types_exported}
 use Rattle.pc_inline_state.specs.Stands.{Stands}
-use Rattle.pc_inline_state.specs.Today.{built_call}
 use Rattle.pc_inline_state.specs.Tables.{Keeps, tables_of}
 use Rattle.pc_inline_stack.proofs.BegunLemmas.{begun_graph, begun_keeps, begun_sound, begun_stands, begun_unexported}
 use Rattle.pc_inline_stack.proofs.CurrentLemmas.{current_keeps, current_sound, current_world}
@@ -65,6 +64,7 @@ use Rattle.pc_inline_state.proofs.KnowsLemmas.{knows_grown}
 use Rattle.pc_inline_state.proofs.StateLemmas.{keeps_trans}
 use Rattle.pc_inline_state.proofs.TrailLemmas.{trails_same}
 use Rattle.pc_inline_state.proofs.ZipLemmas.{both_more}
+use Rattle.pc_spec_reading.specs.Components.{read_call}
 
 -- a child of which nothing was read, with what was converted for it
 abbrev pub child_open : Call → RuntimeComponentInstanceIndex → Layers → Open
@@ -145,11 +145,11 @@ module _ (t : TypeTable) (ms : List ModuleRecord) (limit : ℕ) (root : Translat
       (instantiate_component_item component the_args ty) i.0 refl i.1))
 
   pub call_follows : (st' : State) (r : Result Call ItemError) → Calls t ms component the_args ty st o.frame st' r
-      → CallFollows t ms st' ty (built_call t x.reader.scope component the_args ty) r
+      → CallFollows t ms st' ty (read_call t x.reader.scope component the_args ty) r
   unfolding Calls
   call_follows st' r calls = calls here (reached_point t ms limit root is first st ks o added x)
 
-  refused : (k : Fault) → built_call t x.reader.scope component the_args ty ≡ Err k
+  refused : (k : Fault) → read_call t x.reader.scope component the_args ty ≡ Err k
       → reading_from t ms limit is first ≡ fault k (place.Reading x.reader.scope.component_instance o.next)
   refused k stuck =
       sym x.same
@@ -166,7 +166,7 @@ module _ (t : TypeTable) (ms : List ModuleRecord) (limit : ℕ) (root : Translat
       (omega (arith, few, parts))) x.grew
 
   call_ends : (st' : State) (f : Frame) (e : ItemError)
-      → CallFollows t ms st' ty (built_call t x.reader.scope component the_args ty) (Err e)
+      → CallFollows t ms st' ty (read_call t x.reader.scope component the_args ty) (Err e)
       → Ends t ms st' f (reading_from t ms limit is first)
       (Err (error_of e (place.Reading o.frame.component_instance.0 o.next)))
   unfolding CallFollows Ends
@@ -233,7 +233,7 @@ module _ (t : TypeTable) (ms : List ModuleRecord) (limit : ℕ) (root : Translat
     }
 
   module _ (call : Call)
-      (reads_call : CallReads t ms (tables_of st) ty (built_call t x.reader.scope component the_args ty) call) where
+      (reads_call : CallReads t ms (tables_of st) ty (read_call t x.reader.scope component the_args ty) call) where
     abbrev waiting_now : List Waiting
     waiting_now = waits_at x.reader o.next ty ∷ x.waiting
 

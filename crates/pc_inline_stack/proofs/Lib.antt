@@ -3,7 +3,7 @@ mod EnclosedLemmas
 pub mod ReadLemmas
 pub mod RowLemmas
 mod RowItemLemmas
-pub mod TodayLemmas
+mod ThenLemmas
 mod ResumeLemmas
 pub mod LoopAddsLemmas
 pub mod WeightLemmas

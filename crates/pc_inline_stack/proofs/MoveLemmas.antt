@@ -10,6 +10,7 @@ use Rattle.pc_types.specs.declared.module_record.ModuleRecord.{ModuleRecord}
 use Rattle.pc_types.specs.declared.parsed.TypeTable.{TypeTable}
 use Rattle.pc_spec_reading.specs.Item.{Item, Items, and_item}
 use Rattle.pc_spec_reading.specs.Outcome.{Outcome, fault}
+use Rattle.pc_spec_reading.specs.Rows.{read_row}
 use Rattle.pc_spec_reading.specs.Scope.{Moment}
 use Rattle.pc_local.specs.declared.item.LocalInitializer.{LocalInitializer}
 use Rattle.pc_local.specs.declared.item.Translation.{Translation}
@@ -33,7 +34,6 @@ use Rattle.pc_inline_stack.specs.Stacks.{Reached, all_most_left}
 use Rattle.pc_inline_stack.specs.Stacks.{begins_child, items_of}
 use Rattle.pc_inline_items.specs.StepsLocal.{StepsLocal}
 use Rattle.pc_inline_state.specs.Tables.{Keeps, tables_of}
-use Rattle.pc_inline_state.specs.Today.{built_row}
 use Rattle.pc_inline_state.specs.Trails.{Trails}
 use Rattle.pc_inline_state.proofs.AddsLemmas.{adds_trans}
 use Rattle.pc_inline_stack.proofs.BeginsLemmas.{begins_none}
@@ -87,21 +87,21 @@ module _ (t : TypeTable) (ms : List ModuleRecord) (limit : ℕ) (root : Translat
       module _ (plain : begins_child l ≡ false) (st' : State) (g : Frame) (keeps : Keeps (tables_of st) (tables_of st'))
           (trail : Trails o.frame.changes st.types.resources g.changes st'.types.resources) where
         row_of : (r : Result ⊤ ItemError) → StepsLocal t ms o.closure l st o.frame st' g r
-            → Follows t ms st' g (built_row t ms (point_of is first st ks o added x) this_item.0) r
+            → Follows t ms st' g (read_row t ms (point_of is first st ks o added x) this_item.0) r
         unfolding StepsLocal
         row_of r steps =
             steps x.reader.names this_item.0 this_item.1 (point_of is first st ks o added x) reached_point
             top_open.enclosed
 
         goes_on : (done : ⊤) → StepsLocal t ms o.closure l st o.frame st' g (Ok done)
-            → Goes t ms st' g (built_row t ms (point_of is first st ks o added x) this_item.0)
+            → Goes t ms st' g (read_row t ms (point_of is first st ks o added x) this_item.0)
         unfolding Follows
         goes_on done steps = row_of (Ok done) steps
 
         no_child : begins_child l ≡ false
         no_child = plain
 
-        module _ (next : Goes t ms st' g (built_row t ms (point_of is first st ks o added x) this_item.0)) where
+        module _ (next : Goes t ms st' g (read_row t ms (point_of is first st ks o added x) this_item.0)) where
           abbrev after : Open
           after = record o { frame = g; next = o.next + 1 }
 
@@ -156,7 +156,7 @@ module _ (t : TypeTable) (ms : List ModuleRecord) (limit : ℕ) (root : Translat
               }
 
         row_ends : (f : Frame) (c : RuntimeComponentInstanceIndex) → c ≡ o.frame.component_instance → (e : ItemError)
-            → Follows t ms st' g (built_row t ms (point_of is first st ks o added x) this_item.0) (Err e)
+            → Follows t ms st' g (read_row t ms (point_of is first st ks o added x) this_item.0) (Err e)
             → Ends t ms st' f (reading_from t ms limit is first) (Err (error_of e (place.Reading c.0 o.next)))
         unfolding Follows Ends
         row_ends f c same (item_error.Fault k) follows =

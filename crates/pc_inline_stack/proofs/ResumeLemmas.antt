@@ -6,13 +6,14 @@ use Rattle.pc_types.specs.declared.error.Place.{Place}
 use Rattle.pc_types.specs.declared.error.Place.TheVariants as place
 use Rattle.pc_types.specs.declared.module_record.ModuleRecord.{ModuleRecord}
 use Rattle.pc_types.specs.declared.parsed.TypeTable.{TypeTable}
-use Rattle.pc_spec_reading.specs.Components.{Call, read_return}
+use Rattle.pc_spec_reading.specs.Components.{Call, read_return, read_call}
 use Rattle.pc_spec_reading.specs.Item.{ArgumentOf, Item, Items, and_item, exports_in, instantiate_component_item}
 use Rattle.pc_spec_reading.specs.Item.{no_items}
 use Rattle.pc_spec_reading.specs.Items.{exports_at}
 use Rattle.pc_spec_reading.specs.Outcome.{Fault, Outcome, and_then, at_item, done, fault, over, past}
 use Rattle.pc_spec_reading.specs.Reading.{Enter, Return, beginning, begun_in, returning, read_items, read_body}
-use Rattle.pc_spec_reading.specs.Reading.{read_child, enter_at}
+use Rattle.pc_spec_reading.specs.Reading.{read_child, enter_at, read_item}
+use Rattle.pc_spec_reading.specs.Rows.{read_row}
 use Rattle.pc_spec_reading.specs.Scope.{Moment, fresh}
 use Rattle.pc_spec_reading.specs.Total.{body_weight}
 use Rattle.pc_spec_reading.specs.Value.{Chain, closed}
@@ -20,10 +21,8 @@ use Rattle.pc_spec_reading.specs.World.{World, grown, has_room}
 use Rattle.pc_local.specs.Standing.{Names}
 use Rattle.pc_inline_stack.specs.Reads.{items_from}
 use Rattle.pc_inline_stack.specs.Stacks.{Reader, Waiting, going_on, levels, reads_on, resume}
-use Rattle.pc_inline_state.specs.Today.{built_enter, built_item, built_items, built_row}
-use Rattle.pc_inline_state.specs.Today.{today, built_call}
 use Rattle.pc_inline_stack.proofs.RowItemLemmas.{call_item, is_instantiation, item_is_row}
-use Rattle.pc_inline_stack.proofs.TodayLemmas.{begun_world, beginning_then, then_then}
+use Rattle.pc_inline_stack.proofs.ThenLemmas.{begun_world, beginning_then, then_then}
 
 -- one that waits for a child of this type at an item
 abbrev pub waits_at : Reader → (item ty : ℕ) → Waiting
@@ -91,32 +90,32 @@ module _ (t : TypeTable) (ms : List ModuleRecord) (limit : ℕ) where
     here = record { scope = r.scope; world = w }
 
     abbrev enters : Enter
-    enters = built_enter t ms limit (levels t ms limit ws)
+    enters = enter_at t ms limit (levels t ms limit ws)
 
     abbrev the_rest : Moment → Outcome Moment
-    the_rest = built_items t ms enters (n + 1) (items_from (n + 1) r.body)
+    the_rest = read_items t ms enters (n + 1) (items_from (n + 1) r.body)
 
     abbrev number : ℕ
     number = r.scope.component_instance
 
     -- nothing is read where the items end
-    rest_none : items_from n r.body ≡ no_items → built_items t ms enters n (items_from n r.body) here ≡ done here
+    rest_none : items_from n r.body ≡ no_items → read_items t ms enters n (items_from n r.body) here ≡ done here
     unfolding read_items
-    rest_none none = ap (λ is. built_items t ms enters n is here) none
+    rest_none none = ap (λ is. read_items t ms enters n is here) none
 
     -- the innermost reads an item
     pub item_on : (i : Item) → items_from n r.body ≡ and_item i (items_from (suc n) r.body)
         → reads_on t ms limit ws r n w
-        ≡ resume t ms limit ws r.body (and_then (built_item t ms enters n i here) the_rest)
+        ≡ resume t ms limit ws r.body (and_then (read_item t ms enters n i here) the_rest)
     unfolding read_items
     item_on i at =
         let one : suc n ≡ n + 1 = omega arith in
-        ap (λ is. resume t ms limit ws r.body (built_items t ms enters n is here)) at
-        ∙ ap (λ k. resume t ms limit ws r.body (and_then (built_item t ms enters n i here)
-        (built_items t ms enters (n + 1) (items_from k r.body)))) one
+        ap (λ is. resume t ms limit ws r.body (read_items t ms enters n is here)) at
+        ∙ ap (λ k. resume t ms limit ws r.body (and_then (read_item t ms enters n i here)
+        (read_items t ms enters (n + 1) (items_from k r.body)))) one
 
     module _ (i : Item) (at : items_from n r.body ≡ and_item i (items_from (suc n) r.body)) where
-      row_item : is_instantiation i ≡ false → (x : Result Moment Fault) → built_row t ms here i ≡ x
+      row_item : is_instantiation i ≡ false → (x : Result Moment Fault) → read_row t ms here i ≡ x
           → reads_on t ms limit ws r n w
           ≡ resume t ms limit ws r.body (and_then (at_item number n x) the_rest)
       row_item is x read =
@@ -125,13 +124,13 @@ module _ (t : TypeTable) (ms : List ModuleRecord) (limit : ℕ) where
           (item_is_row t ms enters n i here is ∙ ap (at_item number n) read)
 
       -- a row is read
-      pub row_on : is_instantiation i ≡ false → (next : Moment) → built_row t ms here i ≡ Ok next
+      pub row_on : is_instantiation i ≡ false → (next : Moment) → read_row t ms here i ≡ Ok next
           → reads_on t ms limit ws r n w
           ≡ reads_on t ms limit ws (record r { scope = next.scope }) (n + 1) next.world
       row_on is next read = row_item is (Ok next) read
 
       -- or it is refused
-      pub row_refused : is_instantiation i ≡ false → (k : Fault) → built_row t ms here i ≡ Err k
+      pub row_refused : is_instantiation i ≡ false → (k : Fault) → read_row t ms here i ≡ Err k
           → reads_on t ms limit ws r n w ≡ fault k (place.Reading number n)
       row_refused is k read =
           row_item is (Err k) read ∙ resume_fault ws r.body k (place.Reading number n)
@@ -139,7 +138,7 @@ module _ (t : TypeTable) (ms : List ModuleRecord) (limit : ℕ) where
     module _ (component : ℕ) (args : List ArgumentOf) (ty : ℕ)
         (at : items_from n r.body
         ≡ and_item (instantiate_component_item component args ty) (items_from (suc n) r.body)) where
-      call_on : (x : Result Call Fault) → built_call t r.scope component args ty ≡ x
+      call_on : (x : Result Call Fault) → read_call t r.scope component args ty ≡ x
           → reads_on t ms limit ws r n w
           ≡ resume t ms limit ws r.body (and_then (and_then (at_item number n x) (λ (c : Call).
           and_then (enters c r.scope.known w) (λ (b : Return).
@@ -150,12 +149,12 @@ module _ (t : TypeTable) (ms : List ModuleRecord) (limit : ℕ) where
           (call_item t ms enters n component args ty here x read)
 
       -- one whose child can't begin is refused
-      pub call_refused : (k : Fault) → built_call t r.scope component args ty ≡ Err k
+      pub call_refused : (k : Fault) → read_call t r.scope component args ty ≡ Err k
           → reads_on t ms limit ws r n w ≡ fault k (place.Reading number n)
       call_refused k read = call_on (Err k) read ∙ resume_fault ws r.body k (place.Reading number n)
 
       -- what is read when its child is done
-      call_waits : (c : Call) → built_call t r.scope component args ty ≡ Ok c
+      call_waits : (c : Call) → read_call t r.scope component args ty ≡ Ok c
           → reads_on t ms limit ws r n w
           ≡ resume t ms limit ws r.body (and_then (enters c r.scope.known w) (going_on t ms limit ws (waits_at r n ty)))
       call_waits c read =
@@ -166,28 +165,28 @@ module _ (t : TypeTable) (ms : List ModuleRecord) (limit : ℕ) where
 
       child_reads : (c : Call) (body : Items) (chain : Chain) → c.component ≡ closed body chain → length ws < limit
           → enters c r.scope.known w
-          ≡ read_body today t ms limit (built_enter t ms limit (levels t ms limit (waits_at r n ty ∷ ws))) body
+          ≡ read_body t ms limit (enter_at t ms limit (levels t ms limit (waits_at r n ty ∷ ws))) body
           chain
           c.arguments r.scope.known w
       unfolding enter_at
       child_reads c body chain is deep =
           let one : limit - length ws ≡ suc (limit - suc (length ws)) = omega (arith, deep) in
-          ap (λ l. built_enter t ms limit l c r.scope.known w) one
-          ∙ ap (λ x. read_child today t ms limit (built_enter t ms limit
+          ap (λ l. enter_at t ms limit l c r.scope.known w) one
+          ∙ ap (λ x. read_child t ms limit (enter_at t ms limit
           (levels t ms limit (waits_at r n ty ∷ ws))) x
           c.arguments r.scope.known w) is
 
       -- a child begins
-      pub child_begins : (c : Call) → built_call t r.scope component args ty ≡ Ok c → (names : Names)
+      pub child_begins : (c : Call) → read_call t r.scope component args ty ≡ Ok c → (names : Names)
           (body : Items) (chain : Chain) → c.component ≡ closed body chain → length ws < limit
           → reads_on t ms limit ws r n w
           ≡ beginning limit (body_weight t ms body) w
           (reads_on t ms limit (waits_at r n ty ∷ ws) (child_of r w c names body chain) 0)
       unfolding read_body resume
       child_begins c read names body chain closes deep =
-          let e = built_enter t ms limit (levels t ms limit (waits_at r n ty ∷ ws)) in
+          let e = enter_at t ms limit (levels t ms limit (waits_at r n ty ∷ ws)) in
           let begun : World → Outcome Return = λ v.
-          and_then (built_items t ms e 0 body (begun_in c.arguments r.scope.known chain w.begun v))
+          and_then (read_items t ms e 0 body (begun_in c.arguments r.scope.known chain w.begun v))
           (returning t body) in
           call_waits c read
           ∙ ap (λ o. resume t ms limit ws r.body (and_then o (going_on t ms limit ws (waits_at r n ty))))
@@ -223,7 +222,7 @@ module _ (t : TypeTable) (ms : List ModuleRecord) (limit : ℕ) where
           ≡ reads_on t ms limit ws (record w.reader { scope = next.scope }) (w.item + 1) next.world
       return_on next read =
           ap (λ x. resume t ms limit ws w.reader.body (and_then (at_item w.reader.scope.component_instance w.item x)
-          (built_items t ms (built_enter t ms limit (levels t ms limit ws)) (w.item + 1)
+          (read_items t ms (enter_at t ms limit (levels t ms limit ws)) (w.item + 1)
           (items_from (w.item + 1) w.reader.body)))) read
 
       -- it hasn't
@@ -232,6 +231,6 @@ module _ (t : TypeTable) (ms : List ModuleRecord) (limit : ℕ) where
           ≡ fault k (place.Reading w.reader.scope.component_instance w.item)
       return_refused k read =
           ap (λ x. resume t ms limit ws w.reader.body (and_then (at_item w.reader.scope.component_instance w.item x)
-          (built_items t ms (built_enter t ms limit (levels t ms limit ws)) (w.item + 1)
+          (read_items t ms (enter_at t ms limit (levels t ms limit ws)) (w.item + 1)
           (items_from (w.item + 1) w.reader.body)))) read
           ∙ resume_fault ws w.reader.body k (place.Reading w.reader.scope.component_instance w.item)

@@ -1,4 +1,4 @@
--- An item as it is built: a row at its place, or the instantiation of a component.
+-- An item as it is read: a row at its place, or the instantiation of a component.
 use Rattle.std.proofs.Common.{◌≡◌, ℕ, Bool, true, false, List, Result, ap, refl}
 use Rattle.pc_types.specs.declared.module_record.ModuleRecord.{ModuleRecord}
 use Rattle.pc_types.specs.declared.parsed.TypeTable.{TypeTable}
@@ -7,8 +7,8 @@ use Rattle.pc_spec_reading.specs.Item.{ArgumentOf}
 use Rattle.pc_spec_reading.specs.Outcome.{Fault, at_item, and_then}
 use Rattle.pc_spec_reading.specs.Reading.{Enter, instantiate, read_item, Return}
 use Rattle.pc_spec_reading.specs.Scope.{Moment}
-use Rattle.pc_inline_state.specs.Today.{built_item, built_row, built_call}
-use Rattle.pc_spec_reading.specs.Components.{Call, read_return}
+use Rattle.pc_spec_reading.specs.Components.{Call, read_return, read_call}
+use Rattle.pc_spec_reading.specs.Rows.{read_row}
 
 -- whether an item instantiates a component
 abbrev pub is_instantiation : Item.Item → Bool
@@ -18,7 +18,7 @@ is_instantiation _ = false
 module _ (t : TypeTable) (ms : List ModuleRecord) (enter : Enter) (n : ℕ) where
   -- another item is a row at its place
   pub item_is_row : (i : Item.Item) (now : Moment) → is_instantiation i ≡ false
-      → built_item t ms enter n i now ≡ at_item now.scope.component_instance n (built_row t ms now i)
+      → read_item t ms enter n i now ≡ at_item now.scope.component_instance n (read_row t ms now i)
   unfolding read_item
   item_is_row (Item.import_item a b) now is = refl
   item_is_row Item.intrinsics_import now is = refl
@@ -44,8 +44,8 @@ module _ (t : TypeTable) (ms : List ModuleRecord) (enter : Enter) (n : ℕ) wher
 
   -- the instantiation of a component, from what its child begins with
   pub call_item : (component : ℕ) (args : List ArgumentOf) (ty : ℕ) (now : Moment) (x : Result Call Fault)
-      → built_call t now.scope component args ty ≡ x
-      → built_item t ms enter n (Item.instantiate_component_item component args ty) now
+      → read_call t now.scope component args ty ≡ x
+      → read_item t ms enter n (Item.instantiate_component_item component args ty) now
       ≡ and_then (at_item now.scope.component_instance n x) (λ (c : Call).
       and_then (enter c now.scope.known now.world) (λ (b : Return).
       at_item now.scope.component_instance n (read_return t (record now { world = b.world }) b.exports ty)))

@@ -1,8 +1,8 @@
 -- What an item keeps of a moment.
 use Rattle.std.proofs.Common.{◌≡◌, ℕ, Bool, true, false, List, Option, None, Some, Result, Ok, Err, refl}
 use Rattle.std.proofs.Common.{subst, ◌∙◌, if◌then◌else◌}
-use Rattle.std.specs.Prelude.{IfOk, slice_get, option_and_then, not}
-use Rattle.std.specs.List.{list_all, list_any}
+use Rattle.std.specs.Prelude.{IfOk, slice_get, option_and_then}
+use Rattle.std.specs.List.{list_all}
 use Rattle.pc_entity.specs.Lists.{map_all, value_of}
 use Rattle.pc_types.specs.declared.module_record.ModuleRecord.{ModuleRecord}
 use Rattle.pc_types.specs.declared.parsed.CoreFuncSig.{CoreFuncSig}
@@ -44,9 +44,6 @@ use Rattle.pc_spec_reading.specs.Value.{Function, Module, NamedValue, Value, clo
 use Rattle.pc_spec_reading.specs.Value.{func_value, host_function, host_module, instance_value, intrinsic_function}
 use Rattle.pc_spec_reading.specs.Value.{lifted_function, made_instance, module_value, pack_values, static_module}
 use Rattle.pc_spec_reading.specs.Value.{the_intrinsics, type_value}
-use Rattle.pc_inline_state.specs.Today.{built_row, is_made, today}
-use Rattle.pc_spec_reading.specs.Reading.{row}
-use Rattle.pc_spec_reading.specs.Guard.{let_through}
 
 -- the scopes around the component, its number, the total and how many component instances began are as before
 pub record RowKeeps (now next : Moment) : Type 0 where
@@ -274,27 +271,9 @@ module _ (t : TypeTable) (ms : List ModuleRecord) (now : Moment) where
       found_keeps now invalid (value_at t now.scope e.kind e.index) _ (λ v. value_keeps now now v (same_keeps now)))
 
 module _ (t : TypeTable) (ms : List ModuleRecord) (now next : Moment) where
-  -- a moment in which no adapter was made
-  abbrev kept : Moment → Result Moment Fault
-  kept m = let_through (not (list_any is_made m.world.log)) (Ok m)
-
-  after_kept : (r : Result Moment Fault) → after r kept ≡ Ok next → r ≡ Ok next
-  after_kept (Err f) is = cc
-  after_kept (Ok last) is = by (list_any is_made last.world.log) is
-    where
-      by : (b : Bool) → let_through (not b) (Ok last) ≡ Ok next
-          → ◌≡◌ {A = Result Moment Fault} (Ok last) (Ok next)
-      by true is = cc
-      by false is = is
-
-  -- what an item reads
-  row_read : (i : Item.Item) → built_row t ms now i ≡ Ok next → read_row t ms now i ≡ Ok next
-  unfolding row today
-  row_read i done = after_kept (read_row t ms now i) done
-
   -- what an item keeps of a moment
-  pub row_keeps : (i : Item.Item) → built_row t ms now i ≡ Ok next → RowKeeps now next
-  row_keeps i done = subst (λ r. IfOk r (RowKeeps now)) (row_read i done) (item_keeps t ms now i)
+  pub row_keeps : (i : Item.Item) → read_row t ms now i ≡ Ok next → RowKeeps now next
+  row_keeps i done = subst (λ r. IfOk r (RowKeeps now)) done (item_keeps t ms now i)
 
   -- what the return of a child keeps of a moment
   pub return_keeps : (exports : List NamedValue) (ty : ℕ) → read_return t now exports ty ≡ Ok next → RowKeeps now next

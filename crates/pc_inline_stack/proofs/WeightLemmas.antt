@@ -16,7 +16,7 @@ use Rattle.pc_parsed.specs.declared.payload.ItemKind.{ItemKind}
 use Rattle.pc_parsed.specs.declared.payload.ItemKind.TheVariants as kind
 use Rattle.pc_spec_reading.specs.Canonical.{canonical_item}
 use Rattle.pc_spec_reading.specs.Item
-use Rattle.pc_spec_reading.specs.Item.{ArgumentOf, ExportOf, Items, and_item, exports_in}
+use Rattle.pc_spec_reading.specs.Item.{ExportOf, Items, and_item, exports_in}
 use Rattle.pc_spec_reading.specs.Section.{argument_of, named_item}
 use Rattle.pc_spec_reading.specs.Total.{argument_weight, body_weight, export_weight, index_weight, item_weight}
 use Rattle.pc_spec_reading.specs.Total.{operand_weight, prepared_weight, value_weight}
@@ -26,8 +26,9 @@ use Rattle.pc_local.specs.declared.item.Translation.{Translation}
 use Rattle.pc_local.specs.Plain.{if_builtin, if_error_context, if_waitable, plain_item}
 use Rattle.pc_local.specs.Standing.{ItemStands, ItemsStand, Names, stand_more, stand_none, stands_component}
 use Rattle.pc_local.specs.Standing.{stands_module, stands_nested, stands_plain}
-use Rattle.pc_inline_state.specs.Adds.{is_type_kind, most_added, most_builtin, most_converted, most_of_items}
-use Rattle.pc_inline_state.specs.Adds.{most_operand, most_prepared, most_prepared_of, most_returned, types_among}
+use Rattle.pc_inline_state.specs.Adds.{is_type_kind, most_added, most_builtin, most_converted, most_lowered}
+use Rattle.pc_inline_state.specs.Adds.{most_of_items, most_operand, most_prepared, most_prepared_of, most_returned}
+use Rattle.pc_inline_state.specs.Adds.{types_among}
 use Rattle.pc_inline_stack.specs.Stacks.{type_count, types_exported}
 
 counted_more : (k : ItemKind) (n : ℕ) → type_count k + n ≡ cond (is_type_kind k) (1 + n) n
@@ -190,7 +191,7 @@ module _ (t : TypeTable) (ms : List ModuleRecord) where
       subst (λ j. most_converted t 1 + Exporting (and_item j is) ≤ item_weight t ms j + Exporting is) it (omega arith)
   plain_weighs (local.Lower func ty core opts) i is same =
       let it : Item.lower_item func ty core opts ≡ i = cc in
-      subst (λ j. most_converted t 1 + Exporting (and_item j is) ≤ item_weight t ms j + Exporting is) it (omega arith)
+      subst (λ j. most_lowered t + Exporting (and_item j is) ≤ item_weight t ms j + Exporting is) it (omega arith)
   plain_weighs (local.Builtin c) i is same = builtin_weighs (canonical_item c) i is same
   plain_weighs (local.WaitableSet c) i is same = waitable_weighs (canonical_item c) i is same
   plain_weighs (local.ErrorContext c) i is same = error_context_weighs (canonical_item c) i is same

@@ -8,7 +8,7 @@ use Rattle.pc_types_builder.specs.Converted.{AreConverted}
 use Rattle.pc_parsed.specs.declared.payload.ExternName.{ExternName}
 use Rattle.pc_parsed.specs.declared.payload.ItemKind.{ItemKind}
 use Rattle.pc_spec_reading.specs.Components as reading
-use Rattle.pc_spec_reading.specs.Components.{read_return}
+use Rattle.pc_spec_reading.specs.Components.{read_return, read_call}
 use Rattle.pc_spec_reading.specs.Item.{ArgumentOf, Items}
 use Rattle.pc_spec_reading.specs.Items.{exports_at}
 use Rattle.pc_spec_reading.specs.Outcome.{Fault}
@@ -33,7 +33,6 @@ use Rattle.pc_inline_state.specs.Points.{Follows, IsFullSomewhere, PointStands}
 use Rattle.pc_inline_stack.specs.Stacks.{Waits}
 use Rattle.pc_inline_state.specs.Stands.{MembersStand, Stands}
 use Rattle.pc_inline_state.specs.Tables.{Tables, tables_of}
-use Rattle.pc_inline_state.specs.Today.{built_call}
 use Rattle.pc_inline_state.specs.Trails.{Trails}
 
 module _ (t : TypeTable) (ms : List ModuleRecord) where
@@ -69,7 +68,7 @@ module _ (t : TypeTable) (ms : List ModuleRecord) where
   unfoldable pub Calls : (component : ℕ) → List ArgumentOf → (ty : ℕ) → (old : State) → Frame → (new : State)
       → Result Call ItemError → Type 0
   Calls n args ty st f st' r =
-      (now : Moment) → PointStands t ms st f now → CallFollows st' ty (built_call t now.scope n args ty) r
+      (now : Moment) → PointStands t ms st f now → CallFollows st' ty (read_call t now.scope n args ty) r
 
   -- a component instance is still at whatever moment it was
   unfoldable pub Stays : (old : State) → Frame → (new : State) → Frame → Type 0

@@ -5,6 +5,7 @@ use Rattle.pc_types.specs.declared.module_record.ModuleRecord.{ModuleRecord}
 use Rattle.pc_types.specs.declared.parsed.TypeTable.{TypeTable}
 use Rattle.pc_spec_reading.specs.Item.{Items}
 use Rattle.pc_spec_reading.specs.Outcome.{Outcome, done, past}
+use Rattle.pc_spec_reading.specs.Reading.{enter_at, read_items}
 use Rattle.pc_spec_reading.specs.Scope.{Moment}
 use Rattle.pc_spec_reading.specs.World.{full}
 use Rattle.pc_local.specs.declared.item.LocalInitializer.{LocalInitializer}
@@ -15,12 +16,11 @@ use Rattle.pc_inline_state.specs.Adds.{Adds, most_of_items}
 use Rattle.pc_inline_state.specs.Points.{PointStands}
 use Rattle.pc_inline_stack.specs.Reads.{Ends}
 use Rattle.pc_inline_state.specs.Tables.{tables_of}
-use Rattle.pc_inline_state.specs.Today.{built_enter, built_items}
 
 module _ (t : TypeTable) (ms : List ModuleRecord) (limit : ℕ) where
   -- the items of a root from a moment on
   abbrev pub reading_from : Items → Moment → Outcome Moment
-  reading_from is now = built_items t ms (built_enter t ms limit limit) 0 is now
+  reading_from is now = read_items t ms (enter_at t ms limit limit) 0 is now
 
   -- the root after its items, or the error of an item
   unfoldable pub EndsRun : State → Frame → Outcome Moment → Result Frame Error → Type 0

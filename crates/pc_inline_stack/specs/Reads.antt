@@ -7,6 +7,7 @@ use Rattle.pc_types.specs.declared.parsed.TypeTable.{TypeTable}
 use Rattle.pc_spec_reading.specs.Item.{Items, and_item, no_items}
 use Rattle.pc_spec_reading.specs.Outcome.{Outcome, bad_type, done, fault, invalid, over, unknown_intrinsic}
 use Rattle.pc_spec_reading.specs.Outcome.{unsupported}
+use Rattle.pc_spec_reading.specs.Reading.{prepare_all}
 use Rattle.pc_spec_reading.specs.Scope.{Moment}
 use Rattle.pc_local.specs.declared.item.LocalInitializer.{LocalInitializer}
 use Rattle.pc_local.specs.declared.item.Translation.{Translation}
@@ -15,7 +16,6 @@ use Rattle.pc_inline_state.specs.declared.frame.Frame.{Frame}
 use Rattle.pc_inline_state.specs.declared.state.State.{State}
 use Rattle.pc_inline_state.specs.Points.{IsFullSomewhere, IsPoint, PointStands}
 use Rattle.pc_inline_state.specs.Tables.{Keeps, tables_of}
-use Rattle.pc_inline_state.specs.Today.{built_prepare_all}
 
 -- the items of a body from number n on
 abbrev pub items_from : ℕ → Items → Items
@@ -58,4 +58,4 @@ module _ (t : TypeTable) (ms : List ModuleRecord) where
 
   -- the imports of the root are prepared
   abbrev pub Prepared : List LocalInitializer → State → Frame → State → Frame → Result ⊤ Error → Type 0
-  Prepared = Passes (built_prepare_all t 0)
+  Prepared = Passes (prepare_all t 0)

@@ -17,7 +17,7 @@ use Rattle.pc_parsed.specs.declared.payload.ItemKind.{ItemKind}
 use Rattle.pc_parsed.specs.declared.payload.ItemKind.TheVariants as kind
 use Rattle.pc_spec_reading.specs.Item.{ExportOf, Items, and_item, exports_in, instantiate_component_item}
 use Rattle.pc_spec_reading.specs.Outcome.{Outcome, and_then, at_item, past}
-use Rattle.pc_spec_reading.specs.Reading.{Return, returning}
+use Rattle.pc_spec_reading.specs.Reading.{Return, returning, enter_at, read_items}
 use Rattle.pc_spec_reading.specs.Scope.{Moment, Scope}
 use Rattle.pc_spec_reading.specs.Section.{argument_of, named_item}
 use Rattle.pc_spec_reading.specs.Types.{has_entry}
@@ -40,7 +40,6 @@ use Rattle.pc_inline_state.specs.KnowsSame.{KnowsSame}
 use Rattle.pc_inline_state.specs.Points.{IsSoundState, PointStands}
 use Rattle.pc_inline_stack.specs.Reads.{Ends, items_from}
 use Rattle.pc_inline_state.specs.Tables.{Keeps, Tables, tables_of}
-use Rattle.pc_inline_state.specs.Today.{built_enter, built_items}
 use Rattle.pc_inline_state.specs.Trails.{undone}
 use Rattle.pc_inline_state.specs.Worlds.{HasNoExports, WorldStands}
 
@@ -135,7 +134,7 @@ module _ (t : TypeTable) (ms : List ModuleRecord) (limit : ℕ) where
   going_on ws w r =
       and_then (at_item w.reader.scope.component_instance w.item
       (read_return t (record { scope = w.reader.scope; world = r.world }) r.exports w.ty))
-      (built_items t ms (built_enter t ms limit (levels ws)) (w.item + 1) (items_from (w.item + 1) w.reader.body))
+      (read_items t ms (enter_at t ms limit (levels ws)) (w.item + 1) (items_from (w.item + 1) w.reader.body))
 
   -- how all that waits goes on when the items of the innermost have ended so
   unfoldable pub resume : List Waiting → (body : Items) → Outcome Moment → Outcome Moment
@@ -145,7 +144,7 @@ module _ (t : TypeTable) (ms : List ModuleRecord) (limit : ℕ) where
   -- the reading from item number n of the innermost on
   abbrev pub reads_on : List Waiting → Reader → (n : ℕ) → World → Outcome Moment
   reads_on ws r n w =
-      resume ws r.body (built_items t ms (built_enter t ms limit (levels ws)) n (items_from n r.body)
+      resume ws r.body (read_items t ms (enter_at t ms limit (levels ws)) n (items_from n r.body)
       (record { scope = r.scope; world = w }))
 
 -- with what a caller goes on when a child ends: the child's changes are taken back, and types are converted for the

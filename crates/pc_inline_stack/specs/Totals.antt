@@ -5,22 +5,23 @@ use Rattle.pc_types_lists.specs.Types.{Types}
 use Rattle.pc_types.specs.declared.module_record.ModuleRecord.{ModuleRecord}
 use Rattle.pc_types.specs.declared.parsed.TypeTable.{TypeTable}
 use Rattle.pc_spec_reading.specs.Answer.{IsPast}
-use Rattle.pc_spec_reading.specs.Guard.{everything}
 use Rattle.pc_spec_reading.specs.Item.{Items}
 use Rattle.pc_spec_reading.specs.Outcome.{done}
 use Rattle.pc_spec_reading.specs.Reading.{Reading, reading_of}
 use Rattle.pc_spec_reading.specs.World.{full}
 use Rattle.pc_dfg.specs.declared.dfg.ComponentDfg.{ComponentDfg}
-use Rattle.pc_dfg.specs.Lists.{ListName, entries_of}
+use Rattle.pc_dfg.specs.Lists.{ListName}
+use Rattle.pc_inline_state.specs.Adds.{with_modules}
 use Rattle.pc_inline_state.specs.Gained.{AddsTables}
 
 -- where the total begins with this one
 module _ (t : TypeTable) (ms : List ModuleRecord) (limit counted : ℕ) (body : Items) where
   -- its total when the root's exports have been reached
   abbrev pub HasTotal : ℕ → Type 0
-  HasTotal last = (r : Reading) × (reading_of everything t ms limit (Some counted) body ≡ done r) × (r.total ≡ Some last)
+  HasTotal last = (r : Reading) × (reading_of t ms limit (Some counted) body ≡ done r) × (r.total ≡ Some last)
 
-  -- what was added is bounded by the total: to the lists of types, and to those of a graph
+  -- what was added is bounded by the total: to the lists of types, and to those of a graph, with what modules of
+  -- adapters add to them
   pub record IsCounted (old new : Types) (g : ComponentDfg) : Type 0 where
     pub total : ℕ
     pub is_total : HasTotal total
@@ -28,7 +29,7 @@ module _ (t : TypeTable) (ms : List ModuleRecord) (limit counted : ℕ) (body : 
     pub added : ℕ
     pub few : counted + added < total
     pub types : AddsTypes t added old new
-    pub lists : (l : ListName) → length (entries_of g l) ≤ added
+    pub lists : (l : ListName) → with_modules g l ≤ added
     pub resources : length g.imported_resources + length g.resources ≤ added
 
   -- the total is too much, or what was added is bounded by it

@@ -10,8 +10,9 @@ use Rattle.pc_types_lists.proofs.KeptTypes.{grows_keeps, keeps_same, keeps_trans
 use Rattle.pc_types_builder.specs.Asked.{AddsAsked}
 use Rattle.pc_dfg.specs.Lists as list
 use Rattle.pc_dfg.specs.Lists.{ListName, entries_of}
-use Rattle.pc_inline_state.specs.Adds.{Adds, most_converted}
-use Rattle.pc_inline_state.specs.AddsEach.{AddsEach, everywhere, in_imports, in_options, in_slots, in_trampolines, nowhere}
+use Rattle.pc_inline_state.specs.Adds.{Adds, most_converted, most_lowered, with_modules}
+use Rattle.pc_inline_state.specs.AddsEach.{AddsEach, everywhere, in_adapters, in_imports, in_options, in_slots}
+use Rattle.pc_inline_state.specs.AddsEach.{in_trampolines, nowhere}
 use Rattle.pc_inline_state.specs.Gained.{AddsTables}
 use Rattle.pc_inline_state.specs.Tables.{Tables}
 use Rattle.pc_inline_state.proofs.AddsPushLemmas.{one_option}
@@ -76,14 +77,18 @@ pub each_same : (w : ListName → ℕ) (c d : ℕ) (a b x : Tables) → x ≡ b 
 each_same w c d a b x same h = subst (AddsEach w c d a) (sym same) h
 
 module _ (t : TypeTable) where
-  -- no more in any list than a bound
-  pub adds_each : (w : ListName → ℕ) (c d m : ℕ) (a b : Tables) → ((l : ListName) → w l ≤ m) → c ≤ m → d ≤ m
-      → AddsEach w c d a b → Adds t m a b
+  -- no more in any list, with what modules of adapters add to it, than a bound
+  pub adds_each : (w : ListName → ℕ) (c d m : ℕ) (a b : Tables)
+      → ((l : ListName) → w l + 32 * w list.adapters ≤ m) → c ≤ m → d ≤ m → AddsEach w c d a b → Adds t m a b
   adds_each w c d m a b le lec led h = record {
     types = few_none t m a.types b.types h.types;
     tables = tables_none t b.graph.num_runtime_component_instances a.types b.types h.types;
     entries = record {
-      lists = λ l. let le1 = le l in let le2 = h.lists l in omega (arith, le1, le2);
+      lists = λ l.
+          let le1 = le l in
+          let le2 = h.lists l in
+          let le3 : length b.graph.adapters ≤ length a.graph.adapters + w list.adapters = h.lists list.adapters in
+          omega (arith, le1, le2, le3);
       cores = let le2 = h.cores in omega (arith, lec, le2);
       definitions = let le2 = h.definitions in omega (arith, led, le2);
       closures = let le2 = h.closures in omega (arith, led, le2);
@@ -123,8 +128,8 @@ module _ (t : TypeTable) where
         tables = tables_both t b.graph.num_runtime_component_instances x.graph.num_runtime_component_instances k.later
             b.types x.types k.grows a.types h.tables k.tables;
         entries = record {
-          lists = λ l. two_bounds (length (entries_of a.graph l)) (length (entries_of b.graph l))
-              (length (entries_of x.graph l)) n m (e1.lists l) (e2.lists l);
+          lists = λ l. two_bounds (with_modules a.graph l) (with_modules b.graph l) (with_modules x.graph l) n m
+              (e1.lists l) (e2.lists l);
           cores = two_bounds (length a.cores) (length b.cores) (length x.cores) n m e1.cores e2.cores;
           definitions = two_bounds (length a.definitions) (length b.definitions) (length x.definitions) n m
               e1.definitions e2.definitions;
@@ -218,6 +223,10 @@ module _ (t : TypeTable) where
       → Adds t (most_converted t 1) a x
   adds_then m a b x le h k = adds_both (most_types t) m (most_converted t 1) a b x (omega (arith, le)) h k
 
+  -- types, and after that what a lowering of a lifted function adds
+  pub adds_lowered : (a b x : Tables) → Adds t (most_types t) a b → Adds t 36 b x → Adds t (most_lowered t) a x
+  adds_lowered a b x h k = adds_both (most_types t) 36 (most_lowered t) a b x (omega arith) h k
+
   -- one conversion
   pub converted_one : (a b : Tables) → Adds t (most_types t) a b → Adds t (1 * (1 + most_types t)) a b
   converted_one a b h = adds_weaken (most_types t) (1 * (1 + most_types t)) a b (omega arith) h
@@ -271,12 +280,28 @@ lowered_adds t a b x y z h k m n =
     (each_trans (λ l. in_imports l + in_options l) in_trampolines 0 0 0 0 a x y
     (each_trans in_imports in_options 0 0 0 0 a b x h k) m) n)
   where
-    le : (l : ListName) → in_imports l + in_options l + in_trampolines l + nowhere l ≤ 4
+    le : (l : ListName) → in_imports l + in_options l + in_trampolines l + nowhere l + 32 * (0 + 0 + 0 + 0) ≤ 4
     le list.options = omega arith
     le list.imports = omega arith
     le list.trampolines = omega arith
     le (list.slots k) = omega arith
     le l = omega arith
+
+-- what a lifted function adds that is lowered: an adapter, with what its module adds, and a core item
+pub adapter_few : (t : TypeTable) (a b x : Tables) → AddsEach in_adapters 0 0 a b → AddsEach nowhere 1 0 b x
+    → Adds t 36 a x
+adapter_few t a b x h k =
+    adds_each t (λ l. in_adapters l + nowhere l) 1 0 36 a x le (omega arith) (omega arith)
+    (each_trans in_adapters nowhere 0 0 1 0 a b x h k)
+  where
+    le : (l : ListName) → in_adapters l + nowhere l + 32 * (1 + 0) ≤ 36
+    le list.adapters = omega arith
+    le l = omega arith
+
+-- no list has more than one entry more
+pub everywhere_one : (l : ListName) → everywhere l ≤ 1
+everywhere_one list.adapters = omega arith
+everywhere_one l = omega arith
 
 module _ (t : TypeTable) (a b : Tables) where
   -- a core item alone
@@ -293,14 +318,17 @@ module _ (t : TypeTable) (a b : Tables) where
       adds_each t (λ l. nowhere l + nowhere l) 0 2 4 a b (λ l. omega arith) (omega arith) (omega arith)
       (each_trans nowhere nowhere 0 1 0 1 a x b h k)
 
-  -- one entry of each list
+  -- one entry of each list but that of adapters
   pub everywhere_few : AddsEach everywhere 0 0 a b → Adds t 4 a b
-  everywhere_few h = adds_each t everywhere 0 0 4 a b (λ l. omega arith) (omega arith) (omega arith) h
+  everywhere_few h =
+      adds_each t everywhere 0 0 4 a b (λ l. let one = everywhere_one l in omega (arith, one)) (omega arith)
+      (omega arith) h
 
 -- what an import of the root adds: a function type, an import, and a definition
 pub prepared_adds : (t : TypeTable) (a b x y : Tables) → Adds t (most_types t) a b → AddsEach everywhere 0 0 b x
     → AddsEach nowhere 0 1 x y → Adds t (most_converted t 1) a y
 prepared_adds t a b x y h k m =
     adds_then t 4 a b y (omega arith) h
-    (adds_each t (λ l. everywhere l + nowhere l) 0 1 4 b y (λ l. omega arith) (omega arith) (omega arith)
+    (adds_each t (λ l. everywhere l + nowhere l) 0 1 4 b y (λ l. let one = everywhere_one l in omega (arith, one))
+    (omega arith) (omega arith)
     (each_trans everywhere nowhere 0 0 0 1 b x y k m))

@@ -7,6 +7,7 @@ use Rattle.pc_numbers.specs.declared.runtime.ImportIndex.{ImportIndex}
 use Rattle.pc_numbers.specs.declared.runtime.RuntimeComponentInstanceIndex.{RuntimeComponentInstanceIndex}
 use Rattle.pc_types.specs.declared.types.ComponentExtern.{ComponentExtern}
 use Rattle.pc_spec_plan.specs.PlanView as plan
+use Rattle.pc_dfg.specs.declared.adapter.Adapter.{Adapter}
 use Rattle.pc_dfg.specs.declared.core_def.CoreDef.{CoreDef}
 use Rattle.pc_dfg.specs.declared.core_def.CoreExport.{CoreExport}
 use Rattle.pc_dfg.specs.declared.dfg.ComponentDfg.{ComponentDfg}
@@ -20,7 +21,8 @@ use Rattle.pc_dfg.proofs.PushLemmas.{result_changes}
 use Rattle.pc_inline_state.specs.declared.closure.Closure.{Closure}
 use Rattle.pc_inline_state.specs.declared.definition.Definition.{Definition}
 use Rattle.pc_inline_state.specs.declared.state.Member.{Member}
-use Rattle.pc_inline_state.specs.AddsEach.{AddsEach, everywhere, in_imports, in_slots, in_trampolines, nowhere}
+use Rattle.pc_inline_state.specs.AddsEach.{AddsEach, everywhere, in_adapters, in_imports, in_slots, in_trampolines}
+use Rattle.pc_inline_state.specs.AddsEach.{nowhere}
 use Rattle.pc_inline_state.specs.Tables.{Tables}
 
 -- a list into which an entry was put is longer by one at most
@@ -102,6 +104,13 @@ module _ (b : Tables) where
   trampoline_lists ys few (list.slots plan.memory) = same_few _
   trampoline_lists ys few l = same_few _
 
+  adapter_lists : (ys : List Adapter) → length ys ≤ length b.graph.adapters + 1
+      → Lists in_adapters (record b.graph { adapters = ys })
+  unfolding slots_of
+  adapter_lists ys few list.adapters = few
+  adapter_lists ys few (list.slots plan.memory) = same_few _
+  adapter_lists ys few l = same_few _
+
   import_lists : (ys : List (ImportIndex × List (List ℕ))) → length ys ≤ length b.graph.imports + 1
       → Lists in_imports (record b.graph { imports = ys })
   unfolding slots_of
@@ -179,6 +188,13 @@ module _ (b : Tables) where
     trampoline_adds x rest put =
         from_rest in_trampolines (record b.graph { trampolines = g.trampolines }) rest
         (trampoline_lists g.trampolines (changes_few b.graph.trampolines g.trampolines x put.0)) refl refl
+
+    -- an adapter
+    pub adapter_adds : (x : Adapter) → g ≡ record b.graph { adapters = g.adapters }
+        → IsPut b.graph.adapters g.adapters x → AddsEach in_adapters 0 0 b (record b { graph = g })
+    adapter_adds x rest put =
+        from_rest in_adapters (record b.graph { adapters = g.adapters }) rest
+        (adapter_lists g.adapters (changes_few b.graph.adapters g.adapters x put.0)) refl refl
 
     module _ {A E : Type 0} (r : Result A E) where
       -- a host item that is used

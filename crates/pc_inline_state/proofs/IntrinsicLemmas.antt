@@ -1,13 +1,13 @@
 -- The core signatures that a graph has for unsafe intrinsics: none at first, those that are there as types grow, and
 -- one more where an intrinsic is added that had none.
-use Rattle.std.proofs.Common.{◌≡◌, ◌<◌, ◌+◌, ◌++◌, ◌∷◌, [], ℕ, zero, suc, Bool, true, false, List, length, refl}
-use Rattle.std.proofs.Common.{Option, None, Some, inl, inr, sym, subst, ap, ◌∙◌, arith, true≢false, ◌==◌}
+use Rattle.std.proofs.Common.{◌≡◌, ◌<◌, ◌++◌, ◌∷◌, [], ℕ, zero, suc, Bool, true, false, List, length, refl}
+use Rattle.std.proofs.Common.{Option, None, Some, inl, inr, sym, subst, ap, ◌∙◌, arith, true≢false}
 use Rattle.std.specs.Prelude.{Contains, replicate, slice_get, slice_set, if◌then◌else◌}
 use Rattle.std.specs.List.{list_any}
 use Rattle.std.proofs.lemmas.Bool.{cases_eq, eq-eqb, eqb-true}
 use Rattle.std.proofs.lemmas.List.Elements.{Contains-append_cases, Contains-append_left, Contains-append_right}
 use Rattle.std.proofs.lemmas.List.Folds.{list_any_at}
-use Rattle.std.proofs.lemmas.Option.{none-some, same_Some, slice_get_within, slice_get-get_or}
+use Rattle.std.proofs.lemmas.Option.{none-some, same_Some}
 use Rattle.pc_entity.specs.Lists.{Kept}
 use Rattle.pc_entity.specs.declared.packed_option.PackedOption.{PackedOption}
 use Rattle.pc_entity.specs.declared.packed_option.PackedOption.TheVariants as packed

@@ -5,6 +5,8 @@ mod LookupLemmas
 mod NumberLemmas
 pub mod MembersLemmas
 pub mod StateLemmas
+pub mod TypeKeptLemmas
+pub mod InstanceLemmas
 pub mod TrailLemmas
 pub mod PathLemmas
 pub mod EntryLemmas

@@ -6,7 +6,8 @@ use Rattle.std.specs.List.{list_any}
 use Rattle.std.proofs.lemmas.List.{length-append}
 use Rattle.std.proofs.lemmas.List.Elements.{Contains-append_left}
 use Rattle.std.proofs.lemmas.Option.{none-some, slice_get_within}
-use Rattle.pc_entity.specs.Lists.{AreDistinct}
+use Rattle.pc_entity.specs.Lists.{AreDistinct, Kept}
+use Rattle.pc_entity.proofs.Growing.{append_kept, kept_refl}
 use Rattle.pc_dfg.proofs.AddLemmas.{get_appended}
 use Rattle.pc_numbers.specs.declared.runtime.ImportIndex.{ImportIndex}
 use Rattle.pc_numbers.specs.declared.runtime.RuntimeImportIndex.{RuntimeImportIndex}
@@ -18,8 +19,11 @@ use Rattle.pc_inline_paths.specs.declared.path_id.PathId.{PathId}
 use Rattle.pc_inline_paths.specs.Paths.{TakesIn}
 use Rattle.pc_inline_state.specs.declared.state.State.{State}
 use Rattle.pc_inline_state.specs.Points.{IsSoundState}
+use Rattle.pc_inline_state.specs.Tables.{Keeps, Tables, tables_of}
 use Rattle.pc_inline_state.specs.TakesPath.{NotesPath, SoundWithPaths}
 use Rattle.pc_inline_state.specs.Worlds.{AreUsed, path_of}
+use Rattle.pc_inline_state.proofs.InstanceLemmas.{instances_kept}
+use Rattle.pc_inline_state.proofs.StateLemmas.{keeps_refl}
 
 -- a path that isn't among some is none of these host items, whose paths are among them
 pub none_used : (ps : List Path) (p : Path) → (Contains ps p → ⊥) → (is : List (ImportIndex × List (List ℕ)))
@@ -98,10 +102,35 @@ module _ (g : ComponentDfg) (ps : List Path) (used : List (Option RuntimeImportI
             let grown = length-append ps (p ∷ []) in absurd (omega (arith, above, room, long, grown))
       ]
 
--- a state is sound with other paths of which that is so
+-- paths stay where one was taken in
+pub taken_kept : (p : Path) (ps new : List Path) (id : PathId) → TakesIn p ps new id → Kept ps new
+taken_kept p ps new id takes = elim takes.grows as (λ _. Kept ps new) [
+  | inl same ↦ subst (Kept ps) (sym same.1) (kept_refl ps)
+  | inr more ↦ subst (Kept ps) (sym more.1) (append_kept ps (p ∷ []))
+]
+
+-- tables keep what they have where paths stay
+pub paths_grown : (b : Tables) (ps : List Path) → Kept b.paths ps → Keeps b (record b { paths = ps })
+paths_grown b ps kept =
+    let same = keeps_refl b in
+    record {
+      types = same.types;
+      graph = same.graph;
+      fits = same.fits;
+      cores = same.cores;
+      definitions = same.definitions;
+      closures = same.closures;
+      instances = same.instances;
+      paths = kept;
+      bodies = same.bodies;
+      table = same.table;
+    }
+
+-- a state is sound with other paths of which that is so, and which keep those that it has
 pub sound_with : (old new : State) (ps : List Path) → new ≡ record old { paths = ps; used = new.used }
-    → (AreUsed old.graph old.paths old.used.items → AreUsed old.graph ps new.used.items) → SoundWithPaths old new
-sound_with old new ps rest used t ms s = subst (IsSoundState t ms) (sym rest) (record {
+    → Kept old.paths ps → (AreUsed old.graph old.paths old.used.items → AreUsed old.graph ps new.used.items)
+    → SoundWithPaths old new
+sound_with old new ps rest kept used t ms s = subst (IsSoundState t ms) (sym rest) (record {
   ordered = s.ordered;
   items = s.items;
   plain = s.plain;
@@ -111,4 +140,7 @@ sound_with old new ps rest used t ms s = subst (IsSoundState t ms) (sym rest) (r
   table = s.table;
   bodies = s.bodies;
   members = s.members;
+  instances = instances_kept ms (tables_of old) (record (tables_of old) { paths = ps })
+      (paths_grown (tables_of old) ps kept) refl old.runtime_instances.items s.instances;
+  widths = s.widths;
 })

@@ -1,5 +1,5 @@
 -- What grows and does nothing: tables, types.
-use Rattle.std.proofs.Common.{◌≡◌, ◌<◌, ℕ, List, [], ◌∷◌, ◌++◌, length, Option, Some, refl, sym, subst, ◌∙◌}
+use Rattle.std.proofs.Common.{◌≡◌, ◌<◌, ℕ, List, [], ◌∷◌, ◌++◌, length, Some, refl, sym, subst, ◌∙◌}
 use Rattle.std.specs.Prelude.{Contains, Err, Ok, OnErr, OnOk, Result}
 use Rattle.pc_entity.proofs.Growing.{append_kept, kept_refl, kept_trans}
 use Rattle.pc_entity.proofs.LookupLemmas.{kept_within}
@@ -26,6 +26,7 @@ use Rattle.pc_inline_state.specs.Tables.{Keeps, Tables, tables_of}
 use Rattle.pc_inline_state.specs.Fits.{FitsBefore}
 use Rattle.pc_inline_state.specs.Worlds.{HoldsModule, HoldsTypes}
 use Rattle.pc_inline_state.proofs.FitsLemmas.{fits_refl}
+use Rattle.pc_inline_state.proofs.InstanceLemmas.{instances_kept}
 use Rattle.pc_inline_state.proofs.MembersLemmas.{definition_earlier, members_earlier}
 
 -- a builder keeps its types where it is as it was
@@ -113,6 +114,7 @@ module _ (t : TypeTable) (ms : List ModuleRecord) where
     side_effects = q.side_effects ∙ p.side_effects;
     instances = q.instances ∙ p.instances;
     trampolines = q.trampolines ∙ p.trampolines;
+    adapters = q.adapters ∙ p.adapters;
     imports = q.imports ∙ p.imports;
     imported_resources = q.imported_resources ∙ p.imported_resources;
     declared_resources = q.declared_resources ∙ p.declared_resources;
@@ -127,219 +129,254 @@ module _ (t : TypeTable) (ms : List ModuleRecord) where
 
   -- one more core item
   pub core_prepares : (st : State) (d : CoreDef) → Prepares t ms st (record st { cores = st.cores ++ d ∷ [] })
-  core_prepares st d = record {
-    keeps = record {
-      types = types_refl st.types;
-      graph = graph_growth.grows_refl st.graph;
-      fits = fits_refl st.graph;
-      cores = append_kept st.cores (d ∷ []);
-      definitions = kept_refl st.definitions;
-      closures = kept_refl st.closures;
-      instances = kept_refl st.instances;
-      paths = kept_refl st.paths;
-      bodies = refl;
-      table = refl;
-    };
-    sound = λ s. record {
-      ordered = s.ordered;
-      items = s.items;
-      plain = s.plain;
-      used = s.used;
-      numbers = s.numbers;
-      held = s.held;
-      table = s.table;
-      bodies = s.bodies;
-      members = s.members;
-    };
-    resources = refl;
-    side_effects = refl;
-    instances = refl;
-    trampolines = refl;
-    imports = refl;
-    imported_resources = refl;
-    declared_resources = refl;
-    import_types = refl;
-    unsafe_intrinsics = refl;
-    begun = refl;
-    exports = refl;
-    export_items = refl;
-    paths = refl;
-    used = refl;
-  }
+  core_prepares st d =
+      let next : State = record st { cores = st.cores ++ d ∷ [] } in
+      let keeps : Keeps (tables_of st) (tables_of next) = record {
+        types = types_refl st.types;
+        graph = graph_growth.grows_refl st.graph;
+        fits = fits_refl st.graph;
+        cores = append_kept st.cores (d ∷ []);
+        definitions = kept_refl st.definitions;
+        closures = kept_refl st.closures;
+        instances = kept_refl st.instances;
+        paths = kept_refl st.paths;
+        bodies = refl;
+        table = refl;
+      } in
+      record {
+        keeps = keeps;
+        sound = λ s. record {
+          ordered = s.ordered;
+          items = s.items;
+          plain = s.plain;
+          used = s.used;
+          numbers = s.numbers;
+          held = s.held;
+          table = s.table;
+          bodies = s.bodies;
+          members = s.members;
+          instances = instances_kept ms (tables_of st) (tables_of next) keeps refl st.runtime_instances.items
+              s.instances;
+          widths = s.widths;
+        };
+        resources = refl;
+        side_effects = refl;
+        instances = refl;
+        trampolines = refl;
+        adapters = refl;
+        imports = refl;
+        imported_resources = refl;
+        declared_resources = refl;
+        import_types = refl;
+        unsafe_intrinsics = refl;
+        begun = refl;
+        exports = refl;
+        export_items = refl;
+        paths = refl;
+        used = refl;
+      }
 
   -- one more definition, which exports what one of the lists says, if it is an instance
   pub definition_prepares : (st : State) (d : Definition)
       → ((k : ExportsId) → exports_of d ≡ Some k → k.0 < length st.instances)
       → Prepares t ms st (record st { definitions = st.definitions ++ d ∷ [] })
-  definition_prepares st d new = record {
-    keeps = record {
-      types = types_refl st.types;
-      graph = graph_growth.grows_refl st.graph;
-      fits = fits_refl st.graph;
-      cores = kept_refl st.cores;
-      definitions = append_kept st.definitions (d ∷ []);
-      closures = kept_refl st.closures;
-      instances = kept_refl st.instances;
-      paths = kept_refl st.paths;
-      bodies = refl;
-      table = refl;
-    };
-    sound = λ s. record {
-      ordered = s.ordered;
-      items = s.items;
-      plain = s.plain;
-      used = s.used;
-      numbers = s.numbers;
-      held = s.held;
-      table = s.table;
-      bodies = s.bodies;
-      members = definition_earlier st.definitions st.instances s.members d new;
-    };
-    resources = refl;
-    side_effects = refl;
-    instances = refl;
-    trampolines = refl;
-    imports = refl;
-    imported_resources = refl;
-    declared_resources = refl;
-    import_types = refl;
-    unsafe_intrinsics = refl;
-    begun = refl;
-    exports = refl;
-    export_items = refl;
-    paths = refl;
-    used = refl;
-  }
+  definition_prepares st d new =
+      let next : State = record st { definitions = st.definitions ++ d ∷ [] } in
+      let keeps : Keeps (tables_of st) (tables_of next) = record {
+        types = types_refl st.types;
+        graph = graph_growth.grows_refl st.graph;
+        fits = fits_refl st.graph;
+        cores = kept_refl st.cores;
+        definitions = append_kept st.definitions (d ∷ []);
+        closures = kept_refl st.closures;
+        instances = kept_refl st.instances;
+        paths = kept_refl st.paths;
+        bodies = refl;
+        table = refl;
+      } in
+      record {
+        keeps = keeps;
+        sound = λ s. record {
+          ordered = s.ordered;
+          items = s.items;
+          plain = s.plain;
+          used = s.used;
+          numbers = s.numbers;
+          held = s.held;
+          table = s.table;
+          bodies = s.bodies;
+          members = definition_earlier st.definitions st.instances s.members d new;
+          instances = instances_kept ms (tables_of st) (tables_of next) keeps refl st.runtime_instances.items
+              s.instances;
+          widths = s.widths;
+        };
+        resources = refl;
+        side_effects = refl;
+        instances = refl;
+        trampolines = refl;
+        adapters = refl;
+        imports = refl;
+        imported_resources = refl;
+        declared_resources = refl;
+        import_types = refl;
+        unsafe_intrinsics = refl;
+        begun = refl;
+        exports = refl;
+        export_items = refl;
+        paths = refl;
+        used = refl;
+      }
 
   -- what one more instance exports: definitions that are there
   pub instance_prepares : (st : State) (es : List (List ℕ × Member))
       → ((e : List ℕ × Member) → Contains es e → e.1.item.0 < length st.definitions)
       → Prepares t ms st (record st { instances = st.instances ++ es ∷ [] })
-  instance_prepares st es held = record {
-    keeps = record {
-      types = types_refl st.types;
-      graph = graph_growth.grows_refl st.graph;
-      fits = fits_refl st.graph;
-      cores = kept_refl st.cores;
-      definitions = kept_refl st.definitions;
-      closures = kept_refl st.closures;
-      instances = append_kept st.instances (es ∷ []);
-      paths = kept_refl st.paths;
-      bodies = refl;
-      table = refl;
-    };
-    sound = λ s. record {
-      ordered = s.ordered;
-      items = s.items;
-      plain = s.plain;
-      used = s.used;
-      numbers = s.numbers;
-      held = s.held;
-      table = s.table;
-      bodies = s.bodies;
-      members = members_earlier st.definitions st.instances s.members es held;
-    };
-    resources = refl;
-    side_effects = refl;
-    instances = refl;
-    trampolines = refl;
-    imports = refl;
-    imported_resources = refl;
-    declared_resources = refl;
-    import_types = refl;
-    unsafe_intrinsics = refl;
-    begun = refl;
-    exports = refl;
-    export_items = refl;
-    paths = refl;
-    used = refl;
-  }
+  instance_prepares st es held =
+      let next : State = record st { instances = st.instances ++ es ∷ [] } in
+      let keeps : Keeps (tables_of st) (tables_of next) = record {
+        types = types_refl st.types;
+        graph = graph_growth.grows_refl st.graph;
+        fits = fits_refl st.graph;
+        cores = kept_refl st.cores;
+        definitions = kept_refl st.definitions;
+        closures = kept_refl st.closures;
+        instances = append_kept st.instances (es ∷ []);
+        paths = kept_refl st.paths;
+        bodies = refl;
+        table = refl;
+      } in
+      record {
+        keeps = keeps;
+        sound = λ s. record {
+          ordered = s.ordered;
+          items = s.items;
+          plain = s.plain;
+          used = s.used;
+          numbers = s.numbers;
+          held = s.held;
+          table = s.table;
+          bodies = s.bodies;
+          members = members_earlier st.definitions st.instances s.members es held;
+          instances = instances_kept ms (tables_of st) (tables_of next) keeps refl st.runtime_instances.items
+              s.instances;
+          widths = s.widths;
+        };
+        resources = refl;
+        side_effects = refl;
+        instances = refl;
+        trampolines = refl;
+        adapters = refl;
+        imports = refl;
+        imported_resources = refl;
+        declared_resources = refl;
+        import_types = refl;
+        unsafe_intrinsics = refl;
+        begun = refl;
+        exports = refl;
+        export_items = refl;
+        paths = refl;
+        used = refl;
+      }
 
   -- what one more component captured
   pub closure_prepares : (st : State) (d : Closure)
       → Prepares t ms st (record st { closures = st.closures ++ d ∷ [] })
-  closure_prepares st d = record {
-    keeps = record {
-      types = types_refl st.types;
-      graph = graph_growth.grows_refl st.graph;
-      fits = fits_refl st.graph;
-      cores = kept_refl st.cores;
-      definitions = kept_refl st.definitions;
-      closures = append_kept st.closures (d ∷ []);
-      instances = kept_refl st.instances;
-      paths = kept_refl st.paths;
-      bodies = refl;
-      table = refl;
-    };
-    sound = λ s. record {
-      ordered = s.ordered;
-      items = s.items;
-      plain = s.plain;
-      used = s.used;
-      numbers = s.numbers;
-      held = s.held;
-      table = s.table;
-      bodies = s.bodies;
-      members = s.members;
-    };
-    resources = refl;
-    side_effects = refl;
-    instances = refl;
-    trampolines = refl;
-    imports = refl;
-    imported_resources = refl;
-    declared_resources = refl;
-    import_types = refl;
-    unsafe_intrinsics = refl;
-    begun = refl;
-    exports = refl;
-    export_items = refl;
-    paths = refl;
-    used = refl;
-  }
+  closure_prepares st d =
+      let next : State = record st { closures = st.closures ++ d ∷ [] } in
+      let keeps : Keeps (tables_of st) (tables_of next) = record {
+        types = types_refl st.types;
+        graph = graph_growth.grows_refl st.graph;
+        fits = fits_refl st.graph;
+        cores = kept_refl st.cores;
+        definitions = kept_refl st.definitions;
+        closures = append_kept st.closures (d ∷ []);
+        instances = kept_refl st.instances;
+        paths = kept_refl st.paths;
+        bodies = refl;
+        table = refl;
+      } in
+      record {
+        keeps = keeps;
+        sound = λ s. record {
+          ordered = s.ordered;
+          items = s.items;
+          plain = s.plain;
+          used = s.used;
+          numbers = s.numbers;
+          held = s.held;
+          table = s.table;
+          bodies = s.bodies;
+          members = s.members;
+          instances = instances_kept ms (tables_of st) (tables_of next) keeps refl st.runtime_instances.items
+              s.instances;
+          widths = s.widths;
+        };
+        resources = refl;
+        side_effects = refl;
+        instances = refl;
+        trampolines = refl;
+        adapters = refl;
+        imports = refl;
+        imported_resources = refl;
+        declared_resources = refl;
+        import_types = refl;
+        unsafe_intrinsics = refl;
+        begun = refl;
+        exports = refl;
+        export_items = refl;
+        paths = refl;
+        used = refl;
+      }
 
   -- types were converted
   pub converts_prepares : (old : State) (before : Layers) (new : State) (after : Layers)
       → Converts t old before new after → Prepares t ms old new
-  converts_prepares old before new after c = subst (λ st. Prepares t ms old st) (sym c.rest) (record {
-    keeps = record {
-      types = kept_types.grows_keeps old.types new.types c.grows;
-      graph = graph_growth.grows_refl old.graph;
-      fits = fits_refl old.graph;
-      cores = kept_refl old.cores;
-      definitions = kept_refl old.definitions;
-      closures = kept_refl old.closures;
-      instances = kept_refl old.instances;
-      paths = kept_refl old.paths;
-      bodies = refl;
-      table = refl;
-    };
-    sound = λ s. record {
-      ordered = s.ordered;
-      items = s.items;
-      plain = s.plain;
-      used = s.used;
-      numbers = c.numbers s.numbers;
-      held = holds_grow old.types new.types c.grows t old.graph s.held;
-      table = s.table;
-      bodies = s.bodies;
-      members = s.members;
-    };
-    resources = c.grows.resources;
-    side_effects = refl;
-    instances = refl;
-    trampolines = refl;
-    imports = refl;
-    imported_resources = refl;
-    declared_resources = refl;
-    import_types = refl;
-    unsafe_intrinsics = refl;
-    begun = refl;
-    exports = refl;
-    export_items = refl;
-    paths = refl;
-    used = refl;
-  })
+  converts_prepares old before new after c =
+      let next : State = record old { types = new.types; numbers = new.numbers } in
+      let keeps : Keeps (tables_of old) (tables_of next) = record {
+        types = kept_types.grows_keeps old.types new.types c.grows;
+        graph = graph_growth.grows_refl old.graph;
+        fits = fits_refl old.graph;
+        cores = kept_refl old.cores;
+        definitions = kept_refl old.definitions;
+        closures = kept_refl old.closures;
+        instances = kept_refl old.instances;
+        paths = kept_refl old.paths;
+        bodies = refl;
+        table = refl;
+      } in
+      subst (λ st. Prepares t ms old st) (sym c.rest) (record {
+        keeps = keeps;
+        sound = λ s. record {
+          ordered = s.ordered;
+          items = s.items;
+          plain = s.plain;
+          used = s.used;
+          numbers = c.numbers s.numbers;
+          held = holds_grow old.types new.types c.grows t old.graph s.held;
+          table = s.table;
+          bodies = s.bodies;
+          members = s.members;
+          instances = instances_kept ms (tables_of old) (tables_of next) keeps refl old.runtime_instances.items
+              s.instances;
+          widths = s.widths;
+        };
+        resources = c.grows.resources;
+        side_effects = refl;
+        instances = refl;
+        trampolines = refl;
+        adapters = refl;
+        imports = refl;
+        imported_resources = refl;
+        declared_resources = refl;
+        import_types = refl;
+        unsafe_intrinsics = refl;
+        begun = refl;
+        exports = refl;
+        export_items = refl;
+        paths = refl;
+        used = refl;
+      })
 
   -- nothing was done
   pub prepares_refl : (st : State) → Prepares t ms st st
@@ -350,6 +387,7 @@ module _ (t : TypeTable) (ms : List ModuleRecord) where
     side_effects = refl;
     instances = refl;
     trampolines = refl;
+    adapters = refl;
     imports = refl;
     imported_resources = refl;
     declared_resources = refl;

@@ -11,13 +11,19 @@ use Rattle.pc_spec_reading.specs.Canonical.{canonical_item}
 use Rattle.pc_spec_reading.specs.Item
 use Rattle.pc_local.specs.declared.item.LocalInitializer.{LocalInitializer}
 use Rattle.pc_local.specs.declared.item.LocalInitializer.TheVariants as local
+use Rattle.pc_dfg.specs.declared.dfg.ComponentDfg.{ComponentDfg}
 use Rattle.pc_dfg.specs.Lists.{ListName, entries_of}
 use Rattle.pc_inline_state.specs.Gained.{AddsTables}
 use Rattle.pc_inline_state.specs.Tables.{Tables}
 
--- each list of the graph and each table has at most n entries more, and no more component instances have begun
+-- how many entries a list of a graph has, with the most that the modules of its adapters add to it: 32 for each adapter
+abbrev pub with_modules : ComponentDfg → ListName → ℕ
+with_modules g l = length (entries_of g l) + 32 * length g.adapters
+
+-- each list of the graph, with what modules of adapters add to it, and each table has at most n entries more, and at
+-- most n more component instances have begun
 pub record AddsEntries (n : ℕ) (old new : Tables) : Type 0 where
-  pub lists : (l : ListName) → length (entries_of new.graph l) ≤ length (entries_of old.graph l) + n
+  pub lists : (l : ListName) → with_modules new.graph l ≤ with_modules old.graph l + n
   pub cores : length new.cores ≤ length old.cores + n
   pub definitions : length new.definitions ≤ length old.definitions + n
   pub closures : length new.closures ≤ length old.closures + n
@@ -50,6 +56,10 @@ types_among {N} xs = count_by (λ (x : N × ItemKind × ℕ). is_type_kind x.1) 
 abbrev pub most_converted : TypeTable → ℕ → ℕ
 most_converted t n = 4 + n * (1 + most_types t)
 
+-- what a lowering adds at the most: what a conversion does, and what the module of an adapter adds
+abbrev pub most_lowered : TypeTable → ℕ
+most_lowered t = 32 + most_converted t 1
+
 -- what an operand of a builtin adds at the most: the types of the type number that it may be
 abbrev pub most_operand : TypeTable → Item.Operand → ℕ
 most_operand t (Item.a_resource n) = 1 + most_types t
@@ -67,10 +77,11 @@ abbrev pub most_returned : TypeTable → Option ValType → ℕ
 most_returned t (Some (val.Type_ n)) = 6 + (1 + most_types t)
 most_returned t _ = 6
 
--- how much an item adds at the most where it is read: four entries, and the types of the type numbers that it converts
+-- how much an item adds at the most where it is read: four entries, and the types of the type numbers that it converts;
+-- and a lowering what the module of an adapter adds besides
 abbrev pub most_added : TypeTable → LocalInitializer → ℕ
 most_added t (local.Lift func ty core opts) = most_converted t 1
-most_added t (local.Lower func ty core opts) = most_converted t 1
+most_added t (local.Lower func ty core opts) = most_lowered t
 most_added t (local.Builtin c) = most_builtin t (canonical_item c)
 most_added t (local.WaitableSet c) = most_builtin t (canonical_item c)
 most_added t (local.TaskReturn signature result opts) = most_returned t result

@@ -21,9 +21,15 @@ pub record AddsEach (more : ListName → ℕ) (cores_more definitions_more : ℕ
 abbrev pub nowhere : ListName → ℕ
 nowhere l = 0
 
--- one entry in each list
+-- one entry in each list but that of adapters
 abbrev pub everywhere : ListName → ℕ
+everywhere list.adapters = 0
 everywhere l = 1
+
+-- one entry among the adapters
+abbrev pub in_adapters : ListName → ℕ
+in_adapters list.adapters = 1
+in_adapters l = 0
 
 -- so many entries in each list of slots
 abbrev pub in_slots : ℕ → ListName → ℕ

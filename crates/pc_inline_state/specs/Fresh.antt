@@ -16,6 +16,7 @@ pub record IsFresh (t : TypeTable) (st : State) : Type 0 where
   pub instances : st.instances ≡ []
   pub paths : st.paths ≡ []
   pub used : st.used.items ≡ []
+  pub runtime_instances : st.runtime_instances.items ≡ []
   pub table : st.table.now ≡ t
   pub resources : st.types.resources ≡ no_resources
   pub numbers : AreNumbers st.types t st.numbers

@@ -3,12 +3,13 @@ pub mod Fits
 pub mod Holds
 pub mod Typed
 pub mod Faults
-pub mod Today
 pub mod Tables
 pub mod Gained
 pub mod Adds
 pub mod Stands
 pub mod Worlds
+pub mod Bags
+pub mod Instances
 pub mod Members
 pub mod Named
 pub mod Trails
@@ -24,6 +25,5 @@ pub mod Refused
 pub mod Slots
 pub mod AddsEach
 pub mod Definitions
-pub mod Bags
 pub mod Found
 pub mod Fresh

@@ -11,18 +11,19 @@ use Rattle.pc_dfg.specs.Lists.{ListName, entries_of}
 use Rattle.pc_dfg.specs.Ordered.{IsOrdered}
 use Rattle.pc_spec_reading.specs.Item.{Item}
 use Rattle.pc_spec_reading.specs.Outcome.{Fault}
+use Rattle.pc_spec_reading.specs.Rows.{read_row}
 use Rattle.pc_spec_reading.specs.Scope.{Moment}
 use Rattle.pc_inline_state.specs.declared.error.ItemError.{ItemError}
 use Rattle.pc_inline_state.specs.declared.error.ItemError.TheVariants as item_error
 use Rattle.pc_inline_state.specs.declared.frame.Frame.{Frame}
 use Rattle.pc_inline_state.specs.declared.state.State.{State}
 use Rattle.pc_inline_state.specs.Faults.{fault_of}
+use Rattle.pc_inline_state.specs.Instances.{HaveWidths, InstancesStand}
 use Rattle.pc_inline_state.specs.Frames.{FrameStands}
 use Rattle.pc_inline_state.specs.KnowsSame.{KnowsSame}
 use Rattle.pc_inline_state.specs.Members.{AreEarlier}
 use Rattle.pc_local.specs.Sound.{AreSoundBodies}
 use Rattle.pc_inline_state.specs.Tables.{Tables, tables_of}
-use Rattle.pc_inline_state.specs.Today.{built_row}
 use Rattle.pc_inline_state.specs.Typed.{AreNumbers}
 use Rattle.pc_inline_state.specs.Worlds.{AreUsed, HasItems, HasNoExports, HoldsTypes, IsPlain, WorldStands}
 
@@ -55,6 +56,8 @@ module _ (t : TypeTable) (ms : List ModuleRecord) where
     pub table : st.table.now ≡ t
     pub bodies : AreSoundBodies (length ms) st.bodies.now
     pub members : AreEarlier st.definitions st.instances
+    pub instances : InstancesStand ms (tables_of st) st.runtime_instances.items
+    pub widths : HaveWidths t ms st.runtime_instances.items st.graph
 
   -- a component instance in the code at a moment of the reading: the types builder knows what the scope knows, and what
   -- the component instance has converted is so
@@ -89,4 +92,4 @@ module _ (t : TypeTable) (ms : List ModuleRecord) where
 
   -- the step of an item
   abbrev pub StepsItem : Item → State → Frame → State → Frame → Result ⊤ ItemError → Type 0
-  StepsItem i = Steps (λ now. built_row t ms now i)
+  StepsItem i = Steps (λ now. read_row t ms now i)

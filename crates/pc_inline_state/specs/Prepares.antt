@@ -1,5 +1,5 @@
 -- What changes before anything is done: tables, types and slots grow, and the graph does what it did.
-use Rattle.std.specs.Prelude.{◌≡◌, List, Option}
+use Rattle.std.specs.Prelude.{◌≡◌, List}
 use Rattle.pc_types.specs.declared.module_record.ModuleRecord.{ModuleRecord}
 use Rattle.pc_types.specs.declared.parsed.TypeTable.{TypeTable}
 use Rattle.pc_types_lists.specs.Types as builder
@@ -18,6 +18,7 @@ pub record Prepares (t : TypeTable) (ms : List ModuleRecord) (old new : State) :
   pub side_effects : new.graph.side_effects ≡ old.graph.side_effects
   pub instances : new.graph.instances ≡ old.graph.instances
   pub trampolines : new.graph.trampolines ≡ old.graph.trampolines
+  pub adapters : new.graph.adapters ≡ old.graph.adapters
   pub imports : new.graph.imports ≡ old.graph.imports
   pub imported_resources : new.graph.imported_resources ≡ old.graph.imported_resources
   pub declared_resources : new.graph.resources ≡ old.graph.resources

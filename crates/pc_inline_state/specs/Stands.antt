@@ -132,7 +132,8 @@ module _ (ms : List ModuleRecord) (b : Tables) where
           → IsTableTree is_module ty tree → (i : TypeModuleIndex) → IsType (type.Module i) tree
           → DefinitionStands (definition.StaticModule m ty) (module_value (static_module m.0 tree))
       stands_host_module : {p : PathId} {ty : TypeModuleIndex} {entry : ℕ} {path : Path} {tree : TypeTree}
-          → slice_get b.paths p.0 ≡ Some path → IsTableTree is_module entry tree → IsType (type.Module ty) tree
+          → slice_get b.paths p.0 ≡ Some path → IsHostType path tree → IsTableTree is_module entry tree
+          → IsType (type.Module ty) tree
           → DefinitionStands (definition.HostModule p ty entry) (module_value (host_module path tree))
       stands_component : {s : StaticComponentIndex} {k : ClosureId} {tr : Translation} {inner : Names} {body : Items}
           {closure : Closure} {chain : Chain} → slice_get b.bodies s.0 ≡ Some tr → BodyStands b.bodies inner tr body

@@ -1,6 +1,7 @@
 -- What numbers are looked up in: the types builder, the graph, and the tables of what items are.
 use Rattle.std.specs.Prelude.{◌≡◌, ◌<◌, ℕ, true, List, length, Some, slice_get}
 use Rattle.pc_entity.specs.Lists.{Kept}
+use Rattle.pc_dfg.specs.declared.ids.AdapterId.{AdapterId}
 use Rattle.pc_dfg.specs.declared.ids.InstanceId.{InstanceId}
 use Rattle.pc_types_lists.specs.Types.{Types}
 use Rattle.pc_types_lists.specs.Types as builder
@@ -98,3 +99,4 @@ module _ (ms : List ModuleRecord) where
     -- an intrinsic has the signature that the graph has for it, so one signature wherever it is used
     is_intrinsic : {s : ModuleInternedTypeIndex} {i : UnsafeIntrinsic} → HasIntrinsic g (intrinsic_place i) s
         → IsItem g core.Func (def.UnsafeIntrinsic s i)
+    is_adapter : {a : AdapterId} → a.0 < length g.adapters → IsItem g core.Func (def.Adapter a)

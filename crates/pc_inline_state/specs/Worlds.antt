@@ -1,12 +1,13 @@
 -- What all component instances share, against the world of the reading.
-use Rattle.std.specs.Prelude.{◌≡◌, ◌<◌, ◌≤◌, ℕ, true, false, count_by, [], length, List, Option, None}
-use Rattle.std.specs.Prelude.{Some, map, slice_get, All, Contains}
+use Rattle.std.specs.Prelude.{◌≡◌, ◌<◌, ◌≤◌, ℕ, Bool, true, false, count_by, [], length, List, Option, None}
+use Rattle.std.specs.Prelude.{Some, map, option_map, slice_get, All, Contains}
 use Rattle.std.specs.List.{AllZip, list_any}
 use Rattle.pc_entity.specs.Lists.{AreDistinct}
 use Rattle.pc_types_lists.specs.Trees.{HasTree}
 use Rattle.pc_types_lists.specs.Types.{Types}
 use Rattle.pc_dfg.specs.declared.ids.OptionsId.{OptionsId}
 use Rattle.pc_numbers.specs.declared.component_entity.StaticModuleIndex.{StaticModuleIndex}
+use Rattle.pc_numbers.specs.declared.module_entity.MemoryIndex.{MemoryIndex}
 use Rattle.pc_numbers.specs.declared.module_entity.ModuleInternedTypeIndex.{ModuleInternedTypeIndex}
 use Rattle.pc_numbers.specs.declared.runtime.ImportIndex.{ImportIndex}
 use Rattle.pc_numbers.specs.declared.runtime.ResourceIndex.{ResourceIndex}
@@ -26,6 +27,7 @@ use Rattle.pc_types.specs.TypeTree.{Identity, Path, TypeTree, tree_of}
 use Rattle.pc_spec_plan.specs.CoreValue.{CoreValue}
 use Rattle.pc_spec_plan.specs.Log.{Entry, declared, instances_of, map_entry, trace}
 use Rattle.pc_spec_plan.specs.PlanView as plan
+use Rattle.pc_spec_adapt.specs.Needs.{adapters_of}
 use Rattle.pc_trampoline.specs.declared.part.Mark.TheVariants as mark
 use Rattle.pc_parsed.specs.Mark.{Mark, of_type}
 use Rattle.pc_spec_reading.specs.Asked.{is_declared, paths_needed, signature_of}
@@ -33,8 +35,13 @@ use Rattle.pc_spec_reading.specs.Nodes.{extern_data}
 use Rattle.pc_spec_reading.specs.SameTypes.{same_path}
 use Rattle.pc_spec_reading.specs.Types.{has_entry}
 use Rattle.pc_spec_reading.specs.World.{AddedIntrinsic, HostImport, World, resources_declared}
+use Rattle.pc_dfg.specs.declared.adapter.Adapter.{Adapter}
+use Rattle.pc_dfg.specs.declared.adapter.AdapterOptions.{AdapterOptions}
+use Rattle.pc_dfg.specs.declared.adapter.DataModel.{DataModel}
+use Rattle.pc_dfg.specs.declared.adapter.DataModel.TheVariants as side
 use Rattle.pc_dfg.specs.declared.core_def.CoreDef.{CoreDef}
 use Rattle.pc_dfg.specs.declared.core_def.CoreDef.TheVariants as def
+use Rattle.pc_dfg.specs.declared.core_def.CoreExport.{CoreExport}
 use Rattle.pc_dfg.specs.declared.dfg.ComponentDfg.{ComponentDfg}
 use Rattle.pc_dfg.specs.declared.export.Export.TheVariants as export
 use Rattle.pc_dfg.specs.declared.instance.Resource.{Resource}
@@ -44,12 +51,11 @@ use Rattle.pc_dfg.specs.declared.instance.SideEffect.{SideEffect}
 use Rattle.pc_dfg.specs.Effects.{Argument, MeansEffect, host_arguments}
 use Rattle.pc_dfg.specs.Grows.{HasIntrinsic}
 use Rattle.pc_dfg.specs.Means.{HasPath}
-use Rattle.pc_dfg.specs.Numbers.{SignedTrampoline, slots_of}
+use Rattle.pc_dfg.specs.Numbers.{SignedTrampoline, memory_def, slots_of}
 pub use Rattle.pc_inline_state.specs.Fits.{path_of}
 use Rattle.pc_inline_state.specs.Fits.{Fits}
 use Rattle.pc_inline_state.specs.Stands.{CoreStands}
 use Rattle.pc_inline_state.specs.Tables.{IsItem}
-use Rattle.pc_inline_state.specs.Today.{is_made}
 use Rattle.pc_inline_state.specs.Holds.{Holds, Numbered, number_of, whole_of}
 
 -- a trampoline has the core signature of what is declared
@@ -63,6 +69,32 @@ slot_kind plan.table = core.Table
 slot_kind plan.realloc = core.Func
 slot_kind plan.callback = core.Func
 slot_kind plan.post_return = core.Func
+
+-- what a side of an adapter, and an adapter, hold are items of their kinds
+module _ (ms : List ModuleRecord) (g : ComponentDfg) where
+  -- an item that may be left out
+  unfoldable pub MaybeItem : CoreKind → Option CoreDef → Type 0
+  MaybeItem k None = Unit {0}
+  MaybeItem k (Some d) = IsItem ms g k d
+
+  -- where the values of a side lie
+  unfoldable pub ModelItems : DataModel → Type 0
+  ModelItems side.Gc = Unit {0}
+  ModelItems (side.LinearMemory memory realloc) =
+      MaybeItem core.Memory (option_map (λ (x : CoreExport MemoryIndex × Bool). memory_def x.0) memory)
+      × MaybeItem core.Func realloc
+
+  -- a side
+  pub record SideItems (x : AdapterOptions) : Type 0 where
+    pub callback : MaybeItem core.Func x.callback
+    pub post_return : MaybeItem core.Func x.post_return
+    pub model : ModelItems x.data_model
+
+  -- an adapter: its callee and both sides
+  pub record HoldsItems (x : Adapter) : Type 0 where
+    pub func : IsItem ms g core.Func x.func
+    pub lift : SideItems x.lift_options
+    pub lower : SideItems x.lower_options
 
 -- a graph in which each definition is an item of its kind, where the modules that were handed in have these records
 pub record HasItems (ms : List ModuleRecord) (g : ComponentDfg) : Type 0 where
@@ -79,15 +111,15 @@ pub record HasItems (ms : List ModuleRecord) (g : ComponentDfg) : Type 0 where
       → All (λ (a : Argument). (k : CoreKind) × IsItem ms g k a.1.1) (host_arguments args)
   pub destructors : (n : ℕ) (x : Resource) (d : CoreDef) → slice_get g.resources n ≡ Some x → x.dtor ≡ Some d
       → IsItem ms g core.Func d
+  pub adapters : (n : ℕ) (x : Adapter) → slice_get g.adapters n ≡ Some x → HoldsItems ms g x
   pub exports : (n : ℕ) (ty : TypeFuncIndex) (o : OptionsId) (d : CoreDef)
       → slice_get g.export_items n ≡ Some (export.LiftedFunction ty d o) → IsItem ms g core.Func d
   -- a module that is exported was handed in
   pub statics : (n ty : ℕ) (m : StaticModuleIndex) → slice_get g.export_items n ≡ Some (export.ModuleStatic ty m)
       → m.0 < length ms
 
--- a graph without what isn't built, which is adapters; it has a place for each unsafe intrinsic
+-- a graph whose adapters have no modules yet; it has a place for each unsafe intrinsic
 pub record IsPlain (g : ComponentDfg) : Type 0 where
-  pub adapters : g.adapters ≡ []
   pub adapter_modules : g.adapter_modules ≡ []
   pub adapter_partitionings : g.adapter_partitionings ≡ []
   pub unsafe_intrinsics : length g.unsafe_intrinsics ≡ 21
@@ -164,6 +196,12 @@ module _ (types : Types) (g : ComponentDfg) where
     pub only : (place : ℕ) (s : ModuleInternedTypeIndex) → HasIntrinsic g place s
         → (i : AddedIntrinsic) × Contains added i × (i.place ≡ place) × IsIntrinsic i s
 
+  -- the adapters are those that the log makes, in order
+  pub record AdaptersStand (log : List (Entry Mark)) : Type 0 where
+    pub as_many : length g.adapters ≡ length (adapters_of log)
+    pub each : (k : ℕ) (v : CoreValue Mark) → slice_get (adapters_of log) k ≡ Some v
+        → CoreStands types g (def.Adapter (record { 0 = k })) v
+
   -- the graph so far does what the log says
   pub record WorldStands (w : World) : Type 0 where
     pub effects : AllZip EffectStands g.side_effects (trace w.log)
@@ -174,7 +212,9 @@ module _ (types : Types) (g : ComponentDfg) where
     pub import_types : AllZip ImportStands g.import_types w.imports
     pub imports : map path_of g.imports ≡ paths_needed w.log
     pub imported_resources : AllZip (λ (r : RuntimeImportIndex). HasPath g r.0) g.imported_resources w.imported_resources
+    -- no two of them have one path
+    pub resources_apart : AreDistinct w.imported_resources
     pub resources : length g.resources ≡ resources_declared w
     pub intrinsics : IntrinsicsStand w.intrinsics
-    pub no_adapters : list_any is_made w.log ≡ false
+    pub adapters : AdaptersStand w.log
     pub begun : w.begun ≡ g.num_runtime_component_instances

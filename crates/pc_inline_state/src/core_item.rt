@@ -72,7 +72,11 @@ fn named_def(
 }
 
 /// An export of an entry that is a module type, by its place.
-fn module_export(table: &TypeTable, entry: u32, place: usize) -> Option<&(Text, CoreEntity)>
+pub(crate) fn module_export(
+    table: &TypeTable,
+    entry: u32,
+    place: usize,
+) -> Option<&(Text, CoreEntity)>
     ensures { option_copied result ≡ module_export table.now entry place }
 {
     match table.entry(entry) {

@@ -28,6 +28,7 @@ ghost use Rattle.pc_inline_state.specs.Typed.{AreNumbers, no_resources};
 use crate::closure::Closure;
 use crate::definition::{ClosureId, CoreId, Definition, DefinitionId, ExportsId};
 use crate::error::ItemError;
+use crate::instance_module::InstanceModule;
 use crate::numbers::Numbers;
 use pc_dfg::{ComponentDfg, CoreDef, Trampoline};
 use pc_entity::{
@@ -79,6 +80,8 @@ pub struct State<'a> {
     pub paths: Paths,
     /// The number of each of them among the host items that are used, once it is.
     pub used: Vec<Option<RuntimeImportIndex>>,
+    /// The module of each core instance of the graph.
+    pub runtime_instances: Vec<InstanceModule>,
     pub numbers: Numbers,
     pub bodies: &'a PrimaryMap<StaticComponentIndex, Translation>,
     pub table: &'a TypeTable,
@@ -107,6 +110,7 @@ impl<'a> State<'a> {
             instances: PrimaryMap::new(alloc),
             paths: Paths::new(alloc),
             used: Vec::new(alloc),
+            runtime_instances: Vec::new(alloc),
             numbers,
             bodies,
             table,
@@ -307,6 +311,7 @@ impl<'a> Drop for State<'a> {
             instances,
             paths,
             used,
+            runtime_instances,
             numbers,
             bodies: _,
             table: _,
@@ -315,6 +320,7 @@ impl<'a> Drop for State<'a> {
         drop_tables(cores, definitions);
         drop_named(closures, instances);
         drop_numbers(paths, used, numbers);
+        drop_instances(runtime_instances);
     }
 }
 
@@ -331,3 +337,5 @@ fn drop_named(
 ) {}
 
 fn drop_numbers(_paths: Paths, _used: Vec<Option<RuntimeImportIndex>>, _numbers: Numbers) {}
+
+fn drop_instances(_runtime_instances: Vec<InstanceModule>) {}

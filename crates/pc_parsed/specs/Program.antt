@@ -1,9 +1,5 @@
--- Which inputs can be numbered, and what is answered to those that aren't built.
+-- Which inputs can be numbered.
 use Rattle.std.specs.Prelude.{ℕ, ◌+◌, Bool, List, ◌&&◌, nat_lt, sum_by, length}
-use Rattle.pc_types.specs.declared.error.Error.{Error}
-use Rattle.pc_types.specs.declared.error.Error.TheVariants as error
-use Rattle.pc_types.specs.declared.error.Place.TheVariants as place
-use Rattle.pc_types.specs.declared.error.Unsupported.TheVariants as unsupported
 use Rattle.pc_types.specs.declared.module_record.ModuleRecord.{ModuleRecord}
 use Rattle.pc_types.specs.declared.parsed.TypeTable.{TypeTable}
 use Rattle.pc_parsed.specs.declared.payload.Payload.{Payload}
@@ -34,7 +30,3 @@ abbrev pub is_numbered : TypeTable → List Payload → Bool
 is_numbered t ps =
     nat_lt (length t.core_funcs) 4294967295 && nat_lt (length t.types) 4294967295
     && nat_lt (sum_by entity_total ps) 4294967295 && nat_lt (sum_by item_count ps) 4294967295
-
--- the answer where something stands in an input of a kind that isn't built
-abbrev pub not_built : Error
-not_built = error.Unsupported unsupported.NotBuilt (place.Payload 0 0)

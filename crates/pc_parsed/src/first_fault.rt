@@ -2,14 +2,13 @@
 
 ghost use Rattle.std.specs.Prelude.{◌≡◌, ◌<◌, length, IfOk};
 ghost use Rattle.std.specs.Option.{option_map};
-ghost use Rattle.pc_parsed.specs.Program.{not_built};
 ghost use Rattle.pc_parsed.specs.StaticFault.{static_fault};
 ghost use Rattle.pc_types.specs.Table.{table_error, table_fault};
 
 use crate::bodies::payloads_error;
 use crate::payload::Payload;
 use pc_entity::NoMemory;
-use pc_types::{Error, Place, TypeTable, Unsupported, check_table};
+use pc_types::{Error, TypeTable, check_table};
 use std::alloc::Global;
 
 /// The first fault of a type table.
@@ -39,15 +38,4 @@ pub fn static_fault(
         Some(error) => Ok(Some(error)),
         None => payloads_error(alloc, table, exposed, payloads),
     }
-}
-
-/// The answer where something stands in an input of a kind that isn't built.
-pub fn not_built() -> Error
-    ensures { result ≡ not_built }
-{
-    let place = Place::Payload {
-        payload: 0,
-        item: 0,
-    };
-    Error::Unsupported(Unsupported::NotBuilt, place)
 }

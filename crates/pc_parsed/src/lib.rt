@@ -17,7 +17,7 @@ mod structure;
 
 pub use canon::{CanonItem, CanonOption};
 pub use fault::StaticFault;
-pub use first_fault::{not_built, static_fault};
+pub use first_fault::static_fault;
 pub use interface::is_exposed;
 pub use payload::{
     AliasItem, ComponentInstanceItem, Encoding, ExportEntry, ExternName, ImportItem, InstanceItem,

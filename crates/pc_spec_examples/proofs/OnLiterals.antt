@@ -34,10 +34,9 @@ use Rattle.pc_spec_reading.specs.Components.{is_definable}
 use Rattle.pc_spec_reading.specs.Imports.{prepare, import_resources, read_import, read_intrinsics}
 use Rattle.pc_spec_reading.specs.Rows.{read_resource, read_row}
 use Rattle.pc_spec_reading.specs.Total.{counted, body_weight, prepared_weight, item_weight}
-use Rattle.pc_spec_reading.specs.Guard.{everything}
 use Rattle.pc_spec_reading.specs.HostTypes.{type_at}
 use Rattle.pc_spec_reading.specs.Nodes.{host_node, value_node}
-use Rattle.pc_spec_reading.specs.Reading.{called, prepared, prepare_all, root_exports, finishing, row, instantiate}
+use Rattle.pc_spec_reading.specs.Reading.{prepare_all, root_exports, finishing, instantiate}
 use Rattle.pc_spec_reading.specs.Reading.{read_item, read_items, read_body, enter_at, read_root, reading_of, reading}
 
 -- what an answer unfolds to compute the tree of a text, the input that it is, and its reading
@@ -55,6 +54,6 @@ unfolding serde_json_on_literals core_types prim_types core_kinds item_kinds out
     member resource_at resource_among resource_paths registered walk newly value_at exported_value argument_value exports_at
     read_component_exports read_alias read_export read_component read_outer outer_of read_call add_child read_return
     is_definable prepare import_resources read_import read_intrinsics read_resource read_row counted body_weight
-    prepared_weight item_weight everything type_at host_node value_node called prepared prepare_all root_exports
-    finishing row instantiate read_item read_items read_body enter_at read_root reading_of reading static_fault
+    prepared_weight item_weight type_at host_node value_node prepare_all root_exports finishing instantiate
+    read_item read_items read_body enter_at read_root reading_of reading static_fault
 on_literals = tt

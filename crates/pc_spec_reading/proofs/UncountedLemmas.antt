@@ -3,27 +3,20 @@ use Rattle.std.proofs.Common.{◌≡◌, ◌⊎◌, inl, inr, ◌+◌, ℕ, zero
 use Rattle.std.proofs.Common.{Result, Ok, Err, refl, sym, ap, subst, ◌∙◌, if◌then◌else◌}
 use Rattle.std.specs.Prelude.{nat_lt, option_map}
 use Rattle.std.proofs.lemmas.Option.{none-some, same_Some}
-use Rattle.pc_types.specs.declared.error.Place.TheVariants as place
-use Rattle.pc_types.specs.declared.error.Unsupported.TheVariants.{NotBuilt}
 use Rattle.pc_types.specs.declared.module_record.ModuleRecord.{ModuleRecord}
-use Rattle.pc_types.specs.declared.parsed.Entity.{Entity}
 use Rattle.pc_types.specs.declared.parsed.TypeTable.{TypeTable}
 use Rattle.pc_types.specs.TypeTree.{Identity}
-use Rattle.pc_parsed.specs.declared.payload.ExternName.{ExternName}
 use Rattle.pc_parsed.specs.declared.payload.Payload.{Payload}
-use Rattle.pc_spec_reading.specs.Components.{Call}
-use Rattle.pc_spec_reading.specs.Guard.{Guard, everything}
+use Rattle.pc_spec_reading.specs.Components.{Call, read_call}
 use Rattle.pc_spec_reading.specs.Item
 use Rattle.pc_spec_reading.specs.Item.{ArgumentOf, ExportOf, Items, and_item, no_items, exports_in}
 use Rattle.pc_spec_reading.specs.Items.{exported_value}
 use Rattle.pc_spec_reading.specs.Nest.{root_of}
 use Rattle.pc_spec_reading.specs.Nodes.{Finish, Reached, at_export, passed, reached, refused}
-use Rattle.pc_spec_reading.specs.Outcome.{Fault, Outcome, after, and_then, at_item, done, fault, held, over, past}
-use Rattle.pc_spec_reading.specs.Outcome.{unsupported}
-use Rattle.pc_spec_reading.specs.Reading.{Enter, Reading, Return, beginning, begun_in, called, enter_at, exporting}
-use Rattle.pc_spec_reading.specs.Reading.{finishing, instantiate, prepare_all, prepared, read_body, read_child, read_item}
-use Rattle.pc_spec_reading.specs.Reading.{read_items, read_root, reading, reading_of, root_exports}
-use Rattle.pc_spec_reading.specs.Reading.{returning, row}
+use Rattle.pc_spec_reading.specs.Outcome.{Fault, Outcome, and_then, at_item, done, fault, over, past}
+use Rattle.pc_spec_reading.specs.Reading.{Enter, Reading, Return, beginning, begun_in, enter_at, exporting}
+use Rattle.pc_spec_reading.specs.Reading.{finishing, instantiate, prepare_all, read_body, read_child, read_item}
+use Rattle.pc_spec_reading.specs.Reading.{read_items, read_root, reading, reading_of, returning, root_exports}
 use Rattle.pc_spec_reading.specs.Rows.{read_row}
 use Rattle.pc_spec_reading.specs.Scope.{Moment, Scope}
 use Rattle.pc_spec_reading.specs.Section.{modules_of}
@@ -31,7 +24,7 @@ use Rattle.pc_spec_reading.specs.Total.{body_weight, prepared_weight}
 use Rattle.pc_spec_reading.specs.Uncounted.{bare, bare_world, uncounted}
 use Rattle.pc_spec_reading.specs.Value.{Component, NamedValue, Value, closed, outermost}
 use Rattle.pc_spec_reading.specs.World.{World, grown, has_room, new_world}
-use Rattle.pc_spec_reading.proofs.UncountedRows.{bare_result, held_bare, prepare_bare, return_bare, row_bare}
+use Rattle.pc_spec_reading.proofs.UncountedRows.{bare_result, prepare_bare, return_bare, row_bare}
 use Rattle.pc_spec_reading.proofs.UncountedNodes.{ReachesAs, value_as}
 
 -- what is done is done with something else
@@ -94,31 +87,7 @@ bare_finish f = (f.0, bare_world f.1)
 abbrev bare_reading : Reading → Reading
 bare_reading r = record r { total = None }
 
--- a guard that doesn't look at the total
-module _ (g : Guard) (blind : (now : Moment) → g.moments (bare now) ≡ g.moments now) (t : TypeTable)
-    (ms : List ModuleRecord) where
-  -- an item that begins no component instance
-  guarded_bare : (now : Moment) (i : Item.Item) → row g t ms (bare now) i ≡ bare_result (row g t ms now i)
-  unfolding row
-  guarded_bare now i =
-      held_bare (unsupported NotBuilt) (g.items i) _ _ (ap (λ r. after r through) (row_bare t ms now i)
-      ∙ goes (read_row t ms now i))
-    where
-      through : Moment → Result Moment Fault
-      through next = held (unsupported NotBuilt) (g.moments next) (Ok next)
-
-      goes : (r : Result Moment Fault) → after (bare_result r) through ≡ bare_result (after r through)
-      goes (Ok next) =
-          ap (λ b. held (unsupported NotBuilt) b (Ok (bare next))) (blind next)
-          ∙ held_bare (unsupported NotBuilt) (g.moments next) (Ok next) (Ok (bare next)) refl
-      goes (Err f) = refl
-
-  -- an import of the root is prepared
-  prepared_bare : (name : ExternName) (e : Entity) (now : Moment)
-      → prepared g t name e (bare now) ≡ bare_result (prepared g t name e now)
-  unfolding prepared
-  prepared_bare name e now = held_bare (unsupported NotBuilt) (g.imports e) _ _ (prepare_bare t name e now)
-
+module _ (t : TypeTable) (ms : List ModuleRecord) where
   -- a child
   abbrev ChildAs : Enter → Type 0
   ChildAs enter = (c : Call) (known : List (ℕ × Identity)) (w : World)
@@ -127,22 +96,22 @@ module _ (g : Guard) (blind : (now : Moment) → g.moments (bare now) ≡ g.mome
   module _ (enter : Enter) (child : ChildAs enter) where
     -- an instantiation
     instance_as : (n component : ℕ) (args : List ArgumentOf) (ty : ℕ) (now : Moment)
-        → EndsAs bare (instantiate g t ms enter n component args ty now)
-        (instantiate g t ms enter n component args ty (bare now))
+        → EndsAs bare (instantiate t ms enter n component args ty now)
+        (instantiate t ms enter n component args ty (bare now))
     unfolding instantiate
     instance_as n component args ty now =
-        then_both bare (at_item now.scope.component_instance n (called g t now.scope component args ty)) _ _ (λ c.
+        then_both bare (at_item now.scope.component_instance n (read_call t now.scope component args ty)) _ _ (λ c.
         then_as bare_return bare _ _ _ _ (child c now.scope.known now.world) (λ r.
         item_as now.scope.component_instance n _ _ (return_bare t (record now { world = r.world }) r.exports ty)))
 
     row_as : (n : ℕ) (i : Item.Item) (now : Moment)
-        → EndsAs bare (at_item now.scope.component_instance n (row g t ms now i))
-        (at_item now.scope.component_instance n (row g t ms (bare now) i))
-    row_as n i now = item_as now.scope.component_instance n _ _ (guarded_bare now i)
+        → EndsAs bare (at_item now.scope.component_instance n (read_row t ms now i))
+        (at_item now.scope.component_instance n (read_row t ms (bare now) i))
+    row_as n i now = item_as now.scope.component_instance n _ _ (row_bare t ms now i)
 
     -- an item
     one_as : (n : ℕ) (i : Item.Item) (now : Moment)
-        → EndsAs bare (read_item g t ms enter n i now) (read_item g t ms enter n i (bare now))
+        → EndsAs bare (read_item t ms enter n i now) (read_item t ms enter n i (bare now))
     unfolding read_item
     one_as n (Item.import_item a b) now = row_as n (Item.import_item a b) now
     one_as n Item.intrinsics_import now = row_as n Item.intrinsics_import now
@@ -168,18 +137,18 @@ module _ (g : Guard) (blind : (now : Moment) → g.moments (bare now) ≡ g.mome
 
     -- items
     items_as : (n : ℕ) (is : Items) (now : Moment)
-        → EndsAs bare (read_items g t ms enter n is now) (read_items g t ms enter n is (bare now))
+        → EndsAs bare (read_items t ms enter n is now) (read_items t ms enter n is (bare now))
     unfolding read_items
     items_as n no_items now = inr refl
     items_as n (and_item i is) now = then_as bare bare _ _ _ _ (one_as n i now) (items_as (n + 1) is)
 
   -- the imports of the root
   prepare_as : (n : ℕ) (is : Items) (now : Moment)
-      → EndsAs bare (prepare_all g t n is now) (prepare_all g t n is (bare now))
+      → EndsAs bare (prepare_all t n is now) (prepare_all t n is (bare now))
   unfolding prepare_all
   prepare_as n no_items now = inr refl
   prepare_as n (and_item (Item.import_item name e) is) now =
-      then_as bare bare _ _ _ _ (item_as now.scope.component_instance n _ _ (prepared_bare name e now))
+      then_as bare bare _ _ _ _ (item_as now.scope.component_instance n _ _ (prepare_bare t name e now))
       (prepare_as (n + 1) is)
   prepare_as n (and_item Item.intrinsics_import is) now = prepare_as (n + 1) is now
   prepare_as n (and_item (Item.resource_item a b d) is) now = prepare_as (n + 1) is now
@@ -206,34 +175,34 @@ module _ (g : Guard) (blind : (now : Moment) → g.moments (bare now) ≡ g.mome
     -- a body
     body_as : (enter : Enter) → ChildAs enter → (k : Component) (args : List (List ℕ × Value))
         (known : List (ℕ × Identity)) (w : World)
-        → EndsAs bare_return (read_child g t ms limit enter k args known w)
-        (read_child g t ms limit enter k args known (bare_world w))
+        → EndsAs bare_return (read_child t ms limit enter k args known w)
+        (read_child t ms limit enter k args known (bare_world w))
     unfolding read_body
     body_as enter child (closed body chain) args known w =
-        let read : World → Outcome Moment = λ v. read_items g t ms enter 0 body (begun_in args known chain w.begun v) in
+        let read : World → Outcome Moment = λ v. read_items t ms enter 0 body (begun_in args known chain w.begun v) in
         begins_as bare_return limit (body_weight t ms body) w (λ v. and_then (read v) (returning t body))
         (λ v. and_then (read v) (returning t body)) (λ v.
         then_as bare bare_return (read v) (read (bare_world v)) (returning t body) (returning t body)
         (items_as enter child 0 body (begun_in args known chain w.begun v)) (λ now. inr refl))
 
     -- a child, however deep
-    child_as : (levels : ℕ) → ChildAs (enter_at g t ms limit levels)
+    child_as : (levels : ℕ) → ChildAs (enter_at t ms limit levels)
     unfolding enter_at
     child_as zero c known w = inr refl
     child_as (suc levels) c known w =
-        body_as (enter_at g t ms limit levels) (child_as levels) c.component c.arguments known w
+        body_as (enter_at t ms limit levels) (child_as levels) c.component c.arguments known w
 
     -- the root
     root_as : (n : ℕ) (body : Items)
-        → EndsAs bare (read_root g t ms limit (Some n) body) (read_root g t ms limit None body)
+        → EndsAs bare (read_root t ms limit (Some n) body) (read_root t ms limit None body)
     unfolding read_root
     root_as n body =
-        let first : World → Outcome Moment = λ v. prepare_all g t 0 body (begun_in [] [] outermost 0 v) in
-        let rest = read_items g t ms (enter_at g t ms limit limit) 0 body in
+        let first : World → Outcome Moment = λ v. prepare_all t 0 body (begun_in [] [] outermost 0 v) in
+        let rest = read_items t ms (enter_at t ms limit limit) 0 body in
         begins_as bare limit (body_weight t ms body + prepared_weight t ms body) (new_world (Some n))
         (λ v. and_then (first v) rest) (λ v. and_then (first v) rest) (λ v.
         then_as bare bare (first v) (first (bare_world v)) rest rest (prepare_as 0 body (begun_in [] [] outermost 0 v))
-        (items_as (enter_at g t ms limit limit) (child_as limit) 0 body))
+        (items_as (enter_at t ms limit limit) (child_as limit) 0 body))
 
   -- an export of the root
   export_as : {A : Type 0} (n : ℕ) (r other : Reached A) (go : A → World → Outcome Finish) → ReachesAs r other
@@ -256,27 +225,16 @@ module _ (g : Guard) (blind : (now : Moment) → g.moments (bare now) ≡ g.mome
       then_as bare_finish bare_finish _ _ _ _ (each (n + 1) v) (λ f. inr refl))
 
   exports_as : (s : Scope) (es : List ExportOf) (n : ℕ) (w : World)
-      → EndsAs bare_finish (root_exports g t s es n w) (root_exports g t s es n (bare_world w))
+      → EndsAs bare_finish (root_exports t s es n w) (root_exports t s es n (bare_world w))
   unfolding root_exports
   exports_as s [] n w = inr refl
-  exports_as s (e ∷ es) n w = by (exports_as s es n w) (exports_as s es) (g.exports s e)
-    where
-      by : EndsAs bare_finish (root_exports g t s es n w) (root_exports g t s es n (bare_world w))
-          → ((m : ℕ) (v : World) → EndsAs bare_finish (root_exports g t s es m v) (root_exports g t s es m (bare_world v)))
-          → (b : Bool) → EndsAs bare_finish
-          (if b then exporting n (exported_value t s e) w (root_exports g t s es n w) (root_exports g t s es)
-          else fault (unsupported NotBuilt) (place.Export n))
-          (if b
-          then exporting n (exported_value t s e) (bare_world w) (root_exports g t s es n (bare_world w))
-          (root_exports g t s es)
-          else fault (unsupported NotBuilt) (place.Export n))
-      by skip each true = exporting_as n (exported_value t s e) w _ _ (root_exports g t s es) skip each
-      by skip each false = inr refl
+  exports_as s (e ∷ es) n w =
+      exporting_as n (exported_value t s e) w _ _ (root_exports t s es) (exports_as s es n w) (exports_as s es)
 
   -- the whole
   pub reading_as : (limit n : ℕ) (body : Items)
-      → (reading_of g t ms limit (Some n) body ≡ past)
-      ⊎ (reading_of g t ms limit None body ≡ uncounted (reading_of g t ms limit (Some n) body))
+      → (reading_of t ms limit (Some n) body ≡ past)
+      ⊎ (reading_of t ms limit None body ≡ uncounted (reading_of t ms limit (Some n) body))
   unfolding reading_of finishing
   reading_as limit n body =
       then_as bare bare_reading _ _ _ _ (root_as limit n body) (λ now.
@@ -286,17 +244,17 @@ module _ (g : Guard) (blind : (now : Moment) → g.moments (bare now) ≡ g.mome
 pub counted_or_past : (t : TypeTable) (exposed : Option (List ℕ)) (limit n : ℕ) (ps : List Payload)
     (o : Outcome Reading) → reading t exposed limit (Some n) ps ≡ Some o
     → (o ≡ past) ⊎ (reading t exposed limit None ps ≡ Some (uncounted o))
-unfolding reading everything
+unfolding reading
 counted_or_past t exposed limit n ps o h = by (root_of exposed ps) h
   where
     here : (a b : Outcome Reading) → (a ≡ past) ⊎ (b ≡ uncounted a) → a ≡ o → (o ≡ past) ⊎ (Some b ≡ Some (uncounted o))
     here a b (inl is) same = inl (sym same ∙ is)
     here a b (inr is) same = inr (ap Some (is ∙ ap uncounted same))
 
-    by : (r : Option Items) → option_map (reading_of everything t (modules_of ps) limit (Some n)) r ≡ Some o
-        → (o ≡ past) ⊎ (option_map (reading_of everything t (modules_of ps) limit None) r ≡ Some (uncounted o))
+    by : (r : Option Items) → option_map (reading_of t (modules_of ps) limit (Some n)) r ≡ Some o
+        → (o ≡ past) ⊎ (option_map (reading_of t (modules_of ps) limit None) r ≡ Some (uncounted o))
     by None is = absurd (none-some o is)
     by (Some body) is =
-        here (reading_of everything t (modules_of ps) limit (Some n) body)
-        (reading_of everything t (modules_of ps) limit None body)
-        (reading_as everything (λ now. refl) t (modules_of ps) limit n body) (same_Some _ o is)
+        here (reading_of t (modules_of ps) limit (Some n) body)
+        (reading_of t (modules_of ps) limit None body)
+        (reading_as t (modules_of ps) limit n body) (same_Some _ o is)

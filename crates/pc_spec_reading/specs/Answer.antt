@@ -7,7 +7,6 @@ use Rattle.pc_types.specs.declared.module_record.ModuleRecord.{ModuleRecord}
 use Rattle.pc_types.specs.declared.parsed.TypeTable.{TypeTable}
 use Rattle.pc_parsed.specs.declared.payload.Payload.{Payload}
 use Rattle.pc_parsed.specs.StaticFault.{static_fault}
-use Rattle.pc_spec_reading.specs.Guard.{everything}
 use Rattle.pc_spec_reading.specs.Item.{Items}
 use Rattle.pc_spec_reading.specs.Outcome.{Fault, Outcome, bad_type, done, fault, invalid, over, past, unknown_intrinsic}
 use Rattle.pc_spec_reading.specs.Outcome.{unsupported}
@@ -52,9 +51,9 @@ module _ (t : TypeTable) (exposed : Option (List ℕ)) (limit : ℕ) where
 module _ (t : TypeTable) (ms : List ModuleRecord) (limit total : ℕ) (body : Items) where
   -- the reading whose total begins with this one reaches the number that it may not reach
   abbrev pub IsPast : Type 0
-  IsPast = reading_of everything t ms limit (Some total) body ≡ past
+  IsPast = reading_of t ms limit (Some total) body ≡ past
 
   -- its total when the items of the root have been read
   abbrev pub HasTotal : ℕ → Type 0
   HasTotal last =
-      (now : Moment) × (read_root everything t ms limit (Some total) body ≡ done now) × (now.world.total ≡ Some last)
+      (now : Moment) × (read_root t ms limit (Some total) body ≡ done now) × (now.world.total ≡ Some last)

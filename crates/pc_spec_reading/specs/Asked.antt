@@ -4,7 +4,7 @@ use Rattle.std.specs.List.{filter_map}
 use Rattle.pc_types.specs.declared.parsed.CoreFuncSig.{CoreFuncSig}
 use Rattle.pc_types.specs.TypeTree.{Path}
 use Rattle.pc_spec_plan.specs.CoreValue.{CoreValue, and_part, builtin, lowered, mark_part, options}
-use Rattle.pc_spec_plan.specs.Log.{Entry, declared, needed}
+use Rattle.pc_spec_plan.specs.Log.{Entry, declared, made, needed}
 use Rattle.pc_parsed.specs.Mark.{Mark, of_signature}
 use Rattle.pc_spec_reading.specs.Once.{each_once, with_once}
 use Rattle.pc_spec_reading.specs.SameTypes.{same_path}
@@ -30,6 +30,11 @@ paths_needed log = each_once same_path (filter_map needed_path log)
 abbrev pub is_declared : {τ : Type 0} → Entry τ → Bool
 is_declared (declared v) = true
 is_declared _ = false
+
+-- whether an entry says that an adapter was made
+abbrev pub is_made : Entry Mark → Bool
+is_made (made v) = true
+is_made _ = false
 
 -- the core signature of what is declared: that of a lowering's options, or the first part of a builtin
 abbrev pub signature_of : CoreValue Mark → Option CoreFuncSig

@@ -24,9 +24,9 @@ pub mod Instances
 pub mod Components
 pub mod Imports
 pub mod Rows
-pub mod Guard
 pub mod Total
 pub mod HostTypes
+pub mod Widths
 pub mod Nodes
 pub mod Reading
 pub mod Uncounted

@@ -1,29 +1,21 @@
 -- The nested reading: what a payload list means. Levels of instantiation, then items: a child is read one level further
 -- in, and the items of a body one after the other. Each adds to the scope and to the world, or the reading ends there.
--- It ends too at what a guard doesn't let through; the nested reading itself is the one under which everything is.
 use Rattle.std.specs.Prelude.{ℕ, zero, suc, ◌+◌, List, [], Option, nat_lt, option_map, if◌then◌else◌, ◌∷◌, None, Some}
-use Rattle.std.specs.Prelude.{Result, Ok}
-use Rattle.pc_types.specs.declared.error.Place.TheVariants as place
-use Rattle.pc_types.specs.declared.error.Unsupported.TheVariants.{NotBuilt}
 use Rattle.pc_types.specs.declared.module_record.ModuleRecord.{ModuleRecord}
-use Rattle.pc_types.specs.declared.parsed.Entity.{Entity}
 use Rattle.pc_types.specs.declared.parsed.TypeTable.{TypeTable}
 use Rattle.pc_types.specs.TypeTree.{Identity, Path}
 use Rattle.pc_spec_plan.specs.ExportNode.{NamedNode}
 use Rattle.pc_spec_plan.specs.Log.{Entry}
-use Rattle.pc_parsed.specs.declared.payload.ExternName.{ExternName}
 use Rattle.pc_parsed.specs.declared.payload.Payload.{Payload}
 use Rattle.pc_parsed.specs.Mark.{Mark}
 use Rattle.pc_spec_reading.specs.Components.{Call, read_call, read_return}
-use Rattle.pc_spec_reading.specs.Guard.{Guard, everything, let_through}
 use Rattle.pc_spec_reading.specs.Imports.{prepare}
 use Rattle.pc_spec_reading.specs.Item.{Item, Items, ArgumentOf, no_items, and_item, instantiate_component_item, exports_in}
 use Rattle.pc_spec_reading.specs.Item.{ExportOf, import_item}
 use Rattle.pc_spec_reading.specs.Items.{exports_at, exported_value}
 use Rattle.pc_spec_reading.specs.Nest.{root_of}
 use Rattle.pc_spec_reading.specs.Nodes.{Finish, at_export, in_front, named_node, value_node}
-use Rattle.pc_spec_reading.specs.Outcome.{Outcome, done, over, past, and_then, at_item, Fault, fault, after}
-use Rattle.pc_spec_reading.specs.Outcome.{unsupported}
+use Rattle.pc_spec_reading.specs.Outcome.{Outcome, done, over, past, and_then, at_item}
 use Rattle.pc_spec_reading.specs.Rows.{read_row}
 use Rattle.pc_spec_reading.specs.Scope.{Moment, fresh, Scope}
 use Rattle.pc_spec_reading.specs.Section.{modules_of}
@@ -89,53 +81,38 @@ exporting n None w skip go = skip
 exporting n (Some e) w skip go =
     at_export n (value_node e.value w) (λ x v. and_then (go (n + 1) v) (in_front (named_node e x)))
 
-module _ (g : Guard) (t : TypeTable) where
-  -- what a component instance begins with: its component and its arguments
-  unfoldable pub called : Scope → (component : ℕ) → List ArgumentOf → (ty : ℕ) → Result Call Fault
-  called s component args ty = let_through (g.calls args) (read_call t s component args ty)
-
-  -- an import of the root is prepared
-  unfoldable pub prepared : ExternName → Entity → Moment → Result Moment Fault
-  prepared name e now = let_through (g.imports e) (prepare t name e now)
-
+module _ (t : TypeTable) where
   -- the imports of the root are prepared in order, each with its place, before the first item is read
   unfoldable pub prepare_all : (item : ℕ) → Items → Moment → Outcome Moment
   prepare_all n no_items now = done now
   prepare_all n (and_item (import_item name e) is) now =
-      and_then (at_item now.scope.component_instance n (prepared name e now)) (prepare_all (n + 1) is)
+      and_then (at_item now.scope.component_instance n (prepare t name e now)) (prepare_all (n + 1) is)
   prepare_all n (and_item i is) now = prepare_all (n + 1) is now
 
   -- the exports of the root in order, from number n on
   unfoldable pub root_exports : Scope → List ExportOf → (n : ℕ) → World → Outcome Finish
   root_exports s [] n w = done ([], w)
   root_exports s (e ∷ es) n w =
-      if g.exports s e
-      then exporting n (exported_value t s e) w (root_exports s es n w) (root_exports s es)
-      else fault (unsupported NotBuilt) (place.Export n)
+      exporting n (exported_value t s e) w (root_exports s es n w) (root_exports s es)
 
   -- what the root means when its items have been read: its exports become nodes
   unfoldable pub finishing : Items → Moment → Outcome Reading
   finishing body now =
       and_then (root_exports now.scope (exports_in body) 0 now.world) (λ (f : Finish). done (result_of f.0 f.1))
 
-module _ (g : Guard) (t : TypeTable) (ms : List ModuleRecord) where
-  -- an item that begins no component instance
-  unfoldable pub row : Moment → Item → Result Moment Fault
-  row now i = let_through (g.items i) (after (read_row t ms now i) (λ (next : Moment).
-      let_through (g.moments next) (Ok next)))
-
+module _ (t : TypeTable) (ms : List ModuleRecord) where
   module _ (enter : Enter) where
     -- an instantiation: the item's own faults, then the child, then what the caller has of it
     unfoldable pub instantiate : (item component : ℕ) → List ArgumentOf → (ty : ℕ) → Moment → Outcome Moment
     instantiate n component args ty now =
-        and_then (at_item now.scope.component_instance n (called g t now.scope component args ty)) (λ (c : Call).
+        and_then (at_item now.scope.component_instance n (read_call t now.scope component args ty)) (λ (c : Call).
         and_then (enter c now.scope.known now.world) (λ (r : Return).
         at_item now.scope.component_instance n (read_return t (record now { world = r.world }) r.exports ty)))
 
     -- an item, by its number in the body
     unfoldable pub read_item : (item : ℕ) → Item → Moment → Outcome Moment
     read_item n (instantiate_component_item component args ty) now = instantiate n component args ty now
-    read_item n i now = at_item now.scope.component_instance n (row now i)
+    read_item n i now = at_item now.scope.component_instance n (read_row t ms now i)
 
     -- the items from number n on
     unfoldable pub read_items : (n : ℕ) → Items → Moment → Outcome Moment
@@ -165,11 +142,11 @@ module _ (g : Guard) (t : TypeTable) (ms : List ModuleRecord) where
     unfoldable pub read_root : (counted : Option ℕ) → Items → Outcome Moment
     read_root counted body =
         beginning limit (body_weight t ms body + prepared_weight t ms body) (new_world counted) (λ v.
-        and_then (prepare_all g t 0 body (begun_in [] [] outermost 0 v)) (read_items (enter_at limit) 0 body))
+        and_then (prepare_all t 0 body (begun_in [] [] outermost 0 v)) (read_items (enter_at limit) 0 body))
 
     -- what the body of a root means
     unfoldable pub reading_of : (counted : Option ℕ) → Items → Outcome Reading
-    reading_of counted body = and_then (read_root counted body) (finishing g t body)
+    reading_of counted body = and_then (read_root counted body) (finishing t body)
 
 -- what a payload list means, or nothing where it doesn't nest: the name that exposes the unsafe intrinsics, the limit
 -- of component instances and the total before the first item are given. Without a total nothing is counted, and no
@@ -177,4 +154,4 @@ module _ (g : Guard) (t : TypeTable) (ms : List ModuleRecord) where
 unfoldable pub reading : TypeTable → (exposed : Option (List ℕ)) → (limit : ℕ) → (counted : Option ℕ) → List Payload
     → Option (Outcome Reading)
 reading t exposed limit counted ps =
-    option_map (reading_of everything t (modules_of ps) limit counted) (root_of exposed ps)
+    option_map (reading_of t (modules_of ps) limit counted) (root_of exposed ps)

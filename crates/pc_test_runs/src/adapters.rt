@@ -1,11 +1,11 @@
-//! Functions that go from one component to another. The lowering of one that was lifted isn't built.
+//! Functions that go from one component to another: each that is lifted in one and lowered in another is an adapter.
 
-use crate::inputs::{ALONE, are_refused, between, holds, is_answered};
+use crate::inputs::{ALONE, are_planned, are_refused, between, holds, is_answered};
 use pc_tool::Status;
 use std::alloc::{AllocError, Global};
 
-/// Lowered functions of components, in each place where a function can stand, and where the lowering is told.
-static ADAPTERS: [(&str, &str); 6] = [
+/// Lowered functions of components, in each place where a function can stand, and their plans.
+static ADAPTERS: [(&str, &str); 5] = [
     // async lower
     (
         r#"{"limit":100,"intrinsics":null,"types":{"core":[[["i32"],["i32"]]],
@@ -21,7 +21,17 @@ static ADAPTERS: [(&str, &str); 6] = [
            {"canon":[["lift",1,0,0,[]]]},{"exports":[["f","func",1]]},"end",
            {"component-instances":[{"instantiate":[0,[],2]}]},{"aliases":[{"export":["func",0,"f"]}]},
            {"component-instances":[{"instantiate":[1,[["f","func",0]],2]}]},"end"]}"#,
-        "fault unsupported not-built at instance 2 item 1\n",
+        "plan 1
+modules 2 1
+counts 3 3 0 0 0 0 0 0 0 0 0 0
+init static 0 1 []
+init static 2 - [export(0 func 0), flags(2), flags(1), trampoline(0), trampoline(1), trampoline(2)]
+init static 1 2 [export(1 func 4)]
+trampoline 0 component-prepare-call -
+trampoline 1 component-start-call - -
+trampoline 2 trap-1
+adapter 2 0 4 0 lift 1 utf8 sync - - - - lower 2 utf8 async - - - -
+",
     ),
     // chain two modules
     (
@@ -39,7 +49,20 @@ static ADAPTERS: [(&str, &str); 6] = [
            {"component-instances":[{"instantiate":[0,[],2]}]},{"aliases":[{"export":["func",0,"f"]}]},
            {"component-instances":[{"instantiate":[1,[["f","func",0]],2]}]},{"aliases":[{"export":["func",1,"f"]}]},
            {"component-instances":[{"instantiate":[1,[["f","func",1]],2]}]},"end"]}"#,
-        "fault unsupported not-built at instance 2 item 1\n",
+        "plan 1
+modules 2 2
+counts 5 4 0 0 0 0 0 0 0 0 0 0
+init static 0 1 []
+init static 2 - [export(0 func 0), flags(2), flags(1), trampoline(0), trampoline(1), trampoline(2)]
+init static 1 2 [export(1 func 4)]
+init static 3 - [export(2 func 1), flags(3), flags(2), trampoline(0), trampoline(1), trampoline(2)]
+init static 1 3 [export(3 func 4)]
+trampoline 0 enter-sync-call
+trampoline 1 exit-sync-call
+trampoline 2 trap-1
+adapter 2 0 4 0 lift 1 utf8 sync - - - - lower 2 utf8 sync - - - -
+adapter 3 1 4 0 lift 2 utf8 sync - - - - lower 3 utf8 sync - - - -
+",
     ),
     // destructor is an adapter
     (
@@ -53,7 +76,17 @@ static ADAPTERS: [(&str, &str); 6] = [
            {"types":[{"resource":[4,"i32",0]}]},"end",{"component-instances":[{"instantiate":[0,[],2]}]},
            {"aliases":[{"export":["func",0,"f"]}]},{"component-instances":[{"instantiate":[1,[["f","func",0]],3]}]},
            "end"]}"#,
-        "fault unsupported not-built at instance 2 item 1\n",
+        "plan 1
+modules 1 1
+counts 2 3 0 0 0 0 0 0 1 0 0 0
+init static 0 1 []
+init static 1 - [export(0 func 0), flags(2), flags(1), trampoline(0), trampoline(1), trampoline(2)]
+init resource 0 i32 export(1 func 4) 2
+trampoline 0 enter-sync-call
+trampoline 1 exit-sync-call
+trampoline 2 trap-1
+adapter 1 0 4 0 lift 1 utf8 sync - - - - lower 2 utf8 sync - - - -
+",
     ),
     // realloc is an adapter
     (
@@ -77,7 +110,26 @@ static ADAPTERS: [(&str, &str); 6] = [
            {"component-instances":[{"instantiate":[1,[["r","func",1],["log","func",0]],2]}]},
            {"aliases":[{"export":["func",1,"f"]}]},{"component-instances":[{"instantiate":[2,[["f","func",2]],3]}]},
            "end"]}"#,
-        "fault unsupported not-built at instance 2 item 2\n",
+        "plan 1
+modules 3 2
+counts 5 4 1 0 0 1 0 0 0 0 0 0
+import-type 0 \"log\" func
+import 0 0
+init static 0 1 []
+init lower 0 0
+init static 3 - [export(0 func 0), flags(2), flags(1), trampoline(0), trampoline(1), trampoline(2)]
+init realloc 0 export(1 func 4)
+init static 1 2 [trampoline(3)]
+init static 4 - [export(2 func 1), flags(3), flags(2), trampoline(0), trampoline(1), trampoline(2)]
+init static 2 3 [export(3 func 4)]
+options 0 2 utf8 sync - - - 0
+trampoline 0 enter-sync-call
+trampoline 1 exit-sync-call
+trampoline 2 trap-1
+trampoline 3 component-lower-import[0] 0 0
+adapter 3 0 4 0 lift 1 utf8 sync - - - - lower 2 utf8 sync - - - -
+adapter 4 1 4 0 lift 2 utf8 sync - - - - lower 3 utf8 sync - - - -
+",
     ),
     // strings transcoded
     (
@@ -97,8 +149,27 @@ static ADAPTERS: [(&str, &str); 6] = [
            "tags":0,"exports":[]}},{"instances":[{"exports":[["f","func",0]]},{"instantiate":[1,[["e",1]]]}]},"end",
            {"component-instances":[{"instantiate":[0,[],2]}]},{"aliases":[{"export":["func",0,"f"]}]},
            {"component-instances":[{"instantiate":[1,[["f","func",0]],3]}]},"end"]}"#,
-        "fault unsupported not-built at instance 2 item 4\n",
+        "plan 1
+modules 3 1
+counts 4 3 0 2 0 0 0 0 0 0 0 0
+init static 0 1 []
+init static 1 2 []
+init memory 0 export(1 memory 0)
+init memory 1 export(0 memory 0)
+init static 3 - [export(0 func 0), flags(2), flags(1), export(0 memory 0), export(0 func 1), export(1 memory 0), trampoline(0), trampoline(1), trampoline(2), trampoline(3), trampoline(4)]
+init static 2 2 [export(2 func 7)]
+trampoline 0 component-transcode-utf8_to_latin1-m32-m32 0 1
+trampoline 1 component-transcode-utf8_to_compact_utf16-m32-m32 0 1
+trampoline 2 enter-sync-call
+trampoline 3 exit-sync-call
+trampoline 4 trap-1
+adapter 3 0 7 0 lift 1 compact-utf16 sync - - 3 4 lower 2 utf8 sync - - 5 -
+",
     ),
+];
+
+/// Lowered functions of components that lack an option which their types ask for.
+static LACKING: [(&str, &str); 1] = [
     // strings without realloc
     (
         r#"{"limit":100,"intrinsics":null,"types":{"core":[[["i32","i32"],[]],[["i32","i32","i32","i32"],["i32"]]],
@@ -117,7 +188,7 @@ static ADAPTERS: [(&str, &str); 6] = [
            "tags":0,"exports":[]}},{"instances":[{"exports":[["f","func",0]]},{"instantiate":[1,[["e",1]]]}]},"end",
            {"component-instances":[{"instantiate":[0,[],2]}]},{"aliases":[{"export":["func",0,"f"]}]},
            {"component-instances":[{"instantiate":[1,[["f","func",0]],3]}]},"end"]}"#,
-        "fault unsupported not-built at instance 2 item 4\n",
+        "fault bad-options at adapter 0\n",
     ),
 ];
 
@@ -170,12 +241,37 @@ fn ends_too_early(alloc: Global, count: usize) -> Result<bool, AllocError> {
     is_refused(alloc, count, &fault)
 }
 
+/// The plan of the input with two adapters: one module has both.
+const TWO_PLANNED: &str = "plan 1
+modules 2 1
+counts 4 4 0 0 0 0 0 0 0 0 0 0
+init static 0 1 []
+init static 0 2 []
+init static 2 - [export(0 func 0), flags(3), flags(1), trampoline(0), trampoline(1), trampoline(2), export(1 func 0), flags(3), flags(2), trampoline(0), trampoline(1), trampoline(2)]
+init static 1 3 [export(2 func 8), export(2 func 9)]
+trampoline 0 enter-sync-call
+trampoline 1 exit-sync-call
+trampoline 2 trap-1
+adapter 2 0 8 0 lift 1 utf8 sync - - - - lower 3 utf8 sync - - - -
+adapter 2 1 9 6 lift 2 utf8 sync - - - - lower 3 utf8 sync - - - -
+";
+
+/// Whether the input with two adapters has that plan.
+fn two_are_planned(alloc: Global) -> Result<bool, AllocError> {
+    let input = prefix(alloc, 20)?;
+    is_answered(alloc, "translate", &input, Status::Done, TWO_PLANNED)
+}
+
 #[test]
-fn adapters_are_not_built(rt: HostRuntime) {
-    are_refused(&rt, rt.alloc(), ALONE, &ADAPTERS);
-    let fault = "fault unsupported not-built at instance 3 item 2\n";
-    let is_so = is_refused(rt.alloc(), 20, fault).unwrap_or(false);
+fn adapters_are_planned(rt: HostRuntime) {
+    are_planned(&rt, rt.alloc(), ALONE, &ADAPTERS);
+    let is_so = two_are_planned(rt.alloc()).unwrap_or(false);
     holds(&rt, "two adapters", is_so);
+}
+
+#[test]
+fn adapters_have_their_options(rt: HostRuntime) {
+    are_refused(&rt, rt.alloc(), ALONE, &LACKING);
 }
 
 #[test]

@@ -372,7 +372,7 @@ export \"g\" imported 0
     ),
 ];
 
-/// A lifted function that is lowered. That isn't built, and told at its item: whether it comes to that is read.
+/// A lifted function that is lowered where it was lifted. Nothing uses the adapter, so no step makes its module.
 static LIFTED_IS_LOWERED: [(&str, &str); 1] = [(
     r#"{"limit":100,"intrinsics":null,"types":{"core":[[["i32"],["i32"]]],
        "types":[{"func":{"params":[["x","u32"]],"result":"u32","async":false}},{"module":[[],[]]}]},
@@ -380,7 +380,14 @@ static LIFTED_IS_LOWERED: [(&str, &str); 1] = [(
        "tags":0,"exports":[["f","func",0]]}},{"instances":[{"instantiate":[0,[]]}]},
        {"aliases":[{"core-export":["func",0,"f"]}]},{"canon":[["lift",0,0,0,[]]]},{"exports":[["f","func",0]]},
        {"canon":[["lower",0,0,0,[]]]},"end"]}"#,
-    "fault unsupported not-built at instance 0 item 5\n",
+    "plan 1
+modules 1 1
+counts 1 1 0 0 0 0 0 0 0 0 0 0
+init static 0 0 []
+options 0 0 utf8 sync - - - -
+adapter 1 0 4 0 lift 0 utf8 sync - - - - lower 0 utf8 sync - - - -
+export \"f\" lifted export(0 func 0) options 0
+",
 )];
 
 #[test]
@@ -393,6 +400,6 @@ fn lifts_and_lowerings_are_planned(rt: HostRuntime) {
 }
 
 #[test]
-fn a_lifted_function_is_not_lowered(rt: HostRuntime) {
-    are_refused(&rt, rt.alloc(), ALONE, &LIFTED_IS_LOWERED);
+fn a_lifted_function_is_lowered(rt: HostRuntime) {
+    are_planned(&rt, rt.alloc(), ALONE, &LIFTED_IS_LOWERED);
 }

@@ -20,7 +20,7 @@ const TYPES: Around = Around {
 };
 
 /// Payloads, and the plan.
-static PLANS: [(&str, &str); 8] = [
+static PLANS: [(&str, &str); 9] = [
     // a function of lists and records that the root lifts
     (
         r#"{"module":{"ty":14,"imports":[],"funcs":[0,0],"tables":0,"memories":[false],"globals":0,"tags":0,
@@ -149,19 +149,7 @@ modules 0 0
 counts 0 1 0 0 0 0 0 0 0 0 0 0
 ",
     ),
-];
-
-/// Payloads whose reading isn't done, and the fault.
-static FAULTS: [(&str, &str); 4] = [
-    // a lift under the type of a list, by a child
-    (
-        r#""component","version",{"module":{"ty":14,"imports":[],"funcs":[0],"tables":0,"memories":[],"globals":0,
-           "tags":0,"exports":[["f","func",0]]}},{"instances":[{"instantiate":[0,[]]}]},
-           {"aliases":[{"core-export":["func",0,"f"]}]},{"canon":[["lift",0,0,0,[]]]},"end",
-           {"component-instances":[{"instantiate":[0,[],15]}]}"#,
-        "fault bad-type at instance 1 item 3\n",
-    ),
-    // the lowering of a lifted function of streams
+    // the lowering of a lifted function of streams: handles are transferred, and nothing uses the adapter
     (
         r#""component","version",{"module":{"ty":14,"imports":[],"funcs":[0],"tables":0,"memories":[],"globals":0,
            "tags":0,"exports":[["f","func",0]]}},{"instances":[{"instantiate":[0,[]]}]},
@@ -169,7 +157,24 @@ static FAULTS: [(&str, &str); 4] = [
            "end","component","version",{"imports":[["f",["func",5]]]},{"canon":[["lower",0,5,0,[]]]},"end",
            {"component-instances":[{"instantiate":[0,[],17]}]},{"aliases":[{"export":["func",0,"f"]}]},
            {"component-instances":[{"instantiate":[1,[["f","func",0]],15]}]}"#,
-        "fault unsupported not-built at instance 2 item 1\n",
+        "plan 1
+modules 1 1
+counts 1 3 0 0 0 0 0 0 0 3 3 0
+init static 0 1 []
+adapter 1 0 6 0 lift 1 utf8 sync - - - - lower 2 utf8 sync - - - -
+",
+    ),
+];
+
+/// Payloads whose reading isn't done, and the fault.
+static FAULTS: [(&str, &str); 3] = [
+    // a lift under the type of a list, by a child
+    (
+        r#""component","version",{"module":{"ty":14,"imports":[],"funcs":[0],"tables":0,"memories":[],"globals":0,
+           "tags":0,"exports":[["f","func",0]]}},{"instances":[{"instantiate":[0,[]]}]},
+           {"aliases":[{"core-export":["func",0,"f"]}]},{"canon":[["lift",0,0,0,[]]]},"end",
+           {"component-instances":[{"instantiate":[0,[],15]}]}"#,
+        "fault bad-type at instance 1 item 3\n",
     ),
     // one component instance too many
     (

@@ -19,7 +19,7 @@ const EXPORT: Place = Place::Export(0);
 
 /// A fault of each kind, with each kind of place, and what isn't supported: in a list of payloads, and of an import or
 /// an export.
-static FAULTS: [(Error, &str); 23] = [
+static FAULTS: [(Error, &str); 22] = [
     (
         Error::Malformed(BODY),
         "fault malformed at payload 2 item 3\n",
@@ -82,10 +82,6 @@ static FAULTS: [(Error, &str); 23] = [
     (
         Error::Unsupported(Unsupported::ComponentValue, BODY),
         "fault unsupported component-value at payload 2 item 3\n",
-    ),
-    (
-        Error::Unsupported(Unsupported::NotBuilt, BODY),
-        "fault unsupported not-built at payload 2 item 3\n",
     ),
     (
         Error::Unsupported(Unsupported::ComponentImport, EXPORT),

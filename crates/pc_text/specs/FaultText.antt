@@ -30,7 +30,6 @@ unsupported_word kind.ComponentImport = codes "component-import"
 unsupported_word kind.ReexportedIntrinsic = codes "reexported-intrinsic"
 unsupported_word kind.ReexportedIntrinsics = codes "reexported-intrinsics"
 unsupported_word kind.ExportedComponent = codes "exported-component"
-unsupported_word kind.NotBuilt = codes "not-built"
 
 -- the line of a fault, from its kind and place
 abbrev pub fault_line : List ℕ → List ℕ

@@ -53,7 +53,6 @@ fn word(kind: Unsupported) -> &'static str
         Unsupported::ReexportedIntrinsic => "reexported-intrinsic",
         Unsupported::ReexportedIntrinsics => "reexported-intrinsics",
         Unsupported::ExportedComponent => "exported-component",
-        Unsupported::NotBuilt => "not-built",
     }
 }
 

@@ -4,7 +4,6 @@ use Rattle.serde_json.specs.Data.{Data}
 use Rattle.pc_spec_reading.specs.Reading.{Reading}
 use Rattle.pc_types.specs.declared.error.Error.{Error}
 use Rattle.pc_types.specs.declared.error.Error.TheVariants as error
-use Rattle.pc_types.specs.declared.error.Unsupported.TheVariants.{NotBuilt}
 use Rattle.pc_input.specs.declared.input.Input.{Input}
 use Rattle.pc_input.specs.Input.{input_of, tree_of}
 use Rattle.pc_input_values.specs.Tree.{◌>>=◌}
@@ -34,18 +33,17 @@ not_both o r e a b = cc (a, b)
 valid_has_none : (input : Input) → IsValid input → (e : Error) → e ≢ error.NoMemory → IsErrorOf input e → ⊥
 unfolding IsRefusalOf
 valid_has_none input v error.NoMemory other h = other refl
-valid_has_none input v error.TooMany other h = not_both _ v.counted error.TooMany v.answer h.0
-valid_has_none input v (error.Unsupported NotBuilt p) other h = not_both _ v.result _ v.built h
-valid_has_none input v (error.Unsupported u p) other h = not_both _ v.result _ v.built h.0
-valid_has_none input v (error.Invalid p) other h = not_both _ v.result _ v.built h.0
-valid_has_none input v (error.BadType p) other h = not_both _ v.result _ v.built h.0
-valid_has_none input v (error.Malformed p) other h = not_both _ v.result _ v.built h.0
-valid_has_none input v (error.BadTable p) other h = not_both _ v.result _ v.built h.0
-valid_has_none input v (error.BadIntrinsics p) other h = not_both _ v.result _ v.built h.0
-valid_has_none input v (error.UnknownIntrinsic p) other h = not_both _ v.result _ v.built h.0
-valid_has_none input v (error.DefinedTwice p) other h = not_both _ v.result _ v.built h.0
-valid_has_none input v (error.BadOptions p) other h = not_both _ v.result _ v.built h.0
-valid_has_none input v error.TooManyInstances other h = not_both _ v.result _ v.built h.0
+valid_has_none input v error.TooMany other h = not_both _ v.reading error.TooMany v.answer h.0
+valid_has_none input v (error.Unsupported u p) other h = not_both _ v.result _ v.uncounted h.1
+valid_has_none input v (error.Invalid p) other h = not_both _ v.result _ v.uncounted h.1
+valid_has_none input v (error.BadType p) other h = not_both _ v.result _ v.uncounted h.1
+valid_has_none input v (error.Malformed p) other h = not_both _ v.result _ v.uncounted h.1
+valid_has_none input v (error.BadTable p) other h = not_both _ v.result _ v.uncounted h.1
+valid_has_none input v (error.BadIntrinsics p) other h = not_both _ v.result _ v.uncounted h.1
+valid_has_none input v (error.UnknownIntrinsic p) other h = not_both _ v.result _ v.uncounted h.1
+valid_has_none input v (error.DefinedTwice p) other h = not_both _ v.result _ v.uncounted h.1
+valid_has_none input v (error.BadOptions p) other h = not_both _ v.result _ v.uncounted h.1
+valid_has_none input v error.TooManyInstances other h = not_both _ v.result _ v.uncounted h.1
 
 -- no text says of bytes that stand for a valid input why they have no plan
 valid_has_no_fault : (bytes text : List ℕ) (input : Input) → Decodes bytes input → IsValid input

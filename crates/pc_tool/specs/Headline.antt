@@ -11,11 +11,11 @@ use Rattle.pc_info.specs.View.{view}
 use Rattle.pc_offsets.specs.Context.{context_size}
 use Rattle.pc_text.specs.ContextText.{context_text}
 use Rattle.pc_text.specs.FaultText.{fault_text, not_json, bad_form}
-use Rattle.pc_spec_reading.specs.Answer.{answer_of}
 use Rattle.pc_spec_reading.specs.Reading.{Reading}
+use Rattle.pc_spec_reading.specs.Total.{counted}
 use Rattle.pc_input.specs.declared.input.Input.{Input}
 use Rattle.pc_input.specs.Input.{input_in, input_of, tree_of}
-use Rattle.pc_translate.specs.Causes.{built_answer}
+use Rattle.pc_translate.specs.Causes.{answer_with}
 use Rattle.pc_translate.specs.Translation.{IsPlanOf, IsRefusalOf}
 use Rattle.pc_tool.specs.declared.words.Command.{Command}
 use Rattle.pc_tool.specs.declared.words.Command.TheVariants as command
@@ -41,13 +41,13 @@ IsPlanFor input plan modules =
 abbrev pub IsErrorOf : Input → Error → Type 0
 IsErrorOf input e = IsRefusalOf input.table input.intrinsics input.tunables.max_component_instances input.payloads e
 
--- an input is valid: a reading is the answer by the order of answers, its total counted, and as far as it is built
+-- an input is valid: a reading is the answer by the order of answers, its total counted, and without the total
 pub record IsValid (input : Input) : Type 0 where
-  pub counted : Reading
-  pub answer : answer_of input.table input.intrinsics input.tunables.max_component_instances 0 input.payloads
-      ≡ Some (Ok counted)
+  pub reading : Reading
+  pub answer : answer_with input.table input.intrinsics input.tunables.max_component_instances
+      (Some (counted input.table 0 input.payloads)) input.payloads ≡ Some (Ok reading)
   pub result : Reading
-  pub built : built_answer input.table input.intrinsics input.tunables.max_component_instances input.payloads
+  pub uncounted : answer_with input.table input.intrinsics input.tunables.max_component_instances None input.payloads
       ≡ Some (Ok result)
 
 -- a text is the one that a command makes of a plan and its modules

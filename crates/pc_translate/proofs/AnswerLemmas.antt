@@ -19,15 +19,6 @@ use Rattle.pc_spec_reading.specs.Total.{counted}
 use Rattle.pc_spec_reading.specs.World.{full}
 
 -- the end of a reading, where nothing comes before it
-pub built_end : (n : Bool) (f : Option Error) (o : Option (Outcome Reading)) (out : Outcome Reading) → n ≡ true
-    → f ≡ None → o ≡ Some out
-    → (if n then or_fault f (option_map ending o) else Some (Err error.TooMany)) ≡ Some (ending out)
-built_end n f o out numbered sound is = rw (numbered, sound, is) refl
-
-pub built_fault : (n : Bool) (f : Option Error) (o : Option (Outcome Reading)) (e : Error) → n ≡ true → f ≡ Some e
-    → (if n then or_fault f (option_map ending o) else Some (Err error.TooMany)) ≡ Some (Err e)
-built_fault n f o e numbered at = rw (numbered, at) refl
-
 pub end_answer : (f : Option Error) (o : Option (Outcome Reading)) (out : Outcome Reading) → f ≡ None → o ≡ Some out
     → or_fault f (option_map ending o) ≡ Some (ending out)
 end_answer f o out sound is = rw (sound, is) refl
@@ -75,10 +66,26 @@ number_sum a b c d c' held same room =
       lt-ltb d 4294967295 (omega (arith, below)),
     ) refl
 
--- what is held is counted, and so are the core signatures of the table
-pub held_counted : (t : TypeTable) (held : ℕ) (ps : List Payload) → length t.core_funcs + held ≤ counted t held ps
+-- a payload that is no core module
+module_skipped : (p : Payload) (ps : List Payload) → module_of p ≡ None
+    → length (modules_of ps) ≤ sum_by item_count ps → length (modules_of (p ∷ ps)) ≤ sum_by item_count (p ∷ ps)
+module_skipped p ps none rest =
+    let same : length (modules_of (p ∷ ps)) ≡ length (modules_of ps) =
+    ap (λ o. length (cons_option o (modules_of ps))) none in
+    omega (arith, same, rest, sum_by-cons item_count p ps)
+
+-- each core module is an item
+modules_few : (ps : List Payload) → length (modules_of ps) ≤ sum_by item_count ps
+modules_few [] = omega arith
+modules_few (payload.ModuleSection r ty ∷ ps) =
+    omega (arith, modules_few ps, sum_by-cons item_count (payload.ModuleSection r ty) ps)
+modules_few (p ∷ ps) = module_skipped p ps refl (modules_few ps)
+
+-- what is held is counted, and so are the core signatures of the table and the core modules
+pub modules_counted : (t : TypeTable) (held : ℕ) (ps : List Payload)
+    → length t.core_funcs + held + length (modules_of ps) ≤ counted t held ps
 unfolding counted
-held_counted t held ps = omega arith
+modules_counted t held ps = let few = modules_few ps in omega (arith, few)
 
 -- a test that fails where another does
 fails_with : (room numbered : Bool) → (room ≡ true → numbered ≡ true) → numbered ≡ false → room ≡ false

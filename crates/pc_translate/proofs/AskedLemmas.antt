@@ -16,6 +16,7 @@ use Rattle.pc_types.specs.declared.parsed.TypeTable.{TypeTable}
 use Rattle.pc_types.specs.TypeTree.{Path}
 use Rattle.pc_spec_plan.specs.Log.{Entry}
 use Rattle.pc_info.specs.declared.component.ComponentTranslation.{ComponentTranslation}
+use Rattle.pc_info.specs.declared.module.ModuleTranslation.{ModuleTranslation}
 use Rattle.pc_info.specs.View.{import_type_view, import_view, view}
 use Rattle.pc_trampoline.specs.declared.part.Mark.{Mark}
 use Rattle.pc_trampoline.specs.declared.part.Mark.TheVariants as mark
@@ -34,7 +35,7 @@ use Rattle.pc_inline_state.specs.Worlds as world
 use Rattle.pc_inline_state.specs.Worlds.{ImportStands}
 use Rattle.pc_translate.proofs.ListLemmas.{push_place, zip_mapped}
 use Rattle.pc_translate.specs.Asked.{AsksHost, IsImport, path_of}
-use Rattle.pc_translate.specs.Planning.{as_handed_in}
+use Rattle.pc_translate.specs.Partitioned.{IsPartitioned}
 
 -- names are the same as themselves
 names_themselves : (names : List (List ℕ)) → same_names names names ≡ true
@@ -106,17 +107,22 @@ pub once_each : (log : List (Entry reading.Mark)) → AreDistinct (paths_needed 
 unfolding paths_needed
 once_each log = distinct_paths [] (filter_map needed_path log) (λ i j x at_i at_j. absurd (none-some x at_i))
 
-module _ (t : TypeTable) (types : Types) (ms : List ModuleRecord) (g : ComponentDfg) (r : Reading)
-    (converted : ℕ → Mark) (plan : ComponentTranslation) (stands : GraphStands t ms types g r)
-    (finished : Finishes g converted plan) where
+module _ (t : TypeTable) (types : Types) (ms : List ModuleRecord) (g h : ComponentDfg) (r : Reading)
+    (converted : ℕ → Mark) (plan : ComponentTranslation) (modules : List ModuleTranslation)
+    (stands : GraphStands t ms types g r) (partitioned : IsPartitioned ms r types g h modules)
+    (finished : Finishes h converted plan) where
+  -- the host items of the plan are those of the graph
+  imports_are : plan.component.imports ≡ g.imports
+  imports_are = finished.imports ∙ ap (λ (x : ComponentDfg). x.imports) partitioned.keeps.rest
+
   -- the host items of the plan by their paths are those that the log needs
   paths_are : map path_of (map import_view plan.component.imports) ≡ paths_needed r.log
-  paths_are = paths_of plan.component.imports ∙ ap (map world.path_of) finished.imports ∙ stands.world.imports
+  paths_are = paths_of plan.component.imports ∙ ap (map world.path_of) imports_are ∙ stands.world.imports
 
-  pub asks_host : AsksHost types (view plan (map as_handed_in ms)) r
+  pub asks_host : AsksHost types (view plan modules) r
   asks_host = record {
     import_types = subst (λ xs. AllZip (IsImport types r.imported_resources) (map import_type_view xs) r.imports)
-        (sym finished.import_types)
+        (sym (finished.import_types ∙ ap (λ (x : ComponentDfg). x.import_types) partitioned.keeps.rest))
         (zip_mapped (ImportStands types g) (IsImport types r.imported_resources) import_type_view
         (λ x h s. record {
           name = s.name;
@@ -129,8 +135,9 @@ module _ (t : TypeTable) (types : Types) (ms : List ModuleRecord) (g : Component
     imports = paths_are;
     resources = ap (λ (rs : List RuntimeImportIndex). map (λ n. option_map path_of (slice_get
         (map import_view plan.component.imports) n)) (map (λ (r : RuntimeImportIndex). r.0) rs))
-        finished.imported_resources
+        (finished.imported_resources
+        ∙ ap (λ (x : ComponentDfg). x.imported_resources) partitioned.keeps.rest)
         ∙ ap (λ (is : List (ImportIndex × List (List ℕ))). map (λ n. option_map path_of (slice_get
-        (map import_view is) n)) (map (λ (r : RuntimeImportIndex). r.0) g.imported_resources)) finished.imports
+        (map import_view is) n)) (map (λ (r : RuntimeImportIndex). r.0) g.imported_resources)) imports_are
         ∙ paths_at g g.imported_resources r.imported_resources stands.world.imported_resources;
   }

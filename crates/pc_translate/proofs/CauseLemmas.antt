@@ -1,17 +1,16 @@
 -- Why a translation is refused, from what its steps answer.
-use Rattle.std.proofs.Common.{◌≡◌, ℕ, ◌⊎◌, inl, inr, List, map, ◌∙◌, Option, None, Some, Result, Ok, Err, IfErr, true}
+use Rattle.std.proofs.Common.{◌≡◌, ℕ, ◌⊎◌, inl, inr, List, ◌∙◌, Option, None, Some, Result, Ok, Err, IfErr, true}
 use Rattle.std.proofs.Common.{false, refl, sym, ap, subst}
 use Rattle.std.specs.Prelude.{nat_lt, option_map, OnOk}
 use Rattle.std.specs.List.{list_all}
 use Rattle.std.specs.Result.{IsErrAnd}
 use Rattle.std.proofs.lemmas.Option.{same_Some}
-use Rattle.pc_types_lists.specs.Types.{IsBuilder, Types, types_held}
+use Rattle.pc_types_lists.specs.Types.{Types, types_held}
+use Rattle.pc_inline_canon.proofs.NumberLemmas.{TellsApart}
 use Rattle.pc_types_lists.proofs.FewLemmas.{few_none}
 use Rattle.pc_types.specs.declared.error.Error.{Error}
 use Rattle.pc_types.specs.declared.error.Error.TheVariants as error
 use Rattle.pc_types.specs.declared.error.Place.{Place}
-use Rattle.pc_types.specs.declared.error.Unsupported.{Unsupported}
-use Rattle.pc_types.specs.declared.error.Unsupported.TheVariants as unsupported
 use Rattle.pc_types.specs.declared.module_record.ModuleRecord.{ModuleRecord}
 use Rattle.pc_types.specs.declared.parsed.TypeTable.{TypeTable}
 use Rattle.pc_types.specs.Record.{is_sound}
@@ -21,12 +20,12 @@ use Rattle.pc_parsed.specs.declared.payload.Payload.{Payload}
 use Rattle.pc_parsed.specs.Program.{is_numbered}
 use Rattle.pc_parsed.specs.StaticFault.{static_fault}
 use Rattle.pc_parsed.proofs.KindLemmas.{IsStatic, static_kind}
-use Rattle.pc_spec_reading.specs.Answer.{answer_from, answer_of, ending, or_fault}
+use Rattle.pc_spec_reading.specs.Answer.{answer_from, ending, or_fault}
 use Rattle.pc_spec_reading.specs.Item.{Items}
 use Rattle.pc_spec_reading.specs.Nest.{root_of}
-use Rattle.pc_spec_reading.specs.Outcome.{Outcome, bad_type, fault, invalid, over, past, unknown_intrinsic}
+use Rattle.pc_spec_reading.specs.Outcome.{Outcome, bad_type, done, fault, invalid, over, past, unknown_intrinsic}
 use Rattle.pc_spec_reading.specs.Outcome as outcome
-use Rattle.pc_spec_reading.specs.Reading.{Reading, reading}
+use Rattle.pc_spec_reading.specs.Reading.{Reading, reading, reading_of}
 use Rattle.pc_spec_reading.specs.Section.{modules_of}
 use Rattle.pc_spec_reading.specs.Total.{counted}
 use Rattle.pc_spec_reading.specs.World.{full}
@@ -34,16 +33,14 @@ use Rattle.pc_local.proofs.NameLemmas.{modules_sound}
 use Rattle.pc_local.specs.declared.item.LocalProgram.{LocalProgram}
 use Rattle.pc_local.specs.Program.{ProgramStands}
 use Rattle.pc_local.specs.Standing.{BodyStands, no_names}
-use Rattle.pc_inline.specs.Inlines.{EndsAs as IsEnd, HasNoRoom, IsFault}
 use Rattle.pc_inline_state.proofs.GainedLemmas.{tables_none}
 use Rattle.pc_inline_stack.specs.Totals.{GainsFew}
-use Rattle.pc_translate.proofs.AnswerLemmas.{built_end, built_fault, end_answer, fault_answer, full_answer, full_first}
-use Rattle.pc_translate.proofs.AnswerLemmas.{held_counted, past_answer}
+use Rattle.pc_translate.proofs.AnswerLemmas.{end_answer, fault_answer, full_answer, full_first}
+use Rattle.pc_translate.proofs.AnswerLemmas.{modules_counted, past_answer}
 use Rattle.pc_translate.proofs.PassingLemmas.{passed_err}
-use Rattle.pc_translate.proofs.FlawLemmas.{IsFlawError, static_flaw}
-use Rattle.pc_translate.proofs.TranslatesLemmas.{root_built, root_end, root_past, translates}
-use Rattle.pc_translate.specs.Causes.{CanBeRead, HasCause, HasOwnCause, built_answer, built_meaning, meaning}
-use Rattle.pc_translate.specs.Planning.{IsPlanOfBody, Plans, as_handed_in}
+use Rattle.pc_translate.proofs.TranslatesLemmas.{root_meaning, root_past, translates}
+use Rattle.pc_translate.specs.Causes.{CanBeRead, HasCause, HasOwnCause, answer_with, in_the_end, meaning, or_lacking}
+use Rattle.pc_translate.specs.Planning.{IsPlanOfBody, IsRefused, IsTooMuch, LacksOption, Plans}
 use Rattle.pc_translate.specs.Translation.{CountsGained, Gains, GainsCounted, Translates}
 
 module _ (t : TypeTable) (exposed : Option (List ℕ)) (limit : ℕ) (ps : List Payload) where
@@ -85,81 +82,72 @@ module _ (t : TypeTable) (exposed : Option (List ℕ)) (limit : ℕ) (ps : List 
 
 module _ (t : TypeTable) (exposed : Option (List ℕ)) (limit held : ℕ) (ps : List Payload) where
   -- where a reading ends so, no total counted, so does the answer
-  both_answer : CanBeRead t exposed ps → (o : Outcome Reading) → meaning t exposed limit ps ≡ Some o
-      → built_meaning t exposed limit ps ≡ Some o
-      → (built_answer t exposed limit ps ≡ Some (ending o)) × (answer_from t exposed limit None ps ≡ Some (ending o))
-  unfolding built_answer answer_from meaning
-  both_answer can o means built = (
-    built_end (is_numbered t ps) (static_fault t exposed ps) (built_meaning t exposed limit ps) o can.numbered can.sound
-        built,
-    end_answer (static_fault t exposed ps) (reading t exposed limit None ps) o can.sound means,
+  read_answer : CanBeRead t exposed ps → (o : Outcome Reading) → meaning t exposed limit ps ≡ Some o
+      → (is_numbered t ps ≡ true) × (answer_with t exposed limit None ps ≡ Some (in_the_end (ending o)))
+  unfolding answer_with answer_from meaning
+  read_answer can o means = (
+    can.numbered,
+    ap (option_map in_the_end)
+        (end_answer (static_fault t exposed ps) (reading t exposed limit None ps) o can.sound means),
   )
 
-  -- where it is done as far as it is built, so does that answer
-  built_alone : CanBeRead t exposed ps → (o : Outcome Reading) → built_meaning t exposed limit ps ≡ Some o
-      → built_answer t exposed limit ps ≡ Some (ending o)
-  unfolding built_answer
-  built_alone can o built =
-      built_end (is_numbered t ps) (static_fault t exposed ps) (built_meaning t exposed limit ps) o can.numbered
-      can.sound built
-
-  -- a static fault is both answers
+  -- a static fault is the answer
   static_answer : (e : Error) → is_numbered t ps ≡ true → static_fault t exposed ps ≡ Some e
-      → (built_answer t exposed limit ps ≡ Some (Err e)) × (answer_from t exposed limit None ps ≡ Some (Err e))
-  unfolding built_answer answer_from
+      → (is_numbered t ps ≡ true) × (answer_with t exposed limit None ps ≡ Some (Err e))
+  unfolding answer_with answer_from
   static_answer e numbered at = (
-    built_fault (is_numbered t ps) (static_fault t exposed ps)
-        (built_meaning t exposed limit ps) e numbered at,
-    fault_answer (static_fault t exposed ps) (option_map ending (reading t exposed limit None ps)) e at,
+    numbered,
+    ap (option_map in_the_end)
+        (fault_answer (static_fault t exposed ps) (option_map ending (reading t exposed limit None ps)) e at),
   )
 
   -- a reading that is past the total is too much
   pub too_much : static_fault t exposed ps ≡ None
       → reading t exposed limit (Some (counted t held ps)) ps ≡ Some past
-      → answer_of t exposed limit held ps ≡ Some (Err error.TooMany)
-  unfolding answer_of answer_from
+      → answer_with t exposed limit (Some (counted t held ps)) ps ≡ Some (Err error.TooMany)
+  unfolding answer_with answer_from
   too_much sound is =
-      past_answer (nat_lt (counted t held ps) full) (static_fault t exposed ps)
-      (reading t exposed limit (Some (counted t held ps)) ps) sound is
+      ap (option_map in_the_end)
+      (past_answer (nat_lt (counted t held ps) full) (static_fault t exposed ps)
+      (reading t exposed limit (Some (counted t held ps)) ps) sound is)
 
   -- and so is a list that can't be numbered
-  unnumbered : is_numbered t ps ≡ false → answer_of t exposed limit held ps ≡ Some (Err error.TooMany)
-  unfolding answer_of answer_from
+  unnumbered : is_numbered t ps ≡ false
+      → answer_with t exposed limit (Some (counted t held ps)) ps ≡ Some (Err error.TooMany)
+  unfolding answer_with answer_from
   unnumbered long =
-      full_answer (nat_lt (counted t held ps) full)
+      ap (option_map in_the_end)
+      (full_answer (nat_lt (counted t held ps) full)
       (or_fault (static_fault t exposed ps) (option_map ending (reading t exposed limit (Some (counted t held ps)) ps)))
-      (full_first t held ps long)
+      (full_first t held ps long))
 
   module _ (can : CanBeRead t exposed ps) (body : Items) (root : root_of exposed ps ≡ Some body) where
     -- the cause of an end
-    ends_so : (o : Outcome Reading) → IsEnd t (modules_of ps) limit body o
-        → (built_answer t exposed limit ps ≡ Some (ending o)) × (answer_from t exposed limit None ps ≡ Some (ending o))
-    ends_so o h =
-        let ends = root_end t exposed limit ps body root o h in both_answer can o ends.0 ends.1
-
-    -- what isn't supported is told at its place
-    unsupported_cause : (u : Unsupported) (p : Place)
-        → IsFault t (modules_of ps) limit body held (error.Unsupported u p)
-        → HasCause t exposed limit held ps (error.Unsupported u p)
-    unsupported_cause unsupported.NotBuilt p h =
-        built_alone can (fault (outcome.unsupported unsupported.NotBuilt) p)
-        (root_built t exposed limit ps body root (fault (outcome.unsupported unsupported.NotBuilt) p) h)
-    unsupported_cause u p h = ends_so (fault (outcome.unsupported u) p) h
+    ends_so : (o : Outcome Reading) → reading_of t (modules_of ps) limit None body ≡ o
+        → (is_numbered t ps ≡ true) × (answer_with t exposed limit None ps ≡ Some (in_the_end (ending o)))
+    ends_so o is = read_answer can o (root_meaning t exposed limit ps body root o is)
 
     -- the cause of a total that is too much
-    past_cause : HasNoRoom t (modules_of ps) limit body held → HasCause t exposed limit held ps error.TooMany
+    past_cause : IsTooMuch t (modules_of ps) limit body held → HasCause t exposed limit held ps error.TooMany
     past_cause h = (
       too_much can.sound (root_past t exposed limit ps body root (counted t held ps)
-          (h (counted t held ps) (held_counted t held ps))),
+          (h (counted t held ps) (modules_counted t held ps))),
       inr can,
     )
 
-    -- the cause of a reading's fault
-    fault_cause : (e : Error) → IsFault t (modules_of ps) limit body held e → HasCause t exposed limit held ps e
+    -- the cause of an adapter that lacks an option
+    lacking_cause : (p : Place) → LacksOption t (modules_of ps) limit body p
+        → HasCause t exposed limit held ps (error.BadOptions p)
+    lacking_cause p h =
+        let so = ends_so (done h.result) h.outcome in
+        (so.0, so.1 ∙ (λ i. Some (or_lacking (h.first i) h.result)) ∙ (λ i. Some (Err (error.BadOptions (sym h.is i)))))
+
+    -- the cause of a reading's fault, or of what comes after it
+    fault_cause : (e : Error) → IsRefused t (modules_of ps) limit body held e → HasCause t exposed limit held ps e
     fault_cause (error.Invalid p) h = ends_so (fault invalid p) h
     fault_cause (error.BadType p) h = ends_so (fault bad_type p) h
     fault_cause (error.UnknownIntrinsic p) h = ends_so (fault unknown_intrinsic p) h
-    fault_cause (error.Unsupported u p) h = unsupported_cause u p h
+    fault_cause (error.Unsupported u p) h = ends_so (fault (outcome.unsupported u) p) h
     fault_cause error.TooManyInstances h = ends_so over h
     fault_cause error.TooMany h = past_cause h
     fault_cause error.NoMemory h = tt
@@ -167,7 +155,7 @@ module _ (t : TypeTable) (exposed : Option (List ℕ)) (limit held : ℕ) (ps : 
     fault_cause (error.BadTable p) h = absurd h
     fault_cause (error.BadIntrinsics p) h = absurd h
     fault_cause (error.DefinedTwice p) h = absurd h
-    fault_cause (error.BadOptions p) h = absurd h
+    fault_cause (error.BadOptions p) h = lacking_cause p h
 
   -- so it is with a refusal before the reading
   pub program_refused : {T : Type 0} (r : Result T Error) (e : Error) → IsErrAnd r (λ x. x ≡ e)
@@ -184,7 +172,7 @@ module _ (t : TypeTable) (exposed : Option (List ℕ)) (limit : ℕ) (ps : List 
   unfolding Plans
   plan_cause can body root ms e same h =
       fault_cause t exposed limit (types_held old) ps can body root e
-      (subst (λ xs. IsFault t xs limit body (types_held old) e) same h)
+      (subst (λ xs. IsRefused t xs limit body (types_held old) e) same h)
 
   -- the same of a refusal that is passed up
   pub plan_refused : {T : Type 0} (program : LocalProgram) → ProgramStands exposed ps program → CanBeRead t exposed ps
@@ -198,23 +186,22 @@ module _ (t : TypeTable) (exposed : Option (List ℕ)) (limit : ℕ) (ps : List 
 
 -- a static fault is its own cause
 static_cause : (t : TypeTable) (exposed : Option (List ℕ)) (limit held : ℕ) (ps : List Payload) (e : Error)
-    → is_numbered t ps ≡ true → static_fault t exposed ps ≡ Some e → IsStatic e → IsFlawError e
+    → is_numbered t ps ≡ true → static_fault t exposed ps ≡ Some e → IsStatic e
     → HasCause t exposed limit held ps e
-static_cause t exposed limit held ps e numbered at known other =
-    by e known other (static_answer t exposed limit held ps e numbered at)
+static_cause t exposed limit held ps e numbered at known =
+    by e known (static_answer t exposed limit held ps e numbered at)
   where
-    by : (e : Error) → IsStatic e → IsFlawError e
-        → (built_answer t exposed limit ps ≡ Some (Err e)) × (answer_from t exposed limit None ps ≡ Some (Err e))
+    by : (e : Error) → IsStatic e
+        → (is_numbered t ps ≡ true) × (answer_with t exposed limit None ps ≡ Some (Err e))
         → HasCause t exposed limit held ps e
-    by (error.Malformed p) known other both = both
-    by (error.BadTable p) known other both = both
-    by (error.BadIntrinsics p) known other both = both
-    by (error.UnknownIntrinsic p) known other both = both
-    by (error.DefinedTwice p) known other both = both
-    by (error.Unsupported unsupported.NotBuilt p) known other both = absurd other
-    by (error.Unsupported u p) known other both = both
-    by error.NoMemory known other both = tt
-    by e known other both = absurd known
+    by (error.Malformed p) known both = both
+    by (error.BadTable p) known both = both
+    by (error.BadIntrinsics p) known both = both
+    by (error.UnknownIntrinsic p) known both = both
+    by (error.DefinedTwice p) known both = both
+    by (error.Unsupported u p) known both = both
+    by error.NoMemory known both = tt
+    by e known both = absurd known
 
 -- a list that can't be numbered is too long
 pub too_long : (t : TypeTable) (exposed : Option (List ℕ)) (ps : List Payload) → is_numbered t ps ≡ false
@@ -229,7 +216,7 @@ unfolding HasOwnCause
 payload_cause_at t exposed ps e numbered (inl memory) limit held =
     subst (λ (x : Error). HasCause t exposed limit held ps x) (sym memory) tt
 payload_cause_at t exposed ps e numbered (inr at) limit held =
-    static_cause t exposed limit held ps e numbered at (static_kind t exposed ps e at) (static_flaw t exposed ps e at)
+    static_cause t exposed limit held ps e numbered at (static_kind t exposed ps e at)
 
 -- the cause of a refusal before the reading
 pub payload_causes : {T : Type 0} (t : TypeTable) (exposed : Option (List ℕ)) (ps : List Payload)
@@ -255,14 +242,12 @@ program_sound t exposed ps program stands can =
 -- the plan of a program is the translation of its payloads
 pub translates_program : (t : TypeTable) (exposed : Option (List ℕ)) (limit : ℕ) (ps : List Payload)
     (program : LocalProgram) → ProgramStands exposed ps program → CanBeRead t exposed ps → (old types : Types)
-    → IsBuilder types → (plan : ComponentTranslation) (modules : List ModuleTranslation)
+    → TellsApart types → (p : ComponentTranslation × List ModuleTranslation)
     → ((body : Items) → BodyStands program.components no_names program.root body
-    → Plans t program.modules limit body old types (Ok plan)) → modules ≡ map as_handed_in program.modules
-    → Translates t exposed limit ps types plan modules
+    → Plans t program.modules limit body old types (Ok p))
+    → Translates t exposed limit ps types p.0 p.1
 unfolding Plans
-translates_program t exposed limit ps program stands can old types builder plan modules planned same =
-    subst (λ (ms : List ModuleTranslation). Translates t exposed limit ps types plan ms)
-    (sym (same ∙ ap (map as_handed_in) stands.modules))
-    (translates t exposed limit ps stands.body stands.nests types plan can builder
-    (subst (λ (ms : List ModuleRecord). IsPlanOfBody t ms limit stands.body types plan) stands.modules
-    (planned stands.body stands.root)))
+translates_program t exposed limit ps program stands can old types tells p planned =
+    translates t exposed limit ps stands.body stands.nests types p.0 p.1 can tells
+    (subst (λ (ms : List ModuleRecord). IsPlanOfBody t ms limit stands.body types p.0 p.1) stands.modules
+    (planned stands.body stands.root))

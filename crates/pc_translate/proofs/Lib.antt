@@ -11,6 +11,12 @@ mod DeclaredLemmas
 mod HeldLemmas
 mod HeldModuleLemmas
 mod ToldLemmas
+-- the modules of its adapters
+mod GroupLemmas
+mod WidthLemmas
+mod MemberLemmas
+mod FewestLemmas
+mod AdaptedLemmas
 -- so it is the translation of the payloads
 mod TranslatesLemmas
 -- what an answer says where the types builder is not asked for
@@ -20,10 +26,14 @@ mod ModuleTypeLemmas
 mod ModuleTreeLemmas
 mod AddsModulesLemmas
 mod FewPlacesLemmas
+-- the adapters of a graph, and those of the reading
+mod PartitionLemmas
+mod LackingLemmas
+-- a graph with too many entries
+mod CrowdedLemmas
 -- a body has a plan, or a cause for want of one
 mod PassingLemmas
 mod PlanningLemmas
 -- why payloads are refused
 mod AnswerLemmas
-mod FlawLemmas
 mod CauseLemmas

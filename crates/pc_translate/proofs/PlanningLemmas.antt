@@ -1,44 +1,69 @@
 -- A plan of a body, or why there is none, from the graph that stands for its reading.
-use Rattle.std.proofs.Common.{◌≡◌, ℕ, ◌≤◌, ◌<◌, ◌+◌, ◌⊎◌, inl, inr, List, length, Some, None, Result, Ok, Err, IfOk}
-use Rattle.std.proofs.Common.{All, arith, refl, sym, ap, subst, ◌∙◌}
-use Rattle.std.specs.Prelude.{IsSomeAnd, MatchResult, Option, slice_get}
+use Rattle.std.proofs.Common.{◌≡◌, ℕ, ◌≤◌, ◌<◌, ◌+◌, ◌⊎◌, inl, inr, List, length, map, Some, None, Result, Ok, Err}
+use Rattle.std.proofs.Common.{All, IfOk, arith, refl, sym, ap, subst, ◌∙◌, true}
+use Rattle.std.specs.Prelude.{IfErr, IsSomeAnd, MatchResult, OnOk, Option, slice_get, ⊤, ◌↔◌}
 use Rattle.std.specs.Result.{IsErrAnd}
 use Rattle.std.proofs.lemmas.Option.{none-some, same_Some, slice_get-get_or}
 use Rattle.pc_numbers.specs.declared.runtime.ResourceIndex.{ResourceIndex}
-use Rattle.pc_types.specs.TypeTree.{Identity}
+use Rattle.pc_types.specs.TypeTree.{Identity, TypeTree}
 use Rattle.pc_types_lists.specs.Types.{IsBuilder, IsTooFullFor, KeepsTypes, Types, types_held}
 use Rattle.pc_types_builder.specs.Trees.{IsEntry}
 use Rattle.pc_types.specs.declared.error.Error.{Error}
+use Rattle.pc_types.specs.declared.error.Error.TheVariants as error
 use Rattle.pc_types.specs.declared.module_record.ModuleRecord.{ModuleRecord}
 use Rattle.pc_types.specs.declared.parsed.TypeTable.{TypeTable}
 use Rattle.pc_types.specs.declared.type_index.TypeModuleIndex.{TypeModuleIndex}
 use Rattle.pc_types.specs.declared.types.TypeDef.TheVariants as def
+use Rattle.pc_spec_plan.specs.CoreValue.{CoreValue}
+use Rattle.pc_trampoline.specs.declared.part.Mark.{Mark}
 use Rattle.pc_info.specs.declared.component.ComponentTranslation.{ComponentTranslation}
+use Rattle.pc_info.specs.declared.module.ModuleTranslation.{ModuleTranslation}
 use Rattle.pc_spec_reading.specs.Answer.{IsPast}
 use Rattle.pc_spec_reading.specs.Item.{Items}
+use Rattle.pc_spec_reading.specs.Reading.{Reading}
+use Rattle.pc_dfg.specs.declared.core_def.CoreDef.{CoreDef}
 use Rattle.pc_dfg.specs.declared.dfg.ComponentDfg.{ComponentDfg}
 use Rattle.pc_dfg.specs.declared.export.Export.{Export}
 use Rattle.pc_dfg.specs.declared.export.Export.TheVariants as export
-use Rattle.pc_dfg.specs.Lists.{slots, options, trampolines, instances}
+use Rattle.pc_dfg.specs.declared.ids.AdapterId.{AdapterId}
 use Rattle.pc_dfg.specs.Ordered.{IsOrdered}
+use Rattle.pc_dfg.specs.Told.{AreInterned, IsTold, Unsaid}
 use Rattle.pc_dfg_linearize.specs.declared.error.FinishError.{FinishError}
 use Rattle.pc_dfg_linearize.specs.declared.error.FinishError.TheVariants as finish_error
+use Rattle.pc_dfg_linearize.specs.Full.{HasTooMany}
 use Rattle.pc_dfg_linearize.specs.Grouped.{IsGrouped}
-use Rattle.pc_dfg_linearize.specs.Full.{HasTooMany, of_slots, of_options, of_trampolines, of_instances, of_resources}
+use Rattle.pc_dfg_linearize.specs.Wired.{IsWired, Occurs}
 use Rattle.pc_dfg_finish.specs.ModuleTypes.{static_type}
-use Rattle.pc_spec_reading.specs.Reading.{Reading}
+use Rattle.pc_adapt.specs.declared.error.AdaptError.{AdaptError}
+use Rattle.pc_adapt.specs.declared.error.AdaptError.TheVariants as refusal
+use Rattle.pc_adapt.specs.Asked.{AreTyped, HoldTypes, LacksFirst}
+use Rattle.pc_adapt_define.specs.Define.{is_taken}
+use Rattle.pc_adapt_partition.specs.Adapted.{AreAdapted}
+use Rattle.pc_adapt_partition.specs.Facts.{HaveTrees}
+use Rattle.pc_adapt_partition.specs.Made.{AddsAtMost, AddsFew, AreModulesApart, Keeps}
+use Rattle.pc_adapt_partition.specs.Partitions as parts
+use Rattle.pc_adapt_partition.specs.Partitions.{facts_by}
+use Rattle.pc_adapt_partition.specs.Wired.{AreHandedIn, HaveValues, LiftFunctions}
 use Rattle.pc_inline.specs.Inlines.{GraphStands, HasNoRoom, Inlines, IsFault, StandsForReading}
-use Rattle.pc_inline_stack.specs.Totals.{CountsGraph, GainsFew, IsCounted}
+use Rattle.pc_inline_stack.specs.Totals.{CountsGraph, GainsFew}
 use Rattle.pc_inline_state.specs.Gained.{AddsTables}
 use Rattle.pc_inline_state.proofs.HoldsLemmas.{reads_fit, some_reading}
 use Rattle.pc_inline_state.specs.Fits.{Fits}
 use Rattle.pc_inline_state.specs.Worlds as worlds
-use Rattle.pc_inline_state.specs.Worlds.{IsPlain}
+use Rattle.pc_inline_state.specs.Worlds.{AdaptersStand}
+use Rattle.pc_translate.proofs.CrowdedLemmas.{finish_crowded, none_crowded, too_many_crowded}
 use Rattle.pc_translate.proofs.HeldModuleLemmas.{place_held}
-use Rattle.pc_translate.proofs.WiredLemmas.{are_modules, grouped}
+use Rattle.pc_translate.proofs.LackingLemmas.{lacks_read, read_lacks}
+use Rattle.pc_translate.proofs.PartitionLemmas.{are_typed, have_trees, have_values, hold_types, lift_trees, lower_trees}
+use Rattle.pc_translate.proofs.PartitionLemmas.{values}
+use Rattle.pc_translate.proofs.WiredLemmas.{are_handed_in, are_modules, lift_functions, wired}
+use Rattle.pc_translate.specs.Adapted.{as_handed_in}
+use Rattle.pc_translate.specs.Adapters.{first_lacking}
 use Rattle.pc_translate.specs.Finished.{IsFinished}
 use Rattle.pc_translate.specs.ModuleTypes.{HasModuleType, HoldsModule, HoldsModules, LacksPlace}
-use Rattle.pc_translate.specs.Planning.{Plans, error_of_finish}
+use Rattle.pc_translate.specs.Partitioned.{IsPartitioned}
+use Rattle.pc_translate.specs.Planning.{Groups, IsPlanOfGraph, IsRefused, IsTooMuch, Plans, PlansGraph, StopsFinish}
+use Rattle.pc_translate.specs.Planning.{StopsGraph, error_of_adapt, error_of_finish}
 use Rattle.pc_translate.specs.Translation.{GainsCounted}
 
 -- the graph that was answered stands for the reading
@@ -47,11 +72,27 @@ graph_stands : (t : TypeTable) (ms : List ModuleRecord) (limit : ℕ) (body : It
 unfolding Inlines
 graph_stands t ms limit body old types g h = h
 
--- an instantiation's own error is the plan's
+-- a fault of the reading is a cause
+refused_by_fault : (t : TypeTable) (ms : List ModuleRecord) (limit : ℕ) (body : Items) (held : ℕ) (e : Error)
+    → IsFault t ms limit body held e → IsRefused t ms limit body held e
+refused_by_fault t ms limit body held (error.BadOptions p) h = absurd h
+refused_by_fault t ms limit body held error.TooMany h = λ counted begins. h counted (omega (arith, begins))
+refused_by_fault t ms limit body held (error.Malformed p) h = h
+refused_by_fault t ms limit body held (error.BadTable p) h = h
+refused_by_fault t ms limit body held (error.Unsupported u p) h = h
+refused_by_fault t ms limit body held (error.BadIntrinsics p) h = h
+refused_by_fault t ms limit body held (error.UnknownIntrinsic p) h = h
+refused_by_fault t ms limit body held (error.DefinedTwice p) h = h
+refused_by_fault t ms limit body held (error.Invalid p) h = h
+refused_by_fault t ms limit body held (error.BadType p) h = h
+refused_by_fault t ms limit body held error.TooManyInstances h = h
+refused_by_fault t ms limit body held error.NoMemory h = h
+
+-- so an instantiation's own error is the plan's
 pub fault_plans : (t : TypeTable) (ms : List ModuleRecord) (limit : ℕ) (body : Items) (old types : Types) (e : Error)
     → Inlines t ms limit body old types (Err e) → Plans t ms limit body old types (Err e)
 unfolding Inlines Plans
-fault_plans t ms limit body old types e h = h
+fault_plans t ms limit body old types e h = refused_by_fault t ms limit body (types_held old) e h
 
 -- where the lists of a graph are counted, how much was gained is; and where the tables that are new are known, they are
 -- those of component instances that begin in the reading
@@ -85,132 +126,301 @@ pub of_each : {A E : Type 0} (r : Result A E) (X : Type 0) → X → IfOk r (λ 
 of_each (Ok a) X x = x
 of_each (Err e) X x = tt
 
--- a list of fewer entries than a total below the greatest has no more than 4294967294 entries
-too_few : (start added len total : ℕ) → start + added < total → len ≤ added → total < 4294967295 → 4294967294 < len → ⊥
-too_few start added len total few most below many = omega (arith, few, most, below, many)
+-- an answer is no error
+ok_no_error : {A E : Type 0} (a : A) (e : E) → ◌≡◌ {A = Result A E} (Ok a) (Err e) → ⊥
+ok_no_error a e same = let no : ⊥ = cc in no
 
--- the types of the handed-in modules that are exported are held
-held_modules : (t : TypeTable) (ms : List ModuleRecord) (types : Types) (g : ComponentDfg) (r : Reading)
-    → GraphStands t ms types g r → HoldsModules types t g.export_items
-held_modules t ms types g r stands n x =
-    by x.0 (slice_get-get_or g.export_items x.1.0 x.0 x.1.1 ∙ ap Some x.1.2) x.2
-  where
-    some : (who : ResourceIndex → Identity) × Fits g who
-    some =
-        let reads = some_reading r.imported_resources in
-        (reads.0, reads_fit g r.imported_resources stands.world.imported_resources reads.0 reads.1)
+-- a graph that stands for a reading
+module _ (t : TypeTable) (ms : List ModuleRecord) (types : Types) (g : ComponentDfg) (r : Reading)
+    (s : GraphStands t ms types g r) where
+  -- resource numbers can be read so that they fit the graph
+  some : (who : ResourceIndex → Identity) × Fits g who
+  some =
+      let reads = some_reading r.imported_resources in
+      (reads.0, reads_fit g r.imported_resources s.world.imported_resources reads.0 reads.1)
 
-    module_held : (ty : ℕ) → worlds.HoldsModule types t g ty → HoldsModule types t ty
-    module_held ty h = record {
-      there = h.there;
-      known = h.known;
-      component_instance = h.component_instance;
-      tree = h.tree;
-      is = h.is;
-      number = h.number;
-      who = some.0;
-      holds = h.holds some.0 some.1;
-    }
-
-    by : (e : Export) → slice_get g.export_items x.1.0 ≡ Some e → static_type e ≡ Some n → HoldsModule types t n
-    by (export.ModuleStatic ty m) at is =
-        subst (HoldsModule types t) (same_Some ty n is) (module_held ty (stands.held.modules x.1.0 ty m at))
-    by (export.LiftedFunction ty f o) at is = absurd (none-some n is)
-    by (export.ImportedFunction ty r) at is = absurd (none-some n is)
-    by (export.ModuleImport ty r) at is = absurd (none-some n is)
-    by (export.Instance ty es) at is = absurd (none-some n is)
-    by (export.Type_ ty) at is = absurd (none-some n is)
-
-module _ (t : TypeTable) (ms : List ModuleRecord) (limit : ℕ) (body : Items) (types : Types) (g : ComponentDfg)
-    (stands : StandsForReading t ms limit body types g) (old : Types) where
-  plain : IsPlain g
-  plain = stands.stands.plain
-
-  -- no list that is counted is too long
-  none_long : (start : ℕ) → IsCounted t ms limit start body old types g → HasTooMany g → ⊥
-  none_long start c (of_slots k many) = too_few start c.added _ c.total c.few (c.lists (slots k)) c.below many
-  none_long start c (of_options many) = too_few start c.added _ c.total c.few (c.lists options) c.below many
-  none_long start c (of_trampolines many) = too_few start c.added _ c.total c.few (c.lists trampolines) c.below many
-  none_long start c (of_instances many) =
-      let none : length g.adapter_modules ≡ 0 = ap length plain.adapter_modules in
-      let own = c.lists instances in
-      let few = c.few in
-      let below = c.below in
-      omega (arith, none, own, few, below, many)
-  none_long start c (of_resources many) =
-      let own = c.resources in
-      let few = c.few in
-      let below = c.below in
-      omega (arith, own, few, below, many)
-
-  -- so where one is, the total of the reading is too much
-  too_long : (start : ℕ) → CountsGraph t ms limit start body old types g → HasTooMany g
-      → IsPast t ms limit start body
-  too_long start (inl past) many = past
-  too_long start (inr c) many = absurd (none_long start c many)
-
-  module _ (mid : Types) where
-    -- no module type lacks a place
-    lacks_none : IsBuilder types → LacksPlace t g.export_items mid types → ⊥
-    lacks_none builder l = by (static_type l.item) refl l.no_place
-      where
-        by : (o : Option ℕ) → static_type l.item ≡ o
-            → IsSomeAnd o (λ ty. IsTooFullFor types (λ next. (i : TypeModuleIndex) × IsEntry next t ty (def.Module i)))
-            → ⊥
-        by None is h = h
-        by (Some ty) is h =
-            place_held t ty types builder
-            (held_modules t ms types g stands.result stands.stands ty (l.item, l.exported, is)) h
-
-    no_room : IsBuilder types → ((start : ℕ) → CountsGraph t ms limit start body old types g)
-        → HasTooMany g ⊎ LacksPlace t g.export_items mid types → HasNoRoom t ms limit body (types_held old)
-    no_room builder counts (inl many) start begins = too_long start (counts start) many
-    no_room builder counts (inr lacks) start begins = absurd (lacks_none builder lacks)
-
-  -- the plan, or the cause for want of one
-  planned : (mid : Types) → IsBuilder types → ((start : ℕ) → CountsGraph t ms limit start body old types g)
-      → (r : Result ComponentTranslation FinishError)
-      → IfOk r (λ p. IsFinished types t g p)
-      → (r ≡ Err finish_error.TooMany → HasTooMany g ⊎ LacksPlace t g.export_items mid types)
-      → (out : Result ComponentTranslation Error)
-      → MatchResult r (λ x. out ≡ Ok x) (λ e. IsErrAnd out (λ y. y ≡ error_of_finish e))
-      → Plans t ms limit body old types out
-  unfolding Plans
-  planned mid builder counts (Ok plan) finished full (Ok p) same =
-      record {
-        graph = g;
-        stands = stands;
-        finished = subst (λ x. IsFinished types t g x) (sym (the p plan same)) finished;
-      }
+  -- the types of the handed-in modules that are exported are held
+  pub held_modules : HoldsModules types t g.export_items
+  held_modules n x = by x.0 (slice_get-get_or g.export_items x.1.0 x.0 x.1.1 ∙ ap Some x.1.2) x.2
     where
-      the : (a b : ComponentTranslation) → ◌≡◌ {A = Result ComponentTranslation Error} (Ok a) (Ok b) → a ≡ b
-      the a b h = cc
-  planned mid builder counts (Ok plan) finished full (Err e) same = absurd (let x : ⊥ = cc in x)
-  planned mid builder counts (Err finish_error.TooMany) finished full (Err e) same =
-      subst (λ (x : Error). IsFault t ms limit body (types_held old) x) (sym same) (no_room mid builder counts (full refl))
-  planned mid builder counts (Err finish_error.NoMemory) finished full (Err e) same =
-      subst (λ (x : Error). IsFault t ms limit body (types_held old) x) (sym same) tt
-  planned mid builder counts (Err e) finished full (Ok p) same = absurd same
+      module_held : (ty : ℕ) → worlds.HoldsModule types t g ty → HoldsModule types t ty
+      module_held ty h = record {
+        there = h.there;
+        known = h.known;
+        component_instance = h.component_instance;
+        tree = h.tree;
+        is = h.is;
+        number = h.number;
+        who = some.0;
+        holds = h.holds some.0 some.1;
+      }
 
--- a graph that was answered, which is finished without another type
+      by : (e : Export) → slice_get g.export_items x.1.0 ≡ Some e → static_type e ≡ Some n → HoldsModule types t n
+      by (export.ModuleStatic ty m) at is =
+          subst (HoldsModule types t) (same_Some ty n is) (module_held ty (s.held.modules x.1.0 ty m at))
+      by (export.LiftedFunction ty f o) at is = absurd (none-some n is)
+      by (export.ImportedFunction ty r) at is = absurd (none-some n is)
+      by (export.ModuleImport ty r) at is = absurd (none-some n is)
+      by (export.Instance ty es) at is = absurd (none-some n is)
+      by (export.Type_ ty) at is = absurd (none-some n is)
+
+  pub has_types : All (HasModuleType t) g.export_items
+  has_types = are_modules g s.plain types t s.held
+
+  -- the types of its adapters are held, and have trees
+  abbrev stand : AdaptersStand types g r.log
+  stand = s.world.adapters
+
+  abbrev lift : ℕ → TypeTree
+  lift = lift_trees types g r.log stand
+
+  abbrev lower : ℕ → TypeTree
+  lower = lower_trees types g r.log stand
+
+  typed : AreTyped types some.0 g lift lower
+  typed = are_typed types g r.log stand some.0 some.1
+
+  pub trees : HaveTrees types g
+  trees = have_trees types g r.log stand some.0 some.1
+
+  pub held_types : HoldTypes types g
+  held_types = hold_types types g r.log stand some.0 some.1
+
+  -- a graph that has got the modules of its adapters
+  module _ (h : ComponentDfg) (old modules : List ModuleTranslation) (handed_in : old ≡ map as_handed_in ms) where
+    partitioned : ((a : AdapterId) → LacksFirst g lift lower a.0 → ⊥)
+        → ((who : ResourceIndex → Identity) (l w : ℕ → TypeTree) (vs : ℕ → CoreValue Mark)
+        → AreTyped types who g l w → HaveValues g vs → AreAdapted (facts_by l) (facts_by w) vs g h old modules)
+        → Keeps (length g.adapters) g h → IsOrdered h → IsGrouped h → ((u : Unsaid) → IsTold u g → IsTold u h)
+        → AreModulesApart h → AreInterned h → ((d : CoreDef) → is_taken d ≡ true → Occurs h d → Occurs g d)
+        → ((who : ResourceIndex → Identity) (l w : ℕ → TypeTree) (vs : ℕ → CoreValue Mark)
+        → AreTyped types who g l w → AreHandedIn old → HaveValues g vs → LiftFunctions g → IsWired g old
+        → IsWired h modules)
+        → IsPartitioned ms r types g h modules
+    partitioned none adapted keeps ordered grouped told distinct interned occurs stays = record {
+      complete = by (first_lacking r) refl;
+      keeps = keeps;
+      ordered = ordered;
+      grouped = grouped;
+      told = told;
+      distinct = distinct;
+      interned = interned;
+      occurs = occurs;
+      wired = stays some.0 lift lower (values types g r.log stand) typed
+          (subst AreHandedIn (sym handed_in) (are_handed_in ms)) (have_values types g r.log stand)
+          (lift_functions g s.plain ms s.items) (subst (IsWired g) (sym handed_in) (wired g s.plain ms s.items));
+      adapted = λ who l w vs are have.
+          subst (λ ds. AreAdapted (facts_by l) (facts_by w) vs g h ds modules) handed_in (adapted who l w vs are have);
+    }
+      where
+        by : (o : Option ℕ) → first_lacking r ≡ o → first_lacking r ≡ None
+        by None is = is
+        by (Some a) is = absurd (none (record { 0 = a }) (read_lacks types g r.log stand a is))
+
+    crowded : AddsAtMost (length g.adapters) (length g.adapters) g h old modules
+        → parts.HasTooMany (facts_by lift) (facts_by lower) g h modules → StopsGraph ms r g error.TooMany
+    crowded most many =
+        too_many_crowded ms g h modules s.plain.adapter_modules s.plain.adapter_partitionings
+        (subst (λ ds. AddsAtMost (length g.adapters) (length g.adapters) g h ds modules) handed_in most)
+        (facts_by lift) (facts_by lower) (values types g r.log stand) (have_values types g r.log stand) many
+
+    -- its adapters have got modules, or there is a cause for want of them
+    pub groups : (res : Result ⊤ AdaptError)
+        → ((who : ResourceIndex → Identity) (l w : ℕ → TypeTree) → AreTyped types who g l w → (a : AdapterId)
+        → (res ≡ Err (refusal.BadOptions a)) ↔ LacksFirst g l w a.0)
+        → OnOk res ((who : ResourceIndex → Identity) (l w : ℕ → TypeTree) (vs : ℕ → CoreValue Mark)
+        → AreTyped types who g l w → HaveValues g vs → AreAdapted (facts_by l) (facts_by w) vs g h old modules)
+        → OnOk res (Keeps (length g.adapters) g h) → OnOk res (IsOrdered h) → OnOk res (IsGrouped h)
+        → OnOk res ((u : Unsaid) → IsTold u g → IsTold u h) → OnOk res (AreModulesApart h)
+        → OnOk res ((who : ResourceIndex → Identity) (l w : ℕ → TypeTree) (vs : ℕ → CoreValue Mark)
+        → AreTyped types who g l w → AreHandedIn old → HaveValues g vs → LiftFunctions g → IsWired g old
+        → IsWired h modules)
+        → AreInterned h → OnOk res ((d : CoreDef) → is_taken d ≡ true → Occurs h d → Occurs g d)
+        → OnOk res (AddsFew (length g.adapters) old modules h)
+        → AddsAtMost (length g.adapters) (length g.adapters) g h old modules
+        → (res ≡ Err refusal.TooMany → (who : ResourceIndex → Identity) (l w : ℕ → TypeTree)
+        → AreTyped types who g l w → parts.HasTooMany (facts_by l) (facts_by w) g h modules)
+        → (out : Result ⊤ Error)
+        → MatchResult res (λ x. out ≡ Ok x) (λ e. IsErrAnd out (λ y. y ≡ error_of_adapt e))
+        → Groups ms r types g h modules out
+    unfolding Groups
+    groups (Ok u) bad adapted keeps ordered grouped told distinct stays interned occurs few most full (Ok v) same = (
+      partitioned (λ a lacks. ok_no_error u (refusal.BadOptions a) ((bad some.0 lift lower typed a).1 lacks)) adapted
+          keeps ordered grouped told distinct interned occurs stays,
+      subst (λ ds. AddsFew (length g.adapters) ds modules h) handed_in few,
+    )
+    groups (Ok u) bad adapted keeps ordered grouped told distinct stays interned occurs few most full (Err e) same =
+        absurd (ok_no_error u e (sym same))
+    groups (Err (refusal.BadOptions a)) bad adapted keeps ordered grouped told distinct stays interned occurs few most
+        full (Err e) same =
+        subst (StopsGraph ms r g) (sym same)
+        (a.0, lacks_read types g r.log stand a.0 ((bad some.0 lift lower typed a).0 refl), refl)
+    groups (Err refusal.TooMany) bad adapted keeps ordered grouped told distinct stays interned occurs few most full
+        (Err e) same =
+        subst (StopsGraph ms r g) (sym same) (crowded most (full refl some.0 lift lower typed))
+    groups (Err refusal.NoMemory) bad adapted keeps ordered grouped told distinct stays interned occurs few most full
+        (Err e) same =
+        subst (StopsGraph ms r g) (sym same) tt
+    groups (Err x) bad adapted keeps ordered grouped told distinct stays interned occurs few most full (Ok v) same =
+        absurd same
+
+  -- a graph whose adapters have modules, and its plan
+  module _ (h : ComponentDfg) (modules : List ModuleTranslation) (end : ⊤)
+      (is : Groups ms r types g h modules (Ok end)) where
+    done_groups : IsPartitioned ms r types g h modules × AddsFew (length g.adapters) (map as_handed_in ms) modules h
+    unfolding Groups
+    done_groups = is
+
+    pub grouped_ordered : IsOrdered h
+    grouped_ordered = done_groups.0.ordered
+
+    pub grouped_grouped : IsGrouped h
+    grouped_grouped = done_groups.0.grouped
+
+    same_exports : h.export_items ≡ g.export_items
+    same_exports = ap (λ (i : ComponentDfg). i.export_items) done_groups.0.keeps.rest
+
+    pub grouped_types : All (HasModuleType t) h.export_items
+    grouped_types = subst (All (HasModuleType t)) (sym same_exports) has_types
+
+    pub grouped_held : HoldsModules types t h.export_items
+    grouped_held = subst (HoldsModules types t) (sym same_exports) held_modules
+
+    stops_finish : (e : Error) → StopsFinish h e → StopsGraph ms r g e
+    stops_finish error.TooMany many = finish_crowded ms g h modules done_groups.0.keeps done_groups.1 many
+    stops_finish error.NoMemory none = tt
+    stops_finish (error.BadOptions p) none = absurd none
+    stops_finish (error.Malformed p) none = absurd none
+    stops_finish (error.BadTable p) none = absurd none
+    stops_finish (error.Unsupported u p) none = absurd none
+    stops_finish (error.BadIntrinsics p) none = absurd none
+    stops_finish (error.UnknownIntrinsic p) none = absurd none
+    stops_finish (error.DefinedTwice p) none = absurd none
+    stops_finish (error.Invalid p) none = absurd none
+    stops_finish (error.BadType p) none = absurd none
+    stops_finish error.TooManyInstances none = absurd none
+
+    pub finish_stops : (e : Error) → StopsFinish h e → PlansGraph t ms r types g (Err e)
+    unfolding PlansGraph
+    finish_stops e stops = stops_finish e stops
+
+    pub finish_plans : (plan : ComponentTranslation) → IsFinished types t h plan
+        → PlansGraph t ms r types g (Ok (plan, modules))
+    unfolding PlansGraph
+    finish_plans plan finished = record { grouped = h; partitioned = done_groups.0; finished = finished }
+
+  pub groups_stops : (h : ComponentDfg) (modules : List ModuleTranslation) (e : Error)
+      → Groups ms r types g h modules (Err e) → PlansGraph t ms r types g (Err e)
+  unfolding Groups PlansGraph
+  groups_stops h modules e stops = stops
+
+  pub no_memory_stops : (e : Error) → e ≡ error.NoMemory → PlansGraph t ms r types g (Err e)
+  unfolding PlansGraph
+  no_memory_stops e is = subst (StopsGraph ms r g) (sym is) tt
+
+-- the plan of a graph, where the types that it exports were held
+module _ (t : TypeTable) (h : ComponentDfg) (b new : Types) (same : new ≡ b) where
+  pub finished_still : (res : Result ComponentTranslation FinishError) → IfOk res (λ p. IsFinished new t h p)
+      → (out : Result ComponentTranslation Error)
+      → MatchResult res (λ x. out ≡ Ok x) (λ e. IsErrAnd out (λ y. y ≡ error_of_finish e))
+      → IfOk out (λ p. IsFinished b t h p)
+  finished_still (Ok plan) finished (Ok p) is =
+      subst (λ x. IsFinished x t h p) same (subst (λ x. IsFinished new t h x) (sym (the p plan is)) finished)
+    where
+      the : (x y : ComponentTranslation) → ◌≡◌ {A = Result ComponentTranslation Error} (Ok x) (Ok y) → x ≡ y
+      the x y e = cc
+  finished_still (Ok plan) finished (Err e) is = tt
+  finished_still (Err x) finished (Err e) is = tt
+  finished_still (Err x) finished (Ok p) is = absurd is
+
+  -- no module type lacks a place
+  lacks_none : HoldsModules b t h.export_items → IsBuilder b → LacksPlace t h.export_items b new → ⊥
+  lacks_none held builder l = by (static_type l.item) refl l.no_place
+    where
+      by : (o : Option ℕ) → static_type l.item ≡ o
+          → IsSomeAnd o (λ ty. IsTooFullFor new (λ next. (i : TypeModuleIndex) × IsEntry next t ty (def.Module i)))
+          → ⊥
+      by None is lacks = lacks
+      by (Some ty) is lacks =
+          place_held t ty b builder (held ty (l.item, l.exported, is))
+          (subst (λ x. IsTooFullFor x (λ next. (i : TypeModuleIndex) × IsEntry next t ty (def.Module i))) same lacks)
+
+  pub finish_refused : HoldsModules b t h.export_items → IsBuilder b
+      → (res : Result ComponentTranslation FinishError)
+      → (res ≡ Err finish_error.TooMany → HasTooMany h ⊎ LacksPlace t h.export_items b new)
+      → (out : Result ComponentTranslation Error)
+      → MatchResult res (λ x. out ≡ Ok x) (λ e. IsErrAnd out (λ y. y ≡ error_of_finish e))
+      → IfErr out (λ e. StopsFinish h e)
+  finish_refused held builder (Ok plan) full (Ok p) is = tt
+  finish_refused held builder (Ok plan) full (Err e) is = absurd (ok_no_error plan e (sym is))
+  finish_refused held builder (Err finish_error.TooMany) full (Err e) is =
+      subst (StopsFinish h) (sym is) (by (full refl))
+    where
+      by : HasTooMany h ⊎ LacksPlace t h.export_items b new → HasTooMany h
+      by (inl many) = many
+      by (inr lacks) = absurd (lacks_none held builder lacks)
+  finish_refused held builder (Err finish_error.NoMemory) full (Err e) is = subst (StopsFinish h) (sym is) tt
+  finish_refused held builder (Err x) full (Ok p) is = absurd is
+
+-- a graph that was answered
 module _ (t : TypeTable) (ms : List ModuleRecord) (limit : ℕ) (body : Items) (old mid : Types) (g : ComponentDfg)
     (is : Inlines t ms limit body old mid (Ok g)) where
   answered : StandsForReading t ms limit body mid g
   answered = graph_stands t ms limit body old mid g is
 
-  -- it can be finished
-  pub is_ordered : IsOrdered g
-  is_ordered = answered.stands.ordered
+  -- it stands for the reading of the body
+  pub stands_for : (r : Reading) × GraphStands t ms mid g r
+  stands_for = (answered.result, answered.stands)
 
-  pub is_grouped : IsGrouped g
-  is_grouped = grouped g answered.stands.plain
+  -- what stops its plan is a cause
+  refused_by : ((start : ℕ) → CountsGraph t ms limit start body old mid g) → (e : Error)
+      → StopsGraph ms answered.result g e → IsRefused t ms limit body (types_held old) e
+  refused_by counts (error.BadOptions p) stops = record {
+    result = answered.result;
+    outcome = answered.outcome;
+    adapter = stops.0;
+    first = stops.1;
+    is = stops.2;
+  }
+  refused_by counts error.TooMany stops = λ counted begins. by counted (omega (arith, begins)) (counts counted)
+    where
+      by : (counted : ℕ) → length ms ≤ counted → CountsGraph t ms limit counted body old mid g
+          → IsPast t ms limit counted body
+      by counted begins (inl past) = past
+      by counted begins (inr c) = absurd (none_crowded t ms limit counted body old mid g begins c stops)
+  refused_by counts error.NoMemory stops = tt
+  refused_by counts (error.Malformed p) stops = absurd stops
+  refused_by counts (error.BadTable p) stops = absurd stops
+  refused_by counts (error.Unsupported u p) stops = absurd stops
+  refused_by counts (error.BadIntrinsics p) stops = absurd stops
+  refused_by counts (error.UnknownIntrinsic p) stops = absurd stops
+  refused_by counts (error.DefinedTwice p) stops = absurd stops
+  refused_by counts (error.Invalid p) stops = absurd stops
+  refused_by counts (error.BadType p) stops = absurd stops
+  refused_by counts error.TooManyInstances stops = absurd stops
 
-  pub has_types : All (HasModuleType t) g.export_items
-  has_types = are_modules g answered.stands.plain mid t answered.stands.held
+  plans : ((start : ℕ) → CountsGraph t ms limit start body old mid g)
+      → (res : Result (ComponentTranslation × List ModuleTranslation) Error)
+      → PlansGraph t ms answered.result mid g res → Plans t ms limit body old mid res
+  unfolding PlansGraph Plans
+  plans counts (Ok p) of_graph = record {
+    graph = g;
+    stands = answered;
+    grouped = of_graph.grouped;
+    partitioned = of_graph.partitioned;
+    finished = of_graph.finished;
+  }
+  plans counts (Err e) stops = refused_by counts e stops
 
-  module _ (new : Types) (unchanged : HoldsModules mid t g.export_items → new ≡ mid) where
-    same : new ≡ mid
-    same = unchanged (held_modules t ms mid g answered.result answered.stands)
+  module _ (new : Types) (same : new ≡ mid) where
+    -- so the body has a plan, or there is a cause for want of one
+    pub still_plans : ((start : ℕ) → CountsGraph t ms limit start body old mid g)
+        → (res : Result (ComponentTranslation × List ModuleTranslation) Error)
+        → ((r : Reading) → GraphStands t ms mid g r → PlansGraph t ms r mid g res)
+        → Plans t ms limit body old new res
+    still_plans counts res of_graph =
+        subst (λ x. Plans t ms limit body old x res) (sym same)
+        (plans counts res (of_graph answered.result answered.stands))
 
     -- types keep their numbers
     pub still_keeps : KeepsTypes old mid → KeepsTypes old new
@@ -227,15 +437,3 @@ module _ (t : TypeTable) (ms : List ModuleRecord) (limit : ℕ) (body : Items) (
     still_counts tables start counts few =
         subst (GainsCounted t ms limit start body old) (sym same)
         (gains_counted t ms limit start body old mid g answered tables counts few)
-
-    -- so the graph has a plan, or there is a cause for want of one
-    pub still_plans : IsBuilder new → ((start : ℕ) → CountsGraph t ms limit start body old mid g)
-        → (r : Result ComponentTranslation FinishError)
-        → IfOk r (λ p. IsFinished new t g p)
-        → (r ≡ Err finish_error.TooMany → HasTooMany g ⊎ LacksPlace t g.export_items mid new)
-        → (out : Result ComponentTranslation Error)
-        → MatchResult r (λ x. out ≡ Ok x) (λ e. IsErrAnd out (λ y. y ≡ error_of_finish e))
-        → Plans t ms limit body old new out
-    still_plans builder counts =
-        planned t ms limit body new g (subst (λ x. StandsForReading t ms limit body x g) (sym same) answered) old mid
-        builder (λ start. subst (λ x. CountsGraph t ms limit start body old x g) (sym same) (counts start))

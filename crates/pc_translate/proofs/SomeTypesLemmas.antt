@@ -15,7 +15,6 @@ use Rattle.pc_spec_reading.specs.Reading.{Reading, reading, reading_of}
 use Rattle.pc_spec_reading.specs.Section.{modules_of}
 use Rattle.pc_translate.specs.Causes.{HasCause, meaning}
 use Rattle.pc_translate.specs.Translation.{CountsGained, GainsCounted, IsPlanOf, IsRefusalOf, Translates}
-use Rattle.pc_spec_reading.specs.Guard.{everything}
 
 module _ (t : TypeTable) (exposed : Option (List ℕ)) (limit : ℕ) (ps : List Payload) (old types : Types)
     (fresh : old ≡ no_types) where
@@ -34,7 +33,7 @@ module _ (t : TypeTable) (exposed : Option (List ℕ)) (limit : ℕ) (ps : List 
   has_root o means = by (root_of exposed ps) refl means
     where
       by : (root : Option Items) → root_of exposed ps ≡ root
-          → option_map (reading_of everything t (modules_of ps) limit None) root ≡ Some o
+          → option_map (reading_of t (modules_of ps) limit None) root ≡ Some o
           → (body : Items) × (root_of exposed ps ≡ Some body)
       by None is h = absurd (none-some o h)
       by (Some body) is h = (body, is)

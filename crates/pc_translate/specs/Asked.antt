@@ -1,14 +1,14 @@
 -- What a plan has beside its steps, options and exports: no more than the reading asked for.
-use Rattle.std.specs.Prelude.{◌≡◌, ◌<◌, ◌≤◌, ℕ, List, map, length, count_by, Option, Some, None, option_map, slice_get}
+use Rattle.std.specs.Prelude.{◌≡◌, ◌≤◌, ℕ, true, List, map, length, count_by, Option, Some, None, option_map, slice_get}
 use Rattle.std.specs.List.{AllZip, Contains, filter_map}
 use Rattle.pc_types_lists.specs.Types.{Types}
 use Rattle.pc_info.specs.declared.component.ComponentTranslation.{ComponentTranslation}
 use Rattle.pc_info.specs.declared.module.ModuleTranslation.{ModuleTranslation}
-use Rattle.pc_info.specs.Modules.{adapters_view}
 use Rattle.pc_info.specs.View.{view}
 use Rattle.pc_numbers.specs.declared.module_entity.ModuleInternedTypeIndex.{ModuleInternedTypeIndex}
 use Rattle.pc_numbers.specs.declared.runtime.RuntimeComponentInstanceIndex.{RuntimeComponentInstanceIndex}
 use Rattle.pc_parsed.specs.Mark as reading
+use Rattle.pc_dfg_finish.specs.Headed.{is_headed}
 use Rattle.pc_spec_reading.specs.Asked.{is_declared, paths_needed, signature_of}
 use Rattle.pc_spec_reading.specs.Nodes.{extern_data}
 use Rattle.pc_spec_reading.specs.Reading.{Reading}
@@ -16,9 +16,8 @@ use Rattle.pc_spec_reading.specs.World.{AddedIntrinsic, HostImport}
 use Rattle.pc_spec_plan.specs.CoreValue.{CoreValue, map_value}
 use Rattle.pc_spec_plan.specs.Log.{Entry, declared, declared_resource}
 use Rattle.pc_spec_plan.specs.Machine.{State, resolve}
-use Rattle.pc_spec_plan.specs.PlanView.{ImportType, PlanView, RuntimeImport, trampoline}
+use Rattle.pc_spec_plan.specs.PlanView.{ImportType, PlanView, RuntimeImport, TrampolineEntry, trampoline}
 use Rattle.pc_trampoline.specs.declared.part.Mark.{Mark}
-use Rattle.pc_inline_state.specs.Today.{is_made}
 use Rattle.pc_inline_state.specs.Holds.{Holds, Numbered, ReadsAs, number_of, whole_of}
 use Rattle.pc_types.specs.declared.parsed.CoreFuncSig.{CoreFuncSig}
 use Rattle.pc_types.specs.TypeTree.{Path}
@@ -67,19 +66,18 @@ pub record HasDeclared (types : Types) (plan : ComponentTranslation) (modules : 
   pub stands_under : slice_get plan.component.trampolines n ≡ Some signature
   pub signed : HasSignature types signature (map_value (whole_of types (ReadsAs r.imported_resources)) value)
 
--- what a plan has is what the reading declares and makes, where the plan's run ends in this state
+-- what a plan has is what the reading declares, where the plan's run ends in this state
 pub record Declares (types : Types) (plan : ComponentTranslation) (modules : List ModuleTranslation)
     (last : State Mark) (r : Reading) : Type 0 where
-  -- there are no more trampolines than host lowerings and builtins, each is one that the reading declares, and no
-  -- signature stands beside these
-  pub few : length plan.trampolines ≤ count_by is_declared r.log
-  pub trampolines : (n : ℕ) → n < length plan.trampolines → HasDeclared types plan modules last r n
+  -- helpers of modules of adapters aside, there are no more trampolines than host lowerings and builtins, and each is
+  -- one that the reading declares; and no signature stands beside them
+  pub few : count_by is_headed (view plan modules).trampolines ≤ count_by is_declared r.log
+  pub trampolines : (n : ℕ) (x : TrampolineEntry Mark) → slice_get (view plan modules).trampolines n ≡ Some x
+      → is_headed x ≡ true → HasDeclared types plan modules last r n
   pub as_many : length plan.component.trampolines ≡ length plan.trampolines
   -- each resource that is declared has its component instance, in order
   pub resources : map (λ (c : RuntimeComponentInstanceIndex). c.0) plan.component.defined_resource_instances
       ≡ filter_map resource_owner r.log
-  -- each adapter that is made has its record
-  pub adapters : length (adapters_view 0 modules) ≡ count_by is_made r.log
 
 -- an intrinsic that has a signature in a plan is one that was added as a core function, and the first item that added
 -- it has this signature. One that a run resolves has a signature

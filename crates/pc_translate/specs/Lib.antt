@@ -2,9 +2,12 @@
 pub mod ModuleTypes
 pub mod Finished
 pub mod Typed
+pub mod Adapters
+pub mod Adapted
 pub mod Asked
 pub mod Lists
 pub mod Causes
 pub mod Translation
 -- What the functions inside promise each other.
+pub mod Partitioned
 pub mod Planning

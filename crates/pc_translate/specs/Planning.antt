@@ -1,38 +1,115 @@
--- What comes of a local program: a plan that stands for the reading of its root, or why there is none.
-use Rattle.std.specs.Prelude.{ℕ, [], List, Result, Ok, Err}
+-- What comes of a local program: a plan with its modules that stands for the reading of its root, or why there is none.
+use Rattle.std.specs.Prelude.{◌≡◌, ◌≤◌, ◌<◌, ◌+◌, ◌*◌, ⊤, ℕ, List, None, Result, Some, Ok, Err, length, map}
 use Rattle.pc_types_lists.specs.Types.{Types, types_held}
 use Rattle.pc_types.specs.declared.error.Error.{Error}
 use Rattle.pc_types.specs.declared.error.Error.TheVariants as error
+use Rattle.pc_types.specs.declared.error.Place.{Place}
+use Rattle.pc_types.specs.declared.error.Place.TheVariants as place
 use Rattle.pc_types.specs.declared.module_record.ModuleRecord.{ModuleRecord}
 use Rattle.pc_types.specs.declared.parsed.TypeTable.{TypeTable}
 use Rattle.pc_info.specs.declared.component.ComponentTranslation.{ComponentTranslation}
 use Rattle.pc_info.specs.declared.module.ModuleTranslation.{ModuleTranslation}
-use Rattle.pc_info.specs.Modules.{without_facts}
+use Rattle.pc_spec_reading.specs.Answer.{IsPast}
 use Rattle.pc_spec_reading.specs.Item.{Items}
+use Rattle.pc_spec_reading.specs.Outcome.{done}
+use Rattle.pc_spec_reading.specs.Reading.{Reading, reading_of}
 use Rattle.pc_dfg.specs.declared.dfg.ComponentDfg.{ComponentDfg}
+use Rattle.pc_dfg.specs.Lists.{ListName}
 use Rattle.pc_dfg_linearize.specs.declared.error.FinishError.{FinishError}
 use Rattle.pc_dfg_linearize.specs.declared.error.FinishError.TheVariants as finish_error
+use Rattle.pc_dfg_linearize.specs.Full.{HasTooMany}
+use Rattle.pc_adapt.specs.declared.error.AdaptError.{AdaptError}
+use Rattle.pc_adapt.specs.declared.error.AdaptError.TheVariants as adapt_error
+use Rattle.pc_adapt_partition.specs.Made.{AddsFew}
+use Rattle.pc_inline_state.specs.Adds.{with_modules}
+use Rattle.pc_inline.specs.Inlines.{GraphStands, IsFault, StandsForReading}
+use Rattle.pc_translate.specs.Adapted.{as_handed_in}
+use Rattle.pc_translate.specs.Adapters.{first_lacking}
 use Rattle.pc_translate.specs.Finished.{IsFinished}
-use Rattle.pc_inline.specs.Inlines.{IsFault, StandsForReading}
+use Rattle.pc_translate.specs.Partitioned.{IsPartitioned}
 
 -- why a graph has no plan, as an error of the translation
 abbrev pub error_of_finish : FinishError → Error
 error_of_finish finish_error.TooMany = error.TooMany
 error_of_finish finish_error.NoMemory = error.NoMemory
 
--- a module as it was handed in
-abbrev pub as_handed_in : ModuleRecord → ModuleTranslation
-as_handed_in r = without_facts r []
+-- why adapters have no modules, likewise
+abbrev pub error_of_adapt : AdaptError → Error
+error_of_adapt (adapt_error.BadOptions a) = error.BadOptions (place.Adapter a.0)
+error_of_adapt adapt_error.TooMany = error.TooMany
+error_of_adapt adapt_error.NoMemory = error.NoMemory
 
--- a plan is that of a graph which stands for the reading of a body
+-- a list of a graph has more entries than a plan has numbers for, or the list of the modules has, with what modules of
+-- the graph's adapters may add to it
+pub data IsCrowded (ms : List ModuleRecord) (g : ComponentDfg) : Type 0 where
+  of_list : (l : ListName) → 4294967294 < with_modules g l → IsCrowded ms g
+  of_resources : 4294967294 < length g.imported_resources + length g.resources → IsCrowded ms g
+  of_modules : 4294967294 < length ms + 32 * length g.adapters → IsCrowded ms g
+
+-- why a graph that stands for a reading has no plan
+abbrev pub StopsGraph : List ModuleRecord → Reading → ComponentDfg → Error → Type 0
+StopsGraph ms r g (error.BadOptions p) = (a : ℕ) × (first_lacking r ≡ Some a) × (p ≡ place.Adapter a)
+StopsGraph ms r g error.TooMany = IsCrowded ms g
+StopsGraph ms r g error.NoMemory = Unit {0}
+StopsGraph ms r g e = ⊥
+
+-- the adapters of a graph have got modules, few of them, or there is a cause for want of them
+unfoldable pub Groups : List ModuleRecord → Reading → Types → (g h : ComponentDfg) → List ModuleTranslation
+    → Result ⊤ Error → Type 0
+Groups ms r types g h modules (Ok end) =
+    IsPartitioned ms r types g h modules × AddsFew (length g.adapters) (map as_handed_in ms) modules h
+Groups ms r types g h modules (Err e) = StopsGraph ms r g e
+
+-- why a graph can't be finished
+abbrev pub StopsFinish : ComponentDfg → Error → Type 0
+StopsFinish h error.TooMany = HasTooMany h
+StopsFinish h error.NoMemory = Unit {0}
+StopsFinish h e = ⊥
+
+-- a plan and its modules are those of a graph that stands for a reading, once its adapters have modules
+pub record IsPlanOfGraph (t : TypeTable) (ms : List ModuleRecord) (r : Reading) (types : Types) (g : ComponentDfg)
+    (plan : ComponentTranslation) (modules : List ModuleTranslation) : Type 0 where
+  pub grouped : ComponentDfg
+  pub partitioned : IsPartitioned ms r types g grouped modules
+  pub finished : IsFinished types t grouped plan
+
+-- a graph has such a plan, or there is a cause for want of one
+unfoldable pub PlansGraph : TypeTable → List ModuleRecord → Reading → Types → ComponentDfg
+    → Result (ComponentTranslation × List ModuleTranslation) Error → Type 0
+PlansGraph t ms r types g (Ok p) = IsPlanOfGraph t ms r types g p.0 p.1
+PlansGraph t ms r types g (Err e) = StopsGraph ms r g e
+
+-- a plan and its modules are those of a graph which stands for the reading of a body, once its adapters have modules
 pub record IsPlanOfBody (t : TypeTable) (ms : List ModuleRecord) (limit : ℕ) (body : Items) (types : Types)
-    (plan : ComponentTranslation) : Type 0 where
+    (plan : ComponentTranslation) (modules : List ModuleTranslation) : Type 0 where
   pub graph : ComponentDfg
   pub stands : StandsForReading t ms limit body types graph
-  pub finished : IsFinished types t graph plan
+  pub grouped : ComponentDfg
+  pub partitioned : IsPartitioned ms stands.result types graph grouped modules
+  pub finished : IsFinished types t grouped plan
+
+-- the reading is done, and this is the place of the first adapter that lacks an option
+pub record LacksOption (t : TypeTable) (ms : List ModuleRecord) (limit : ℕ) (body : Items) (p : Place) : Type 0 where
+  pub result : Reading
+  pub outcome : reading_of t ms limit None body ≡ done result
+  pub adapter : ℕ
+  pub first : first_lacking result ≡ Some adapter
+  pub is : p ≡ place.Adapter adapter
+
+-- the total of the reading is too much, wherever it begins that counts the types that were held before, the core
+-- signatures of the table, and the modules that were handed in
+abbrev pub IsTooMuch : TypeTable → List ModuleRecord → (limit : ℕ) → Items → (held : ℕ) → Type 0
+IsTooMuch t ms limit body held =
+    (counted : ℕ) → length t.core_funcs + held + length ms ≤ counted → IsPast t ms limit counted body
+
+-- why a body has no plan, where so many types were held before
+abbrev pub IsRefused : TypeTable → List ModuleRecord → (limit : ℕ) → Items → (held : ℕ) → Error → Type 0
+IsRefused t ms limit body held (error.BadOptions p) = LacksOption t ms limit body p
+IsRefused t ms limit body held error.TooMany = IsTooMuch t ms limit body held
+IsRefused t ms limit body held e = IsFault t ms limit body held e
 
 -- a body has such a plan, or an error that its reading has. The builder held these types before, and holds those now
 unfoldable pub Plans : TypeTable → List ModuleRecord → (limit : ℕ) → Items → (old new : Types)
-    → Result ComponentTranslation Error → Type 0
-Plans t ms limit body old new (Ok plan) = IsPlanOfBody t ms limit body new plan
-Plans t ms limit body old new (Err e) = IsFault t ms limit body (types_held old) e
+    → Result (ComponentTranslation × List ModuleTranslation) Error → Type 0
+Plans t ms limit body old new (Ok r) = IsPlanOfBody t ms limit body new r.0 r.1
+Plans t ms limit body old new (Err e) = IsRefused t ms limit body (types_held old) e

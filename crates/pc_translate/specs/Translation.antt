@@ -14,7 +14,6 @@ use Rattle.pc_spec_plan.specs.Trace.{run_trace}
 use Rattle.pc_info.specs.declared.component.ComponentTranslation.{ComponentTranslation}
 use Rattle.pc_info.specs.declared.module.ModuleTranslation.{ModuleTranslation}
 use Rattle.pc_info.specs.Exports.{has_items}
-use Rattle.pc_info.specs.Modules.{StandInOrder}
 use Rattle.pc_info.specs.View.{view, counts_view}
 use Rattle.pc_info.specs.Apart.{AreApart}
 use Rattle.pc_parsed.specs.declared.payload.Payload.{Payload}
@@ -22,14 +21,15 @@ use Rattle.pc_spec_reading.specs.Answer.{IsPast}
 use Rattle.pc_spec_reading.specs.Item.{Items}
 use Rattle.pc_spec_reading.specs.Nest.{root_of}
 use Rattle.pc_spec_reading.specs.Outcome.{done}
-use Rattle.pc_spec_reading.specs.Guard.{everything}
 use Rattle.pc_spec_reading.specs.Reading.{Reading, reading_of}
 use Rattle.pc_spec_reading.specs.Section.{modules_of}
 use Rattle.pc_spec_reading.specs.World.{full}
 use Rattle.pc_inline_state.specs.Gained.{AddsTables}
 use Rattle.pc_inline_stack.specs.Totals.{GainsFew, HasTotal}
+use Rattle.pc_translate.specs.Adapted.{Adapts}
+use Rattle.pc_translate.specs.Adapters.{first_lacking}
 use Rattle.pc_translate.specs.Asked.{AreSigned, AsksHost, Declares}
-use Rattle.pc_translate.specs.Causes.{CanBeRead, HasCause, HasRoot, built_meaning, meaning}
+use Rattle.pc_translate.specs.Causes.{CanBeRead, HasCause, HasRoot, meaning}
 use Rattle.pc_translate.specs.Lists.{FindsExports, IsTidy, NumbersItems}
 use Rattle.pc_translate.specs.Typed.{TypedAs}
 
@@ -55,13 +55,13 @@ pub record Translates (t : TypeTable) (exposed : Option (List ℕ)) (limit : ℕ
   pub can_be_read : CanBeRead t exposed ps
   pub result : Reading
   pub outcome : meaning t exposed limit ps ≡ Some (done result)
-  -- no item was passed over: all are of kinds that are built
-  pub built : built_meaning t exposed limit ps ≡ Some (done result)
   pub does : DoesAs (view plan modules) result
   -- and so it does with its types: under each number the builder holds what the reading has there
   pub typed : TypedAs types (view plan modules) result
+  -- no adapter lacks an option
+  pub complete : first_lacking result ≡ None
   -- the modules are those of the payloads, in order, and behind them those of adapters
-  pub handed_in : StandInOrder (modules_of ps) modules
+  pub adapts : Adapts types (modules_of ps) result modules typed.never_stuck.last
   -- the plan counts what it has
   pub counts : counts_view plan.component ≡ counts_of (view plan modules) result types
   -- nothing is asked of the host, declared or signed but what the reading asks for, declares and signs
@@ -96,7 +96,7 @@ pub record GainsCounted (t : TypeTable) (ms : List ModuleRecord) (limit start : 
   pub few : IsPast t ms limit start body
       ⊎ ((total : ℕ) × HasTotal t ms limit start body total × (total < full) × (start + added < total))
   pub result : Reading
-  pub outcome : reading_of everything t ms limit None body ≡ done result
+  pub outcome : reading_of t ms limit None body ≡ done result
   pub tables : AddsTables t result.begun old new
 
 -- so it is where payloads were translated, wherever the total begins

@@ -1,29 +1,41 @@
 //! The top call over payloads.
 
-ghost use Rattle.std.specs.Prelude.{◌≡◌, ℕ, [], false, true, length, map, None, Some, Err, is_some, IfErr, IfOk, OnOk};
+ghost use Rattle.std.specs.Prelude.{◌≡◌, ℕ, List, All, false, true, length, map, None, is_some, IfErr, IfOk, OnOk};
 ghost use Rattle.std.specs.List.{list_all};
 ghost use Rattle.std.specs.Option.{option_map};
+ghost use Rattle.pc_types.specs.declared.module_record.ModuleRecord.{ModuleRecord as Record};
+ghost use Rattle.pc_types.specs.declared.parsed.TypeTable.{TypeTable as Table};
 ghost use Rattle.pc_types.specs.Record.{is_sound};
 ghost use Rattle.pc_types.specs.Table.{table_fault};
 ghost use Rattle.pc_types_lists.specs.Types.{KeepsTypes, no_types, types_held};
 ghost use Rattle.pc_spec_reading.specs.Item.{Items};
+ghost use Rattle.pc_spec_reading.specs.Reading.{Reading};
+ghost use Rattle.pc_dfg.specs.Ordered.{IsOrdered};
+ghost use Rattle.pc_dfg_linearize.specs.Grouped.{IsGrouped};
 ghost use Rattle.pc_local.specs.Program.{ProgramStands};
 ghost use Rattle.pc_local.specs.Sound.{AreSoundBodies, IsSoundBody};
 ghost use Rattle.pc_local.specs.Standing.{BodyStands, no_names};
 ghost use Rattle.pc_inline_stack.specs.Totals.{GainsFew};
+ghost use Rattle.pc_inline.specs.Inlines.{GraphStands};
 ghost use Rattle.pc_translate.specs.Causes.{CanBeRead, HasCause, HasOwnCause};
-ghost use Rattle.pc_translate.specs.Planning.{Plans, as_handed_in, error_of_finish};
+ghost use Rattle.pc_translate.specs.Adapted.{as_handed_in};
+ghost use Rattle.pc_translate.specs.Finished.{IsFinished};
+ghost use Rattle.pc_translate.specs.ModuleTypes.{HasModuleType, HoldsModules};
+ghost use Rattle.pc_translate.specs.Planning.{Groups, Plans, PlansGraph, StopsFinish, error_of_adapt, error_of_finish};
 ghost use Rattle.pc_translate.specs.Translation.{CountsGained, Gains, GainsCounted, IsPlanOf, IsRefusalOf};
 ghost use Rattle.pc_translate.specs.Translation.{Translates};
 
 use crate::plan::finish;
+use pc_adapt::AdaptError;
+use pc_adapt_partition::partition_adapter_modules;
+use pc_dfg::ComponentDfg;
 use pc_dfg_finish::FinishError;
 use pc_entity::{NoMemory, PrimaryMap, Seq, StaticModuleIndex};
 use pc_info::{ComponentTranslation, ModuleTranslation};
 use pc_inline::inline_run;
 use pc_local::{LocalProgram, translate_payloads};
 use pc_parsed::{Payload, Tunables, is_numbered};
-use pc_types::{Error, ModuleRecord, TypeTable};
+use pc_types::{Error, ModuleRecord, Place, TypeTable};
 use pc_types_builder::ComponentTypesBuilder;
 use std::alloc::Global;
 
@@ -76,40 +88,108 @@ fn finish_error(error: FinishError) -> Error
     }
 }
 
-/// The plan of a local program: its graph, and then the plan that the graph becomes.
+/// Why adapters have no modules, as an error of the translation.
+fn adapt_error(error: AdaptError) -> Error
+    ensures { result ≡ error_of_adapt error }
+{
+    match error {
+        AdaptError::BadOptions(adapter) => Error::BadOptions(Place::Adapter(adapter.0)),
+        AdaptError::TooMany => Error::TooMany,
+        AdaptError::NoMemory => Error::NoMemory,
+    }
+}
+
+/// Puts the modules of a graph's adapters behind those that were handed in. The graph gets them too.
+fn group_adapters(
+    alloc: Global,
+    types: &ComponentTypesBuilder,
+    graph: &mut ComponentDfg,
+    modules: &mut PrimaryMap<StaticModuleIndex, ModuleTranslation>,
+) -> Result<(), Error>
+    requires stands { (t : Table) × (ms : List Record) × (r : Reading) × GraphStands t ms types.now graph.old r }
+    ensures groups { (t : Table) (ms : List Record) (r : Reading) → GraphStands t ms types.now graph.old r
+        → modules.old ≡ map as_handed_in ms → Groups ms r types.now graph.old graph.new modules.new result }
+{
+    let grouped = partition_adapter_modules(alloc, graph, types, modules);
+    // No entry of an interned list stands twice.
+    graph.entries_are_distinct();
+    grouped.map_err(adapt_error)
+}
+
+/// The plan of a graph whose adapters are grouped, where the types that it exports are held.
+fn finish_graph(
+    alloc: Global,
+    table: &TypeTable,
+    types: &mut ComponentTypesBuilder,
+    graph: ComponentDfg,
+) -> Result<ComponentTranslation, Error>
+    requires table { table_fault table.now ≡ None }
+    requires ordered { IsOrdered graph }
+    requires grouped { IsGrouped graph }
+    requires are_modules { All (HasModuleType table.now) graph.export_items }
+    requires held { HoldsModules types.old table.now graph.export_items }
+    ensures unchanged { types.new ≡ types.old }
+    ensures plan { IfOk result (λ p. IsFinished types.old table.now graph p) }
+    ensures refused { IfErr result (StopsFinish graph) }
+{
+    // No two types are equal, so no module type is there twice.
+    types.types_are_distinct();
+    finish(alloc, graph, table, types).map_err(finish_error)
+}
+
+/// The plan of a graph that stands for a reading, and its modules: first come modules for the adapters of the graph,
+/// and then the plan that the graph becomes.
+fn plan_of_graph(
+    alloc: Global,
+    table: &TypeTable,
+    types: &mut ComponentTypesBuilder,
+    graph: ComponentDfg,
+    records: PrimaryMap<StaticModuleIndex, ModuleRecord>,
+) -> Result<PlanWithModules, Error>
+    requires table { table_fault table.now ≡ None }
+    requires stands { (r : Reading) × GraphStands table.now records types.old graph r }
+    ensures unchanged { types.new ≡ types.old }
+    ensures plans { (r : Reading) → GraphStands table.now records types.old graph r
+        → PlansGraph table.now records r types.old graph result }
+{
+    let mut grouped = graph;
+    let mut modules = translations(alloc, records)?;
+    group_adapters(alloc, types, &mut grouped, &mut modules)?;
+    let plan = finish_graph(alloc, table, types, grouped)?;
+    Ok((plan, modules))
+}
+
+/// The plan of a local program, and its modules: the graph of the program, and then its plan.
 fn plan_of(
     alloc: Global,
     tunables: &Tunables,
     table: &TypeTable,
     types: &mut ComponentTypesBuilder,
-    program: &LocalProgram,
-) -> Result<ComponentTranslation, Error>
+    program: LocalProgram,
+) -> Result<PlanWithModules, Error>
     requires table { table_fault table.now ≡ None }
-    requires modules { list_all (is_sound table.now) program.now.modules ≡ true }
-    requires stands { (body : Items) × BodyStands program.now.components no_names program.now.root body }
-    requires root { IsSoundBody (length program.now.modules) program.now.root }
-    requires components { AreSoundBodies (length program.now.modules) program.now.components }
-    ensures plan { (body : Items) → BodyStands program.now.components no_names program.now.root body
-        → Plans table.now program.now.modules tunables.now.max_component_instances body types.old types.new result }
+    requires modules { list_all (is_sound table.now) program.modules ≡ true }
+    requires stands { (body : Items) × BodyStands program.components no_names program.root body }
+    requires root { IsSoundBody (length program.modules) program.root }
+    requires components { AreSoundBodies (length program.modules) program.components }
+    ensures plan { (body : Items) → BodyStands program.components no_names program.root body
+        → Plans table.now program.modules tunables.now.max_component_instances body types.old types.new result }
     ensures keeps { KeepsTypes types.old types.new }
-    ensures adds { (body : Items) → BodyStands program.now.components no_names program.now.root body
+    ensures adds { (body : Items) → BodyStands program.components no_names program.root body
         → (start : ℕ)
-        → GainsFew table.now program.now.modules tunables.now.max_component_instances start body types.old types.new }
-    ensures counts { (body : Items) → BodyStands program.now.components no_names program.now.root body
-        → (start : ℕ) → IfOk result (λ _. GainsCounted table.now program.now.modules
+        → GainsFew table.now program.modules tunables.now.max_component_instances start body types.old types.new }
+    ensures counts { (body : Items) → BodyStands program.components no_names program.root body
+        → (start : ℕ) → IfOk result (λ _. GainsCounted table.now program.modules
         tunables.now.max_component_instances start body types.old types.new) }
 {
     let graph = inline_run(
         alloc,
         types,
         table,
-        program,
+        &program,
         tunables.max_component_instances,
     )?;
-    let finished = finish(alloc, graph, table, types).map_err(finish_error);
-    // No two types are equal, so no module type is there twice.
-    types.types_are_distinct();
-    finished
+    plan_of_graph(alloc, table, types, graph, program.modules)
 }
 
 /// The plan that payloads are translated to, and its core modules: those of the payloads, in order.
@@ -147,11 +227,11 @@ pub fn translate(
         tunables.now.max_component_instances payloads.now types.old types.new) }
 {
     let program = program_of(alloc, table, exposed, payloads)?;
-    let plan = plan_of(alloc, tunables, table, types, &program)?;
-    // No two signatures are equal, so a lowering has the one of its options.
+    let translated = plan_of(alloc, tunables, table, types, program)?;
+    // No two signatures are equal, so a lowering has the one of its options; and a type has one number, so an adapter has.
     types.types_are_distinct();
-    let modules = translations(alloc, program.modules)?;
-    Ok((plan, modules))
+    types.numbers_are_trees();
+    Ok(translated)
 }
 
 /// What `translate` answers with a builder that holds no types, for callers that don't ask for those of the plan.

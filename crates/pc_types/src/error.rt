@@ -77,9 +77,6 @@ pub enum Unsupported {
     ReexportedIntrinsics,
     #[error("a component as an export of the root")]
     ExportedComponent,
-    /// A kind of item that this translator can't translate yet.
-    #[error("this kind of item, as of now")]
-    NotBuilt,
 }
 
 /// Why there is no plan. Each variant but the last three says where.

@@ -1,8 +1,8 @@
 use Rattle.std.proofs.Common.{sym, ◌∙◌}
 use Rattle.pc_inline_canon.proofs.ConvertedLemmas.{lower_adds, lower_keeps, lower_trail}
 use Rattle.pc_inline_canon.proofs.GotLemmas.{got_by}
-use Rattle.pc_inline_canon.proofs.LowerLemmas.{lower_adapts, lower_lacks, lower_misses, lower_misses_option}
-use Rattle.pc_inline_canon.proofs.LowerLemmas.{lower_ready, lower_steps}
+use Rattle.pc_inline_canon.proofs.LowerLemmas.{lower_callee, lower_lacks, lower_misses, lower_misses_option, lower_ready}
+use Rattle.pc_inline_canon.proofs.LowerLemmas.{lower_steps}
 use Rattle.pc_inline_canon.proofs.PassedLemmas.{passed_lacking, passed_unfed}
 use Rattle.pc_inline_state.proofs.GainedLemmas.{current_begun}
 use Rattle.pc_inline_canon.proofs.functions.step_lower.Goals as goal
@@ -22,12 +22,6 @@ returns-in_default-options_in-clause-steps c =
     (got_by _ _ _ c.as_slice.ensures _ _ c.at.ensures c.in-Some.is)
     (sym c.options_in.ensures ∙ c.in_default-options_in.is)
 
-pub returns-in_default-callee_of-clause-steps : goal.returns-in_default-callee_of-clause-steps
-returns-in_default-callee_of-clause-steps c =
-    lower_adapts _ _ _ _ _ _ _ _ _ _ c.in_ok-ty.ensures.converts _ _ c.in_ok-ty.ensures.are _
-    (got_by _ _ _ c.as_slice.ensures _ _ c.at.ensures c.in-Some.is) _
-    (sym c.options_in.ensures ∙ c.in-Some-options_in.is) (sym c.callee_of.ensures ∙ c.in_default-callee_of.is)
-
 pub lower-requires : goal.lower-requires
 lower-requires c =
     let ready = lower_ready _ _ c.args.func c.args.ty c.args.core c.args.opts.now _ c.args.frame.now _ _
@@ -35,7 +29,14 @@ lower-requires c =
     (got_by _ _ _ c.as_slice.ensures _ _ c.at.ensures c.in-Some.is) c.in-Some-options_in.options
     (sym c.options_in.ensures ∙ c.in-Some-options_in.is) c.in-Some-callee_of.callee
     (sym c.callee_of.ensures ∙ c.in-Some-callee_of.is) in
-    record { sound = ready.0; there = ready.1; options = ready.2 }
+    record { sound = ready.0; ready = c.requires.ready; there = ready.1; options = ready.2 }
+
+pub unreachable-requires : goal.unreachable-requires
+unreachable-requires c =
+    lower_callee _ _ c.args.func c.args.ty c.args.core c.args.opts.now _ c.args.frame.now _ _
+    c.in_ok-ty.ensures.converts _ _ c.in_ok-ty.ensures.are c.requires.here c.in-Some.func
+    (got_by _ _ _ c.as_slice.ensures _ _ c.at.ensures c.in-Some.is)
+    (sym c.callee_of.ensures ∙ c.in_default-callee_of.is)
 
 pub returns-in_err-id-clause-steps : goal.returns-in_err-id-clause-steps
 returns-in_err-id-clause-steps c =

@@ -69,5 +69,5 @@ returns-clause-steps c =
     steps_on _ _ _ _ _ _ _ tt (λ now at.
     given_goes _ _ c.args.entity _ _ _ _ _ c.in_ok-learnt.ensures.learns now at c.args.name.now c.in_ok-id.id _
     c.in_ok-id.ensures.gives (keeps_trans _ _ _ c.learn.ensures.keeps c.push_given.ensures.keeps) c.requires.named
-    c.requires.given (sym c.is_component.ensures ∙ c.if-is_component.false) _
+    c.requires.given (sym c.is_component.ensures ∙ c.if-is_component.false) c.requires.input.table _
     (ap (λ xs. record c.learn.new.frame { arguments = xs }) c.in_ok-insert_first.ensures.ok))

@@ -34,6 +34,15 @@ returns-in_err-instance c =
     (λ n id at is. instance_full _ _ _ _ _ _ _ _ _ _ _ c.in_err-instance.was p.full.0 p.grows
     c.from_residual-in_err-instance.ensures.1)
 
+pub returns-in_err-note_module : goal.returns-in_err-note_module
+returns-in_err-note_module c =
+    let u = c.use_host.ensures in
+    let p = c.push_instance.ensures in
+    made (keeps_trans _ _ _ u.keeps (instance_keeps _ _ _ _ _ p.grows p.ok p.err))
+    (host_few _ _ _ _ u.adds (instance_adds _ _ _ _ _ p.ok p.err))
+    (ap (λ (t : Types). t.resources) u.adds.types)
+    (λ n id at is. steps_memory _ _ _ _ _ _ _ _ c.from_residual-in_err-note_module.ensures.1)
+
 pub returns-in_err-push : goal.returns-in_err-push
 returns-in_err-push c =
     let u = c.use_host.ensures in
@@ -52,6 +61,6 @@ returns c =
     (ap (λ (t : Types). t.resources) u.adds.types)
     (λ n id at is. host_made _ _ c.args.state.now c.args.frame.now n c.args.args.now id at _ _ is
     c.use_host.new.state c.in_ok-import.import u.keeps c.in_ok-import.ensures.uses (λ i. (u.rest i).graph.instances)
-    c.in-Some.given _ _ c.in_ok-instance.instance _ _ c.in-Some.is c.in_ok-given.ensures c.in_ok-instance.ensures.ok
-    p.grows c.in_ok-instance.ensures.ordered c.in_ok-instance.ensures.key
+    c.in-Some.given _ _ _ c.in_ok-instance.instance _ _ c.in-Some.is c.in_ok-given.ensures c.in_ok-instance.ensures.ok
+    p.grows c.in_ok-instance.ensures.ordered c.in_ok-instance.ensures.key c.in_ok-note_module.ensures
     (λ i. record c.args.frame.now { core_instances = c.in_ok-push.ensures.ok i }))

@@ -13,6 +13,9 @@ returns-in_err-dtor-clause-steps c =
     resource_unfound _ _ _ _ _ _ _ (sym c.is_resource_type.ensures ∙ c.if-not-is_resource_type.false) _ _ _ _
     c.from_residual.ensures.1 c.in_err-dtor.ensures
 
+pub returns-in_err-r-clause-adds : goal.returns-in_err-r-clause-adds
+returns-in_err-r-clause-adds c = everywhere_few _ _ _ c.declare.ensures.adds
+
 pub returns-in_err-r-clause-steps : goal.returns-in_err-r-clause-steps
 returns-in_err-r-clause-steps c =
     steps_lacking _ _ _ _ _ _ _ _ _ c.from_residual-in_err-r.ensures.1 c.in_err-r.ensures.lacks

@@ -31,25 +31,18 @@ pub plan_of-requires-clause-components : goal.plan_of-requires-clause-components
 plan_of-requires-clause-components c =
     components_are_sound _ _ _ _ c.in_ok-program.ensures.program c.in_ok-program.ensures.can.sound
 
-pub returns-in_err-plan-clause-refused : goal.returns-in_err-plan-clause-refused
-returns-in_err-plan-clause-refused c =
+pub returns-in_err-translated-clause-refused : goal.returns-in_err-translated-clause-refused
+returns-in_err-translated-clause-refused c =
     plan_refused c.args.table.now (option_map {T = Bor (List ℕ)} (λ name. name.now) c.args.exposed)
     c.args.tunables.now.max_component_instances c.args.payloads.now c.args.types.now c.plan_of.new.types _
-    c.in_ok-program.ensures.program c.in_ok-program.ensures.can _ _ c.from_residual-in_err-plan.ensures.1
-    c.in_err-plan.ensures.plan
+    c.in_ok-program.ensures.program c.in_ok-program.ensures.can _ _ c.from_residual-in_err-translated.ensures.1
+    c.in_err-translated.ensures.plan
 
-pub returns-in_err-plan-clause-early : goal.returns-in_err-plan-clause-early
-returns-in_err-plan-clause-early c not_read = absurd (not_read c.in_ok-program.ensures.can)
+pub returns-in_err-translated-clause-early : goal.returns-in_err-translated-clause-early
+returns-in_err-translated-clause-early c not_read = absurd (not_read c.in_ok-program.ensures.can)
 
-pub returns-in_err-plan-clause-adds : goal.returns-in_err-plan-clause-adds
-returns-in_err-plan-clause-adds c =
-    gains _ _ _ _ _ _ _ c.in_ok-program.ensures.program c.plan_of.ensures.adds
-
-pub returns-in_err-modules-clause-early : goal.returns-in_err-modules-clause-early
-returns-in_err-modules-clause-early c not_read = absurd (not_read c.in_ok-program.ensures.can)
-
-pub returns-in_err-modules-clause-adds : goal.returns-in_err-modules-clause-adds
-returns-in_err-modules-clause-adds c =
+pub returns-in_err-translated-clause-adds : goal.returns-in_err-translated-clause-adds
+returns-in_err-translated-clause-adds c =
     gains _ _ _ _ _ _ _ c.in_ok-program.ensures.program c.plan_of.ensures.adds
 
 pub returns-clause-early : goal.returns-clause-early
@@ -61,11 +54,11 @@ returns-clause-adds c =
 
 pub returns-clause-counts : goal.returns-clause-counts
 returns-clause-counts c =
-    counts_gained _ _ _ _ _ _ _ c.in_ok-program.ensures.program c.in_ok-plan.ensures.counts
+    counts_gained _ _ _ _ _ _ _ c.in_ok-program.ensures.program c.in_ok-translated.ensures.counts
 
 -- what is left out here is read off the clause; a `Translates` that is written out would be compared field by field
 pub returns-clause-translated : goal.returns-clause-translated
 returns-clause-translated c =
     translates_program _ _ _ _ _ c.in_ok-program.ensures.program c.in_ok-program.ensures.can c.args.types.now _
-    c.types_are_distinct.ensures _ _
-    c.in_ok-plan.ensures.plan c.in_ok-modules.ensures
+    (record { builder = c.types_are_distinct.ensures; trees = c.numbers_are_trees.ensures }) _
+    c.in_ok-translated.ensures.plan

@@ -1,5 +1,5 @@
 use Rattle.std.proofs.Common.{◌≡◌, map}
-use Rattle.pc_translate.specs.Planning.{as_handed_in}
+use Rattle.pc_translate.specs.Adapted.{as_handed_in}
 use Rattle.pc_translate.proofs.translator.translations.Given as goal
 
 abbrev pub invariant-loop-module : goal.invariant-loop-module

@@ -13,7 +13,7 @@ returns-in-None c =
     let at = sym (ap option_copied c.in-None.is) ∙ c.map_at.ensures
     ∙ ap (λ maps. slice_get maps n) c.as_slice.ensures.value in
     ap (option_and_then (value_of name)) at
-    ∙ found_export c.self.inside.records.now c.self.inside.exports.items n name c.self.invariant
+    ∙ found_export c.self.inside.records.now c.self.inside.exports.items n name c.self.invariant.0
     ∙ ap (λ rs. option_and_then (λ r. export_of r name) (slice_get rs n)) c.self.view_is
 
 pub returns-in-Some : goal.returns-in-Some
@@ -24,5 +24,5 @@ returns-in-Some c =
     ∙ ap (λ maps. slice_get maps n) c.as_slice.ensures.value in
     c.copied.ensures ∙ c.get.ensures
     ∙ ap (option_and_then (value_of name)) at
-    ∙ found_export c.self.inside.records.now c.self.inside.exports.items n name c.self.invariant
+    ∙ found_export c.self.inside.records.now c.self.inside.exports.items n name c.self.invariant.0
     ∙ ap (λ rs. option_and_then (λ r. export_of r name) (slice_get rs n)) c.self.view_is

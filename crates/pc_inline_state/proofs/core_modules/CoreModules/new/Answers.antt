@@ -1,10 +1,10 @@
-use Rattle.std.proofs.Common.{◌≡◌, ◌<◌, ◌+◌, ◌++◌, ◌∷◌, [], ℕ, List, length, take, sym, subst, ap, ◌∙◌, arith}
+use Rattle.std.proofs.Common.{◌≡◌, ◌<◌, ◌+◌, ◌++◌, ◌∷◌, [], ℕ, Bool, List, length, take, sym, subst, ap, ◌∙◌, arith}
 use Rattle.std.specs.List.{AllZip}
 use Rattle.std.proofs.lemmas.Grind.{take_at_read}
 use Rattle.pc_numbers.specs.declared.entity_index.EntityIndex.{EntityIndex}
 use Rattle.pc_entity.specs.Lists.{value_of}
 use Rattle.pc_inline_state.proofs.ZipLemmas.{zip_push}
-use Rattle.pc_inline_state.specs.Index.{HasExports}
+use Rattle.pc_inline_state.specs.Index.{HasExports, HasMemories}
 use Rattle.pc_types.specs.declared.module_record.ModuleRecord.{ModuleRecord}
 use Rattle.pc_inline_state.proofs.core_modules.CoreModules.new.Goals as goal
 
@@ -18,8 +18,15 @@ loop-record_-preserved c =
     let longer : take (i + 1) rs ≡ take i rs ++ r ∷ [] =
     (take_at_read rs i r within).1 ∙ (λ j. take i rs ++ sym is_it j ∷ []) in
     let map = c.in_ok-first_values.field-0 in
-    let has : HasExports r map = λ name. c.in_ok-first_values.ensures name ∙ ap (value_of name) c.as_slice.ensures in
-    subst (λ (xs : List ModuleRecord). AllZip HasExports xs c.push.new.self.items) (sym longer)
-    (subst (λ (ys : List (List (List ℕ × EntityIndex))). AllZip HasExports (take i rs ++ r ∷ []) ys)
-    (sym {A = List (List (List ℕ × EntityIndex))} c.in_ok-push.ensures.items)
-    (zip_push HasExports (take i rs) c.loop-record_.exports.items r map c.loop-record_.invariant has))
+    let widths = c.in_ok-memory_widths.field-0 in
+    let has : HasExports r map = λ name. c.in_ok-first_values.ensures name ∙ ap (value_of name) c.as_slice.ensures in (
+      subst (λ (xs : List ModuleRecord). AllZip HasExports xs c.push.new.self.items) (sym longer)
+          (subst (λ (ys : List (List (List ℕ × EntityIndex))). AllZip HasExports (take i rs ++ r ∷ []) ys)
+          (sym {A = List (List (List ℕ × EntityIndex))} c.in_ok-push.ensures.items)
+          (zip_push HasExports (take i rs) c.loop-record_.exports.items r map c.loop-record_.invariant.0 has)),
+      subst (λ (xs : List ModuleRecord). AllZip HasMemories xs c.push-in-loop-record_.new.self.items) (sym longer)
+          (subst (λ (ys : List (List Bool)). AllZip HasMemories (take i rs ++ r ∷ []) ys)
+          (sym {A = List (List Bool)} c.in_ok-push-2.ensures.items)
+          (zip_push HasMemories (take i rs) c.loop-record_.memories.items r widths c.loop-record_.invariant.1
+          c.in_ok-memory_widths.ensures)),
+    )

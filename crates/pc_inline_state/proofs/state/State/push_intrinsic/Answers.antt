@@ -1,6 +1,5 @@
 use Rattle.std.proofs.Common.{refl, ap}
 use Rattle.pc_dfg.specs.declared.dfg.ComponentDfg.{ComponentDfg}
-use Rattle.pc_types.specs.IntrinsicType.{intrinsic_place}
 use Rattle.pc_inline_state.proofs.PushedLemmas.{intrinsic_pushed, intrinsic_then, pushed_keeps}
 use Rattle.pc_inline_state.specs.Tables.{tables_of}
 use Rattle.pc_inline_state.proofs.state.State.push_intrinsic.Goals as goal

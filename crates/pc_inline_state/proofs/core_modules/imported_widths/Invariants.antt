@@ -1,0 +1,8 @@
+use Rattle.std.proofs.Common.{◌≡◌, ◌++◌, drop}
+use Rattle.std.specs.List.{filter_map}
+use Rattle.pc_types.specs.Record.{import_width}
+use Rattle.pc_inline_state.proofs.core_modules.imported_widths.Given as goal
+
+abbrev pub invariant-loop-import : goal.invariant-loop-import
+invariant-loop-import l =
+    l.widths ++ filter_map import_width (drop l.import-index l.imports) ≡ filter_map import_width l.imports
