@@ -467,8 +467,8 @@ def chain_of_arguments(room):
     return document(PLAIN_TYPES, LOWERED + [taker(count), chain, links, take(0, 0), '"end"'])
 
 
-LIFTED = BASE + ['{"canon":[["lift",0,1,0,[]]]}']
-PER_ADAPTER = len(LINK % 1000000) + 1
+LIFTS = '{"canon":[' + LIFT + ']}'
+LIFTED = BASE + [LIFTS]
 
 
 def equal_adapters(room):
@@ -479,22 +479,20 @@ def equal_adapters(room):
 def adapters_apart(room):
     """One lifted function is lowered over and over, and no two of the options are equal: one module has all."""
     lowered = canon(apart, room - 2 * SIDE * PER_ALIAS)
-    lift = '{"canon":[["lift",0,1,0,[]]]}'
-    return document(PLAIN_TYPES, ['"version"', giver(SIDE), INSTANCE, given(SIDE), lift, lowered, '"end"'])
+    return document(PLAIN_TYPES, ['"version"', giver(SIDE), INSTANCE, given(SIDE), LIFTS, lowered, '"end"'])
 
 
 def used_adapters(room):
     """The same, and one core instance takes them all."""
     count = (room - 2 * SIDE * PER_ALIAS) // (len(apart(SIDE * SIDE - 1)) + 1 + PER_IMPORT + PER_ITEM)
-    lift = '{"canon":[["lift",0,1,0,[]]]}'
     lowered = fill('{"canon":[', apart, "]}", count)
-    return document(PLAIN_TYPES, ['"version"', giver(SIDE), taker(count), INSTANCE, given(SIDE), lift, lowered,
+    return document(PLAIN_TYPES, ['"version"', giver(SIDE), taker(count), INSTANCE, given(SIDE), LIFTS, lowered,
                                   bag(count, lambda n: SIDE + n), take(1, 1), '"end"'])
 
 
 def chain_of_adapters(room):
     """Each adapter has the one before it as realloc, so each is in a module of its own; the last is exported."""
-    count = room // PER_ADAPTER
+    count = room // PER_LINK
     chain = fill('{"canon":[', lambda n: LINK % n, ',["lift",%d,1,0,[]]]}' % count, count)
     return document(PLAIN_TYPES, LIFTED + [chain, '{"exports":[["e","func",1]]}', '"end"'])
 
@@ -527,7 +525,7 @@ def destructors_that_are_adapters(room):
     """Very many resources, each with an adapter of its own as destructor."""
     declared = '{"resource":[2,"i32",%d]}'
     count = (room - 2 * SIDE * PER_ALIAS) // (len(apart(SIDE * SIDE - 1)) + len(declared % 1000000) + 2)
-    lowered = fill('{"canon":[["lift",0,1,0,[]],', apart, "]}", count)
+    lowered = fill('{"canon":[' + LIFT + ',', apart, "]}", count)
     types = PLAIN_TYPES[:-2] + ',"resource"]}'
     return document(types, ['"version"', giver(SIDE), INSTANCE, given(SIDE), lowered,
                             fill('{"types":[', lambda n: declared % (SIDE + n), "]}", count), '"end"'])
@@ -544,24 +542,24 @@ def memories(count):
         '{"aliases":[{"core-export":["func",0,"f"]},', lambda n: '{"core-export":["memory",0,"e%07d"]}' % n, "]}", count)
 
 
-def adapters_of_strings(room):
-    """A function of strings is lowered over and over, each time with a memory of its own."""
+def lowered_strings(room, last):
+    """A function of strings is lowered over and over, each time with a memory of its own, and then what is last."""
     lowered = '["lower",0,1,0,["compact-utf16",["memory",%d],["realloc",0]]]'
     count = room // (len(lowered % 1000000) + 1 + PER_ALIAS + PER_EXPORT + 8)
     module, aliased = memories(count)
     lift = '{"canon":[["lift",0,1,0,["utf16",["memory",0],["realloc",0]]]]}'
     return document(STRINGS, ['"version"', module, INSTANCE, aliased, lift,
-                              fill('{"canon":[', lambda n: lowered % n, "]}", count), '"end"'])
+                              fill('{"canon":[', lambda n: lowered % n, last + "]}", count), '"end"'])
+
+
+def adapters_of_strings(room):
+    """A function of strings is lowered over and over, each time with a memory of its own."""
+    return lowered_strings(room, "")
 
 
 def an_adapter_without_memory(room):
     """The same, and the last one lacks its memory."""
-    lowered = '["lower",0,1,0,["compact-utf16",["memory",%d],["realloc",0]]]'
-    count = room // (len(lowered % 1000000) + 1 + PER_ALIAS + PER_EXPORT + 8)
-    module, aliased = memories(count)
-    lift = '{"canon":[["lift",0,1,0,["utf16",["memory",0],["realloc",0]]]]}'
-    return document(STRINGS, ['"version"', module, INSTANCE, aliased, lift,
-                              fill('{"canon":[', lambda n: lowered % n, ',["lower",0,1,0,[]]]}', count), '"end"'])
+    return lowered_strings(room, "," + LOWER)
 
 
 def adapters_over_wide_records(room):
@@ -574,7 +572,7 @@ def adapters_over_wide_records(room):
     items = fill('{"exports":[', lambda n: '["e%07d","memory",0]' % n, "]}", count)
     begin = ['"version"', one, INSTANCE, '{"aliases":[{"core-export":["func",0,"f"]},{"core-export":["memory",0,"m"]}]}']
     made = ['{"instances":[' + "".join(items) + ',{"instantiate":[1,[["a",1]]]}]}',
-            '{"aliases":[{"core-export":["memory",2,"m"]}]}', '{"canon":[["lift",0,1,0,[]]]}']
+            '{"aliases":[{"core-export":["memory",2,"m"]}]}', LIFTS]
     link = '["lower",0,1,0,[["memory",1],["realloc",%d]]]'
     chain = fill('{"canon":[', lambda n: link % n, "]}", half // (len(link % 1000000) + 1) // 2)
     return document(PLAIN_TYPES, begin + [wide % (needs, count)] + made + [chain, '"end"'])
