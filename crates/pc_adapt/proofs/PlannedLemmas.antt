@@ -268,22 +268,24 @@ module _ (g : ComponentDfg) where
     prepare_means (means_side_linear {m = m} {memory = v} a b) =
         subst (λ o. MeansMaybe g o v) (sym (memory_first m)) a
 
-    calls_mean : (is_async : Bool) (o : AdapterOptions) {c p : MaybeValue Mark} {m : ValueModel Mark}
+    calls_mean : (is_async clear : Bool) (o : AdapterOptions) {c p : MaybeValue Mark} {m : ValueModel Mark}
         → MeansMaybe g o.callback c → MeansMaybe g o.post_return p → MeansSideModel g o.data_model m
-        → AllZip R (calls is_async o) (made.calls s is_async false (memory_in m) c p)
-    calls_mean true o a b d = (has_prepare (prepare_means d), (has_start a b, tt))
-    calls_mean false o a b d = (has_enter, (has_exit, tt))
+        → AllZip R (calls is_async clear o) (made.calls s is_async clear (memory_in m) c p)
+    calls_mean true clear o a b d = (has_prepare (prepare_means d), (has_start a b, tt))
+    calls_mean false true o a b d = tt
+    calls_mean false false o a b d = (has_enter, (has_exit, tt))
 
   -- what is planned for an adapter stands for what is planned for its value, by their parts
-  whole : (lift lower : FunctionFacts) (t u : TypeFuncIndex) (f : CoreDef) {o r : AdapterOptions} {lo ho : Options Mark}
+  whole : (lift lower : FunctionFacts) (clear : Bool) (t u : TypeFuncIndex)
+      (f : CoreDef) {o r : AdapterOptions} {lo ho : Options Mark}
       {callee : CoreValue Mark} → MeansSide g o lo → MeansSide g r ho → Means g f callee
       → AllZip (StandsFor g (mark.Signature r.core_type))
-      (imports_of lift lower
+      (imports_of lift lower clear
       (record { lift_ty = t; lift_options = o; lower_ty = u; lower_options = r; func = f }))
-      (planned lift lower false (is_wide o.data_model) (is_wide r.data_model)
+      (planned lift lower clear (is_wide o.data_model) (is_wide r.data_model)
       (value.adapter (function_mark t) lo (function_mark u) ho callee))
   unfolding imports_of planned
-  whole lift lower t u f {callee = v} (means_side {x = o} {callback = c} {post_return = p} {model = m} a b d)
+  whole lift lower clear t u f {callee = v} (means_side {x = o} {callback = c} {post_return = p} {model = m} a b d)
       (means_side {x = r} {callback = c2} {post_return = p2} {model = m2} a2 b2 d2) h =
       let s : Mark = mark.Signature r.core_type in
       let Q : Import → plan.Import Mark → Type 0 = StandsFor g s in
@@ -311,8 +313,8 @@ module _ (g : ComponentDfg) where
       let is6 = transfer_imports all in
       let ps6 = map (λ k. helper k [] s value.no_parts) (transfers all) in
       let is_async = is_async_call lift lower x in
-      let is7 = calls is_async o in
-      let ps7 = made.calls s is_async false (memory_in m) c p in
+      let is7 = calls is_async clear o in
+      let ps7 = made.calls s is_async clear (memory_in m) c p in
       zip_append Q (is1 ++ is2 ++ is3 ++ is4 ++ is5 ++ is6 ++ is7) (import.Trap (record { 0 = 1 }) ∷ [])
       (ps1 ++ ps2 ++ ps3 ++ ps4 ++ ps5 ++ ps6 ++ ps7) (helper kind.Trap (1 ∷ []) s value.no_parts ∷ [])
       (zip_append Q (is1 ++ is2 ++ is3 ++ is4 ++ is5 ++ is6) is7 (ps1 ++ ps2 ++ ps3 ++ ps4 ++ ps5 ++ ps6) ps7
@@ -327,19 +329,19 @@ module _ (g : ComponentDfg) where
       (if_means s moved copies4 planned4 (models_copied s ops d2 d)))
       (if_means s moved' copies5 planned5 (models_copied s ops' d d2)))
       (transfers_mean s all))
-      (calls_mean s is_async o a b d))
+      (calls_mean s is_async clear o a b d))
       (has_trap, tt)
 
-  pub planned_alike : (a : AdapterId) (x : Adapter) (v : CoreValue Mark) (lift lower : FunctionFacts)
+  pub planned_alike : (a : AdapterId) (x : Adapter) (v : CoreValue Mark) (lift lower : FunctionFacts) (clear : Bool)
       → slice_get g.adapters a.0 ≡ Some x → Means g (def.Adapter a) v
-      → AllZip (StandsFor g (mark.Signature x.lower_options.core_type)) (imports_of lift lower x)
-      (planned lift lower false (is_wide x.lift_options.data_model) (is_wide x.lower_options.data_model) v)
-  planned_alike a x v lift lower at means =
+      → AllZip (StandsFor g (mark.Signature x.lower_options.core_type)) (imports_of lift lower clear x)
+      (planned lift lower clear (is_wide x.lift_options.data_model) (is_wide x.lower_options.data_model) v)
+  planned_alike a x v lift lower clear at means =
       let parts = parts_of a x at means refl in
-      subst (λ w. AllZip (StandsFor g (mark.Signature x.lower_options.core_type)) (imports_of lift lower x)
-      (planned lift lower false (is_wide x.lift_options.data_model) (is_wide x.lower_options.data_model) w))
+      subst (λ w. AllZip (StandsFor g (mark.Signature x.lower_options.core_type)) (imports_of lift lower clear x)
+      (planned lift lower clear (is_wide x.lift_options.data_model) (is_wide x.lower_options.data_model) w))
       (sym parts.is)
-      (whole lift lower x.lift_ty x.lower_ty x.func parts.of_lift parts.of_lower parts.of_callee)
+      (whole lift lower clear x.lift_ty x.lower_ty x.func parts.of_lift parts.of_lower parts.of_callee)
 
   -- a place is there exactly where the value is that stands there
   place_alike : (n : ℕ) {o : Option CoreDef} {v : MaybeValue Mark} → MeansMaybe g o v

@@ -1,6 +1,7 @@
 -- What a module imports for an adapter of a graph, in order.
-use Rattle.std.specs.Prelude.{Bool, true, false, ◌&&◌, ◌||◌, List, [], ◌∷◌, ◌++◌, map, Option, None, Some}
+use Rattle.std.specs.Prelude.{ℕ, Bool, true, false, ◌&&◌, ◌||◌, List, [], ◌∷◌, ◌++◌, map, Option, None, Some}
 use Rattle.std.specs.Prelude.{option_map, if◌then◌else◌}
+use Rattle.std.specs.FinSet as set
 use Rattle.pc_numbers.specs.declared.module_entity.MemoryIndex.{MemoryIndex}
 use Rattle.pc_types_lists.specs.declared.facts.TypeFacts.{TypeFacts}
 use Rattle.pc_types_lists.specs.Facts.{join}
@@ -12,6 +13,7 @@ use Rattle.pc_dfg.specs.declared.adapter.DataModel.TheVariants as side
 use Rattle.pc_dfg.specs.declared.core_def.CoreDef.{CoreDef}
 use Rattle.pc_dfg.specs.declared.core_def.CoreDef.TheVariants as def
 use Rattle.pc_dfg.specs.declared.core_def.CoreExport.{CoreExport}
+use Rattle.pc_dfg.specs.declared.dfg.ComponentDfg.{ComponentDfg}
 use Rattle.pc_dfg.specs.Numbers.{memory_def}
 use Rattle.pc_spec_adapt.specs.Asked.{FunctionFacts}
 use Rattle.pc_spec_adapt.specs.Planned.{all_facts, transcodings}
@@ -68,12 +70,18 @@ transfer_imports x =
     ++ import_if x.future import.FutureTransfer ++ import_if x.stream import.StreamTransfer
     ++ import_if x.error_context import.ErrorContextTransfer
 
--- what begins and ends a call of what the lift of these options calls
-abbrev pub calls : (is_async : Bool) → AdapterOptions → List Import
-calls true lift =
+-- whether the adapter of a number is known to be transparent
+abbrev pub is_transparent : ComponentDfg → (number : ℕ) → Bool
+is_transparent g n = set.contains g.transparent_adapters n
+
+-- what begins and ends a call of what the lift of these options calls: nothing, where a sync call goes through a
+-- transparent adapter
+abbrev pub calls : (is_async transparent : Bool) → AdapterOptions → List Import
+calls true transparent lift =
     import.PrepareCall (option_map (λ (m : Memory). m.0) (memory_of lift.data_model))
     ∷ import.StartCall lift.callback lift.post_return ∷ []
-calls false lift = import.EnterSyncCall ∷ import.ExitSyncCall ∷ []
+calls false true lift = []
+calls false false lift = import.EnterSyncCall ∷ import.ExitSyncCall ∷ []
 
 -- what is called, the flags of the lowering's instance and of the lift's, and what the options of both sides hold
 abbrev pub first_imports : Adapter → List Import
@@ -95,10 +103,10 @@ abbrev pub is_async_call : (lift lower : FunctionFacts) → Adapter → Bool
 is_async_call lift lower x =
     x.lift_options.async_ || x.lower_options.async_ || lift.is_async || lower.is_async
 
--- what a module imports for an adapter, by the facts of its two types
-unfoldable pub imports_of : (lift lower : FunctionFacts) → Adapter → List Import
-imports_of lift lower x =
+-- what a module imports for an adapter, by the facts of its two types and by whether it is transparent
+unfoldable pub imports_of : (lift lower : FunctionFacts) → (transparent : Bool) → Adapter → List Import
+imports_of lift lower transparent x =
     first_imports x ++ copies_if (lift.params.string && lower.params.string) x.lower_options x.lift_options
     ++ copies_if (lift.results.string && lower.results.string) x.lift_options x.lower_options
-    ++ transfer_imports (join (all_facts lift) (all_facts lower)) ++ calls (is_async_call lift lower x) x.lift_options
-    ++ import.Trap (record { 0 = 1 }) ∷ []
+    ++ transfer_imports (join (all_facts lift) (all_facts lower))
+    ++ calls (is_async_call lift lower x) transparent x.lift_options ++ import.Trap (record { 0 = 1 }) ∷ []

@@ -1,7 +1,7 @@
 //! Laws of the planner, which tie its words on a graph to those on core values. Each function does nothing: its
 //! contract is the law.
 
-ghost use Rattle.std.specs.Prelude.{◌≡◌, ℕ, false, Some, slice_get};
+ghost use Rattle.std.specs.Prelude.{◌≡◌, ℕ, Bool, Some, slice_get};
 ghost use Rattle.std.specs.List.{AllZip};
 ghost use Rattle.pc_spec_plan.specs.CoreValue.{CoreValue};
 ghost use Rattle.pc_trampoline.specs.declared.part.Mark.{Mark};
@@ -27,12 +27,13 @@ pub fn options_are_asked()
         → adapter_has_options lift lower x ≡ has_options lift lower v }
 {}
 
-/// What is planned for an adapter stands for what is planned for its value, with the widths that its options say.
+/// What is planned for an adapter stands for what is planned for its value, with the widths that its options say, be
+/// the adapter transparent or not.
 pub fn imports_are_planned()
     ensures { (g : ComponentDfg) (a : AdapterId) (x : Adapter) (v : CoreValue Mark) (lift lower : FunctionFacts)
-        → slice_get g.adapters a.0 ≡ Some x → Means g (def.Adapter a) v
-        → AllZip (StandsFor g (mark.Signature x.lower_options.core_type)) (imports_of lift lower x)
-        (planned lift lower false (is_wide x.lift_options.data_model) (is_wide x.lower_options.data_model) v) }
+        (transparent : Bool) → slice_get g.adapters a.0 ≡ Some x → Means g (def.Adapter a) v
+        → AllZip (StandsFor g (mark.Signature x.lower_options.core_type)) (imports_of lift lower transparent x)
+        (planned lift lower transparent (is_wide x.lift_options.data_model) (is_wide x.lower_options.data_model) v) }
 {}
 
 /// What is said of an adapter, once its function is known, is what is said of its value.

@@ -13,7 +13,8 @@ ghost use Rattle.pc_spec_adapt.specs.Planned.{transcodings};
 ghost use Rattle.pc_adapt.specs.Asked.{adapter_has_options, facts_view, HasTypes};
 ghost use Rattle.pc_adapt.specs.Imports.{calls, copies, copies_if, definitions, imports_of, memory_imports};
 ghost use Rattle.pc_adapt.specs.Imports.{memory_of, realloc_of};
-ghost use Rattle.pc_adapt.specs.Imports.{first_imports, import_if, is_async_call, side_imports, transfer_imports};
+ghost use Rattle.pc_adapt.specs.Imports.{first_imports, import_if, is_async_call, is_transparent, side_imports};
+ghost use Rattle.pc_adapt.specs.Imports.{transfer_imports};
 ghost use Rattle.pc_adapt.specs.Places.{HasPlan, record_of};
 
 use crate::asked::has_options;
@@ -278,7 +279,7 @@ fn put_async(
     imports: &mut Vec<Import>,
     lift: &AdapterOptions,
 ) -> Result<(), NoMemory>
-    ensures { OnOk result (imports.new.items ≡ imports.old.items ++ calls true lift.now) }
+    ensures { OnOk result (imports.new.items ≡ imports.old.items ++ calls true false lift.now) }
 {
     let memory = copy_of_memory(alloc, &lift.data_model)?;
     put(imports, Import::PrepareCall { memory })?;
@@ -293,17 +294,21 @@ fn put_async(
     )
 }
 
-/// Adds what begins and ends a call.
+/// Adds what begins and ends a call, if that is to be noticed.
 fn put_calls(
     alloc: Global,
     imports: &mut Vec<Import>,
     is_async: bool,
+    transparent: bool,
     lift: &AdapterOptions,
 ) -> Result<(), NoMemory>
-    ensures { OnOk result (imports.new.items ≡ imports.old.items ++ calls is_async lift.now) }
+    ensures { OnOk result (imports.new.items ≡ imports.old.items ++ calls is_async transparent lift.now) }
 {
     if is_async {
         return put_async(alloc, imports, lift);
+    }
+    if transparent {
+        return Ok(());
     }
     put(imports, Import::EnterSyncCall)?;
     put(imports, Import::ExitSyncCall)
@@ -371,14 +376,17 @@ fn is_async(adapter: &Adapter, lift: FunctionFacts, lower: FunctionFacts) -> boo
     adapter.lift_options.async_ || adapter.lower_options.async_ || lift.async_ || lower.async_
 }
 
-/// What a module imports for an adapter whose types have these facts.
+/// What a module imports for an adapter whose types have these facts. A transparent one doesn't keep the state of the
+/// calling thread.
 pub fn imports_for(
     alloc: Global,
     adapter: &Adapter,
     lift: FunctionFacts,
     lower: FunctionFacts,
+    transparent: bool,
 ) -> Result<Vec<Import>, NoMemory>
-    ensures { IfOk result (λ is. is.items ≡ imports_of (facts_view lift) (facts_view lower) adapter.now) }
+    ensures { IfOk result (λ is. is.items
+        ≡ imports_of (facts_view lift) (facts_view lower) transparent adapter.now) }
 {
     let mut imports: Vec<Import> = Vec::new(alloc);
     put_definitions(alloc, &mut imports, adapter)?;
@@ -387,7 +395,13 @@ pub fn imports_for(
     let lowered = lower.params.join(lower.results);
     put_transfers(&mut imports, lifted.join(lowered))?;
     let async_ = is_async(adapter, lift, lower);
-    put_calls(alloc, &mut imports, async_, &adapter.lift_options)?;
+    put_calls(
+        alloc,
+        &mut imports,
+        async_,
+        transparent,
+        &adapter.lift_options,
+    )?;
     put(&mut imports, Import::Trap(Trap(1)))?;
     Ok(imports)
 }
@@ -409,7 +423,7 @@ pub fn plan_adapter(
     ensures room { ¬ (result ≡ Err AdaptError.TooMany) }
     ensures imports { IfOk result (λ p. (who : ResourceIndex → Identity) (lift lower : TypeTree) (x : Fused)
         → slice_get dfg.now.adapters id.0 ≡ Some x → HasTypes types.now who x lift lower
-        → p.imports.items ≡ imports_of (function_facts lift) (function_facts lower) x) }
+        → p.imports.items ≡ imports_of (function_facts lift) (function_facts lower) (is_transparent dfg.now id.0) x) }
     ensures places { IfOk result (λ p. (x : Fused) → slice_get dfg.now.adapters id.0 ≡ Some x
         → p.«record» ≡ record_of base id.0 x) }
 {
@@ -419,7 +433,8 @@ pub fn plan_adapter(
     }
     let lift = facts_of_function(types, adapter.lift_ty);
     let lower = facts_of_function(types, adapter.lower_ty);
-    let imports = imports_for(alloc, adapter, lift, lower)?;
+    let transparent = dfg.transparent_adapters.contains(id);
+    let imports = imports_for(alloc, adapter, lift, lower, transparent)?;
     let record_ = record_of_adapter(base, id, adapter);
     Ok(AdapterPlan {
         imports,

@@ -65,7 +65,7 @@ module _ (f : Import → ℕ) where
     stream : f import.StreamTransfer ≤ b
     error_context : f import.ErrorContextTransfer ≤ b
     trap : f (import.Trap (record { 0 = 1 })) ≤ b
-    call : (is_async : Bool) (o : AdapterOptions) → total f (calls is_async o) ≤ k
+    call : (is_async clear : Bool) (o : AdapterOptions) → total f (calls is_async clear o) ≤ k
 
   module _ (t b k : ℕ) (counts : Counts t b k) where
     -- a definition
@@ -126,10 +126,10 @@ module _ (f : Import → ℕ) where
         (import_few x.error_context import.ErrorContextTransfer counts.error_context)
 
     -- all imports of an adapter
-    imports_few : (lift lower : FunctionFacts) (x : Adapter)
-        → total f (imports_of lift lower x) ≤ t + t + (b + b + b + b + b) + k + b
+    imports_few : (lift lower : FunctionFacts) (clear : Bool) (x : Adapter)
+        → total f (imports_of lift lower clear x) ≤ t + t + (b + b + b + b + b) + k + b
     unfolding imports_of
-    imports_few lift lower x =
+    imports_few lift lower clear x =
         let o = x.lift_options in
         let r = x.lower_options in
         let flags = import.CoreDef (def.InstanceFlags r.instance) in
@@ -140,7 +140,7 @@ module _ (f : Import → ℕ) where
         let is4 = copies_if (lift.params.string && lower.params.string) r o in
         let is5 = copies_if (lift.results.string && lower.results.string) o r in
         let is6 = transfer_imports (join (all_facts lift) (all_facts lower)) in
-        let is7 = calls (is_async_call lift lower x) o in
+        let is7 = calls (is_async_call lift lower x) clear o in
         let is8 = import.Trap (record { 0 = 1 }) ∷ [] in
         let first : total f is1 ≤ 0 =
         (let one = counts.none x.func in
@@ -159,7 +159,7 @@ module _ (f : Import → ℕ) where
         (copies_if_few (lift.params.string && lower.params.string) r o))
         (copies_if_few (lift.results.string && lower.results.string) o r))
         (transfers_few (join (all_facts lift) (all_facts lower))))
-        (counts.call (is_async_call lift lower x) o))
+        (counts.call (is_async_call lift lower x) clear o))
         last
 
 -- two copies, where each counts no more than t
@@ -186,9 +186,10 @@ trampolines_count = record {
   call = call;
 }
   where
-    call : (is_async : Bool) (o : AdapterOptions) → total trampolines_in (calls is_async o) ≤ 2
-    call true o = omega arith
-    call false o = omega arith
+    call : (is_async clear : Bool) (o : AdapterOptions) → total trampolines_in (calls is_async clear o) ≤ 2
+    call true clear o = omega arith
+    call false true o = omega arith
+    call false false o = omega arith
 
 memories_count : Counts memories_in 4 0 1
 memories_count = record {
@@ -203,10 +204,11 @@ memories_count = record {
   call = call;
 }
   where
-    call : (is_async : Bool) (o : AdapterOptions) → total memories_in (calls is_async o) ≤ 1
-    call true o =
+    call : (is_async clear : Bool) (o : AdapterOptions) → total memories_in (calls is_async clear o) ≤ 1
+    call true clear o =
         let one = one_few (option_map (λ (m : Memory). m.0) (memory_of o.data_model)) in omega (arith, one)
-    call false o = omega arith
+    call false true o = omega arith
+    call false false o = omega arith
 
 callbacks_count : Counts callbacks_in 0 0 1
 callbacks_count = record {
@@ -221,9 +223,10 @@ callbacks_count = record {
   call = call;
 }
   where
-    call : (is_async : Bool) (o : AdapterOptions) → total callbacks_in (calls is_async o) ≤ 1
-    call true o = let one = one_few o.callback in omega (arith, one)
-    call false o = omega arith
+    call : (is_async clear : Bool) (o : AdapterOptions) → total callbacks_in (calls is_async clear o) ≤ 1
+    call true clear o = let one = one_few o.callback in omega (arith, one)
+    call false true o = omega arith
+    call false false o = omega arith
 
 post_returns_count : Counts post_returns_in 0 0 1
 post_returns_count = record {
@@ -238,38 +241,43 @@ post_returns_count = record {
   call = call;
 }
   where
-    call : (is_async : Bool) (o : AdapterOptions) → total post_returns_in (calls is_async o) ≤ 1
-    call true o = let one = one_few o.post_return in omega (arith, one)
-    call false o = omega arith
+    call : (is_async clear : Bool) (o : AdapterOptions) → total post_returns_in (calls is_async clear o) ≤ 1
+    call true clear o = let one = one_few o.post_return in omega (arith, one)
+    call false true o = omega arith
+    call false false o = omega arith
 
 -- four transcoders, five transfers, two for the call and a trap
-trampolines_few : (lift lower : FunctionFacts) (x : Adapter)
-    → total trampolines_in (imports_of lift lower x) ≤ 12
-trampolines_few lift lower x = imports_few trampolines_in 2 1 2 trampolines_count lift lower x
+trampolines_few : (lift lower : FunctionFacts) (clear : Bool) (x : Adapter)
+    → total trampolines_in (imports_of lift lower clear x) ≤ 12
+trampolines_few lift lower clear x = imports_few trampolines_in 2 1 2 trampolines_count lift lower clear x
 
 -- two for each of four transcoders, and the one of the call
-memories_few : (lift lower : FunctionFacts) (x : Adapter) → total memories_in (imports_of lift lower x) ≤ 9
-memories_few lift lower x = imports_few memories_in 4 0 1 memories_count lift lower x
+memories_few : (lift lower : FunctionFacts) (clear : Bool) (x : Adapter)
+    → total memories_in (imports_of lift lower clear x) ≤ 9
+memories_few lift lower clear x = imports_few memories_in 4 0 1 memories_count lift lower clear x
 
-callbacks_few : (lift lower : FunctionFacts) (x : Adapter) → total callbacks_in (imports_of lift lower x) ≤ 1
-callbacks_few lift lower x = imports_few callbacks_in 0 0 1 callbacks_count lift lower x
+callbacks_few : (lift lower : FunctionFacts) (clear : Bool) (x : Adapter)
+    → total callbacks_in (imports_of lift lower clear x) ≤ 1
+callbacks_few lift lower clear x = imports_few callbacks_in 0 0 1 callbacks_count lift lower clear x
 
-post_returns_few : (lift lower : FunctionFacts) (x : Adapter)
-    → total post_returns_in (imports_of lift lower x) ≤ 1
-post_returns_few lift lower x = imports_few post_returns_in 0 0 1 post_returns_count lift lower x
+post_returns_few : (lift lower : FunctionFacts) (clear : Bool) (x : Adapter)
+    → total post_returns_in (imports_of lift lower clear x) ≤ 1
+post_returns_few lift lower clear x = imports_few post_returns_in 0 0 1 post_returns_count lift lower clear x
 
 -- what is added for the imports of an adapter is that at most
-pub adds_at_most : (g h : ComponentDfg) (x : Adapter) (lift lower : FunctionFacts)
-    → Adds (total memories_in (imports_of lift lower x)) (total callbacks_in (imports_of lift lower x))
-    (total post_returns_in (imports_of lift lower x)) (total trampolines_in (imports_of lift lower x)) g h
+pub adds_at_most : (g h : ComponentDfg) (x : Adapter) (lift lower : FunctionFacts) (clear : Bool)
+    → Adds (total memories_in (imports_of lift lower clear x)) (total callbacks_in (imports_of lift lower clear x))
+    (total post_returns_in (imports_of lift lower clear x)) (total trampolines_in (imports_of lift lower clear x)) g h
     → Adds 9 1 1 12 g h
-adds_at_most g h x lift lower adds =
-    let is = imports_of lift lower x in
+adds_at_most g h x lift lower clear adds =
+    let is = imports_of lift lower clear x in
     adds_more (total memories_in is) (total callbacks_in is) (total post_returns_in is) (total trampolines_in is)
-    9 1 1 12 g h (memories_few lift lower x) (callbacks_few lift lower x) (post_returns_few lift lower x)
-    (trampolines_few lift lower x) adds
+    9 1 1 12 g h (memories_few lift lower clear x) (callbacks_few lift lower clear x)
+    (post_returns_few lift lower clear x)
+    (trampolines_few lift lower clear x) adds
 
 -- what definitions for the imports of an adapter add
 pub adds_few : (g h : ComponentDfg) (s : ModuleInternedTypeIndex) (x : Adapter) (lift lower : FunctionFacts)
-    (before after : List CoreDef) → AreDefined g h s (imports_of lift lower x) before after → Adds 9 1 1 12 g h
-adds_few g h s x lift lower before after all = adds_at_most g h x lift lower all.adds
+    (clear : Bool)
+    (before after : List CoreDef) → AreDefined g h s (imports_of lift lower clear x) before after → Adds 9 1 1 12 g h
+adds_few g h s x lift lower clear before after all = adds_at_most g h x lift lower clear all.adds

@@ -151,22 +151,23 @@ module _ (Q : CoreDef → Type 0) where
   memory_known None all = all
   memory_known (Some m) all = all
 
-  calls_all : (is_async : Bool) (o : AdapterOptions) → SideAll o → All P (calls is_async o)
-  calls_all true o all =
+  calls_all : (is_async clear : Bool) (o : AdapterOptions) → SideAll o → All P (calls is_async clear o)
+  calls_all true clear o all =
       let prepare = import.PrepareCall (option_map (λ (x : Memory). x.0) (memory_of o.data_model)) in
       let start = import.StartCall o.callback o.post_return in
       All-cons P prepare (start ∷ []) (memory_known (memory_of o.data_model) all.memory)
       (all_one P start (All-append Q (if_any o.callback) (if_any o.post_return) all.callback all.post_return))
-  calls_all false o all =
+  calls_all false true o all = all_none P
+  calls_all false false o all =
       All-cons P import.EnterSyncCall (import.ExitSyncCall ∷ []) (all_none Q)
       (all_one P import.ExitSyncCall (all_none Q))
 
   -- and so of all that stands in the imports of an adapter
-  pub imports_all : (lift lower : FunctionFacts) (x : Adapter) → All Q (in_adapter x)
+  pub imports_all : (lift lower : FunctionFacts) (clear : Bool) (x : Adapter) → All Q (in_adapter x)
       → Q (def.InstanceFlags x.lift_options.instance) → Q (def.InstanceFlags x.lower_options.instance)
-      → All P (imports_of lift lower x)
+      → All P (imports_of lift lower clear x)
   unfolding in_adapter imports_of
-  imports_all lift lower x all lift_flags lower_flags =
+  imports_all lift lower clear x all lift_flags lower_flags =
       let o = x.lift_options in
       let r = x.lower_options in
       let own = all_first Q x.func (in_side o ++ in_side r) all in
@@ -185,7 +186,7 @@ module _ (Q : CoreDef → Type 0) where
       let is5 = copies_if moved' o r in
       let facts = join (all_facts lift) (all_facts lower) in
       let is6 = transfer_imports facts in
-      let is7 = calls (is_async_call lift lower x) o in
+      let is7 = calls (is_async_call lift lower x) clear o in
       let is8 = import.Trap (record { 0 = 1 }) ∷ [] in
       All-append P (is1 ++ is2 ++ is3 ++ is4 ++ is5 ++ is6 ++ is7) is8
       (All-append P (is1 ++ is2 ++ is3 ++ is4 ++ is5 ++ is6) is7
@@ -202,16 +203,16 @@ module _ (Q : CoreDef → Type 0) where
       (copies_if_all moved r o lowered.memory lifted.memory))
       (copies_if_all moved' o r lifted.memory lowered.memory))
       (transfers_all facts))
-      (calls_all (is_async_call lift lower x) o lifted))
+      (calls_all (is_async_call lift lower x) clear o lifted))
       (all_one P (import.Trap (record { 0 = 1 })) (all_none Q))
 
 -- the imports of an adapter are held
-pub imports_held : (g : ComponentDfg) (a : ℕ) (x : Adapter) (lift lower : FunctionFacts) → AreHeld g
-    → slice_get g.adapters a ≡ Some x → All (λ i. All (IsHeld g) (in_import i)) (imports_of lift lower x)
+pub imports_held : (g : ComponentDfg) (a : ℕ) (x : Adapter) (lift lower : FunctionFacts) (clear : Bool) → AreHeld g
+    → slice_get g.adapters a ≡ Some x → All (λ i. All (IsHeld g) (in_import i)) (imports_of lift lower clear x)
 unfolding HoldsEntry IsHeld
-imports_held g a x lift lower held at =
+imports_held g a x lift lower clear held at =
     let here : HeldAdapter g x = held list.adapters a x at in
-    imports_all (IsHeld g) lift lower x here.defs here.lift here.lower
+    imports_all (IsHeld g) lift lower clear x here.defs here.lift here.lower
 
 no_export : (e : CoreExport EntityIndex) (c : RuntimeComponentInstanceIndex) → def.Export e ≡ def.InstanceFlags c → ⊥
 no_export e c is = grind (arith, is)
@@ -241,9 +242,10 @@ module _ (g : ComponentDfg) (x : Adapter) (y : Thing) where
   flags_tell : (c : RuntimeComponentInstanceIndex) → Tells (def.InstanceFlags c)
   flags_tell c named = absurd (flags_name_none g c refl named)
 
-  imports_tell : (lift lower : FunctionFacts) → All (λ i. All Tells (in_import i)) (imports_of lift lower x)
-  imports_tell lift lower =
-      imports_all Tells lift lower x tells_here (flags_tell x.lift_options.instance)
+  imports_tell : (lift lower : FunctionFacts) (clear : Bool)
+      → All (λ i. All Tells (in_import i)) (imports_of lift lower clear x)
+  imports_tell lift lower clear =
+      imports_all Tells lift lower clear x tells_here (flags_tell x.lift_options.instance)
       (flags_tell x.lower_options.instance)
 
   one_tells : (ds : List CoreDef) → All Tells ds → OneNames g ds y → OneNames g (in_adapter x) y
@@ -269,12 +271,12 @@ module _ (g : ComponentDfg) (x : Adapter) (y : Thing) where
         (all_tell is ds each.1 (all_rest (λ j. All Tells (in_import j)) i is all))
 
     -- what stands for the imports of an adapter names nothing but what it named
-    pub arguments_tell : (lift lower : FunctionFacts) (ds : List CoreDef)
-        → AllZip (IsDefined g h s) (imports_of lift lower x) ds → OneNames h ds y → OneNames g (in_adapter x) y
+    pub arguments_tell : (lift lower : FunctionFacts) (clear : Bool) (ds : List CoreDef)
+        → AllZip (IsDefined g h s) (imports_of lift lower clear x) ds → OneNames h ds y → OneNames g (in_adapter x) y
     unfolding OneNames
-    arguments_tell lift lower ds each one =
+    arguments_tell lift lower clear ds each one =
         All-contains (λ d. Names h d y → OneNames g (in_adapter x) y) ds one.0
-        (all_tell (imports_of lift lower x) ds each (imports_tell lift lower)) one.1 one.2
+        (all_tell (imports_of lift lower clear x) ds each (imports_tell lift lower clear)) one.1 one.2
 
 -- what stands for imports that stand for what is planned has the values that are planned
 pub arguments_mean : (g h : ComponentDfg) (s : ModuleInternedTypeIndex) (is : List Import) (ds : List CoreDef)

@@ -131,20 +131,21 @@ module _ (x : Adapter) where
   start_fits plan.callback = All-contains_itself (if_any x.lift_options.callback)
   start_fits plan.post_return = All-contains_itself (if_any x.lift_options.post_return)
 
-  calls_fit : (is_async : Bool) → FitsMemory (memory_of x.lift_options.data_model)
-      → All Fits (calls is_async x.lift_options)
-  calls_fit true fits =
+  calls_fit : (is_async clear : Bool) → FitsMemory (memory_of x.lift_options.data_model)
+      → All Fits (calls is_async clear x.lift_options)
+  calls_fit true clear fits =
       let prepare = import.PrepareCall (option_map (λ (n : Memory). n.0) (memory_of x.lift_options.data_model)) in
       let start = import.StartCall x.lift_options.callback x.lift_options.post_return in
       All-cons Fits prepare (start ∷ []) (prepare_fits fits) (all_one Fits start start_fits)
-  calls_fit false fits =
+  calls_fit false true fits = all_none Fits
+  calls_fit false false fits =
       All-cons Fits import.EnterSyncCall (import.ExitSyncCall ∷ []) (λ k. all_none (Contains (own_slots x k)))
       (all_one Fits import.ExitSyncCall (λ k. all_none (Contains (own_slots x k))))
 
   -- the slots of all its imports are its own
-  all_fit : (lift lower : FunctionFacts) → All Fits (imports_of lift lower x)
+  all_fit : (lift lower : FunctionFacts) (clear : Bool) → All Fits (imports_of lift lower clear x)
   unfolding imports_of
-  all_fit lift lower =
+  all_fit lift lower clear =
       let o = x.lift_options in
       let r = x.lower_options in
       let here = All-contains_itself (own_slots x plan.memory) in
@@ -162,7 +163,7 @@ module _ (x : Adapter) where
       let is5 = copies_if moved' o r in
       let facts = join (all_facts lift) (all_facts lower) in
       let is6 = transfer_imports facts in
-      let is7 = calls (is_async_call lift lower x) o in
+      let is7 = calls (is_async_call lift lower x) clear o in
       let is8 = import.Trap (record { 0 = 1 }) ∷ [] in
       All-append Fits (is1 ++ is2 ++ is3 ++ is4 ++ is5 ++ is6 ++ is7) is8
       (All-append Fits (is1 ++ is2 ++ is3 ++ is4 ++ is5 ++ is6) is7
@@ -179,23 +180,24 @@ module _ (x : Adapter) where
       (copies_if_fit moved r o lowered lifted))
       (copies_if_fit moved' o r lifted lowered))
       (transfers_fit facts))
-      (calls_fit (is_async_call lift lower x) lifted))
+      (calls_fit (is_async_call lift lower x) clear lifted))
       (all_one Fits (import.Trap (record { 0 = 1 })) (λ k. all_none (Contains (own_slots x k))))
 
   -- what one of its imports has a slot for, it may need a slot for
-  slot_is_own : (lift lower : FunctionFacts) (k : plan.SlotKind) (d : CoreDef)
-      → HasSlotFor (imports_of lift lower x) k d → Contains (own_slots x k) d
-  slot_is_own lift lower k d has =
-      let fits : Fits has.asked = All-contains Fits (imports_of lift lower x) has.asked (all_fit lift lower) has.one in
+  slot_is_own : (lift lower : FunctionFacts) (clear : Bool) (k : plan.SlotKind) (d : CoreDef)
+      → HasSlotFor (imports_of lift lower clear x) k d → Contains (own_slots x k) d
+  slot_is_own lift lower clear k d has =
+      let fits : Fits has.asked = All-contains Fits (imports_of lift lower clear x) has.asked
+      (all_fit lift lower clear) has.one in
       All-contains (Contains (own_slots x k)) (in_slots has.asked k) d (fits k) has.slot
 
 -- so what is defined for its imports adds no other slots
-pub own_from : (g h : ComponentDfg) (a : ℕ) (x : Adapter) (lift lower : FunctionFacts)
-    → slice_get g.adapters a ≡ Some x → AddsOnly (imports_of lift lower x) g h → AddsOwn g h
-own_from g h a x lift lower at only = record {
+pub own_from : (g h : ComponentDfg) (a : ℕ) (x : Adapter) (lift lower : FunctionFacts) (clear : Bool)
+    → slice_get g.adapters a ≡ Some x → AddsOnly (imports_of lift lower clear x) g h → AddsOwn g h
+own_from g h a x lift lower clear at only = record {
   slots = λ k d inside. elim (only.slots k d inside) [
     | inl before ↦ inl before
-    | inr asked ↦ inr (record { number = a; adapter = x; at = at; own = slot_is_own x lift lower k d asked })
+    | inr asked ↦ inr (record { number = a; adapter = x; at = at; own = slot_is_own x lift lower clear k d asked })
   ];
   trampolines = only.trampolines;
 }
@@ -280,9 +282,10 @@ module _ (x : Adapter) where
   abbrev Taken : CoreDef → Type 0
   Taken d = is_taken d ≡ true → Contains (in_adapter x) d
 
-  all_taken : (lift lower : FunctionFacts) → All (λ i. All Taken (in_import i)) (imports_of lift lower x)
-  all_taken lift lower =
-      imports_all Taken lift lower x (λ k d below taken. All-contains_itself (in_adapter x) k d below)
+  all_taken : (lift lower : FunctionFacts) (clear : Bool)
+      → All (λ i. All Taken (in_import i)) (imports_of lift lower clear x)
+  all_taken lift lower clear =
+      imports_all Taken lift lower clear x (λ k d below taken. All-contains_itself (in_adapter x) k d below)
       (λ taken. absurd (true≢false (sym taken)))
       (λ taken. absurd (true≢false (sym taken)))
 
@@ -313,7 +316,8 @@ module _ (x : Adapter) where
         (each_taken is ds (all_rest (λ j. All Taken (in_import j)) i is all) each.1)
 
     -- what is defined for its imports takes from what there is only what stands in it
-    pub taken_stands : (lift lower : FunctionFacts) (ds : List CoreDef)
-        → AllZip (IsDefined g h s) (imports_of lift lower x) ds → Contains ds d → Contains (in_adapter x) d
-    taken_stands lift lower ds each inside =
-        All-contains IsHere ds d (each_taken (imports_of lift lower x) ds (all_taken lift lower) each) inside refl
+    pub taken_stands : (lift lower : FunctionFacts) (clear : Bool) (ds : List CoreDef)
+        → AllZip (IsDefined g h s) (imports_of lift lower clear x) ds → Contains ds d → Contains (in_adapter x) d
+    taken_stands lift lower clear ds each inside =
+        All-contains IsHere ds d
+        (each_taken (imports_of lift lower clear x) ds (all_taken lift lower clear) each) inside refl

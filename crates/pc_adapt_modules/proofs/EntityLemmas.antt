@@ -167,14 +167,15 @@ module _ (t : ModuleInternedTypeIndex) where
         ∙ (λ i. model_memory d i ++ model_realloc d i ++ function_entity a i ++ function_entity b i)
 
 -- as what is imported what is planned for an adapter, by its parts
-whole : (g : ComponentDfg) (lift lower : FunctionFacts) (u w : TypeFuncIndex) (d : CoreDef) {o r : AdapterOptions}
+whole : (g : ComponentDfg) (lift lower : FunctionFacts) (clear : Bool) (u w : TypeFuncIndex)
+    (d : CoreDef) {o r : AdapterOptions}
     {lo ho : Options Mark} (callee : CoreValue Mark) → MeansSide g o lo → MeansSide g r ho
     → Behind r.core_type (first_entities
     (record { lift_ty = u; lift_options = o; lower_ty = w; lower_options = r; func = d }))
-    (planned lift lower false (is_wide o.data_model) (is_wide r.data_model)
+    (planned lift lower clear (is_wide o.data_model) (is_wide r.data_model)
     (value.adapter (function_mark u) lo (function_mark w) ho callee))
 unfolding planned
-whole g lift lower u w d v (means_side {x = o} {callback = c} {post_return = p} {model = m} a b n)
+whole g lift lower clear u w d v (means_side {x = o} {callback = c} {post_return = p} {model = m} a b n)
     (means_side {x = r} {callback = c2} {post_return = p2} {model = m2} a2 b2 n2) =
     let t = r.core_type in
     let x : Adapter = record { lift_ty = u; lift_options = o; lower_ty = w; lower_options = r; func = d } in
@@ -192,7 +193,7 @@ whole g lift lower u w d v (means_side {x = o} {callback = c} {post_return = p} 
     let ks = transfers (join (all_facts lift) (all_facts lower)) in
     let ps6 = map (λ k. helper k [] (mark.Signature t) value.no_parts) ks in
     let is_async = o.async_ || r.async_ || lift.is_async || lower.is_async in
-    let ps7 = calls (mark.Signature t) is_async false (memory_in m) c p in
+    let ps7 = calls (mark.Signature t) is_async clear (memory_in m) c p in
     let ps8 = helper kind.Trap (1 ∷ []) (mark.Signature t) value.no_parts ∷ [] in
     let front : map E (ps1 ++ ps2 ++ ps3) ≡ first_entities x =
     map-append E (ps1 ++ ps2) ps3
@@ -207,21 +208,21 @@ whole g lift lower u w d v (means_side {x = o} {callback = c} {post_return = p} 
     (if_are t moved planned4 (transcoders_are t _ _ _ _ _)))
     (if_are t moved' planned5 (transcoders_are t _ _ _ _ _)))
     (transfers_are t ks))
-    (calls_are t is_async false (memory_in m) c p))
+    (calls_are t is_async clear (memory_in m) c p))
     refl
 
 -- as what is imported what is planned for an adapter
 pub entities_planned : (g : ComponentDfg) (a : AdapterId) (x : Adapter) (v : CoreValue Mark)
-    (lift lower : FunctionFacts) → slice_get g.adapters a.0 ≡ Some x → Means g (def.Adapter a) v
+    (lift lower : FunctionFacts) (clear : Bool) → slice_get g.adapters a.0 ≡ Some x → Means g (def.Adapter a) v
     → map (entity_of signature_number)
-    (planned lift lower false (is_wide x.lift_options.data_model) (is_wide x.lower_options.data_model) v)
+    (planned lift lower clear (is_wide x.lift_options.data_model) (is_wide x.lower_options.data_model) v)
     ≡ entities_for x
-    (length (planned lift lower false (is_wide x.lift_options.data_model) (is_wide x.lower_options.data_model) v))
-entities_planned g a x v lift lower at means =
+    (length (planned lift lower clear (is_wide x.lift_options.data_model) (is_wide x.lower_options.data_model) v))
+entities_planned g a x v lift lower clear at means =
     let parts = parts_of g a x at means refl in
-    let all = whole g lift lower x.lift_ty x.lower_ty x.func parts.callee parts.of_lift parts.of_lower in
+    let all = whole g lift lower clear x.lift_ty x.lower_ty x.func parts.callee parts.of_lift parts.of_lower in
     subst (λ u. map E
-    (planned lift lower false (is_wide x.lift_options.data_model) (is_wide x.lower_options.data_model) u)
+    (planned lift lower clear (is_wide x.lift_options.data_model) (is_wide x.lower_options.data_model) u)
     ≡ entities_for x
-    (length (planned lift lower false (is_wide x.lift_options.data_model) (is_wide x.lower_options.data_model) u)))
+    (length (planned lift lower clear (is_wide x.lift_options.data_model) (is_wide x.lower_options.data_model) u)))
     (sym parts.is) all.is

@@ -1,6 +1,6 @@
 //! Laws of modules of adapters. Each function does nothing: its contract is the law.
 
-ghost use Rattle.std.specs.Prelude.{◌≡◌, ℕ, List, length, map, false, Some, slice_get};
+ghost use Rattle.std.specs.Prelude.{◌≡◌, ℕ, Bool, List, length, map, Some, slice_get};
 ghost use Rattle.pc_spec_plan.specs.CoreValue.{CoreValue};
 ghost use Rattle.pc_trampoline.specs.declared.part.Mark.{Mark};
 ghost use Rattle.pc_dfg.specs.declared.adapter.Adapter.{Adapter};
@@ -32,11 +32,11 @@ pub fn modules_are_grouped()
 /// The imports that are planned for an adapter are imported as `entities_for` has it.
 pub fn entities_are_planned()
     ensures { (g : ComponentDfg) (a : AdapterId) (x : Adapter) (v : CoreValue Mark) (lift lower : FunctionFacts)
-        → slice_get g.adapters a.0 ≡ Some x → Means g (def.Adapter a) v
+        (transparent : Bool) → slice_get g.adapters a.0 ≡ Some x → Means g (def.Adapter a) v
         → map (entity_of signature_number)
-        (planned lift lower false (is_wide x.lift_options.data_model) (is_wide x.lower_options.data_model) v)
+        (planned lift lower transparent (is_wide x.lift_options.data_model) (is_wide x.lower_options.data_model) v)
         ≡ entities_for x (length
-        (planned lift lower false (is_wide x.lift_options.data_model) (is_wide x.lower_options.data_model) v)) }
+        (planned lift lower transparent (is_wide x.lift_options.data_model) (is_wide x.lower_options.data_model) v)) }
 {}
 
 /// A record that is put together of adapters is that of a module of their values.

@@ -1,5 +1,5 @@
 -- Modules of adapters are distinct, and so are the places of adapters.
-use Rattle.std.proofs.Common.{◌≡◌, ◌⊎◌, ◌<◌, ◌≤◌, inl, inr, ℕ, zero, suc, ◌+◌, ◌-◌, List, [], ◌∷◌, ◌++◌, length}
+use Rattle.std.proofs.Common.{Bool, ◌≡◌, ◌⊎◌, ◌<◌, ◌≤◌, inl, inr, ℕ, zero, suc, ◌+◌, ◌-◌, List, [], ◌∷◌, ◌++◌, length}
 use Rattle.std.proofs.Common.{refl, sym}
 use Rattle.std.proofs.Common.{ap, subst, ◌∙◌, arith}
 use Rattle.std.specs.Prelude.{Some, map, slice_get}
@@ -63,34 +63,34 @@ two_lists xs ys i x at = elim (cases_lt i (length xs)) [
       inr (k, sym place, sym (get_right xs ys k) ∙ ap (slice_get (xs ++ ys)) place ∙ at)
 ]
 
-module _ (lift lower : ℕ → FunctionFacts) where
+module _ (lift lower : ℕ → FunctionFacts) (clear : ℕ → Bool) where
   -- functions of groups are in modules from the first one on
   module_at : (m n : ℕ) (gs : List (List Adapter)) (i : ℕ) (p : Function)
-      → slice_get (places_of lift lower m n gs) i ≡ Some p → m ≤ p.0.0
+      → slice_get (places_of lift lower clear m n gs) i ≡ Some p → m ≤ p.0.0
   module_at m n [] i p at = absurd (no_item p at)
   module_at m n (xs ∷ gs) i p at =
-      let f = functions_in n (parts_of lift lower n xs) in
+      let f = functions_in n (parts_of lift lower clear n xs) in
       let own = functions_from m f (length xs) in
-      let rest = places_of lift lower (m + 1) (n + length xs) gs in
+      let rest = places_of lift lower clear (m + 1) (n + length xs) gs in
       elim (two_lists own rest i p at) as (λ _. m ≤ p.0.0) [
         | inl here ↦ (let is = function_in m f (length xs) i p here.1 in omega (arith, is))
         | inr behind ↦ (let is = module_at (m + 1) (n + length xs) gs behind.0 p behind.2 in omega (arith, is))
       ]
 
   -- no two places are one
-  places_apart : (m n : ℕ) (gs : List (List Adapter)) → AreDistinct (places_of lift lower m n gs)
+  places_apart : (m n : ℕ) (gs : List (List Adapter)) → AreDistinct (places_of lift lower clear m n gs)
   places_apart m n [] i j p first second = absurd (no_item p first)
   places_apart m n (xs ∷ gs) i j p first second =
       by (places_apart (m + 1) (n + length xs) gs) (two_lists own rest i p first) (two_lists own rest j p second)
     where
       f : ℕ
-      f = functions_in n (parts_of lift lower n xs)
+      f = functions_in n (parts_of lift lower clear n xs)
 
       own : List Function
       own = functions_from m f (length xs)
 
       rest : List Function
-      rest = places_of lift lower (m + 1) (n + length xs) gs
+      rest = places_of lift lower clear (m + 1) (n + length xs) gs
 
       by : AreDistinct rest
           → ((i < length own) × (slice_get own i ≡ Some p))
@@ -112,7 +112,7 @@ module _ (lift lower : ℕ → FunctionFacts) where
 
   -- modules have numbers from the first one on
   number_at : (g h : ComponentDfg) (s n : ℕ) (gs : List (List Adapter)) (ams : List (StaticModuleIndex × List CoreDef))
-      (i : ℕ) (a : StaticModuleIndex × List CoreDef) → AreArguments lift lower g h s n gs ams
+      (i : ℕ) (a : StaticModuleIndex × List CoreDef) → AreArguments lift lower clear g h s n gs ams
       → slice_get ams i ≡ Some a → a.0.0 ≡ s + i
   number_at g h s n [] [] i a are at = absurd (no_item a at)
   number_at g h s n [] (b ∷ ams) i a are at = absurd are
@@ -125,7 +125,7 @@ module _ (lift lower : ℕ → FunctionFacts) where
       omega (arith, rest)
 
   module _ (g h : ComponentDfg) (ms ns : List ModuleTranslation) (ls : List ℕ) (no_modules : g.adapter_modules ≡ [])
-      (ungrouped : g.adapter_partitionings ≡ []) (makes : Makes lift lower g h ms ns ls) where
+      (ungrouped : g.adapter_partitionings ≡ []) (makes : Makes lift lower clear g h ms ns ls) where
     abbrev gs : List (List Adapter)
     gs = cut ls 0 g.adapters
 
@@ -148,6 +148,6 @@ module _ (lift lower : ℕ → FunctionFacts) where
       modules = subst (λ xs. AreDistinct (map (λ (a : StaticModuleIndex × List CoreDef). a.0) xs)) (sym modules_are)
           modules_apart;
       adapters = subst AreDistinct
-          (sym (makes.places ∙ ap (λ xs. xs ++ places_of lift lower (length g.adapter_modules) 0 gs) ungrouped))
+          (sym (makes.places ∙ ap (λ xs. xs ++ places_of lift lower clear (length g.adapter_modules) 0 gs) ungrouped))
           (places_apart (length g.adapter_modules) 0 gs);
     }

@@ -1,5 +1,5 @@
 -- A module of adapters, once it is gathered.
-use Rattle.std.proofs.Common.{◌≡◌, ◌≤◌, inl, ℕ, ◌+◌, List, [], ◌∷◌, ◌++◌, length, Contains, sym, ap, subst, ◌∙◌}
+use Rattle.std.proofs.Common.{Bool, ◌≡◌, ◌≤◌, inl, ℕ, ◌+◌, List, [], ◌∷◌, ◌++◌, length, Contains, sym, ap, subst, ◌∙◌}
 use Rattle.std.proofs.Common.{arith}
 use Rattle.std.specs.Prelude.{count_by}
 use Rattle.pc_numbers.specs.declared.component_entity.StaticModuleIndex.{StaticModuleIndex}
@@ -46,23 +46,25 @@ module _ (m h : ComponentDfg) (ams : List (StaticModuleIndex × List CoreDef))
     trampolines = λ x inside. inl (subst (λ (i : ComponentDfg). Contains i.trampolines x) is inside);
   }
 
-module _ (lift lower : ℕ → FunctionFacts) (g m : ComponentDfg) (n : ℕ) (xs : List Adapter) (group : Group)
-    (gathers : Gathers g m n (parts_of lift lower n xs) group) where
+module _ (lift lower : ℕ → FunctionFacts) (clear : ℕ → Bool) (g m : ComponentDfg) (n : ℕ) (xs : List Adapter)
+    (group : Group)
+    (gathers : Gathers g m n (parts_of lift lower clear n xs) group) where
   -- the functions of the module have numbers
   pub functions_fit : count_by (imports_kind kind.Func) group.parts.imports + length xs ≤ 4294967295
   functions_fit =
       let is = ap (count_by (imports_kind kind.Func)) gathers.imports in
-      omega (arith, is, gathers.room, functions_few lift lower n xs)
+      omega (arith, is, gathers.room, functions_few lift lower clear n xs)
 
   -- something is said of each adapter
   pub records_many : length group.records ≡ length xs
   records_many =
-      ap length gathers.records ∙ length_records 0 n (parts_of lift lower n xs) ∙ length_parts lift lower n xs
+      ap length gathers.records ∙ length_records 0 n (parts_of lift lower clear n xs)
+      ∙ length_parts lift lower clear n xs
 
   module _ (h : ComponentDfg) (ms ns : List ModuleTranslation) (closes : Closes m h ms ns n (length xs) group) where
     keeps : Keeps (length xs) g h
     keeps =
-        let many = length_parts lift lower n xs in
+        let many = length_parts lift lower clear n xs in
         let memories = ap (λ (k : ComponentDfg). k.memories) closes.is in
         let callbacks = ap (λ (k : ComponentDfg). k.callbacks) closes.is in
         let post_returns = ap (λ (k : ComponentDfg). k.post_returns) closes.is in
@@ -71,7 +73,7 @@ module _ (lift lower : ℕ → FunctionFacts) (g m : ComponentDfg) (n : ℕ) (xs
         let places = ap (λ (k : ComponentDfg). k.adapter_partitionings) closes.is in
         record {
           grows = grows_trans g m h gathers.adds.grows closes.grows;
-          ordered = λ o. closes.ordered (given_held g m (parts_of lift lower n xs) group.args gathers.given)
+          ordered = λ o. closes.ordered (given_held g m (parts_of lift lower clear n xs) group.args gathers.given)
               (gathers.adds.ordered o);
           rest = closes.is
               ∙ (λ j. record (gathers.adds.rest j) {
@@ -91,11 +93,12 @@ module _ (lift lower : ℕ → FunctionFacts) (g m : ComponentDfg) (n : ℕ) (xs
         }
 
     -- it is added to modules and graph
-    pub adds_module : IsOrdered g → HeldParts g (parts_of lift lower n xs) → AddsModule lift lower g h ms ns n xs
+    pub adds_module : IsOrdered g → HeldParts g (parts_of lift lower clear n xs)
+        → AddsModule lift lower clear g h ms ns n xs
     adds_module o held =
-        let ps = parts_of lift lower n xs in
+        let ps = parts_of lift lower clear n xs in
         let count = count_by (imports_kind kind.Func) in
-        let many = length_parts lift lower n xs in
+        let many = length_parts lift lower clear n xs in
         let heldm = (gathers.adds.ordered o).held in
         record {
           keeps = keeps;

@@ -66,7 +66,8 @@ first_taken : (x : Adapter)
     → length (first_imports x) ≡ 3 + side_count x.lift_options + side_count x.lower_options
 first_taken x =
     three (import.CoreDef x.func) (import.CoreDef (def.InstanceFlags x.lower_options.instance))
-    (import.CoreDef (def.InstanceFlags x.lift_options.instance)) (side_imports x.lift_options) (side_imports x.lower_options)
+    (import.CoreDef (def.InstanceFlags x.lift_options.instance)) (side_imports x.lift_options)
+    (side_imports x.lower_options)
     (side_taken x.lift_options) (side_taken x.lower_options)
   where
     three : (a b c : Import) (xs ys : List Import) → length xs ≡ side_count x.lift_options
@@ -76,10 +77,10 @@ first_taken x =
         omega (arith, m, n, length-append ((a ∷ b ∷ c ∷ []) ++ xs) ys, length-append (a ∷ b ∷ c ∷ []) xs)
 
 -- the imports of an adapter are no fewer
-pub imports_long : (lift lower : FunctionFacts) (x : Adapter)
-    → 3 + side_count x.lift_options + side_count x.lower_options ≤ length (imports_of lift lower x)
+pub imports_long : (lift lower : FunctionFacts) (clear : Bool) (x : Adapter)
+    → 3 + side_count x.lift_options + side_count x.lower_options ≤ length (imports_of lift lower clear x)
 unfolding imports_of
-imports_long lift lower x = front (first_imports x) _ _ _ _ _ (first_taken x)
+imports_long lift lower clear x = front (first_imports x) _ _ _ _ _ (first_taken x)
   where
     front : (a b c d e f : List Import) → length a ≡ 3 + side_count x.lift_options + side_count x.lower_options
         → 3 + side_count x.lift_options + side_count x.lower_options ≤ length (a ++ b ++ c ++ d ++ e ++ f)
@@ -172,15 +173,49 @@ own_functions n x many few =
     )
 
 -- so a module of adapters has no more functions than imports
-pub functions_few : (lift lower : ℕ → FunctionFacts) (n : ℕ) (xs : List Adapter)
-    → functions_in n (parts_of lift lower n xs) + length xs ≤ total_imports (parts_of lift lower n xs)
-functions_few lift lower n [] = omega arith
-functions_few lift lower n (x ∷ xs) =
-    let is = imports_of (lift n) (lower n) x in
+pub functions_few : (lift lower : ℕ → FunctionFacts) (clear : ℕ → Bool) (n : ℕ) (xs : List Adapter)
+    → functions_in n (parts_of lift lower clear n xs) + length xs ≤ total_imports (parts_of lift lower clear n xs)
+functions_few lift lower clear n [] = omega arith
+functions_few lift lower clear n (x ∷ xs) =
+    let is = imports_of (lift n) (lower n) (clear n) x in
     let own = named_entities n 0 (entities_for x (length is)) in
     omega (
       arith,
-      own_functions n x (length is) (imports_long (lift n) (lower n) x),
-      functions_few lift lower (n + 1) xs,
-      sum_by-append isfunc own (entities_of (n + 1) (parts_of lift lower (n + 1) xs)),
+      own_functions n x (length is) (imports_long (lift n) (lower n) (clear n) x),
+      functions_few lift lower clear (n + 1) xs,
+      sum_by-append isfunc own (entities_of (n + 1) (parts_of lift lower clear (n + 1) xs)),
+    )
+
+-- an adapter has as many entities as imports
+entities_long : (x : Adapter) (many : ℕ) → 3 + side_count x.lift_options + side_count x.lower_options ≤ many
+    → length (entities_for x many) ≡ many
+entities_long x many few =
+    let s = x.lower_options.core_type in
+    let a = side_entities s x.lift_options in
+    let b = side_entities s x.lower_options in
+    let c = replicate (many - length (first_entities x)) (core.Func s.0) in
+    let long = length-replicate (many - length (first_entities x)) (core.Func s.0) in
+    omega (
+      arith,
+      few,
+      long,
+      length-append (a ++ b) c,
+      length-append a b,
+      side_entities_taken s x.lift_options,
+      side_entities_taken s x.lower_options,
+    )
+
+-- so has a module of adapters
+pub all_long : (lift lower : ℕ → FunctionFacts) (clear : ℕ → Bool) (n : ℕ) (xs : List Adapter)
+    → length (entities_of n (parts_of lift lower clear n xs)) ≡ total_imports (parts_of lift lower clear n xs)
+all_long lift lower clear n [] = refl
+all_long lift lower clear n (x ∷ xs) =
+    let is = imports_of (lift n) (lower n) (clear n) x in
+    let own = named_entities n 0 (entities_for x (length is)) in
+    omega (
+      arith,
+      length-append own (entities_of (n + 1) (parts_of lift lower clear (n + 1) xs)),
+      length_named n 0 (entities_for x (length is)),
+      entities_long x (length is) (imports_long (lift n) (lower n) (clear n) x),
+      all_long lift lower clear (n + 1) xs,
     )

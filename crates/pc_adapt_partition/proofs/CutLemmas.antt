@@ -1,5 +1,5 @@
 -- Groups of adapters: one more at the end.
-use Rattle.std.proofs.Common.{◌≡◌, ◌⊎◌, ◌<◌, ◌≤◌, inl, inr, ℕ, zero, suc, ◌+◌, List, [], ◌∷◌, ◌++◌, length, take}
+use Rattle.std.proofs.Common.{Bool, ◌≡◌, ◌⊎◌, ◌<◌, ◌≤◌, inl, inr, ℕ, zero, suc, ◌+◌, List, [], ◌∷◌, ◌++◌, length, take}
 use Rattle.std.proofs.Common.{get_or, refl, sym, ap, subst, ◌∙◌, arith}
 use Rattle.std.specs.Prelude.{Some, None, slice_get}
 use Rattle.std.proofs.lemmas.List.{append_assoc, append-nil}
@@ -73,55 +73,57 @@ stand_cut (l ∷ ls) f all few =
           (stand_cut ls (f + l) all (omega (arith, few))),
     )
 
-module _ (lift lower : ℕ → FunctionFacts) where
+module _ (lift lower : ℕ → FunctionFacts) (clear : ℕ → Bool) where
   pub modules_more : (n : ℕ) (gs : List (List Adapter)) (xs : List Adapter)
-      → modules_of lift lower n (gs ++ xs ∷ [])
-      ≡ modules_of lift lower n gs
-      ++ module_for (n + held_in gs) (parts_of lift lower (n + held_in gs) xs) ∷ []
+      → modules_of lift lower clear n (gs ++ xs ∷ [])
+      ≡ modules_of lift lower clear n gs
+      ++ module_for (n + held_in gs) (parts_of lift lower clear (n + held_in gs) xs) ∷ []
   modules_more n [] xs =
       let here : n ≡ n + 0 = omega arith in
-      ap (λ k. module_for k (parts_of lift lower k xs) ∷ []) here
+      ap (λ k. module_for k (parts_of lift lower clear k xs) ∷ []) here
   modules_more n (ys ∷ gs) xs =
       let here : n + length ys + held_in gs ≡ n + (length ys + held_in gs) = omega arith in
-      ap (λ ms. module_for n (parts_of lift lower n ys) ∷ ms)
+      ap (λ ms. module_for n (parts_of lift lower clear n ys) ∷ ms)
       (modules_more (n + length ys) gs xs
-      ∙ ap (λ k. modules_of lift lower (n + length ys) gs ++ module_for k (parts_of lift lower k xs) ∷ []) here)
+      ∙ ap (λ k. modules_of lift lower clear (n + length ys) gs
+      ++ module_for k (parts_of lift lower clear k xs) ∷ []) here)
 
-  pub length_modules : (n : ℕ) (gs : List (List Adapter)) → length (modules_of lift lower n gs) ≡ length gs
+  pub length_modules : (n : ℕ) (gs : List (List Adapter)) → length (modules_of lift lower clear n gs) ≡ length gs
   length_modules n [] = refl
   length_modules n (xs ∷ gs) = ap suc (length_modules (n + length xs) gs)
 
   pub places_more : (m n : ℕ) (gs : List (List Adapter)) (xs : List Adapter)
-      → places_of lift lower m n (gs ++ xs ∷ [])
-      ≡ places_of lift lower m n gs
-      ++ functions_from (m + length gs) (functions_in (n + held_in gs) (parts_of lift lower (n + held_in gs) xs))
+      → places_of lift lower clear m n (gs ++ xs ∷ [])
+      ≡ places_of lift lower clear m n gs
+      ++ functions_from (m + length gs) (functions_in (n + held_in gs) (parts_of lift lower clear (n + held_in gs) xs))
       (length xs)
   places_more m n [] xs =
       let module_here : m ≡ m + 0 = omega arith in
       let here : n ≡ n + 0 = omega arith in
-      append-nil (functions_from m (functions_in n (parts_of lift lower n xs)) (length xs))
-      ∙ (λ i. functions_from (module_here i) (functions_in (here i) (parts_of lift lower (here i) xs)) (length xs))
+      append-nil (functions_from m (functions_in n (parts_of lift lower clear n xs)) (length xs))
+      ∙ (λ i. functions_from (module_here i) (functions_in (here i) (parts_of lift lower clear (here i) xs))
+      (length xs))
   places_more m n (ys ∷ gs) xs =
       let module_here : m + 1 + length gs ≡ m + suc (length gs) = omega arith in
       let here : n + length ys + held_in gs ≡ n + (length ys + held_in gs) = omega arith in
-      let own = functions_from m (functions_in n (parts_of lift lower n ys)) (length ys) in
-      let rest = places_of lift lower (m + 1) (n + length ys) gs in
+      let own = functions_from m (functions_in n (parts_of lift lower clear n ys)) (length ys) in
+      let rest = places_of lift lower clear (m + 1) (n + length ys) gs in
       ap (λ ps. own ++ ps)
       (places_more (m + 1) (n + length ys) gs xs
       ∙ (λ i. rest ++ functions_from (module_here i)
-      (functions_in (here i) (parts_of lift lower (here i) xs)) (length xs)))
+      (functions_in (here i) (parts_of lift lower clear (here i) xs)) (length xs)))
       ∙ sym (append_assoc own rest _)
 
   -- arguments for one group more
   pub arguments_more : (g h : ComponentDfg) (s n : ℕ) (gs : List (List Adapter))
       (ams : List (StaticModuleIndex × List CoreDef)) (xs : List Adapter) (m : StaticModuleIndex) (args : List CoreDef)
-      → AreArguments lift lower g h s n gs ams → m.0 ≡ s + length gs
-      → AreGiven g h (parts_of lift lower (n + held_in gs) xs) args
-      → AreArguments lift lower g h s n (gs ++ xs ∷ []) (ams ++ (m, args) ∷ [])
+      → AreArguments lift lower clear g h s n gs ams → m.0 ≡ s + length gs
+      → AreGiven g h (parts_of lift lower clear (n + held_in gs) xs) args
+      → AreArguments lift lower clear g h s n (gs ++ xs ∷ []) (ams ++ (m, args) ∷ [])
   arguments_more g h s n [] [] xs m args are number given =
       let here : n + 0 ≡ n = omega arith in (
         omega (arith, number),
-        subst (λ k. AreGiven g h (parts_of lift lower k xs) args) here given,
+        subst (λ k. AreGiven g h (parts_of lift lower clear k xs) args) here given,
         tt,
       )
   arguments_more g h s n [] (a ∷ ams) xs m args are number given = absurd are
@@ -131,25 +133,25 @@ module _ (lift lower : ℕ → FunctionFacts) where
         are.0,
         are.1,
         arguments_more g h (s + 1) (n + length ys) gs ams xs m args are.2 (omega (arith, number))
-            (subst (λ k. AreGiven g h (parts_of lift lower k xs) args) here given),
+            (subst (λ k. AreGiven g h (parts_of lift lower clear k xs) args) here given),
       )
 
   -- they still are where the graph has grown
   pub arguments_later : (g m h : ComponentDfg) → Grows m h → AreHeld g → AreHeld m → (s n : ℕ)
       (gs : List (List Adapter)) (ams : List (StaticModuleIndex × List CoreDef)) → StandIn n g.adapters gs
-      → AreArguments lift lower g m s n gs ams → AreArguments lift lower g h s n gs ams
+      → AreArguments lift lower clear g m s n gs ams → AreArguments lift lower clear g h s n gs ams
   arguments_later g m h grows heldg heldm s n [] [] stand are = are
   arguments_later g m h grows heldg heldm s n [] (a ∷ ams) stand are = are
   arguments_later g m h grows heldg heldm s n (xs ∷ gs) [] stand are = are
   arguments_later g m h grows heldg heldm s n (xs ∷ gs) (a ∷ ams) stand are = (
     are.0,
-    given_between g g m h (grows_refl g) grows heldg heldm (parts_of lift lower n xs) a.1
-        (parts_held g heldg lift lower n xs stand.0) are.1,
+    given_between g g m h (grows_refl g) grows heldg heldm (parts_of lift lower clear n xs) a.1
+        (parts_held g heldg lift lower clear n xs stand.0) are.1,
     arguments_later g m h grows heldg heldm (s + 1) (n + length xs) gs ams stand.1 are.2,
   )
 
   pub length_arguments : (g h : ComponentDfg) (s n : ℕ) (gs : List (List Adapter))
-      (ams : List (StaticModuleIndex × List CoreDef)) → AreArguments lift lower g h s n gs ams
+      (ams : List (StaticModuleIndex × List CoreDef)) → AreArguments lift lower clear g h s n gs ams
       → length ams ≡ length gs
   length_arguments g h s n [] [] are = refl
   length_arguments g h s n [] (a ∷ ams) are = absurd are
@@ -158,23 +160,23 @@ module _ (lift lower : ℕ → FunctionFacts) where
       ap suc (length_arguments g h (s + 1) (n + length xs) gs ams are.2)
 
   -- one of more groups is too long where one of them is, or the last
-  pub long_more : (n : ℕ) (gs : List (List Adapter)) (xs : List Adapter) → HasLong lift lower n (gs ++ xs ∷ [])
-      → HasLong lift lower n gs ⊎ (4294967294 < total_imports (parts_of lift lower (n + held_in gs) xs))
+  pub long_more : (n : ℕ) (gs : List (List Adapter)) (xs : List Adapter) → HasLong lift lower clear n (gs ++ xs ∷ [])
+      → HasLong lift lower clear n gs ⊎ (4294967294 < total_imports (parts_of lift lower clear (n + held_in gs) xs))
   long_more n [] xs (inl long) =
       let here : n ≡ n + 0 = omega arith in
-      inr (subst (λ k. 4294967294 < total_imports (parts_of lift lower k xs)) here long)
+      inr (subst (λ k. 4294967294 < total_imports (parts_of lift lower clear k xs)) here long)
   long_more n [] xs (inr none) = absurd none
   long_more n (ys ∷ gs) xs (inl long) = inl (inl long)
   long_more n (ys ∷ gs) xs (inr long) = other (long_more (n + length ys) gs xs long)
     where
-      other : HasLong lift lower (n + length ys) gs
-          ⊎ (4294967294 < total_imports (parts_of lift lower (n + length ys + held_in gs) xs))
-          → HasLong lift lower n (ys ∷ gs)
-          ⊎ (4294967294 < total_imports (parts_of lift lower (n + held_in (ys ∷ gs)) xs))
+      other : HasLong lift lower clear (n + length ys) gs
+          ⊎ (4294967294 < total_imports (parts_of lift lower clear (n + length ys + held_in gs) xs))
+          → HasLong lift lower clear n (ys ∷ gs)
+          ⊎ (4294967294 < total_imports (parts_of lift lower clear (n + held_in (ys ∷ gs)) xs))
       other (inl here) = inl (inr here)
       other (inr last) =
           let here : n + length ys + held_in gs ≡ n + (length ys + held_in gs) = omega arith in
-          inr (subst (λ k. 4294967294 < total_imports (parts_of lift lower k xs)) here last)
+          inr (subst (λ k. 4294967294 < total_imports (parts_of lift lower clear k xs)) here last)
 
   no_length : (l : ℕ) → None ≡ Some l → ⊥
   no_length l e = grind (arith, e)
@@ -185,17 +187,18 @@ module _ (lift lower : ℕ → FunctionFacts) where
   -- a group that is too long is one of all
   pub long_at : (ls : List ℕ) (f k l : ℕ) (all : List Adapter) → slice_get ls k ≡ Some l
       → f + sum_of ls ≤ length all
-      → 4294967294 < total_imports (parts_of lift lower (f + sum_of (take k ls)) (slice (f + sum_of (take k ls)) l all))
-      → HasLong lift lower f (cut ls f all)
+      → 4294967294 < total_imports
+      (parts_of lift lower clear (f + sum_of (take k ls)) (slice (f + sum_of (take k ls)) l all))
+      → HasLong lift lower clear f (cut ls f all)
   long_at [] f k l all at few long = absurd (no_length l at)
   long_at (j ∷ ls) f zero l all at few long =
       let same = same_length j l at in
       let here : f + 0 ≡ f = omega arith in
-      inl (subst (λ i. 4294967294 < total_imports (parts_of lift lower f (slice f i all))) (sym same)
-      (subst (λ i. 4294967294 < total_imports (parts_of lift lower i (slice i l all))) here long))
+      inl (subst (λ i. 4294967294 < total_imports (parts_of lift lower clear f (slice f i all))) (sym same)
+      (subst (λ i. 4294967294 < total_imports (parts_of lift lower clear i (slice i l all))) here long))
   long_at (j ∷ ls) f (suc k) l all at few long =
       let own = length_slice f j all (omega (arith, few)) in
       let here : f + (j + sum_of (take k ls)) ≡ f + j + sum_of (take k ls) = omega arith in
-      inr (subst (λ i. HasLong lift lower (f + i) (cut ls (f + j) all)) (sym own)
+      inr (subst (λ i. HasLong lift lower clear (f + i) (cut ls (f + j) all)) (sym own)
       (long_at ls (f + j) k l all at (omega (arith, few))
-      (subst (λ i. 4294967294 < total_imports (parts_of lift lower i (slice i l all))) here long)))
+      (subst (λ i. 4294967294 < total_imports (parts_of lift lower clear i (slice i l all))) here long)))

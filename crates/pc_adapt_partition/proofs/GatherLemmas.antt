@@ -1,5 +1,5 @@
 -- A module while its adapters are gathered.
-use Rattle.std.proofs.Common.{◌≡◌, ℕ, ◌+◌, ◌*◌, List, [], ◌∷◌, ◌++◌, length, sym, ap, subst, ◌∙◌}
+use Rattle.std.proofs.Common.{Bool, ◌≡◌, ℕ, ◌+◌, ◌*◌, List, [], ◌∷◌, ◌++◌, length, sym, ap, subst, ◌∙◌}
 use Rattle.std.proofs.Common.{arith, length-append}
 use Rattle.std.specs.Prelude.{Some, slice_get}
 use Rattle.pc_dfg.specs.declared.adapter.Adapter.{Adapter}
@@ -36,23 +36,24 @@ gathers_none g first group parts records args = record {
 
 -- one adapter more
 pub gathers_more : (g m n : ComponentDfg) (first : ℕ) (ps : List Part) (x : Adapter) (lift lower : FunctionFacts)
+    (clear : Bool)
     (old new : Group) → IsOrdered g → HeldParts g ps → slice_get g.adapters (first + length ps) ≡ Some x
-    → Gathers g m first ps old → Puts m n (first + length ps) x (imports_of lift lower x) old new
-    → Gathers g n first (ps ++ (x, imports_of lift lower x) ∷ []) new
-gathers_more g m n first ps x lift lower old new o held at so_far puts =
-    let is = imports_of lift lower x in
+    → Gathers g m first ps old → Puts m n (first + length ps) x (imports_of lift lower clear x) old new
+    → Gathers g n first (ps ++ (x, imports_of lift lower clear x) ∷ []) new
+gathers_more g m n first ps x lift lower clear old new o held at so_far puts =
+    let is = imports_of lift lower clear x in
     let p : Part = (x, is) in
     let k = length ps in
     let s = x.lower_options.core_type in
     let heldm = (so_far.adds.ordered o).held in
     let same = ap (λ (i : ComponentDfg). i.adapters) so_far.adds.rest in
-    let one = adds_few m n s x lift lower old.args new.args puts.defined in
+    let one = adds_few m n s x lift lower clear old.args new.args puts.defined in
     let heldn = (one.ordered (so_far.adds.ordered o)).held in
     let longer = length-append ps (p ∷ []) in
     let all = total_more ps p in
     let place : length old.args ≡ 0 + total_imports ps = omega (arith, so_far.many) in
     let own = zip_between g m n n so_far.adds.grows (grows_refl n) heldm heldn s is puts.defined.defs
-    (imports_held g (first + k) x lift lower o.held at) puts.defined.each in
+    (imports_held g (first + k) x lift lower clear o.held at) puts.defined.each in
     let given : AreGiven g n (ps ++ p ∷ []) new.args =
     subst (AreGiven g n (ps ++ p ∷ [])) (sym puts.defined.are)
     (given_more g n ps old.args p puts.defined.defs
@@ -63,7 +64,8 @@ gathers_more g m n first ps x lift lower old new o held at so_far puts =
           (omega (arith, longer)) (omega (arith, longer))
           (adds_twice (9 * k) k k (12 * k) 9 1 1 12 g m n so_far.adds one);
       own = own_twice g m n same so_far.own
-          (own_from m n (first + k) x lift lower (ap (λ xs. slice_get xs (first + k)) same ∙ at) puts.defined.only);
+          (own_from m n (first + k) x lift lower clear
+          (ap (λ xs. slice_get xs (first + k)) same ∙ at) puts.defined.only);
       imports = ap (λ (q : Group). q.parts.imports) puts.is
           ∙ ap (λ es. es ++ named_entities (first + k) 0 (entities_for x (length is))) so_far.imports
           ∙ sym (entities_more first ps p);

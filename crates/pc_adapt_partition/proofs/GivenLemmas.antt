@@ -1,5 +1,5 @@
 -- What stands for imports of one adapter after the other.
-use Rattle.std.proofs.Common.{◌≡◌, ◌⊎◌, ℕ, suc, zero, ◌+◌, inl, inr, List, [], ◌∷◌, ◌++◌, length, All, refl, sym}
+use Rattle.std.proofs.Common.{Bool, ◌≡◌, ◌⊎◌, ℕ, suc, zero, ◌+◌, inl, inr, List, [], ◌∷◌, ◌++◌, length, All, refl, sym}
 use Rattle.std.proofs.Common.{ap, subst, ◌∙◌, arith, length-append}
 use Rattle.std.specs.Prelude.{Some, slice_get}
 use Rattle.std.specs.List.{AllZip}
@@ -47,12 +47,13 @@ stand_rest n all x xs stand k y at =
     ap (slice_get all) here ∙ stand (suc k) y at
 
 -- what is imported for adapters of a graph is held
-pub parts_held : (g : ComponentDfg) → AreHeld g → (lift lower : ℕ → FunctionFacts) (n : ℕ) (xs : List Adapter)
-    → StandFrom n g.adapters xs → HeldParts g (parts_of lift lower n xs)
-parts_held g held lift lower n [] stand = tt
-parts_held g held lift lower n (x ∷ xs) stand = (
-  imports_held g n x (lift n) (lower n) held (stand_first n g.adapters x xs stand),
-  parts_held g held lift lower (n + 1) xs (stand_rest n g.adapters x xs stand),
+pub parts_held : (g : ComponentDfg) → AreHeld g
+    → (lift lower : ℕ → FunctionFacts) (clear : ℕ → Bool) (n : ℕ) (xs : List Adapter)
+    → StandFrom n g.adapters xs → HeldParts g (parts_of lift lower clear n xs)
+parts_held g held lift lower clear n [] stand = tt
+parts_held g held lift lower clear n (x ∷ xs) stand = (
+  imports_held g n x (lift n) (lower n) (clear n) held (stand_first n g.adapters x xs stand),
+  parts_held g held lift lower clear (n + 1) xs (stand_rest n g.adapters x xs stand),
 )
 
 -- what stands for imports between two graphs does so from an earlier one to a later one
@@ -144,16 +145,23 @@ module _ (g h : ComponentDfg) where
   no_name y (d, (k, below, is), names) = omega (arith, below)
 
   -- and names nothing that no adapter names
-  pub given_names : AreHeld g → (lift lower : ℕ → FunctionFacts) (n : ℕ) (xs : List Adapter) (args : List CoreDef)
-      (y : Thing) → AreGiven g h (parts_of lift lower n xs) args → OneNames h args y
+  pub given_names : AreHeld g
+      → (lift lower : ℕ → FunctionFacts) (clear : ℕ → Bool) (n : ℕ) (xs : List Adapter) (args : List CoreDef)
+      (y : Thing) → AreGiven g h (parts_of lift lower clear n xs) args → OneNames h args y
       → (k : ℕ) × (x : Adapter) × (slice_get xs k ≡ Some x) × OneNames g (in_adapter x) y
-  given_names held lift lower n [] args y none names = absurd (no_name y (subst (λ ds. OneNames h ds y) none names))
-  given_names held lift lower n (x ∷ xs) args y (own, rest, is, first, others) names =
+  given_names held lift lower clear n [] args y none names =
+      absurd (no_name y (subst (λ ds. OneNames h ds y) none names))
+  given_names held lift lower clear n (x ∷ xs) args y (own, rest, is, first, others) names =
       elim (one_of own rest y (subst (λ ds. OneNames h ds y) is names))
       as (λ _. (k : ℕ) × (z : Adapter) × (slice_get (x ∷ xs) k ≡ Some z) × OneNames g (in_adapter z) y) [
-        | inl front ↦
-            (0, x, refl, arguments_tell g x y h x.lower_options.core_type held (lift n) (lower n) own first front)
+        | inl front ↦ (
+          0,
+          x,
+          refl,
+          arguments_tell g x y h x.lower_options.core_type held (lift n) (lower n)
+              (clear n) own first front,
+        )
         | inr behind ↦
-            let found = given_names held lift lower (n + 1) xs rest y others behind in
+            let found = given_names held lift lower clear (n + 1) xs rest y others behind in
             (suc found.0, found.1, found.2, found.3)
       ]

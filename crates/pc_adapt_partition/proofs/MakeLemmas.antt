@@ -1,5 +1,5 @@
 -- Modules of groups of adapters, one after the other.
-use Rattle.std.proofs.Common.{◌≡◌, ◌⊎◌, ◌<◌, ◌≤◌, inl, inr, ℕ, ◌+◌, List, [], ◌∷◌, ◌++◌, length, refl, sym, ap}
+use Rattle.std.proofs.Common.{Bool, ◌≡◌, ◌⊎◌, ◌<◌, ◌≤◌, inl, inr, ℕ, ◌+◌, List, [], ◌∷◌, ◌++◌, length, refl, sym, ap}
 use Rattle.std.proofs.Common.{subst, ◌∙◌, arith, length-append}
 use Rattle.std.proofs.lemmas.List.{append_assoc, append-nil}
 use Rattle.pc_info.specs.declared.module.ModuleTranslation.{ModuleTranslation}
@@ -10,6 +10,7 @@ use Rattle.pc_dfg.specs.declared.ids.AdapterModuleId.{AdapterModuleId}
 use Rattle.pc_dfg.specs.Ordered.{IsOrdered}
 use Rattle.pc_dfg.proofs.GrowLemmas.{grows_refl, grows_trans}
 use Rattle.pc_spec_adapt.specs.Asked.{FunctionFacts}
+use Rattle.pc_adapt.specs.Imports.{is_transparent}
 use Rattle.pc_adapt_define.proofs.OwnSlotLemmas.{own_none, own_twice}
 use Rattle.pc_adapt_partition.specs.Gathered.{AreGiven}
 use Rattle.pc_adapt_partition.specs.Made.{AddsModule, AreArguments, HasLong, Keeps, Makes, cut, sum_of}
@@ -56,9 +57,13 @@ keeps_twice a b c g m h all first second = record {
 pub same_adapters : (k : ℕ) (g h : ComponentDfg) → Keeps k g h → h.adapters ≡ g.adapters
 same_adapters k g h keeps = ap (λ (i : ComponentDfg). i.adapters) keeps.rest
 
-module _ (lift lower : ℕ → FunctionFacts) where
+-- and so is which of them are transparent
+pub same_transparent : (k : ℕ) (g h : ComponentDfg) → Keeps k g h → is_transparent h ≡ is_transparent g
+same_transparent k g h keeps = ap (λ (i : ComponentDfg). is_transparent i) keeps.rest
+
+module _ (lift lower : ℕ → FunctionFacts) (clear : ℕ → Bool) where
   -- no module is made
-  pub makes_none : (g : ComponentDfg) (ms : List ModuleTranslation) → Makes lift lower g g ms ms []
+  pub makes_none : (g : ComponentDfg) (ms : List ModuleTranslation) → Makes lift lower clear g g ms ms []
   makes_none g ms = record {
     keeps = keeps_none g;
     modules = sym (append-nil ms);
@@ -70,8 +75,8 @@ module _ (lift lower : ℕ → FunctionFacts) where
   }
 
   module _ (g m h : ComponentDfg) (ms ns os : List ModuleTranslation) (ls : List ℕ) (l : ℕ) (o : IsOrdered g)
-      (few : sum_of ls + l ≤ length g.adapters) (makes : Makes lift lower g m ms ns ls)
-      (adds : AddsModule lift lower m h ns os (sum_of ls) (slice (sum_of ls) l g.adapters)) where
+      (few : sum_of ls + l ≤ length g.adapters) (makes : Makes lift lower clear g m ms ns ls)
+      (adds : AddsModule lift lower clear m h ns os (sum_of ls) (slice (sum_of ls) l g.adapters)) where
     abbrev gs : List (List Adapter)
     gs = cut ls 0 g.adapters
 
@@ -92,25 +97,26 @@ module _ (lift lower : ℕ → FunctionFacts) where
 
     -- the module of the last, and its functions
     abbrev last : ℕ → List ModuleTranslation
-    last k = module_for k (parts_of lift lower k xs) ∷ []
+    last k = module_for k (parts_of lift lower clear k xs) ∷ []
 
     abbrev own : ℕ → ℕ → List (AdapterModuleId × EntityIndex)
-    own m k = functions_from m (functions_in k (parts_of lift lower k xs)) (length xs)
+    own m k = functions_from m (functions_in k (parts_of lift lower clear k xs)) (length xs)
 
-    modules_are : modules_of lift lower 0 (cut (ls ++ l ∷ []) 0 g.adapters)
-        ≡ modules_of lift lower 0 gs ++ last (sum_of ls)
+    modules_are : modules_of lift lower clear 0 (cut (ls ++ l ∷ []) 0 g.adapters)
+        ≡ modules_of lift lower clear 0 gs ++ last (sum_of ls)
     modules_are =
-        ap (modules_of lift lower 0) more
-        ∙ modules_more lift lower 0 gs xs
-        ∙ ap (λ k. modules_of lift lower 0 gs ++ last k) held
+        ap (modules_of lift lower clear 0) more
+        ∙ modules_more lift lower clear 0 gs xs
+        ∙ ap (λ k. modules_of lift lower clear 0 gs ++ last k) held
 
-    not_long : HasLong lift lower 0 (cut (ls ++ l ∷ []) 0 g.adapters) → ⊥
-    not_long long = by (long_more lift lower 0 gs xs (subst (HasLong lift lower 0) more long))
+    not_long : HasLong lift lower clear 0 (cut (ls ++ l ∷ []) 0 g.adapters) → ⊥
+    not_long long = by (long_more lift lower clear 0 gs xs (subst (HasLong lift lower clear 0) more long))
       where
-        by : HasLong lift lower 0 gs ⊎ (4294967294 < total_imports (parts_of lift lower (0 + held_in gs) xs)) → ⊥
+        by : HasLong lift lower clear 0 gs ⊎
+            (4294967294 < total_imports (parts_of lift lower clear (0 + held_in gs) xs)) → ⊥
         by (inl here) = makes.room here
         by (inr last) =
-            let there = subst (λ k. 4294967294 < total_imports (parts_of lift lower k xs)) held last in
+            let there = subst (λ k. 4294967294 < total_imports (parts_of lift lower clear k xs)) held last in
             omega (arith, there, adds.room)
 
     long_ns : length ns ≡ length ms + length gs
@@ -118,8 +124,8 @@ module _ (lift lower : ℕ → FunctionFacts) where
         omega (
           arith,
           ap length makes.modules,
-          length-append ms (modules_of lift lower 0 gs),
-          length_modules lift lower 0 gs,
+          length-append ms (modules_of lift lower clear 0 gs),
+          length_modules lift lower clear 0 gs,
         )
 
     long_ams : length m.adapter_modules ≡ length g.adapter_modules + length gs
@@ -128,39 +134,40 @@ module _ (lift lower : ℕ → FunctionFacts) where
           arith,
           ap length makes.has_modules,
           length-append g.adapter_modules makes.adapter_modules,
-          length_arguments lift lower g m (length ms) 0 gs makes.adapter_modules makes.given,
+          length_arguments lift lower clear g m (length ms) 0 gs makes.adapter_modules makes.given,
         )
 
-    arguments : AreArguments lift lower g h (length ms) 0 (cut (ls ++ l ∷ []) 0 g.adapters)
+    arguments : AreArguments lift lower clear g h (length ms) 0 (cut (ls ++ l ∷ []) 0 g.adapters)
         (makes.adapter_modules ++ (record { 0 = length ns }, adds.args) ∷ [])
     arguments =
         let heldm = (makes.keeps.ordered o).held in
         let given = given_between g m h h makes.keeps.grows (grows_refl h) heldm
-        (adds.keeps.ordered (makes.keeps.ordered o)).held (parts_of lift lower (sum_of ls) xs) adds.args
-        (parts_held g o.held lift lower (sum_of ls) xs (stand_slice (sum_of ls) l g.adapters)) adds.given in
-        subst (λ ys. AreArguments lift lower g h (length ms) 0 ys
+        (adds.keeps.ordered (makes.keeps.ordered o)).held (parts_of lift lower clear (sum_of ls) xs) adds.args
+        (parts_held g o.held lift lower clear (sum_of ls) xs (stand_slice (sum_of ls) l g.adapters)) adds.given in
+        subst (λ ys. AreArguments lift lower clear g h (length ms) 0 ys
         (makes.adapter_modules ++ (record { 0 = length ns }, adds.args) ∷ [])) (sym more)
-        (arguments_more lift lower g h (length ms) 0 gs makes.adapter_modules xs (record { 0 = length ns }) adds.args
-        (arguments_later lift lower g m h adds.keeps.grows o.held heldm (length ms) 0 gs makes.adapter_modules
+        (arguments_more lift lower clear g h (length ms) 0 gs makes.adapter_modules xs
+        (record { 0 = length ns }) adds.args
+        (arguments_later lift lower clear g m h adds.keeps.grows o.held heldm (length ms) 0 gs makes.adapter_modules
         (stand_cut ls 0 g.adapters (omega (arith, few))) makes.given)
         long_ns
-        (subst (λ k. AreGiven g h (parts_of lift lower k xs) adds.args) (sym held) given))
+        (subst (λ k. AreGiven g h (parts_of lift lower clear k xs) adds.args) (sym held) given))
 
-    places_are : places_of lift lower (length g.adapter_modules) 0 (cut (ls ++ l ∷ []) 0 g.adapters)
-        ≡ places_of lift lower (length g.adapter_modules) 0 gs ++ own (length m.adapter_modules) (sum_of ls)
+    places_are : places_of lift lower clear (length g.adapter_modules) 0 (cut (ls ++ l ∷ []) 0 g.adapters)
+        ≡ places_of lift lower clear (length g.adapter_modules) 0 gs ++ own (length m.adapter_modules) (sum_of ls)
     places_are =
-        ap (places_of lift lower (length g.adapter_modules) 0) more
-        ∙ places_more lift lower (length g.adapter_modules) 0 gs xs
-        ∙ (λ i. places_of lift lower (length g.adapter_modules) 0 gs ++ own (sym long_ams i) (held i))
+        ap (places_of lift lower clear (length g.adapter_modules) 0) more
+        ∙ places_more lift lower clear (length g.adapter_modules) 0 gs xs
+        ∙ (λ i. places_of lift lower clear (length g.adapter_modules) 0 gs ++ own (sym long_ams i) (held i))
 
     -- one module more
-    pub makes_more : Makes lift lower g h ms os (ls ++ l ∷ [])
+    pub makes_more : Makes lift lower clear g h ms os (ls ++ l ∷ [])
     makes_more = record {
       keeps = keeps_twice (sum_of ls) (length xs) (sum_of (ls ++ l ∷ [])) g m h (omega (arith, many, sum_more ls l))
           makes.keeps adds.keeps;
       modules = adds.modules
           ∙ ap (λ ys. ys ++ last (sum_of ls)) makes.modules
-          ∙ append_assoc ms (modules_of lift lower 0 gs) (last (sum_of ls))
+          ∙ append_assoc ms (modules_of lift lower clear 0 gs) (last (sum_of ls))
           ∙ ap (λ ys. ms ++ ys) (sym modules_are);
       adapter_modules = makes.adapter_modules ++ (record { 0 = length ns }, adds.args) ∷ [];
       has_modules = adds.adapter_modules
@@ -169,7 +176,7 @@ module _ (lift lower : ℕ → FunctionFacts) where
       given = arguments;
       places = adds.places
           ∙ ap (λ ys. ys ++ own (length m.adapter_modules) (sum_of ls)) makes.places
-          ∙ append_assoc g.adapter_partitionings (places_of lift lower (length g.adapter_modules) 0 gs)
+          ∙ append_assoc g.adapter_partitionings (places_of lift lower clear (length g.adapter_modules) 0 gs)
           (own (length m.adapter_modules) (sum_of ls))
           ∙ ap (λ ys. g.adapter_partitionings ++ ys) (sym places_are);
       room = not_long;

@@ -1,6 +1,6 @@
 -- How much is added at most, however it ends.
 use Rattle.std.proofs.Common.{◌≡◌, ◌≤◌, ◌<◌, ℕ, zero, suc, ◌+◌, ◌*◌, List, [], ◌∷◌, ◌++◌, length, take, get_or, refl}
-use Rattle.std.proofs.Common.{sym, ap, subst, ◌∙◌, arith, length-append}
+use Rattle.std.proofs.Common.{Bool, sym, ap, subst, ◌∙◌, arith, length-append}
 use Rattle.std.specs.Prelude.{Some, slice_get}
 use Rattle.std.proofs.lemmas.List.{length-take-le}
 use Rattle.std.proofs.lemmas.Option.{same_Some}
@@ -10,7 +10,7 @@ use Rattle.pc_dfg.specs.declared.adapter.Adapter.{Adapter}
 use Rattle.pc_dfg.specs.declared.dfg.ComponentDfg.{ComponentDfg}
 use Rattle.pc_spec_adapt.specs.Asked.{FunctionFacts}
 use Rattle.pc_adapt.specs.declared.import.Import.{Import}
-use Rattle.pc_adapt.specs.Imports.{imports_of}
+use Rattle.pc_adapt.specs.Imports.{imports_of, is_transparent}
 use Rattle.pc_adapt_define.specs.Adds.{Adds}
 use Rattle.pc_adapt_define.specs.Define.{callbacks_in, memories_in, post_returns_in, total, trampolines_in}
 use Rattle.pc_adapt_define.proofs.AddsLemmas.{adds_more, adds_none, adds_twice}
@@ -50,15 +50,15 @@ nothing_made many groups g ms = record {
 }
 
 -- the definitions for what is planned for an adapter
-pub planned_few : (b : Types) (g h : ComponentDfg) (a : ℕ) → IsKnown b g.adapters a → (y : Adapter)
-    → slice_get g.adapters a ≡ Some y → (is : List Import)
-    → ((lift lower : FunctionFacts) → HasFacts b y lift lower → is ≡ imports_of lift lower y)
+pub planned_few : (b : Types) (g h : ComponentDfg) (a : ℕ) → IsKnown b g.adapters a → (clear : Bool)
+    (y : Adapter) → slice_get g.adapters a ≡ Some y → (is : List Import)
+    → ((lift lower : FunctionFacts) → HasFacts b y lift lower → is ≡ imports_of lift lower clear y)
     → Adds (total memories_in is) (total callbacks_in is) (total post_returns_in is) (total trampolines_in is) g h
     → Adds 9 1 1 12 g h
-planned_few b g h a known y at is planned adds =
+planned_few b g h a known clear y at is planned adds =
     let same = same_Some known.adapter y (sym known.at ∙ at) in
     let facts = subst (λ k. HasFacts b k known.lift known.lower) same known.facts in
-    adds_at_most g h y known.lift known.lower
+    adds_at_most g h y known.lift known.lower clear
     (subst (λ l. Adds (total memories_in l) (total callbacks_in l) (total post_returns_in l) (total trampolines_in l)
     g h) (planned known.lift known.lower facts) adds)
 
@@ -66,11 +66,11 @@ planned_few b g h a known y at is planned adds =
 module _ (b : Types) (g m : ComponentDfg) (first k many : ℕ) (group : Group) (known : AreKnown b g.adapters)
     (few : first + many ≤ length g.adapters) (up : k ≤ many)
     (gathers : (lift lower : ℕ → FunctionFacts) → AreFacts b g.adapters lift lower
-    → Gathers g m first (parts_of lift lower first (slice first k g.adapters)) group) where
+    → Gathers g m first (parts_of lift lower (is_transparent g) first (slice first k g.adapters)) group) where
   so_many : Adds (9 * k) k k (12 * k) g m
   so_many =
       let xs = slice first k g.adapters in
-      let size = length_parts known.lift known.lower first xs
+      let size = length_parts known.lift known.lower (is_transparent g) first xs
       ∙ length_slice first k g.adapters (omega (arith, few, up)) in
       subst (λ j. Adds (9 * j) j j (12 * j) g m) size (gathers known.lift known.lower known.facts).adds
 
@@ -202,12 +202,13 @@ most_fewer many k n g h ms ns up most = record {
 }
 
 -- the modules of groups of these lengths
-pub made_most : (lift lower : ℕ → FunctionFacts) (g h : ComponentDfg) (ms ns : List ModuleTranslation) (ls : List ℕ)
-    → sum_of ls ≤ length g.adapters → Makes lift lower g h ms ns ls → AddsAtMost (sum_of ls) (length ls) g h ms ns
-made_most lift lower g h ms ns ls few makes =
+pub made_most : (lift lower : ℕ → FunctionFacts) (clear : ℕ → Bool) (g h : ComponentDfg)
+    (ms ns : List ModuleTranslation) (ls : List ℕ)
+    → sum_of ls ≤ length g.adapters → Makes lift lower clear g h ms ns ls → AddsAtMost (sum_of ls) (length ls) g h ms ns
+made_most lift lower clear g h ms ns ls few makes =
     let gs = cut ls 0 g.adapters in
     let many = length_cut ls 0 g.adapters in
-    let places = places_of lift lower (length g.adapter_modules) 0 gs in
+    let places = places_of lift lower clear (length g.adapter_modules) 0 gs in
     record {
       few_memories = makes.keeps.few_memories;
       few_callbacks = makes.keeps.few_callbacks;
@@ -217,21 +218,21 @@ made_most lift lower g h ms ns ls few makes =
         arith,
         ap length makes.has_modules,
         length-append g.adapter_modules makes.adapter_modules,
-        length_arguments lift lower g h (length ms) 0 gs makes.adapter_modules makes.given,
+        length_arguments lift lower clear g h (length ms) 0 gs makes.adapter_modules makes.given,
         many,
       );
       few_adapters = omega (
         arith,
         ap length makes.places,
         length-append g.adapter_partitionings places,
-        length_places lift lower (length g.adapter_modules) 0 gs,
+        length_places lift lower clear (length g.adapter_modules) 0 gs,
         held_cut ls 0 g.adapters (omega (arith, few)),
       );
       few_modules = omega (
         arith,
         ap length makes.modules,
-        length-append ms (modules_of lift lower 0 gs),
-        length_modules lift lower 0 gs,
+        length-append ms (modules_of lift lower clear 0 gs),
+        length_modules lift lower clear 0 gs,
         many,
       );
     }
@@ -252,13 +253,13 @@ length_front (x ∷ xs) (suc k) = let rest = length_front xs k in omega (arith, 
 module _ (b : Types) (g m : ComponentDfg) (ms ns : List ModuleTranslation) (ls : List ℕ) (k : ℕ)
     (known : AreKnown b g.adapters) (all : sum_of ls ≡ length g.adapters)
     (makes : (lift lower : ℕ → FunctionFacts) → AreFacts b g.adapters lift lower
-    → Makes lift lower g m ms ns (take k ls)) where
+    → Makes lift lower (is_transparent g) g m ms ns (take k ls)) where
   abbrev front : List ℕ
   front = take k ls
 
   so_far : AddsAtMost (sum_of front) (length front) g m ms ns
   so_far =
-      made_most known.lift known.lower g m ms ns front (omega (arith, sum_front ls k, all))
+      made_most known.lift known.lower (is_transparent g) g m ms ns front (omega (arith, sum_front ls k, all))
       (makes known.lift known.lower known.facts)
 
   pub made_front : AddsAtMost (length g.adapters) (length ls) g m ms ns

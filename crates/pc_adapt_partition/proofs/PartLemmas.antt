@@ -1,5 +1,5 @@
 -- Slices of adapters, and what is made of each: one more at the end.
-use Rattle.std.proofs.Common.{◌≡◌, ◌<◌, ◌≤◌, ℕ, zero, suc, ◌+◌, List, [], ◌∷◌, ◌++◌, length, take, drop}
+use Rattle.std.proofs.Common.{Bool, ◌≡◌, ◌<◌, ◌≤◌, ℕ, zero, suc, ◌+◌, List, [], ◌∷◌, ◌++◌, length, take, drop}
 use Rattle.std.proofs.Common.{refl, sym, ap, ◌∙◌, arith}
 use Rattle.std.specs.Prelude.{Some, None, slice_get}
 use Rattle.std.proofs.lemmas.List.{append-nil, append_assoc, get_or-drop, length-drop, length-take-le, take_more}
@@ -54,21 +54,22 @@ slice_at (suc first) l (y ∷ ys) k x at =
     let here : suc first + k ≡ suc (first + k) = omega arith in
     ap (slice_get (y ∷ ys)) here ∙ slice_at first l ys k x at
 
-module _ (lift lower : ℕ → FunctionFacts) where
+module _ (lift lower : ℕ → FunctionFacts) (clear : ℕ → Bool) where
   -- one adapter more
   pub parts_more : (n : ℕ) (xs : List Adapter) (x : Adapter)
-      → parts_of lift lower n (xs ++ x ∷ [])
-      ≡ parts_of lift lower n xs ++ (x, imports_of (lift (n + length xs)) (lower (n + length xs)) x) ∷ []
+      → parts_of lift lower clear n (xs ++ x ∷ [])
+      ≡ parts_of lift lower clear n xs
+      ++ (x, imports_of (lift (n + length xs)) (lower (n + length xs)) (clear (n + length xs)) x) ∷ []
   parts_more n [] x =
       let here : n ≡ n + 0 = omega arith in
-      ap (λ k. (x, imports_of (lift k) (lower k) x) ∷ []) here
+      ap (λ k. (x, imports_of (lift k) (lower k) (clear k) x) ∷ []) here
   parts_more n (y ∷ ys) x =
       let here : n + 1 + length ys ≡ n + suc (length ys) = omega arith in
-      ap (λ ps. (y, imports_of (lift n) (lower n) y) ∷ ps)
+      ap (λ ps. (y, imports_of (lift n) (lower n) (clear n) y) ∷ ps)
       (parts_more (n + 1) ys x
-      ∙ ap (λ k. parts_of lift lower (n + 1) ys ++ (x, imports_of (lift k) (lower k) x) ∷ []) here)
+      ∙ ap (λ k. parts_of lift lower clear (n + 1) ys ++ (x, imports_of (lift k) (lower k) (clear k) x) ∷ []) here)
 
-  pub length_parts : (n : ℕ) (xs : List Adapter) → length (parts_of lift lower n xs) ≡ length xs
+  pub length_parts : (n : ℕ) (xs : List Adapter) → length (parts_of lift lower clear n xs) ≡ length xs
   length_parts n [] = refl
   length_parts n (x ∷ xs) = ap suc (length_parts (n + 1) xs)
 

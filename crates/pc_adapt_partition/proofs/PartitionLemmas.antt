@@ -1,7 +1,9 @@
 -- The modules of all adapters of a graph: what is known of the adapters' types, and how much is added.
-use Rattle.std.proofs.Common.{◌≡◌, inl, inr, ℕ, true, List, [], length, refl, ap, subst}
+use Rattle.std.proofs.Common.{◌≡◌, ◌<◌, ◌≤◌, ◌+◌, ◌⊎◌, inl, inr, ℕ, Bool, true, All, List, [], ◌∷◌, length, refl, ap, subst}
 use Rattle.std.proofs.Common.{arith, length-append}
 use Rattle.std.specs.Prelude.{Some, slice_get}
+use Rattle.std.proofs.lemmas.Bool.{cases_lt}
+use Rattle.std.proofs.lemmas.List.Elements.{All-cons, All-nil}
 use Rattle.pc_numbers.specs.declared.runtime.ResourceIndex.{ResourceIndex}
 use Rattle.pc_types.specs.TypeTree.{Identity, TypeTree}
 use Rattle.pc_types_lists.specs.Types.{Types}
@@ -16,21 +18,45 @@ use Rattle.pc_dfg_linearize.specs.Grouped.{IsGrouped}
 use Rattle.pc_dfg_linearize.specs.Wired.{IsWired, IsWiredModule, Occurs}
 use Rattle.pc_spec_adapt.specs.Asked.{FunctionFacts}
 use Rattle.pc_adapt.specs.Asked.{AreTyped, HoldTypes}
+use Rattle.pc_adapt.specs.Imports.{is_transparent}
 use Rattle.pc_adapt_define.specs.Define.{HasNoRoom, is_taken}
 use Rattle.pc_adapt_groups.specs.Needs.{Needs}
 use Rattle.pc_adapt_partition.specs.Facts.{AreFacts, AreKnown, HasFacts, HaveTrees, IsKnown}
-use Rattle.pc_adapt_partition.specs.Made.{AddsFew, AreModulesApart, IsPast, Keeps, Makes, cut, of_callbacks}
+use Rattle.pc_adapt_partition.specs.Made.{AddsFew, AddsShort, AreModulesApart, HasLong, IsPast, Keeps, Makes, cut}
+use Rattle.pc_adapt_partition.specs.Made.{of_callbacks}
 use Rattle.pc_adapt_partition.specs.Made.{of_memories}
 use Rattle.pc_adapt_partition.specs.Made.{of_post_returns, of_trampolines, sum_of}
-use Rattle.pc_adapt_partition.specs.Parts.{modules_of}
+use Rattle.pc_adapt_partition.specs.Parts.{entities_of, module_for, modules_of, parts_of, total_imports}
 use Rattle.pc_adapt_partition.specs.Partitions.{Partitions, facts_by}
 use Rattle.pc_adapt_partition.specs.Wired.{LiftFunctions}
 use Rattle.pc_adapt_partition.proofs.ApartLemmas.{are_apart}
+use Rattle.pc_adapt_partition.proofs.CountLemmas.{all_long}
 use Rattle.pc_adapt_partition.proofs.CutLemmas.{length_arguments, length_cut, length_modules}
 use Rattle.pc_adapt_partition.proofs.PlaceLemmas.{all_placed, is_grouped}
 use Rattle.pc_adapt_partition.proofs.SplitLemmas.{all_lengths, few_lengths, lengths_some}
 use Rattle.pc_adapt_partition.proofs.ToldLemmas.{told_after}
 use Rattle.pc_adapt_partition.proofs.WiredLemmas.{occurs_before, wired_after}
+
+-- where no group has too many imports, its module imports no more
+none_long : (lift lower : ℕ → FunctionFacts) (transparent : ℕ → Bool) (n : ℕ) (groups : List (List Adapter))
+    → (HasLong lift lower transparent n groups → ⊥)
+    → All (λ (m : ModuleTranslation). length m.«module».imports ≤ 4294967294)
+    (modules_of lift lower transparent n groups)
+none_long lift lower transparent n [] none = All-nil (λ (m : ModuleTranslation). length m.«module».imports ≤ 4294967294)
+none_long lift lower transparent n (xs ∷ groups) none =
+    let ps = parts_of lift lower transparent n xs in
+    All-cons (λ (m : ModuleTranslation). length m.«module».imports ≤ 4294967294) (module_for n ps)
+    (modules_of lift lower transparent (n + length xs) groups)
+    (by (cases_lt 4294967294 (total_imports ps)) (all_long lift lower transparent n xs))
+    (none_long lift lower transparent (n + length xs) groups (λ long. none (inr long)))
+  where
+    by : (4294967294 < total_imports (parts_of lift lower transparent n xs))
+        ⊎ (total_imports (parts_of lift lower transparent n xs) ≤ 4294967294)
+        → length (entities_of n (parts_of lift lower transparent n xs))
+        ≡ total_imports (parts_of lift lower transparent n xs)
+        → length (entities_of n (parts_of lift lower transparent n xs)) ≤ 4294967294
+    by (inl long) as_long = absurd (none (inl long))
+    by (inr short) as_long = omega (arith, short, as_long)
 
 -- types with trees have facts
 pub facts_from : (b : Types) (who : ResourceIndex → Identity) (g : ComponentDfg) (lift lower : ℕ → TypeTree)
@@ -81,7 +107,7 @@ past_slots g ms (inr (inr full)) = of_trampolines (omega (arith, full))
 module _ (lift lower : ℕ → FunctionFacts) (g h : ComponentDfg) (ms ns : List ModuleTranslation) (o : IsOrdered g)
     (no_modules : g.adapter_modules ≡ []) (ungrouped : g.adapter_partitionings ≡ [])
     (parts : Partitions lift lower g h ms ns) where
-  abbrev makes : Makes lift lower g h ms ns parts.lengths
+  abbrev makes : Makes lift lower (is_transparent g) g h ms ns parts.lengths
   makes = parts.makes
 
   pub keeps_all : Keeps (length g.adapters) g h
@@ -92,7 +118,15 @@ module _ (lift lower : ℕ → FunctionFacts) (g h : ComponentDfg) (ms ns : List
   ordered_after = makes.keeps.ordered o
 
   pub grouped_after : IsGrouped h
-  grouped_after = is_grouped lift lower g h ms ns parts.lengths o no_modules ungrouped parts.fewest makes
+  grouped_after =
+      is_grouped lift lower (is_transparent g) g h ms ns parts.lengths o no_modules ungrouped parts.fewest makes
+
+  pub adds_short : AddsShort ms ns
+  adds_short = record {
+    added = modules_of lift lower (is_transparent g) 0 (cut parts.lengths 0 g.adapters);
+    modules = makes.modules;
+    short = none_long lift lower (is_transparent g) 0 (cut parts.lengths 0 g.adapters) makes.room;
+  }
 
   pub adds_few : AddsFew (length g.adapters) ms ns h
   adds_few =
@@ -103,8 +137,8 @@ module _ (lift lower : ℕ → FunctionFacts) (g h : ComponentDfg) (ms ns : List
         few_modules = omega (
           arith,
           ap length makes.modules,
-          length-append ms (modules_of lift lower 0 gs),
-          length_modules lift lower 0 gs,
+          length-append ms (modules_of lift lower (is_transparent g) 0 gs),
+          length_modules lift lower (is_transparent g) 0 gs,
           many,
           few,
         );
@@ -113,11 +147,12 @@ module _ (lift lower : ℕ → FunctionFacts) (g h : ComponentDfg) (ms ns : List
           ap length makes.has_modules,
           length-append g.adapter_modules makes.adapter_modules,
           ap length no_modules,
-          length_arguments lift lower g h (length ms) 0 gs makes.adapter_modules makes.given,
+          length_arguments lift lower (is_transparent g) g h (length ms) 0 gs makes.adapter_modules makes.given,
           many,
           few,
         );
-        all_adapters = all_placed lift lower g h ms ns parts.lengths o no_modules ungrouped parts.fewest makes;
+        all_adapters = all_placed lift lower
+            (is_transparent g) g h ms ns parts.lengths o no_modules ungrouped parts.fewest makes;
       }
 
   -- what is told stays told
@@ -126,12 +161,12 @@ module _ (lift lower : ℕ → FunctionFacts) (g h : ComponentDfg) (ms ns : List
 
   -- modules and places of adapters are apart
   pub apart_all : AreModulesApart h
-  apart_all = are_apart lift lower g h ms ns parts.lengths no_modules ungrouped makes
+  apart_all = are_apart lift lower (is_transparent g) g h ms ns parts.lengths no_modules ungrouped makes
 
   -- what is taken from what there is was taken before
   pub occurs_all : (d : CoreDef) → is_taken d ≡ true → Occurs h d → Occurs g d
   occurs_all d taken occurs =
-      occurs_before lift lower g h ms ns parts.lengths
+      occurs_before lift lower (is_transparent g) g h ms ns parts.lengths
       (all_lengths (Needs g) (length g.adapters) parts.lengths parts.fewest)
       (lengths_some (Needs g) (length g.adapters) parts.lengths parts.fewest) no_modules makes taken occurs
 
@@ -140,6 +175,6 @@ module _ (lift lower : ℕ → FunctionFacts) (g h : ComponentDfg) (ms ns : List
       → ((m : ℕ) (x : StaticModuleIndex × List CoreDef) → slice_get h.adapter_modules m ≡ Some x
       → IsWiredModule h ns m x) → IsWired h ns
   wired_all lifts wired modules =
-      wired_after lift lower g h ms ns parts.lengths
+      wired_after lift lower (is_transparent g) g h ms ns parts.lengths
       (all_lengths (Needs g) (length g.adapters) parts.lengths parts.fewest)
       (lengths_some (Needs g) (length g.adapters) parts.lengths parts.fewest) no_modules makes lifts wired modules

@@ -1,5 +1,6 @@
 -- Modules that are made for the runs of a split, as `pc_adapt_modules` has them.
-use Rattle.std.proofs.Common.{◌≡◌, ◌<◌, ◌≤◌, inl, inr, ℕ, zero, suc, ◌+◌, ◌-◌, List, [], ◌∷◌, ◌++◌, length, refl, sym}
+use Rattle.std.proofs.Common.{Bool, ◌≡◌, ◌<◌, ◌≤◌, inl, inr, ℕ, zero, suc, ◌+◌, ◌-◌, List, [], ◌∷◌, ◌++◌, length, refl}
+use Rattle.std.proofs.Common.{sym}
 use Rattle.std.proofs.Common.{ap, subst, ◌∙◌, arith, length-append}
 use Rattle.std.specs.Prelude.{Some, None, slice_get}
 use Rattle.std.specs.List.{range_with_len}
@@ -64,29 +65,29 @@ length_functions m f (suc k) = ap suc (length_functions m (f + 1) k)
 has_later : (run : List ℕ) (runs : List (List ℕ)) (r a : ℕ) → HasAt runs r a → HasAt (run ∷ runs) (suc r) a
 has_later run runs r a has = has
 
-module _ (lift lower : ℕ → FunctionFacts) where
-  pub length_places : (m n : ℕ) (gs : List (List Adapter)) → length (places_of lift lower m n gs) ≡ held_in gs
+module _ (lift lower : ℕ → FunctionFacts) (clear : ℕ → Bool) where
+  pub length_places : (m n : ℕ) (gs : List (List Adapter)) → length (places_of lift lower clear m n gs) ≡ held_in gs
   length_places m n [] = refl
   length_places m n (xs ∷ gs) =
-      let f = functions_in n (parts_of lift lower n xs) in
+      let f = functions_in n (parts_of lift lower clear n xs) in
       omega (
         arith,
-        length-append (functions_from m f (length xs)) (places_of lift lower (m + 1) (n + length xs) gs),
+        length-append (functions_from m f (length xs)) (places_of lift lower clear (m + 1) (n + length xs) gs),
         length_functions m f (length xs),
         length_places (m + 1) (n + length xs) gs,
       )
 
   -- an adapter is in the module of its run
   placed : (m n : ℕ) (ls : List ℕ) (all : List Adapter) (a : ℕ) (p : AdapterModuleId × EntityIndex)
-      → n + sum_of ls ≤ length all → slice_get (places_of lift lower m n (cut ls n all)) a ≡ Some p
+      → n + sum_of ls ≤ length all → slice_get (places_of lift lower clear m n (cut ls n all)) a ≡ Some p
       → (r : ℕ) × (p.0.0 ≡ m + r) × HasAt (runs_from n ls) r (n + a)
   placed m n [] all a p few at = absurd (no_item p at)
   placed m n (l ∷ ls) all a p few at =
       let xs = slice n l all in
       let long = length_slice n l all (omega (arith, few)) in
-      let f = functions_in n (parts_of lift lower n xs) in
+      let f = functions_in n (parts_of lift lower clear n xs) in
       let own = functions_from m f (length xs) in
-      let rest = places_of lift lower (m + 1) (n + length xs) (cut ls (n + l) all) in
+      let rest = places_of lift lower clear (m + 1) (n + length xs) (cut ls (n + l) all) in
       let size = length_functions m f (length xs) in
       elim (cases_lt a (length own))
       as (λ _. (r : ℕ) × (p.0.0 ≡ m + r) × HasAt (runs_from n (l ∷ ls)) r (n + a)) [
@@ -99,8 +100,8 @@ module _ (lift lower : ℕ → FunctionFacts) where
         | inr behind ↦
             let b = a - length own in
             let place : length own + b ≡ a = omega (arith, behind) in
-            let there : slice_get (places_of lift lower (m + 1) (n + l) (cut ls (n + l) all)) b ≡ Some p =
-            subst (λ k. slice_get (places_of lift lower (m + 1) (n + k) (cut ls (n + l) all)) b ≡ Some p) long
+            let there : slice_get (places_of lift lower clear (m + 1) (n + l) (cut ls (n + l) all)) b ≡ Some p =
+            subst (λ k. slice_get (places_of lift lower clear (m + 1) (n + k) (cut ls (n + l) all)) b ≡ Some p) long
             (sym (get_right own rest b) ∙ ap (slice_get (own ++ rest)) place ∙ at) in
             let found = placed (m + 1) (n + l) ls all b p (omega (arith, few)) there in
             let number : n + l + b ≡ n + a = omega (arith, place, size, long) in (
@@ -114,7 +115,7 @@ module _ (lift lower : ℕ → FunctionFacts) where
   -- what a module is given names nothing that no adapter of its run names
   named : (g h : ComponentDfg) → AreHeld g → (s n : ℕ) (ls : List ℕ) (ams : List (StaticModuleIndex × List CoreDef))
       (r : ℕ) (x : StaticModuleIndex × List CoreDef) (y : Thing) → n + sum_of ls ≤ length g.adapters
-      → AreArguments lift lower g h s n (cut ls n g.adapters) ams → slice_get ams r ≡ Some x → OneNames h x.1 y
+      → AreArguments lift lower clear g h s n (cut ls n g.adapters) ams → slice_get ams r ≡ Some x → OneNames h x.1 y
       → (c : ℕ) × (z : Adapter) × HasAt (runs_from n ls) r c × (slice_get g.adapters c ≡ Some z)
       × OneNames g (in_adapter z) y
   named g h held s n [] [] r x y few are at names = absurd (no_item x at)
@@ -123,7 +124,7 @@ module _ (lift lower : ℕ → FunctionFacts) where
   named g h held s n (l ∷ ls) (a ∷ ams) zero x y few are at names =
       let xs = slice n l g.adapters in
       let same = same_item at in
-      let found = given_names g h held lift lower n xs a.1 y are.1
+      let found = given_names g h held lift lower clear n xs a.1 y are.1
       (subst (λ z. OneNames h z.1 y) (sym same) names) in
       let long = length_slice n l g.adapters (omega (arith, few)) in
       let below = slice_get_within xs found.0 found.1 found.2 in (
@@ -135,7 +136,8 @@ module _ (lift lower : ℕ → FunctionFacts) where
       )
   named g h held s n (l ∷ ls) (a ∷ ams) (suc r) x y few are at names =
       let long = length_slice n l g.adapters (omega (arith, few)) in
-      let rest = subst (λ k. AreArguments lift lower g h (s + 1) (n + k) (cut ls (n + l) g.adapters) ams) long are.2 in
+      let rest = subst (λ k. AreArguments lift lower clear g h (s + 1) (n + k)
+      (cut ls (n + l) g.adapters) ams) long are.2 in
       let found = named g h held (s + 1) (n + l) ls ams r x y (omega (arith, few)) rest at names in (
         found.0,
         found.1,
@@ -146,17 +148,18 @@ module _ (lift lower : ℕ → FunctionFacts) where
 
   module _ (g h : ComponentDfg) (ms ns : List ModuleTranslation) (ls : List ℕ) (o : IsOrdered g)
       (no_modules : g.adapter_modules ≡ []) (ungrouped : g.adapter_partitionings ≡ [])
-      (fewest : IsFewest (Needs g) (length g.adapters) (runs_from 0 ls)) (makes : Makes lift lower g h ms ns ls) where
+      (fewest : IsFewest (Needs g) (length g.adapters) (runs_from 0 ls))
+      (makes : Makes lift lower clear g h ms ns ls) where
     all : sum_of ls ≡ length g.adapters
     all = all_lengths (Needs g) (length g.adapters) ls fewest
 
     few : 0 + sum_of ls ≤ length g.adapters
     few = omega (arith, all)
 
-    places_are : h.adapter_partitionings ≡ places_of lift lower 0 0 (cut ls 0 g.adapters)
+    places_are : h.adapter_partitionings ≡ places_of lift lower clear 0 0 (cut ls 0 g.adapters)
     places_are =
         makes.places
-        ∙ (λ i. ungrouped i ++ places_of lift lower (length (no_modules i)) 0 (cut ls 0 g.adapters))
+        ∙ (λ i. ungrouped i ++ places_of lift lower clear (length (no_modules i)) 0 (cut ls 0 g.adapters))
 
     modules_are : h.adapter_modules ≡ makes.adapter_modules
     modules_are = makes.has_modules ∙ ap (λ xs. xs ++ makes.adapter_modules) no_modules

@@ -1,5 +1,5 @@
 -- What is said of the adapters of a module, over the values of its arguments.
-use Rattle.std.proofs.Common.{◌≡◌, ◌<◌, ◌≤◌, ◌&&◌, ◌||◌, ℕ, zero, suc, ◌+◌, Bool, true, false, List, [], ◌∷◌, ◌++◌}
+use Rattle.std.proofs.Common.{◌≡◌, ◌<◌, ◌≤◌, ◌&&◌, ◌||◌, ℕ, zero, suc, ◌+◌, Bool, true, List, [], ◌∷◌, ◌++◌}
 use Rattle.std.proofs.Common.{length, map, Some, refl, sym, ap, subst, ◌∙◌, arith, length-append, eq-eqb}
 use Rattle.std.proofs.Common.{ne_eqb, lt-ltb}
 use Rattle.std.specs.Prelude.{slice_get, if◌then◌else◌}
@@ -31,6 +31,7 @@ use Rattle.pc_adapt_partition.proofs.RecordLemmas.{values_more}
 pub record IsAdapter (x : Member Mark) : Type 0 where
   pub lift_facts : FunctionFacts
   pub lower_facts : FunctionFacts
+  pub clear : Bool
   pub lift_wide : Bool
   pub lower_wide : Bool
   pub lift_type : Mark
@@ -39,7 +40,7 @@ pub record IsAdapter (x : Member Mark) : Type 0 where
   pub lower : Options Mark
   pub callee : CoreValue Mark
   pub is : x.adapter ≡ value.adapter lift_type lift lower_type lower callee
-  pub imports : x.imports ≡ planned lift_facts lower_facts false lift_wide lower_wide x.adapter
+  pub imports : x.imports ≡ planned lift_facts lower_facts clear lift_wide lower_wide x.adapter
 
 -- so are all members
 abbrev pub AreAllAdapters : List (Member Mark) → Type 0
@@ -113,9 +114,9 @@ is_said : (s f first : ℕ) (x : Member Mark) → IsAdapter x → IsSaid s f fir
 is_said s f first x a =
     let long : 3 + side_taken a.lift + side_taken a.lower ≤ length x.imports =
     subst (λ n. 3 + side_taken a.lift + side_taken a.lower ≤ n)
-    (ap (λ v. length (planned a.lift_facts a.lower_facts false a.lift_wide a.lower_wide v)) (sym a.is)
+    (ap (λ v. length (planned a.lift_facts a.lower_facts a.clear a.lift_wide a.lower_wide v)) (sym a.is)
     ∙ ap length (sym a.imports))
-    (planned_long a.lift_facts a.lower_facts false a.lift_wide a.lower_wide a.lift_type a.lift a.lower_type a.lower
+    (planned_long a.lift_facts a.lower_facts a.clear a.lift_wide a.lower_wide a.lift_type a.lift a.lower_type a.lower
     a.callee) in
     record {
       said = record {

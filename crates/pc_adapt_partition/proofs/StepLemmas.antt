@@ -1,6 +1,6 @@
 -- One step of each loop, and what is left of each call.
 use Rattle.std.proofs.Common.{◌≡◌, ◌<◌, ◌≤◌, ℕ, zero, suc, ◌+◌, ◌-◌, List, [], ◌∷◌, ◌++◌, length, take, drop}
-use Rattle.std.proofs.Common.{get_or, All, Ok, Err, sym, ap, subst, ◌∙◌, arith}
+use Rattle.std.proofs.Common.{Bool, get_or, All, Ok, Err, sym, ap, subst, ◌∙◌, arith}
 use Rattle.std.specs.Prelude.{Some, slice_get, count_by, OnOk}
 use Rattle.std.specs.declared.result.Result.{Result}
 use Rattle.std.proofs.lemmas.List.{append_assoc, length-take-le, take-append-drop, take-take, take_more}
@@ -26,7 +26,7 @@ use Rattle.pc_dfg.specs.Ordered.{IsOrdered}
 use Rattle.pc_dfg.proofs.GrowLemmas.{grows_trans}
 use Rattle.pc_spec_adapt.specs.Asked.{FunctionFacts}
 use Rattle.pc_adapt.specs.declared.import.Import.{Import}
-use Rattle.pc_adapt.specs.Imports.{imports_of}
+use Rattle.pc_adapt.specs.Imports.{imports_of, is_transparent}
 use Rattle.pc_adapt.specs.Places.{side_count}
 use Rattle.pc_adapt_define.specs.Define.{AreDefined}
 use Rattle.pc_adapt_define.proofs.OwnLemmas.{imports_held}
@@ -41,7 +41,7 @@ use Rattle.pc_adapt_partition.proofs.CountLemmas.{imports_long}
 use Rattle.pc_adapt_partition.proofs.CutLemmas.{long_at, stand_slice, sum_more, sum_step}
 use Rattle.pc_adapt_partition.proofs.GatherLemmas.{gathers_more}
 use Rattle.pc_adapt_partition.proofs.GivenLemmas.{HeldImports, parts_held}
-use Rattle.pc_adapt_partition.proofs.MakeLemmas.{makes_more, same_adapters}
+use Rattle.pc_adapt_partition.proofs.MakeLemmas.{makes_more, same_adapters, same_transparent}
 use Rattle.pc_adapt_partition.proofs.PartitionLemmas.{facts_one, known_one}
 use Rattle.pc_adapt_partition.proofs.PartLemmas.{length_parts, length_slice, parts_more, slice_step, total_more}
 
@@ -149,35 +149,41 @@ closes_from g m h ms ns first many group r rs f t core am ris fis rsis tis nsis 
     }
 
 -- the places of what an adapter holds are numbers
-pub note_room : (b : Types) (xs : List Adapter) (a : ℕ) → IsKnown b xs a → (y z : Adapter) → slice_get xs a ≡ Some y
+pub note_room : (b : Types) (xs : List Adapter) (a : ℕ) → IsKnown b xs a → (clear : Bool) (y z : Adapter)
+    → slice_get xs a ≡ Some y
     → slice_get xs a ≡ Some z → (is : List Import)
-    → ((lift lower : FunctionFacts) → HasFacts b y lift lower → is ≡ imports_of lift lower y) → (old many : ℕ)
+    → ((lift lower : FunctionFacts) → HasFacts b y lift lower → is ≡ imports_of lift lower clear y) → (old many : ℕ)
     → many ≡ length is → many ≤ 4294967294 - old → old ≤ 4294967294
     → old + 3 + side_count z.lift_options + side_count z.lower_options < 4294967296
-note_room b xs a known y z aty atz is planned old many size few room =
+note_room b xs a known clear y z aty atz is planned old many size few room =
     let x = known.adapter in
     let samey = same_Some x y (sym known.at ∙ aty) in
     let samez = same_Some x z (sym known.at ∙ atz) in
     let facts = subst (λ k. HasFacts b k known.lift known.lower) samey known.facts in
     let long = ap length (planned known.lift known.lower facts) in
     let most = subst (λ k. 3 + side_count k.lift_options + side_count k.lower_options
-    ≤ length (imports_of known.lift known.lower y)) (sym samey ∙ samez) (imports_long known.lift known.lower y) in
+    ≤ length (imports_of known.lift known.lower clear y)) (sym samey ∙ samez)
+    (imports_long known.lift known.lower clear y) in
     omega (arith, most, long, size, few, room)
 
 -- what was noted and defined for an adapter adds it
-pub puts_from : (b : Types) (g h : ComponentDfg) (a : ℕ) (y z w x : Adapter) → slice_get g.adapters a ≡ Some y
-    → slice_get g.adapters a ≡ Some z → slice_get g.adapters a ≡ Some w → slice_get g.adapters a ≡ Some x
-    → (is : List Import) → ((lift lower : FunctionFacts) → HasFacts b y lift lower → is ≡ imports_of lift lower y)
+pub puts_from : (b : Types) (g h : ComponentDfg) (a : ℕ) (clear : Bool) → clear ≡ is_transparent g a
+    → (y z w x : Adapter)
+    → slice_get g.adapters a ≡ Some y → slice_get g.adapters a ≡ Some z → slice_get g.adapters a ≡ Some w
+    → slice_get g.adapters a ≡ Some x → (is : List Import)
+    → ((lift lower : FunctionFacts) → HasFacts b y lift lower → is ≡ imports_of lift lower clear y)
     → (old mid : Group) (args : List CoreDef) (many : ℕ) → many ≡ length is → mid ≡ noted old a z many
     → length old.args + length is ≤ 4294967294 → AreDefined g h w.lower_options.core_type is mid.args args
     → (lift lower : FunctionFacts) → HasFacts b x lift lower
-    → Puts g h a x (imports_of lift lower x) old (record mid { args = args })
-puts_from b g h a y z w x aty atz atw atx is planned old mid args many size noted_is room defined lift lower facts =
+    → Puts g h a x (imports_of lift lower (is_transparent g a) x) old (record mid { args = args })
+puts_from b g h a clear told y z w x aty atz atw atx is planned old mid args many size noted_is room defined lift lower
+    facts =
     let samey = same_Some y x (sym aty ∙ atx) in
     let samez = same_Some z x (sym atz ∙ atx) in
     let samew = same_Some w x (sym atw ∙ atx) in
     let here = planned lift lower (subst (λ k. HasFacts b k lift lower) (sym samey) facts)
-    ∙ ap (imports_of lift lower) samey in
+    ∙ ap (imports_of lift lower clear) samey
+    ∙ ap (λ t. imports_of lift lower t x) told in
     let before : mid.args ≡ old.args = ap (λ (q : Group). q.args) noted_is in
     record {
       defined = subst (λ js. AreDefined g h x.lower_options.core_type js old.args args) here
@@ -190,14 +196,14 @@ puts_from b g h a y z w x aty atz atw atx is planned old mid args many size note
     }
 
 -- what is imported for an adapter is held
-pub planned_held : (b : Types) (g : ComponentDfg) → AreHeld g → (a : ℕ) → IsKnown b g.adapters a → (y : Adapter)
-    → slice_get g.adapters a ≡ Some y → (is : List Import)
-    → ((lift lower : FunctionFacts) → HasFacts b y lift lower → is ≡ imports_of lift lower y) → HeldImports g is
-planned_held b g held a known y at is planned =
+pub planned_held : (b : Types) (g : ComponentDfg) → AreHeld g → (a : ℕ) → IsKnown b g.adapters a → (clear : Bool)
+    (y : Adapter) → slice_get g.adapters a ≡ Some y → (is : List Import)
+    → ((lift lower : FunctionFacts) → HasFacts b y lift lower → is ≡ imports_of lift lower clear y) → HeldImports g is
+planned_held b g held a known clear y at is planned =
     let same = same_Some known.adapter y (sym known.at ∙ at) in
     let facts = subst (λ k. HasFacts b k known.lift known.lower) same known.facts in
     subst (HeldImports g) (sym (planned known.lift known.lower facts))
-    (imports_held g a y known.lift known.lower held at)
+    (imports_held g a y known.lift known.lower clear held at)
 
 -- the next adapter is known
 pub known_next : (b : Types) (xs ys : List Adapter) (n : ℕ) → AreKnown b xs → n < length xs → ys ≡ xs
@@ -209,38 +215,42 @@ known_next b xs ys n known below same =
 -- the next adapter is gathered
 pub gather_step : (b : Types) (lift lower : ℕ → FunctionFacts) (g m h : ComponentDfg) (first k : ℕ) (old new : Group)
     → IsOrdered g → AreFacts b g.adapters lift lower → first + k < length g.adapters
-    → Gathers g m first (parts_of lift lower first (slice first k g.adapters)) old
+    → Gathers g m first (parts_of lift lower (is_transparent g) first (slice first k g.adapters)) old
     → ((x : Adapter) (l r : FunctionFacts) → slice_get m.adapters (first + k) ≡ Some x → HasFacts b x l r
-    → Puts m h (first + k) x (imports_of l r x) old new)
-    → Gathers g h first (parts_of lift lower first (slice first (k + 1) g.adapters)) new
+    → Puts m h (first + k) x (imports_of l r (is_transparent m (first + k)) x) old new)
+    → Gathers g h first (parts_of lift lower (is_transparent g) first (slice first (k + 1) g.adapters)) new
 gather_step b lift lower g m h first k old new o facts below gathers puts =
     let xs = slice first k g.adapters in
-    let ps = parts_of lift lower first xs in
+    let ps = parts_of lift lower (is_transparent g) first xs in
     let long : length xs ≡ k = length_slice first k g.adapters (omega (arith, below)) in
-    let size : length ps ≡ k = length_parts lift lower first xs ∙ long in
+    let size : length ps ≡ k = length_parts lift lower (is_transparent g) first xs ∙ long in
     let found = found_at g.adapters (first + k) below in
     let x = found.0 in
     let n = first + k in
     let same = ap (λ (i : ComponentDfg). i.adapters) gathers.adds.rest in
-    let one = puts x (lift n) (lower n) (ap (λ zs. slice_get zs n) same ∙ found.1)
-    (facts_one b g.adapters lift lower n x facts found.1) in
+    let kept = ap (λ (i : ComponentDfg). is_transparent i n) gathers.adds.rest in
+    let one = subst (λ c. Puts m h n x (imports_of (lift n) (lower n) c x) old new) kept
+    (puts x (lift n) (lower n) (ap (λ zs. slice_get zs n) same ∙ found.1)
+    (facts_one b g.adapters lift lower n x facts found.1)) in
     let number : n ≡ first + length ps = omega (arith, size) in
     let place : n ≡ first + length xs = omega (arith, long) in
-    let whole : parts_of lift lower first (slice first (k + 1) g.adapters)
-    ≡ ps ++ (x, imports_of (lift n) (lower n) x) ∷ [] =
-    ap (parts_of lift lower first) (slice_step first k g.adapters x found.1)
-    ∙ parts_more lift lower first xs x
-    ∙ ap (λ j. ps ++ (x, imports_of (lift j) (lower j) x) ∷ []) (sym place) in
+    let whole : parts_of lift lower (is_transparent g) first (slice first (k + 1) g.adapters)
+    ≡ ps ++ (x, imports_of (lift n) (lower n) (is_transparent g n) x) ∷ [] =
+    ap (parts_of lift lower (is_transparent g) first) (slice_step first k g.adapters x found.1)
+    ∙ parts_more lift lower (is_transparent g) first xs x
+    ∙ ap (λ j. ps ++ (x, imports_of (lift j) (lower j) (is_transparent g j) x) ∷ []) (sym place) in
     subst (λ qs. Gathers g h first qs new) (sym whole)
-    (gathers_more g m h first ps x (lift n) (lower n) old new o
-    (parts_held g o.held lift lower first xs (stand_slice first k g.adapters))
+    (gathers_more g m h first ps x (lift n) (lower n) (is_transparent g n) old new o
+    (parts_held g o.held lift lower (is_transparent g) first xs (stand_slice first k g.adapters))
     (ap (slice_get g.adapters) (sym number) ∙ found.1) gathers
-    (subst (λ j. Puts m h j x (imports_of (lift n) (lower n) x) old new) number one))
+    (subst (λ j. Puts m h j x (imports_of (lift n) (lower n) (is_transparent g n) x) old new) number one))
 
-total_front : (lift lower : ℕ → FunctionFacts) (n : ℕ) (xs ys : List Adapter)
-    → total_imports (parts_of lift lower n xs) ≤ total_imports (parts_of lift lower n (xs ++ ys))
-total_front lift lower n [] ys = omega arith
-total_front lift lower n (x ∷ xs) ys = let rest = total_front lift lower (n + 1) xs ys in omega (arith, rest)
+total_front : (lift lower : ℕ → FunctionFacts) (clear : ℕ → Bool) (n : ℕ) (xs ys : List Adapter)
+    → total_imports (parts_of lift lower clear n xs) ≤ total_imports (parts_of lift lower clear n (xs ++ ys))
+total_front lift lower clear n [] ys = omega arith
+total_front lift lower clear n (x ∷ xs) ys =
+    let rest = total_front lift lower clear (n + 1) xs ys in
+    omega (arith, rest)
 
 slice_more : (first k l : ℕ) (xs : List Adapter) → k ≤ l
     → slice first l xs ≡ slice first k xs ++ drop k (slice first l xs)
@@ -251,30 +261,32 @@ slice_more first k l xs few =
 -- where one adapter more is too many, the group is too long
 pub gather_full : (b : Types) (lift lower : ℕ → FunctionFacts) (g m : ComponentDfg) (first k many : ℕ) (old : Group)
     → AreFacts b g.adapters lift lower → first + many ≤ length g.adapters → k < many
-    → Gathers g m first (parts_of lift lower first (slice first k g.adapters)) old
+    → Gathers g m first (parts_of lift lower (is_transparent g) first (slice first k g.adapters)) old
     → ((x : Adapter) (l r : FunctionFacts) → slice_get m.adapters (first + k) ≡ Some x → HasFacts b x l r
-    → 4294967294 < length old.args + length (imports_of l r x))
-    → 4294967294 < total_imports (parts_of lift lower first (slice first many g.adapters))
+    → 4294967294 < length old.args + length (imports_of l r (is_transparent m (first + k)) x))
+    → 4294967294 < total_imports (parts_of lift lower (is_transparent g) first (slice first many g.adapters))
 gather_full b lift lower g m first k many old facts few below gathers full =
     let n = first + k in
     let inside : n < length g.adapters = omega (arith, few, below) in
     let found = found_at g.adapters n inside in
     let x = found.0 in
     let xs = slice first k g.adapters in
-    let p : Part = (x, imports_of (lift n) (lower n) x) in
-    let ps = parts_of lift lower first xs in
+    let p : Part = (x, imports_of (lift n) (lower n) (is_transparent g n) x) in
+    let ps = parts_of lift lower (is_transparent g) first xs in
     let long : length xs ≡ k = length_slice first k g.adapters (omega (arith, inside)) in
     let place : first + length xs ≡ n = omega (arith, long) in
     let same = ap (λ (i : ComponentDfg). i.adapters) gathers.adds.rest in
-    let over = full x (lift n) (lower n) (ap (λ zs. slice_get zs n) same ∙ found.1)
-    (facts_one b g.adapters lift lower n x facts found.1) in
+    let kept = ap (λ (i : ComponentDfg). is_transparent i n) gathers.adds.rest in
+    let over = subst (λ c. 4294967294 < length old.args + length (imports_of (lift n) (lower n) c x)) kept
+    (full x (lift n) (lower n) (ap (λ zs. slice_get zs n) same ∙ found.1)
+    (facts_one b g.adapters lift lower n x facts found.1)) in
     let next = slice first (k + 1) g.adapters in
-    let whole : parts_of lift lower first next ≡ ps ++ p ∷ [] =
-    ap (parts_of lift lower first) (slice_step first k g.adapters x found.1)
-    ∙ parts_more lift lower first xs x
-    ∙ ap (λ j. ps ++ (x, imports_of (lift j) (lower j) x) ∷ []) place in
+    let whole : parts_of lift lower (is_transparent g) first next ≡ ps ++ p ∷ [] =
+    ap (parts_of lift lower (is_transparent g) first) (slice_step first k g.adapters x found.1)
+    ∙ parts_more lift lower (is_transparent g) first xs x
+    ∙ ap (λ j. ps ++ (x, imports_of (lift j) (lower j) (is_transparent g j) x) ∷ []) place in
     let rest = drop (k + 1) (slice first many g.adapters) in
-    let all = ap (λ zs. total_imports (parts_of lift lower first zs))
+    let all = ap (λ zs. total_imports (parts_of lift lower (is_transparent g) first zs))
     (slice_more first (k + 1) many g.adapters (omega (arith, below))) in
     omega (
       arith,
@@ -282,7 +294,7 @@ gather_full b lift lower g m first k many old facts few below gathers full =
       gathers.many,
       ap total_imports whole,
       total_more ps p,
-      total_front lift lower first next rest,
+      total_front lift lower (is_transparent g) first next rest,
       all,
     )
 
@@ -290,64 +302,75 @@ gather_full b lift lower g m first k many old facts few below gathers full =
 module _ (b : Types) (g m : ComponentDfg) (first many : ℕ) (group : Group) (known : AreKnown b g.adapters)
     (few : first + many ≤ length g.adapters)
     (gathers : (lift lower : ℕ → FunctionFacts) → AreFacts b g.adapters lift lower
-    → Gathers g m first (parts_of lift lower first (slice first many g.adapters)) group) where
+    → Gathers g m first (parts_of lift lower (is_transparent g) first (slice first many g.adapters)) group) where
   pub gathered_fit : count_by (imports_kind kind.Func) group.parts.imports + many ≤ 4294967295
   gathered_fit =
       omega (
         arith,
         length_slice first many g.adapters few,
-        functions_fit known.lift known.lower g m first (slice first many g.adapters) group
+        functions_fit known.lift known.lower (is_transparent g) g m first (slice first many g.adapters) group
             (gathers known.lift known.lower known.facts),
       )
 
   pub gathered_many : length group.records ≡ many
   gathered_many =
-      records_many known.lift known.lower g m first (slice first many g.adapters) group
+      records_many known.lift known.lower (is_transparent g) g m first (slice first many g.adapters) group
       (gathers known.lift known.lower known.facts)
       ∙ length_slice first many g.adapters few
 
   -- and once it is closed, a module is added
   pub module_added : (h : ComponentDfg) (ms ns : List ModuleTranslation) → IsOrdered g
       → Closes m h ms ns first many group → (lift lower : ℕ → FunctionFacts) → AreFacts b g.adapters lift lower
-      → AddsModule lift lower g h ms ns first (slice first many g.adapters)
+      → AddsModule lift lower (is_transparent g) g h ms ns first (slice first many g.adapters)
   module_added h ms ns o closes lift lower facts =
       let xs = slice first many g.adapters in
-      adds_module lift lower g m first xs group (gathers lift lower facts) h ms ns
+      adds_module lift lower (is_transparent g) g m first xs group (gathers lift lower facts) h ms ns
       (subst (λ k. Closes m h ms ns first k group) (sym (length_slice first many g.adapters few)) closes) o
-      (parts_held g o.held lift lower first xs (stand_slice first many g.adapters))
+      (parts_held g o.held lift lower (is_transparent g) first xs (stand_slice first many g.adapters))
 
 -- the next module is made
 pub make_step : (b : Types) (lift lower : ℕ → FunctionFacts) (g m h : ComponentDfg) (ms ns os : List ModuleTranslation)
     (ls : List ℕ) (k d first : ℕ) → IsOrdered g → AreFacts b g.adapters lift lower → k < length ls
-    → sum_of ls ≡ length g.adapters → first ≡ sum_of (take k ls) → Makes lift lower g m ms ns (take k ls)
+    → sum_of ls ≡ length g.adapters → first ≡ sum_of (take k ls)
+    → Makes lift lower (is_transparent g) g m ms ns (take k ls)
     → ((l r : ℕ → FunctionFacts) → AreFacts b m.adapters l r
-    → AddsModule l r m h ns os first (slice first (get_or ls k d) m.adapters))
-    → Makes lift lower g h ms os (take (k + 1) ls)
+    → AddsModule l r (is_transparent m) m h ns os first (slice first (get_or ls k d) m.adapters))
+    → Makes lift lower (is_transparent g) g h ms os (take (k + 1) ls)
 make_step b lift lower g m h ms ns os ls k d first o facts below all start makes adds =
     let same = same_adapters (sum_of (take k ls)) g m makes.keeps in
-    let here = adds lift lower (subst (λ zs. AreFacts b zs lift lower) (sym same) facts) in
-    let added = subst (λ j. AddsModule lift lower m h ns os j (slice j (get_or ls k d) g.adapters)) start
-    (subst (λ zs. AddsModule lift lower m h ns os first (slice first (get_or ls k d) zs)) same here) in
+    let kept = same_transparent (sum_of (take k ls)) g m makes.keeps in
+    let here = subst (λ c. AddsModule lift lower c m h ns os first (slice first (get_or ls k d) m.adapters)) kept
+    (adds lift lower (subst (λ zs. AreFacts b zs lift lower) (sym same) facts)) in
+    let added = subst (λ j. AddsModule lift lower (is_transparent g) m h ns os j (slice j (get_or ls k d) g.adapters))
+    start
+    (subst (λ zs. AddsModule lift lower (is_transparent g) m h ns os first (slice first (get_or ls k d) zs)) same
+    here) in
     let few = sum_step ls k d below in
-    subst (Makes lift lower g h ms os) (sym (take_more ls k d below))
-    (makes_more lift lower g m h ms ns os (take k ls) (get_or ls k d) o (omega (arith, few, all)) makes added)
+    subst (Makes lift lower (is_transparent g) g h ms os) (sym (take_more ls k d below))
+    (makes_more lift lower (is_transparent g) g m h ms ns os (take k ls) (get_or ls k d) o
+    (omega (arith, few, all)) makes added)
 
 -- where the next module has too many imports, one of the groups is too long
 pub make_full : (b : Types) (lift lower : ℕ → FunctionFacts) (g m : ComponentDfg) (ms ns : List ModuleTranslation)
     (ls : List ℕ) (k d first : ℕ) → AreFacts b g.adapters lift lower → k < length ls
-    → sum_of ls ≡ length g.adapters → first ≡ sum_of (take k ls) → Makes lift lower g m ms ns (take k ls)
+    → sum_of ls ≡ length g.adapters → first ≡ sum_of (take k ls)
+    → Makes lift lower (is_transparent g) g m ms ns (take k ls)
     → ((l r : ℕ → FunctionFacts) → AreFacts b m.adapters l r
-    → 4294967294 < total_imports (parts_of l r first (slice first (get_or ls k d) m.adapters)))
-    → HasLong lift lower 0 (cut ls 0 g.adapters)
+    → 4294967294 < total_imports (parts_of l r (is_transparent m) first (slice first (get_or ls k d) m.adapters)))
+    → HasLong lift lower (is_transparent g) 0 (cut ls 0 g.adapters)
 make_full b lift lower g m ms ns ls k d first facts below all start makes full =
     let same = same_adapters (sum_of (take k ls)) g m makes.keeps in
-    let here = full lift lower (subst (λ zs. AreFacts b zs lift lower) (sym same) facts) in
+    let kept = same_transparent (sum_of (take k ls)) g m makes.keeps in
+    let here = subst (λ c. 4294967294 < total_imports (parts_of lift lower c first (slice first (get_or ls k d)
+    m.adapters))) kept (full lift lower (subst (λ zs. AreFacts b zs lift lower) (sym same) facts)) in
     let place : first ≡ 0 + sum_of (take k ls) = omega (arith, start) in
     let long = subst (λ j. 4294967294
-    < total_imports (parts_of lift lower j (slice j (get_or ls k d) g.adapters))) place
-    (subst (λ zs. 4294967294 < total_imports (parts_of lift lower first (slice first (get_or ls k d) zs))) same
+    < total_imports (parts_of lift lower (is_transparent g) j (slice j (get_or ls k d) g.adapters))) place
+    (subst (λ zs. 4294967294 < total_imports
+    (parts_of lift lower (is_transparent g) first (slice first (get_or ls k d) zs))) same
     here) in
-    long_at lift lower ls 0 k (get_or ls k d) g.adapters (slice_get-get_or ls k d below) (omega (arith, all)) long
+    long_at lift lower (is_transparent g) ls 0 k (get_or ls k d) g.adapters (slice_get-get_or ls k d below)
+    (omega (arith, all)) long
 
 -- the sum of one length more
 pub sum_next : (ls : List ℕ) (k d first : ℕ) → k < length ls → first ≡ sum_of (take k ls)

@@ -1,5 +1,5 @@
 -- A graph stays wired when its adapters get modules, if these are.
-use Rattle.std.proofs.Common.{◌≡◌, ◌⊎◌, ◌<◌, ◌≤◌, inl, inr, ℕ, zero, suc, ◌+◌, true, List, [], ◌∷◌, ◌++◌, length}
+use Rattle.std.proofs.Common.{Bool, ◌≡◌, ◌⊎◌, ◌<◌, ◌≤◌, inl, inr, ℕ, zero, suc, ◌+◌, true, List, [], ◌∷◌, ◌++◌, length}
 use Rattle.std.proofs.Common.{All, Contains, Option, None, Some, refl, sym, ap, subst, ◌∙◌, arith}
 use Rattle.std.specs.Prelude.{filter, map, slice_get}
 use Rattle.std.proofs.lemmas.List.{append-nil}
@@ -61,38 +61,38 @@ length_with : (f : ℕ) (rs : List AdapterRecord) → length (with_functions f r
 length_with f [] = refl
 length_with f (r ∷ rs) = ap suc (length_with (f + 1) rs)
 
-module _ (lift lower : ℕ → FunctionFacts) where
+module _ (lift lower : ℕ → FunctionFacts) (clear : ℕ → Bool) where
   -- no module of adapters was handed in
   none_handed_in : (n : ℕ) (gs : List (List Adapter)) → AllHaveSome gs
-      → filter is_handed_in (modules_of lift lower n gs) ≡ []
+      → filter is_handed_in (modules_of lift lower clear n gs) ≡ []
   none_handed_in n [] some = refl
   none_handed_in n (xs ∷ gs) some =
-      let ps = parts_of lift lower n xs in
+      let ps = parts_of lift lower clear n xs in
       let t = module_for n ps in
       let long : length t.adapters ≡ length xs =
-      length_with _ (records_from 0 n ps) ∙ length_records 0 n ps ∙ length_parts lift lower n xs in
-      filter-append is_handed_in (t ∷ []) (modules_of lift lower (n + length xs) gs)
-      ∙ ap (λ ts. ts ++ filter is_handed_in (modules_of lift lower (n + length xs) gs))
+      length_with _ (records_from 0 n ps) ∙ length_records 0 n ps ∙ length_parts lift lower clear n xs in
+      filter-append is_handed_in (t ∷ []) (modules_of lift lower clear (n + length xs) gs)
+      ∙ ap (λ ts. ts ++ filter is_handed_in (modules_of lift lower clear (n + length xs) gs))
       (not_handed_in t (omega (arith, long, some.0)))
       ∙ none_handed_in (n + length xs) gs some.1
 
   -- what the arguments of a module take from what there is stands in adapters
   module _ (g h : ComponentDfg) (d : CoreDef) (taken : is_taken d ≡ true) where
     given_occurs : (n : ℕ) (xs : List Adapter) (args : List CoreDef) → StandFrom n g.adapters xs
-        → AreGiven g h (parts_of lift lower n xs) args → Contains args d → Occurs g d
+        → AreGiven g h (parts_of lift lower clear n xs) args → Contains args d → Occurs g d
     given_occurs n [] args stand none has =
         let empty : Contains [] d = subst (λ ds. Contains ds d) none has in absurd (omega (arith, empty.1))
     given_occurs n (x ∷ xs) args stand (own, rest, is, first, others) has =
         elim (Contains-append_cases own rest d (subst (λ ds. Contains ds d) is has)) as (λ _. Occurs g d) [
           | inl front ↦
               in_an_adapter n x (stand_first n g.adapters x xs stand)
-              (taken_stands x g h x.lower_options.core_type d taken (lift n) (lower n) own first front)
+              (taken_stands x g h x.lower_options.core_type d taken (lift n) (lower n) (clear n) own first front)
           | inr behind ↦ given_occurs (n + 1) xs rest (stand_rest n g.adapters x xs stand) others behind
         ]
 
     arguments_occur : (s n : ℕ) (gs : List (List Adapter)) (ams : List (StaticModuleIndex × List CoreDef)) (i : ℕ)
         (a : StaticModuleIndex × List CoreDef) → StandIn n g.adapters gs
-        → AreArguments lift lower g h s n gs ams → slice_get ams i ≡ Some a → Contains a.1 d → Occurs g d
+        → AreArguments lift lower clear g h s n gs ams → slice_get ams i ≡ Some a → Contains a.1 d → Occurs g d
     arguments_occur s n [] [] i a stand are at has = absurd (no_item a at)
     arguments_occur s n [] (b ∷ ams) i a stand are at has = absurd are
     arguments_occur s n (xs ∷ gs) [] i a stand are at has = absurd are
@@ -127,9 +127,10 @@ own_functions g lifts a x at callbacks = if_function x.lift_options.callback (λ
 own_functions g lifts a x at post_returns =
     if_function x.lift_options.post_return (λ d is. lifts.post_returns a x d at is)
 
-module _ (lift lower : ℕ → FunctionFacts) (g h : ComponentDfg) (ms ns : List ModuleTranslation) (ls : List ℕ)
+module _ (lift lower : ℕ → FunctionFacts) (clear : ℕ → Bool) (g h : ComponentDfg) (ms ns : List ModuleTranslation)
+    (ls : List ℕ)
     (all : sum_of ls ≡ length g.adapters) (some : AllSome ls) (no_modules : g.adapter_modules ≡ [])
-    (makes : Makes lift lower g h ms ns ls) where
+    (makes : Makes lift lower clear g h ms ns ls) where
   abbrev gs : List (List Adapter)
   gs = cut ls 0 g.adapters
 
@@ -141,9 +142,9 @@ module _ (lift lower : ℕ → FunctionFacts) (g h : ComponentDfg) (ms ns : List
   handed_in_same =
       ap (map module_view)
       (ap (filter is_handed_in) makes.modules
-      ∙ filter-append is_handed_in ms (modules_of lift lower 0 gs)
+      ∙ filter-append is_handed_in ms (modules_of lift lower clear 0 gs)
       ∙ ap (λ ts. filter is_handed_in ms ++ ts)
-      (none_handed_in lift lower 0 gs (groups_have_some ls 0 g.adapters few some))
+      (none_handed_in lift lower clear 0 gs (groups_have_some ls 0 g.adapters few some))
       ∙ append-nil (filter is_handed_in ms))
 
   modules_are : h.adapter_modules ≡ makes.adapter_modules
@@ -165,7 +166,8 @@ module _ (lift lower : ℕ → FunctionFacts) (g h : ComponentDfg) (ms ns : List
       in_an_effect i x (ap (λ (k : ComponentDfg). slice_get k.side_effects i) (sym makes.keeps.rest) ∙ at)
       (subst (λ ds. Contains ds d) same has)
   occurs_before taken (in_a_module m x {d = d} at has) =
-      arguments_occur lift lower g h d taken (length ms) 0 gs makes.adapter_modules m x (stand_cut ls 0 g.adapters few)
+      arguments_occur lift lower clear g h d taken (length ms) 0 gs makes.adapter_modules m x
+      (stand_cut ls 0 g.adapters few)
       makes.given (ap (λ xs. slice_get xs m) (sym modules_are) ∙ at) has
   occurs_before taken (in_an_adapter a x at has) =
       in_an_adapter a x (ap (λ (k : ComponentDfg). slice_get k.adapters a) (sym makes.keeps.rest) ∙ at) has

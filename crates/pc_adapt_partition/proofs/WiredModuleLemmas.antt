@@ -1,5 +1,5 @@
 -- A module of adapters is wired: with the values of its arguments its functions are its adapters.
-use Rattle.std.proofs.Common.{◌≡◌, ◌<◌, ◌≤◌, ◌&&◌, ◌==◌, inl, inr, ℕ, zero, suc, ◌+◌, ◌-◌, true, false, not, cond}
+use Rattle.std.proofs.Common.{Bool, ◌≡◌, ◌<◌, ◌≤◌, ◌&&◌, ◌==◌, inl, inr, ℕ, zero, suc, ◌+◌, ◌-◌, true, false, not, cond}
 use Rattle.std.proofs.Common.{List, [], ◌∷◌, ◌++◌, length, map, filter, Some, All, refl, sym, ap, subst, ◌∙◌}
 use Rattle.std.proofs.Common.{arith, length-append, append-nil, eq-eqb, ne_eqb, lt-ltb, flat_map}
 use Rattle.std.specs.Prelude.{option_and_then, slice_get}
@@ -43,6 +43,7 @@ use Rattle.pc_dfg_linearize.specs.Wired.{Has, IsWiredModule}
 use Rattle.pc_spec_adapt.specs.Asked.{FunctionFacts}
 use Rattle.pc_spec_adapt.specs.Record.{Member, functions_in, records_of}
 use Rattle.pc_spec_adapt.specs.Split.{IsFewest, IsGoodRun}
+use Rattle.pc_adapt.specs.Imports.{is_transparent}
 use Rattle.pc_adapt.specs.Planned.{is_wide}
 use Rattle.pc_adapt.proofs.PlannedLemmas.{parts_of as adapter_parts}
 use Rattle.pc_adapt_groups.specs.Needs.{Needs}
@@ -365,27 +366,28 @@ held_adapter : (g : ComponentDfg) → AreHeld g → (a : ℕ) (x : Adapter) → 
 unfolding HoldsEntry
 held_adapter g held a x at = held list.adapters a x at
 
-module _ (lift lower : ℕ → FunctionFacts) (vs : ℕ → CoreValue Mark) where
+module _ (lift lower : ℕ → FunctionFacts) (clear : ℕ → Bool) (vs : ℕ → CoreValue Mark) where
   -- a member is that of an adapter
   member_is : (n : ℕ) (xs : List Adapter) (k : ℕ) (y : Member Mark)
-      → slice_get (members_from lift lower vs n xs) k ≡ Some y
-      → (x : Adapter) × (slice_get xs k ≡ Some x) × (y ≡ member_at lift lower vs (n + k) x)
+      → slice_get (members_from lift lower clear vs n xs) k ≡ Some y
+      → (x : Adapter) × (slice_get xs k ≡ Some x) × (y ≡ member_at lift lower clear vs (n + k) x)
   member_is n [] k y at = absurd (no_item y at)
   member_is n (x ∷ xs) zero y at =
       let here : n ≡ n + 0 = omega arith in
-      (x, refl, sym (same_item at) ∙ ap (λ j. member_at lift lower vs j x) here)
+      (x, refl, sym (same_item at) ∙ ap (λ j. member_at lift lower clear vs j x) here)
   member_is n (x ∷ xs) (suc k) y at =
       let later = member_is (n + 1) xs k y at in
       let here : n + 1 + k ≡ n + suc k = omega arith in
-      (later.0, later.1, later.2 ∙ ap (λ j. member_at lift lower vs j later.0) here)
+      (later.0, later.1, later.2 ∙ ap (λ j. member_at lift lower clear vs j later.0) here)
 
   module _ (g : ComponentDfg) (mean : HaveValues g vs) where
-    is_adapter : (n : ℕ) (x : Adapter) → slice_get g.adapters n ≡ Some x → IsAdapter (member_at lift lower vs n x)
+    is_adapter : (n : ℕ) (x : Adapter) → slice_get g.adapters n ≡ Some x → IsAdapter (member_at lift lower clear vs n x)
     is_adapter n x at =
-        let parts = adapter_parts g (record { 0 = n }) x at (has_value g lift lower vs mean n x at) refl in
+        let parts = adapter_parts g (record { 0 = n }) x at (has_value g lift lower clear vs mean n x at) refl in
         record {
           lift_facts = lift n;
           lower_facts = lower n;
+          clear = clear n;
           lift_wide = is_wide x.lift_options.data_model;
           lower_wide = is_wide x.lower_options.data_model;
           lift_type = function_mark x.lift_ty;
@@ -401,12 +403,13 @@ module _ (lift lower : ℕ → FunctionFacts) (vs : ℕ → CoreValue Mark) wher
     is_counted_by : (n : ℕ) (x : Adapter) (p : plan.PlanView Mark) → AreHeld g → slice_get g.adapters n ≡ Some x
         → g.num_runtime_component_instances ≤ p.counts.component_instances → are_counted p (vs n) ≡ true
     is_counted_by n x p held at more =
-        let parts = adapter_parts g (record { 0 = n }) x at (has_value g lift lower vs mean n x at) refl in
+        let parts = adapter_parts g (record { 0 = n }) x at (has_value g lift lower clear vs mean n x at) refl in
         let own = held_adapter g held n x at in
         ap (are_counted p) parts.is
         ∙ counted_sides g p (function_mark x.lift_ty) (function_mark x.lower_ty) parts.callee parts.of_lift
         parts.of_lower (omega (arith, own.lift, more)) (omega (arith, own.lower, more))
 
+module _ (lift lower : ℕ → FunctionFacts) (vs : ℕ → CoreValue Mark) where
   module _ (g h : ComponentDfg) (ms ns : List ModuleTranslation) (o : IsOrdered g) (grows : Grows g h)
       (mean : HaveValues g vs) (adapted : AreAdapted lift lower vs g h ms ns) where
     abbrev groups : List (List (Member Mark))
@@ -416,10 +419,11 @@ module _ (lift lower : ℕ → FunctionFacts) (vs : ℕ → CoreValue Mark) wher
     are_adapters : (m : ℕ) (members : List (Member Mark)) → slice_get groups m ≡ Some members → AreAllAdapters members
     are_adapters m members at j y at_j =
         let whole = in_joined groups m members j y at at_j in
-        let it = member_is 0 g.adapters whole.0 y (ap (λ xs. slice_get xs whole.0) (sym adapted.all) ∙ whole.1) in
+        let it = member_is lift lower (is_transparent g) vs 0 g.adapters whole.0 y
+        (ap (λ xs. slice_get xs whole.0) (sym adapted.all) ∙ whole.1) in
         let number : 0 + whole.0 ≡ whole.0 = omega arith in
-        subst IsAdapter (sym (it.2 ∙ ap (λ k. member_at lift lower vs k it.0) number))
-        (is_adapter g mean whole.0 it.0 it.1)
+        subst IsAdapter (sym (it.2 ∙ ap (λ k. member_at lift lower (is_transparent g) vs k it.0) number))
+        (is_adapter lift lower (is_transparent g) vs g mean whole.0 it.0 it.1)
 
     are_some : (m : ℕ) (members : List (Member Mark)) → slice_get groups m ≡ Some members → 0 < length members
     are_some m members at =
@@ -466,9 +470,10 @@ module _ (lift lower : ℕ → FunctionFacts) (vs : ℕ → CoreValue Mark) wher
         let it = is_function 0 groups a p (ap (λ xs. slice_get xs a) (sym adapted.places) ∙ at_a) in
         let run : it.run ≡ m = omega (arith, it.is, is) in
         let same : it.members ≡ members = same_item (sym it.at ∙ ap (slice_get groups) run ∙ at) in
-        let own = member_is 0 g.adapters a it.member (ap (λ xs. slice_get xs a) (sym adapted.all) ∙ it.whole) in
+        let own = member_is lift lower (is_transparent g) vs 0 g.adapters a it.member
+        (ap (λ xs. slice_get xs a) (sym adapted.all) ∙ it.whole) in
         let number : 0 + a ≡ a = omega arith in
-        let member = own.2 ∙ ap (λ k. member_at lift lower vs k own.0) number in
+        let member = own.2 ∙ ap (λ k. member_at lift lower (is_transparent g) vs k own.0) number in
         let args = values_for members in
         let f = functions_in signature_number members in
         let rs = records_of signature_number (length ms + m) members in
@@ -479,12 +484,14 @@ module _ (lift lower : ℕ → FunctionFacts) (vs : ℕ → CoreValue Mark) wher
         ap (slice_get args) here ∙ at_i in
         let found_one = subst (λ y. IsFound args rs (length ms + m) (f + it.place) y) member
         (is_found args (length ms + m) f 0 members it.place it.member (are_adapters m members at) there hold) in
-        let counted = is_counted_by g mean a own.0 view o.held own.1
+        let counted = is_counted_by lift lower (is_transparent g) vs g mean a own.0 view o.held own.1
         (omega (arith, grows.component_instances, has.component_instances)) in
-        let resolves = found view args (length ms + m) (f + it.place) found_one.first a (lift a) (lower a) false
+        let resolves = found view args (length ms + m) (f + it.place) found_one.first a (lift a) (lower a)
+        (is_transparent g a)
         (is_wide own.0.lift_options.data_model) (is_wide own.0.lower_options.data_model) (vs a) found_one.said
         found_one.hold counted found_one.is in
-        let value = means_unique h (means_kept g h grows (has_value g lift lower vs mean a own.0 own.1)) means in
+        let value = means_unique h
+        (means_kept g h grows (has_value g lift lower (is_transparent g) vs mean a own.0 own.1)) means in
         let entity = it.function ∙ ap (λ xs. entity_at kind.Func (functions_in signature_number xs + it.place)) same in
         item_found view args rs p.1 (f + it.place) found_one.said (vs a) v entity found_one.there resolves value
 

@@ -1,5 +1,5 @@
 -- The modules of a graph's adapters by the values of the adapters: what they are, and what they are given.
-use Rattle.std.specs.Prelude.{◌≡◌, ℕ, ◌+◌, false, List, [], ◌∷◌, ◌++◌, length, map}
+use Rattle.std.specs.Prelude.{◌≡◌, ℕ, ◌+◌, Bool, List, [], ◌∷◌, ◌++◌, length, map}
 use Rattle.std.specs.List.{AllZip, flat_map}
 use Rattle.pc_numbers.specs.declared.component_entity.StaticModuleIndex.{StaticModuleIndex}
 use Rattle.pc_numbers.specs.declared.entity_index.EntityIndex.{EntityIndex}
@@ -19,18 +19,20 @@ use Rattle.pc_spec_adapt.specs.Import.{Import}
 use Rattle.pc_spec_adapt.specs.Planned.{planned}
 use Rattle.pc_spec_adapt.specs.Record.{Member, functions_in, module_of, records_of}
 use Rattle.pc_spec_adapt.specs.Split.{IsFewest}
+use Rattle.pc_adapt.specs.Imports.{is_transparent}
 use Rattle.pc_adapt.specs.Planned.{is_wide}
 use Rattle.pc_adapt_groups.specs.Needs.{Needs}
 use Rattle.pc_adapt_modules.specs.Entities.{signature_number}
 
-module _ (lift lower : ℕ → FunctionFacts) (vs : ℕ → CoreValue Mark) where
+-- The facts of the types of each adapter, whether it is transparent, and its value.
+module _ (lift lower : ℕ → FunctionFacts) (transparent : ℕ → Bool) (vs : ℕ → CoreValue Mark) where
   -- the adapter of this number as a member of a module: with its value, and with what is planned for that, by the widths
   -- of memories that its options tell
   abbrev pub member_at : (number : ℕ) → Adapter → Member Mark
   member_at n x = record {
     number = n;
     adapter = vs n;
-    imports = planned (lift n) (lower n) false (is_wide x.lift_options.data_model)
+    imports = planned (lift n) (lower n) (transparent n) (is_wide x.lift_options.data_model)
         (is_wide x.lower_options.data_model) (vs n);
   }
 
@@ -80,13 +82,14 @@ functions_of m [] = []
 functions_of m (members ∷ groups) =
     functions_for m (functions_in signature_number members) members ++ functions_of (m + 1) groups
 
--- the second graph, and the second list of modules, have got the modules of the first graph's adapters, by their values
--- and by the facts of their types
+-- the second graph, and the second list of modules, have got the modules of the first graph's adapters: by their values,
+-- by the facts of their types, and by which of them are transparent in the first graph
 pub record AreAdapted (lift lower : ℕ → FunctionFacts) (vs : ℕ → CoreValue Mark) (g h : ComponentDfg)
     (ms ns : List ModuleTranslation) : Type 0 where
   -- all adapters in order, in the fewest groups of which none has an adapter that needs another of the same group
   pub groups : List (List (Member Mark))
-  pub all : flat_map (λ (members : List (Member Mark)). members) groups ≡ members_from lift lower vs 0 g.adapters
+  pub all : flat_map (λ (members : List (Member Mark)). members) groups
+      ≡ members_from lift lower (is_transparent g) vs 0 g.adapters
   pub fewest : IsFewest (Needs g) (length g.adapters) (map numbers_of groups)
   -- behind the modules that were there stand those of the groups
   pub added : List ModuleTranslation

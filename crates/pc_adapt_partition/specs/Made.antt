@@ -1,5 +1,5 @@
 -- A graph that has got the modules of its adapters.
-use Rattle.std.specs.Prelude.{◌≡◌, ◌⊎◌, ◌<◌, ℕ, ◌+◌, ◌*◌, ◌≤◌, List, [], ◌∷◌, ◌++◌, length, map}
+use Rattle.std.specs.Prelude.{◌≡◌, ◌⊎◌, ◌<◌, ℕ, Bool, ◌+◌, ◌*◌, ◌≤◌, List, [], ◌∷◌, ◌++◌, All, length, map}
 use Rattle.pc_entity.specs.Lists.{AreDistinct}
 use Rattle.pc_numbers.specs.declared.component_entity.StaticModuleIndex.{StaticModuleIndex}
 use Rattle.pc_info.specs.declared.module.ModuleTranslation.{ModuleTranslation}
@@ -52,6 +52,12 @@ pub record AddsFew (many : ℕ) (ms ns : List ModuleTranslation) (h : ComponentD
   pub few_adapter_modules : length h.adapter_modules ≤ many
   pub all_adapters : length h.adapter_partitionings ≡ many
 
+-- no module that is added imports more than there are numbers
+pub record AddsShort (ms ns : List ModuleTranslation) : Type 0 where
+  pub added : List ModuleTranslation
+  pub modules : ns ≡ ms ++ added
+  pub short : All (λ (m : ModuleTranslation). length m.«module».imports ≤ 4294967294) added
+
 -- at most so much is added to a graph and to modules for so many adapters, and so many modules of them
 pub record AddsAtMost (many groups : ℕ) (g h : ComponentDfg) (ms ns : List ModuleTranslation) : Type 0 where
   pub few_memories : length h.memories ≤ length g.memories + 9 * many
@@ -77,7 +83,8 @@ abbrev pub cut : {A : Type 0} → List ℕ → (first : ℕ) → List A → List
 cut [] first xs = []
 cut (l ∷ ls) first xs = slice first l xs ∷ cut ls (first + l) xs
 
-module _ (lift lower : ℕ → FunctionFacts) where
+-- The facts of the types of each adapter, and whether it is transparent.
+module _ (lift lower : ℕ → FunctionFacts) (transparent : ℕ → Bool) where
   -- the arguments of modules of adapters, where the first one is a core module of this number, and its first adapter has
   -- this number
   abbrev pub AreArguments : (g h : ComponentDfg) → (core_module number : ℕ) → List (List Adapter)
@@ -86,34 +93,35 @@ module _ (lift lower : ℕ → FunctionFacts) where
   AreArguments g h s n [] (m ∷ ms) = ⊥
   AreArguments g h s n (xs ∷ groups) [] = ⊥
   AreArguments g h s n (xs ∷ groups) (m ∷ ms) =
-      (m.0.0 ≡ s) × AreGiven g h (parts_of lift lower n xs) m.1
+      (m.0.0 ≡ s) × AreGiven g h (parts_of lift lower transparent n xs) m.1
       × AreArguments g h (s + 1) (n + length xs) groups ms
 
   -- the module of adapters, the first of which has this number, is added to modules and graph
   pub record AddsModule (g h : ComponentDfg) (ms ns : List ModuleTranslation) (number : ℕ) (xs : List Adapter)
       : Type 0 where
     pub keeps : Keeps (length xs) g h
-    pub modules : ns ≡ ms ++ module_for number (parts_of lift lower number xs) ∷ []
+    pub modules : ns ≡ ms ++ module_for number (parts_of lift lower transparent number xs) ∷ []
     pub args : List CoreDef
     pub adapter_modules : h.adapter_modules ≡ g.adapter_modules ++ (record { 0 = length ms }, args) ∷ []
-    pub given : AreGiven g h (parts_of lift lower number xs) args
+    pub given : AreGiven g h (parts_of lift lower transparent number xs) args
     pub places : h.adapter_partitionings ≡ g.adapter_partitionings
-        ++ functions_from (length g.adapter_modules) (functions_in number (parts_of lift lower number xs)) (length xs)
-    pub room : total_imports (parts_of lift lower number xs) ≤ 4294967294
+        ++ functions_from (length g.adapter_modules) (functions_in number (parts_of lift lower transparent number xs))
+        (length xs)
+    pub room : total_imports (parts_of lift lower transparent number xs) ≤ 4294967294
 
   -- one of these groups has more imports than a module may have, where the first adapter has this number
   abbrev pub HasLong : (number : ℕ) → List (List Adapter) → Type 0
   HasLong n [] = ⊥
   HasLong n (xs ∷ groups) =
-      (4294967294 < total_imports (parts_of lift lower n xs)) ⊎ HasLong (n + length xs) groups
+      (4294967294 < total_imports (parts_of lift lower transparent n xs)) ⊎ HasLong (n + length xs) groups
 
   -- the modules of groups of these lengths, which are adapters in order, are added to modules and graph
   pub record Makes (g h : ComponentDfg) (ms ns : List ModuleTranslation) (lengths : List ℕ) : Type 0 where
     pub keeps : Keeps (sum_of lengths) g h
-    pub modules : ns ≡ ms ++ modules_of lift lower 0 (cut lengths 0 g.adapters)
+    pub modules : ns ≡ ms ++ modules_of lift lower transparent 0 (cut lengths 0 g.adapters)
     pub adapter_modules : List (StaticModuleIndex × List CoreDef)
     pub has_modules : h.adapter_modules ≡ g.adapter_modules ++ adapter_modules
     pub given : AreArguments g h (length ms) 0 (cut lengths 0 g.adapters) adapter_modules
     pub places : h.adapter_partitionings ≡ g.adapter_partitionings
-        ++ places_of lift lower (length g.adapter_modules) 0 (cut lengths 0 g.adapters)
+        ++ places_of lift lower transparent (length g.adapter_modules) 0 (cut lengths 0 g.adapters)
     pub room : ¬ (HasLong 0 (cut lengths 0 g.adapters))

@@ -5,6 +5,7 @@ use Rattle.pc_types.specs.TypeTree.{TypeTree}
 use Rattle.pc_dfg.specs.declared.dfg.ComponentDfg.{ComponentDfg}
 use Rattle.pc_spec_adapt.specs.Asked.{FunctionFacts, function_facts}
 use Rattle.pc_spec_adapt.specs.Split.{IsFewest}
+use Rattle.pc_adapt.specs.Imports.{is_transparent}
 use Rattle.pc_adapt_groups.specs.Lengths.{runs_from}
 use Rattle.pc_adapt_groups.specs.Needs.{Needs}
 use Rattle.pc_adapt_partition.specs.Made.{HasLong, IsPast, Makes, cut}
@@ -25,11 +26,11 @@ module _ (lift lower : ℕ → FunctionFacts) where
   pub record Partitions (g h : ComponentDfg) (ms ns : List ModuleTranslation) : Type 0 where
     pub lengths : List ℕ
     pub fewest : IsFewest (Needs g) (length g.adapters) (runs_from 0 lengths)
-    pub makes : Makes lift lower g h ms ns lengths
+    pub makes : Makes lift lower (is_transparent g) g h ms ns lengths
 
   -- the second graph, or the second list of modules, has a list that is past its bound, or one of the fewest groups of
   -- adapters has more imports than a module may have
   pub data HasTooMany (g h : ComponentDfg) (ns : List ModuleTranslation) : Type 0 where
     past : IsPast h ns → HasTooMany g h ns
     long : (lengths : List ℕ) → IsFewest (Needs g) (length g.adapters) (runs_from 0 lengths)
-        → HasLong lift lower 0 (cut lengths 0 g.adapters) → HasTooMany g h ns
+        → HasLong lift lower (is_transparent g) 0 (cut lengths 0 g.adapters) → HasTooMany g h ns

@@ -1,5 +1,5 @@
 -- Modules of adapters, by the facts of the adapters' types: records, what is said of the adapters, and their functions.
-use Rattle.std.specs.Prelude.{ℕ, zero, suc, ◌+◌, List, [], ◌∷◌, ◌++◌, count_by, drop, length, map, take}
+use Rattle.std.specs.Prelude.{ℕ, Bool, zero, suc, ◌+◌, List, [], ◌∷◌, ◌++◌, count_by, drop, length, map, take}
 use Rattle.pc_numbers.specs.declared.entity_index.EntityIndex.{EntityIndex}
 use Rattle.pc_numbers.specs.declared.entity_index.EntityIndex.TheVariants as entity
 use Rattle.pc_types.specs.declared.module_record.ModuleRecord.{ModuleRecord}
@@ -72,11 +72,12 @@ functions_from m f zero = []
 functions_from m f (suc k) =
     (record { 0 = m }, entity.Function (record { 0 = f })) ∷ functions_from m (f + 1) k
 
-module _ (lift lower : ℕ → FunctionFacts) where
+-- The facts of the types of each adapter, and whether it is transparent.
+module _ (lift lower : ℕ → FunctionFacts) (transparent : ℕ → Bool) where
   -- adapters with what is imported for them, the first of which has this number
   abbrev pub parts_of : (number : ℕ) → List Adapter → List Part
   parts_of n [] = []
-  parts_of n (x ∷ xs) = (x, imports_of (lift n) (lower n) x) ∷ parts_of (n + 1) xs
+  parts_of n (x ∷ xs) = (x, imports_of (lift n) (lower n) (transparent n) x) ∷ parts_of (n + 1) xs
 
   -- the modules of groups of adapters, the first of which has this number
   abbrev pub modules_of : (number : ℕ) → List (List Adapter) → List ModuleTranslation

@@ -3,6 +3,7 @@
 ghost use Rattle.std.specs.Prelude.{◌≡◌, ◌+◌, ◌*◌, ◌<◌, ◌≤◌, ◌⊎◌, ℕ, length, Err, IfOk};
 ghost use Rattle.pc_dfg.specs.Ordered.{IsOrdered};
 ghost use Rattle.pc_spec_adapt.specs.Asked.{FunctionFacts};
+ghost use Rattle.pc_adapt.specs.Imports.{is_transparent};
 ghost use Rattle.pc_adapt_define.specs.Adds.{Adds};
 ghost use Rattle.pc_adapt_define.specs.Define.{HasNoRoom};
 ghost use Rattle.pc_adapt_partition.specs.Facts.{AreFacts, AreKnown};
@@ -28,11 +29,13 @@ pub(crate) fn gather(
     requires numbers { first + many ≤ 4294967295 }
     ensures gathers { IfOk result (λ group. (lift lower : ℕ → FunctionFacts)
         → AreFacts types.now graph.old.adapters lift lower
-        → Gathers graph.old graph.new first (parts_of lift lower first (slice first many graph.old.adapters)) group) }
+        → Gathers graph.old graph.new first
+        (parts_of lift lower (is_transparent graph.old) first (slice first many graph.old.adapters)) group) }
     ensures few { Adds (9 * many) many many (12 * many) graph.old graph.new }
     ensures full { result ≡ Err PushError.TooMany → HasNoRoom graph.new
         ⊎ ((lift lower : ℕ → FunctionFacts) → AreFacts types.now graph.old.adapters lift lower
-        → 4294967294 < total_imports (parts_of lift lower first (slice first many graph.old.adapters))) }
+        → 4294967294 < total_imports
+        (parts_of lift lower (is_transparent graph.old) first (slice first many graph.old.adapters))) }
 {
     let mut group = no_group(alloc);
     for place in 0..many {

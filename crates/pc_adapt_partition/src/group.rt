@@ -6,7 +6,7 @@ ghost use Rattle.pc_dfg.specs.declared.adapter.Adapter.{Adapter as Fused};
 ghost use Rattle.pc_dfg.specs.Ordered.{IsOrdered};
 ghost use Rattle.pc_spec_adapt.specs.Asked.{FunctionFacts};
 ghost use Rattle.pc_adapt.specs.Asked.{HoldsTypes};
-ghost use Rattle.pc_adapt.specs.Imports.{imports_of};
+ghost use Rattle.pc_adapt.specs.Imports.{imports_of, is_transparent};
 ghost use Rattle.pc_adapt.specs.Places.{side_count};
 ghost use Rattle.pc_adapt_define.specs.Adds.{Adds};
 ghost use Rattle.pc_adapt_define.specs.Define.{HasNoRoom};
@@ -53,19 +53,20 @@ pub(crate) fn no_group(alloc: Global) -> Group
     }
 }
 
-/// What is imported for an adapter.
+/// What is imported for an adapter, transparent or not.
 fn planned(
     alloc: Global,
     types: &ComponentTypesBuilder,
     adapter: &Adapter,
+    transparent: bool,
 ) -> Result<Vec<Import>, NoMemory>
     requires held { HoldsTypes types.now adapter.now }
     ensures { IfOk result (λ is. (lift lower : FunctionFacts) → HasFacts types.now adapter.now lift lower
-        → is.items ≡ imports_of lift lower adapter.now) }
+        → is.items ≡ imports_of lift lower transparent adapter.now) }
 {
     let lift = facts_of_function(types, adapter.lift_ty);
     let lower = facts_of_function(types, adapter.lower_ty);
-    imports_for(alloc, adapter, lift, lower)
+    imports_for(alloc, adapter, lift, lower, transparent)
 }
 
 /// Notes an adapter, with how many imports it has. Their places begin behind what is there.
@@ -98,14 +99,16 @@ pub(crate) fn put(
     requires room { length group.old.args ≤ 4294967294 }
     ensures puts { OnOk result ((x : Fused) (lift lower : FunctionFacts) → slice_get graph.old.adapters id.0 ≡ Some x
         → HasFacts types.now x lift lower
-        → Puts graph.old graph.new id.0 x (imports_of lift lower x) group.old group.new) }
+        → Puts graph.old graph.new id.0 x
+        (imports_of lift lower (is_transparent graph.old id.0) x) group.old group.new) }
     ensures few { Adds 9 1 1 12 graph.old graph.new }
     ensures full { result ≡ Err PushError.TooMany → HasNoRoom graph.new
         ⊎ ((x : Fused) (lift lower : FunctionFacts) → slice_get graph.old.adapters id.0 ≡ Some x
         → HasFacts types.now x lift lower
-        → 4294967294 < length group.old.args + length (imports_of lift lower x)) }
+        → 4294967294 < length group.old.args + length (imports_of lift lower (is_transparent graph.old id.0) x)) }
 {
-    let imports = planned(alloc, types, &graph.adapters[id])?;
+    let transparent = graph.transparent_adapters.contains(id);
+    let imports = planned(alloc, types, &graph.adapters[id], transparent)?;
     if imports.len() > MAX_IMPORTS - group.args.len() {
         return Err(PushError::TooMany);
     }

@@ -3,6 +3,7 @@
 ghost use Rattle.std.specs.Prelude.{◌≡◌, ◌+◌, ◌<◌, ◌≤◌, ◌⊎◌, ℕ, length, Err, OnOk};
 ghost use Rattle.pc_dfg.specs.Ordered.{IsOrdered};
 ghost use Rattle.pc_spec_adapt.specs.Asked.{FunctionFacts};
+ghost use Rattle.pc_adapt.specs.Imports.{is_transparent};
 ghost use Rattle.pc_adapt_partition.specs.Facts.{AreFacts, AreKnown};
 ghost use Rattle.pc_adapt_partition.specs.Made.{AddsAtMost, AddsModule, HasLong, IsPast, Makes, cut, sum_of};
 ghost use Rattle.pc_adapt_partition.specs.Parts.{parts_of, slice, total_imports};
@@ -29,12 +30,13 @@ fn make_module(
     requires range { first + many ≤ length graph.old.adapters }
     requires numbers { first + many ≤ 4294967295 }
     ensures adds { OnOk result ((lift lower : ℕ → FunctionFacts) → AreFacts types.now graph.old.adapters lift lower
-        → AddsModule lift lower graph.old graph.new modules.old modules.new first
+        → AddsModule lift lower (is_transparent graph.old) graph.old graph.new modules.old modules.new first
         (slice first many graph.old.adapters)) }
     ensures few { AddsAtMost many 1 graph.old graph.new modules.old modules.new }
     ensures full { result ≡ Err PushError.TooMany → IsPast graph.new modules.new
         ⊎ ((lift lower : ℕ → FunctionFacts) → AreFacts types.now graph.old.adapters lift lower
-        → 4294967294 < total_imports (parts_of lift lower first (slice first many graph.old.adapters))) }
+        → 4294967294 < total_imports
+        (parts_of lift lower (is_transparent graph.old) first (slice first many graph.old.adapters))) }
 {
     let group = gather(alloc, graph, types, first, many)?;
     close(alloc, graph, modules, group, first, many)
@@ -53,12 +55,12 @@ pub(crate) fn make_modules(
     requires all { sum_of lengths.now ≡ length graph.old.adapters }
     requires numbers { length graph.old.adapters ≤ 4294967295 }
     ensures makes { OnOk result ((lift lower : ℕ → FunctionFacts) → AreFacts types.now graph.old.adapters lift lower
-        → Makes lift lower graph.old graph.new modules.old modules.new lengths.now) }
+        → Makes lift lower (is_transparent graph.old) graph.old graph.new modules.old modules.new lengths.now) }
     ensures few { AddsAtMost (length graph.old.adapters) (length lengths.now) graph.old graph.new modules.old
         modules.new }
     ensures full { result ≡ Err PushError.TooMany → IsPast graph.new modules.new
         ⊎ ((lift lower : ℕ → FunctionFacts) → AreFacts types.now graph.old.adapters lift lower
-        → HasLong lift lower 0 (cut lengths.now 0 graph.old.adapters)) }
+        → HasLong lift lower (is_transparent graph.old) 0 (cut lengths.now 0 graph.old.adapters)) }
 {
     let mut first: u32 = 0;
     for place in 0..lengths.len() {

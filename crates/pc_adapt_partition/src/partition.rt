@@ -16,7 +16,8 @@ ghost use Rattle.pc_adapt_define.specs.Define.{is_taken};
 ghost use Rattle.pc_adapt.specs.Asked.{AreTyped, HoldTypes, LacksFirst};
 ghost use Rattle.pc_adapt_partition.specs.Adapted.{AreAdapted};
 ghost use Rattle.pc_adapt_partition.specs.Facts.{AreFacts, AreKnown, HaveTrees};
-ghost use Rattle.pc_adapt_partition.specs.Made.{AddsAtMost, AddsFew, AreModulesApart, IsPast, Keeps};
+ghost use Rattle.pc_adapt_partition.specs.Made.{AddsAtMost, AddsFew, AddsShort, AreModulesApart, IsPast};
+ghost use Rattle.pc_adapt_partition.specs.Made.{Keeps};
 ghost use Rattle.pc_adapt_partition.specs.Partitions.{HasFullSlots, HasTooMany, Partitions, facts_by};
 ghost use Rattle.pc_adapt_partition.specs.Wired.{AreHandedIn, HaveValues, LiftFunctions};
 
@@ -121,6 +122,7 @@ pub fn partition_adapter_modules(
         → IsWired dfg.new modules.new) }
     ensures occurs { OnOk result ((d : CoreDef) → is_taken d ≡ true → Occurs dfg.new d → Occurs dfg.old d) }
     ensures few { OnOk result (AddsFew (length dfg.old.adapters) modules.old modules.new dfg.new) }
+    ensures short { OnOk result (AddsShort modules.old modules.new) }
     ensures room { OnOk result (¬ (IsPast dfg.new modules.new)) }
     // However it ends, that is the most that was added.
     ensures most { AddsAtMost (length dfg.old.adapters) (length dfg.old.adapters) dfg.old dfg.new modules.old

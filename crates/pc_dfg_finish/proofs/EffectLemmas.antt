@@ -55,6 +55,7 @@ use Rattle.pc_dfg_linearize.specs.Wired.{IsWired, Occurs}
 use Rattle.pc_dfg_linearize.specs.Stages.{AddsEffect}
 use Rattle.pc_dfg_linearize.specs.Steps.{IsConvertible}
 use Rattle.pc_dfg_linearize.proofs.AllLemmas.{all_cons, all_one}
+use Rattle.pc_dfg_finish.specs.Instantiated.{AreInstantiated, StayInstantiated}
 use Rattle.pc_dfg_finish.proofs.ArgumentLemmas.{all_can_still}
 use Rattle.pc_dfg_linearize.proofs.CountLemmas.{CountsOne, counts_more}
 use Rattle.pc_dfg_linearize.proofs.SoundLemmas.{continues_sound, none_more, passes}
@@ -62,6 +63,8 @@ use Rattle.pc_dfg_linearize.specs.Sound.{HasPassed, IsSound}
 use Rattle.pc_dfg_linearize.proofs.FillLemmas.{instance_fills, resource_fills}
 use Rattle.pc_dfg_finish.proofs.HereLemmas.{finish_with}
 use Rattle.pc_dfg_finish.proofs.InstanceLemmas.{instance_reached}
+use Rattle.pc_dfg_finish.proofs.InstantiatedLemmas.{continues_instantiated, instance_instantiated}
+use Rattle.pc_dfg_finish.proofs.InstantiatedLemmas.{resource_instantiated}
 use Rattle.pc_dfg_finish.proofs.NextLemmas.{next_held, next_instance, next_occurs, next_ready, next_resource}
 use Rattle.pc_dfg_linearize.proofs.PartLemmas.{all_made}
 use Rattle.pc_dfg_finish.proofs.PushedLemmas.{length_pushed}
@@ -344,6 +347,14 @@ module _ (g : ComponentDfg) (ordered : IsOrdered g) (grouped : IsGrouped g) (old
     pub made_done : (h : Finish) → h ≡ made → IsDone g old h (effect.Instance i c)
     made_done h is = subst (λ z. IsDone g old z (effect.Instance i c)) (sym is) instance_done
 
+    -- each core instance so far is made by its step, this one too
+    pub instance_stays : (h : Finish) → h ≡ made → StayInstantiated g old h
+    instance_stays h is counts are =
+        let continues = prepares.numbers.continues in
+        subst (AreInstantiated g) (sym is)
+        (instance_instantiated g new (continues.counts counts) x m c at_next prepares.is convertible
+        (λ y k at. instance_number g old new continues m c y ∙ at) (continues_instantiated g old new continues are))
+
   module _ (n : DefinedResourceIndex) (next : IsNext g old (effect.Resource n)) (x : Resource)
       (at : slice_get g.resources n.0 ≡ Some x) (d : Option PlanDef) (prepares : PreparesAny g old new x.dtor d) where
     -- the resource of the plan
@@ -480,3 +491,11 @@ module _ (g : ComponentDfg) (ordered : IsOrdered g) (grouped : IsGrouped g) (old
     -- whatever the plan is called
     pub declared_done : (h : Finish) → h ≡ declared → IsDone g old h (effect.Resource n)
     declared_done h is = subst (λ z. IsDone g old z (effect.Resource n)) (sym is) resource_done
+
+    -- each core instance so far is made by its step
+    pub resource_stays : (h : Finish) → h ≡ declared → StayInstantiated g old h
+    resource_stays h is counts are =
+        let continues = prepares.numbers.continues in
+        subst (AreInstantiated g) (sym is)
+        (resource_instantiated g new resource (λ y k at. resource_number g old new continues resource y ∙ at)
+        (continues_instantiated g old new continues are))

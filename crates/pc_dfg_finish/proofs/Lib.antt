@@ -29,13 +29,14 @@ mod LiftedLemmas
 mod DefinitionUseLemmas
 -- the steps are those of the graph
 mod StageLemmas
+mod InstantiatedLemmas
 mod DoneLemmas
 mod StartLemmas
 mod OwnedLemmas
 mod ApartLemmas
 -- where the steps stand
 mod PieceLemmas
-mod SealedLemmas
+pub mod SealedLemmas
 mod RiseLemmas
 mod StandingLemmas
 mod ExportPieceLemmas

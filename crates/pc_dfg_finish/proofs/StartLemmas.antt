@@ -25,6 +25,7 @@ use Rattle.pc_dfg_linearize.specs.Once.{AreGiven, Origin, number_in_run, of_inst
 use Rattle.pc_dfg_linearize.specs.Parts.{HasNumber, number_of, slot_numbers}
 use Rattle.pc_dfg_linearize.specs.Plan.{slot_count}
 use Rattle.pc_dfg_linearize.specs.Reached.{Reached}
+use Rattle.pc_dfg_finish.specs.Instantiated.{AreInstantiated}
 use Rattle.pc_dfg_finish.specs.Whole.{empty_plan}
 use Rattle.pc_dfg_linearize.proofs.StepNameLemmas.{none_named}
 use Rattle.pc_dfg_linearize.proofs.TakeLemmas.{none_in}
@@ -187,3 +188,7 @@ module _ (g : ComponentDfg) where
     resources = refl;
     stands = λ ms trace wired zip. none_stand ms trace zip;
   }
+
+-- and no core instance was made
+pub none_instantiated : (g : ComponentDfg) → AreInstantiated g (empty_plan g)
+none_instantiated g k n is = absurd (none-some n is)

@@ -6,6 +6,7 @@ use Rattle.std.specs.List.{AllZip, filter_map}
 use Rattle.std.proofs.lemmas.List.{length-map, take_all}
 use Rattle.std.proofs.lemmas.List.Elements.{All-contains}
 use Rattle.std.proofs.lemmas.Option.{same_Some, slice_get_within}
+use Rattle.pc_entity.proofs.LookupLemmas.{found_at}
 use Rattle.pc_entity.specs.declared.packed_option.PackedOption.TheVariants as packed
 use Rattle.pc_entity.specs.PackedOption.{as_option}
 use Rattle.pc_numbers.specs.declared.module_entity.ModuleInternedTypeIndex.{ModuleInternedTypeIndex}
@@ -53,6 +54,7 @@ use Rattle.pc_dfg_finish.specs.Finishes.{Does, Finishes, IsOptionsOf, IsTrampoli
 use Rattle.pc_info.specs.Slots.{IsUsed}
 use Rattle.pc_dfg_linearize.specs.Made.{DoneBefore, declared_before, ids_in, ids_in_all}
 use Rattle.pc_dfg_finish.specs.ModuleTypes.{module_mark}
+use Rattle.pc_dfg_linearize.specs.Once.{Origin, number_in_run, of_instance, of_module}
 use Rattle.pc_dfg_linearize.specs.Parts.{HasNumber, number_of, options_id, slot_id}
 use Rattle.pc_dfg_linearize.specs.Represented.{StepsHave, definition_of}
 use Rattle.pc_dfg_linearize.specs.Plan.{Extends, counted_slots, slot_count, steps_view}
@@ -60,6 +62,8 @@ use Rattle.pc_info.specs.Slots.{HasOptions, UsesLowering, UsesSlot, UsesTrampoli
 use Rattle.pc_dfg_linearize.specs.Sound.{IsSound}
 use Rattle.pc_info.specs.Standing.{AreNumberedBehind, IsMadeLate, Makes, Piece, a_trampoline, an_options_entry}
 use Rattle.pc_info.specs.Standing.{is_side_effect}
+use Rattle.pc_dfg_finish.specs.Instantiated.{AreInstantiated}
+use Rattle.pc_dfg_finish.specs.Renumbered.{IsMadeOf, IsRenumbered}
 use Rattle.pc_dfg_finish.specs.Uses.{IsFunction, UsesDefinition}
 use Rattle.pc_dfg_finish.specs.Unnumbered.{unnumbered, unnumbered_options}
 use Rattle.pc_dfg_finish.specs.Whole.{component_of, translation_of}
@@ -68,8 +72,10 @@ use Rattle.pc_dfg_finish.proofs.AdapterOnceLemmas.{adapters_once}
 use Rattle.pc_dfg_finish.proofs.ApartLemmas.{are_apart, is_of_adapters}
 use Rattle.pc_dfg_finish.proofs.CopyLemmas.{same_options, same_trampoline}
 use Rattle.pc_dfg_finish.proofs.ExportPieceLemmas.{all_exported, exported_piece}
+use Rattle.pc_dfg_linearize.proofs.FillLemmas.{in_run}
 use Rattle.pc_dfg_linearize.proofs.FullLemmas.{count_within}
 use Rattle.pc_dfg_finish.proofs.HeadedLemmas.{few_headed, headed_alike}
+use Rattle.pc_dfg_finish.proofs.InstantiatedLemmas.{continues_instantiated, module_instantiated}
 use Rattle.pc_dfg_finish.proofs.LiftedLemmas.{exported_numbered, exported_options, lifted_within, made_of}
 use Rattle.pc_dfg_finish.proofs.LoweringUseLemmas.{used_lowering}
 use Rattle.pc_dfg_finish.proofs.OwnedLemmas.{run_owned}
@@ -466,14 +472,30 @@ module _ (g : ComponentDfg) (ordered : IsOrdered g) (f : Finish) (done : DoneBef
         })
         done.passed) names items
 
+    -- its core instances are those of the graph and of its modules of adapters
+    renumbered : AreInstantiated g f → IsRenumbered g whole
+    renumbered instantiated = record {
+      number_of = number_in_run h;
+      given = (further.continues.fills done.fills).instances;
+      all = λ k within.
+          let there = found_at h.instances k (omega (arith, within, ap length further.continues.instances, all_made)) in
+          (there.0.0, ap (option_map in_run) there.1);
+      made = by;
+    }
+      where
+        by : (x : Origin) (n : ℕ) → number_in_run h x ≡ Some n → IsMadeOf g (number_in_run h) (steps_view h) x n
+        by (of_instance k) n is = continues_instantiated g f h further.continues instantiated k n is
+        by (of_module m) n is = module_instantiated g h sound.are_steps m n is
+
     -- so it is the plan of the graph
-    pub whole_finishes : Finishes g (module_mark types) (translation_of g h names items)
+    pub whole_finishes : AreInstantiated g f → Finishes g (module_mark types) (translation_of g h names items)
     unfolding translation_of
-    whole_finishes = record {
+    whole_finishes instantiated = record {
       does = does;
       meanings = meanings;
       values_apart = values_apart;
       adapters = adapters;
+      renumbered = renumbered instantiated;
       import_types = refl;
       imports = refl;
       imported_resources = refl;

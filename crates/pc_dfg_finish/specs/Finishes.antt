@@ -49,6 +49,7 @@ use Rattle.pc_info.specs.Slots.{AtMostOne, IsUsed, StandsAt, TakesLowering, Uses
 use Rattle.pc_info.specs.Slots.{UsesSlot, UsesTrampoline, slots_in}
 use Rattle.pc_info.specs.Standing.{AreNumberedBehind, CarriesNext, IsMadeLate, Makes, Piece, a_trampoline}
 use Rattle.pc_info.specs.Standing.{an_options_entry, is_side_effect, steps_in}
+use Rattle.pc_dfg_finish.specs.Renumbered.{IsRenumbered}
 use Rattle.pc_dfg_finish.specs.Uses.{UsesDefinition}
 use Rattle.pc_dfg_finish.specs.Unnumbered.{unnumbered, unnumbered_options}
 use Rattle.pc_dfg_linearize.specs.Wired.{IsWired, Occurs}
@@ -121,6 +122,8 @@ pub record Finishes (g : ComponentDfg) (converted : ℕ → Mark) (plan : Compon
       (m : RuntimeInstance Mark)
       → slice_get (does ms trace nodes wired effects exports).never_stuck.last.instances r ≡ Some m
       → m.component_instance ≡ None → IsOfAdapters g m.instantiation
+  -- its core instances are those of the graph and of its modules of adapters, with their arguments
+  pub renumbered : IsRenumbered g plan
   -- what it has of the host is what the graph has of it
   pub import_types : plan.component.import_types ≡ g.import_types
   pub imports : plan.component.imports ≡ g.imports

@@ -12,6 +12,7 @@ use Rattle.pc_dfg_linearize.specs.declared.state.Finish.{Finish}
 use Rattle.pc_dfg_linearize.specs.declared.state.Numbers.{Numbers}
 use Rattle.pc_dfg_linearize.specs.Arguments.{OnlyFromThese}
 use Rattle.pc_dfg_finish.specs.Exports.{Exports, GoesFurther, Target, in_exports}
+use Rattle.pc_dfg_finish.specs.Instantiated.{AreInstantiated}
 use Rattle.pc_dfg_linearize.specs.Made.{DoneBefore}
 
 -- no entry has its number
@@ -56,6 +57,7 @@ pub record IsMade (g : ComponentDfg) (types : List (Option TypeModuleIndex)) (f 
   -- all side effects were done
   pub before : Finish
   pub done : DoneBefore g (length g.side_effects) before
+  pub instantiated : AreInstantiated g before
   -- what the exports depend on was made
   pub further : GoesFurther g before f
   pub only : OnlyFromThese g before f (in_exports g g.export_items)

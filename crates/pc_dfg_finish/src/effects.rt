@@ -13,6 +13,7 @@ ghost use Rattle.pc_dfg_linearize.specs.Grouped.{IsGrouped};
 ghost use Rattle.pc_dfg_linearize.specs.Made.{DoneBefore, IsDone, IsNext, Prepares, PreparesAny};
 ghost use Rattle.pc_dfg_linearize.specs.Made.{with_instance, with_resource};
 ghost use Rattle.pc_dfg_linearize.specs.Outgrown.{Outgrows};
+ghost use Rattle.pc_dfg_finish.specs.Instantiated.{AreInstantiated, StayInstantiated};
 
 use crate::arguments::{host_of, number_all, number_def, number_host};
 use pc_dfg::{ComponentDfg, CoreDef, Instance, InstanceId, SideEffect};
@@ -79,6 +80,7 @@ fn make_instance(
     requires next { IsNext graph.now finish.old (effect.Instance instance owner) }
     requires fits { Fits graph.now finish.old }
     ensures done { OnOk result (IsDone graph.now finish.old finish.new (effect.Instance instance owner)) }
+    ensures instantiated { OnOk result (StayInstantiated graph.now finish.old finish.new) }
     ensures full { result ≡ Err refusal.TooMany → Outgrows graph.now finish.old }
 {
     let instantiation = instantiation_of(alloc, graph, finish, &graph.instances[instance])?;
@@ -131,6 +133,7 @@ fn declare_resource(
     requires next { IsNext graph.now finish.old (effect.Resource index) }
     requires fits { Fits graph.now finish.old }
     ensures done { OnOk result (IsDone graph.now finish.old finish.new (effect.Resource index)) }
+    ensures instantiated { OnOk result (StayInstantiated graph.now finish.old finish.new) }
     ensures full { result ≡ Err refusal.TooMany → Outgrows graph.now finish.old }
 {
     let resource = &graph.resources[index];
@@ -158,6 +161,7 @@ fn do_effect(
     requires next { IsNext graph.now finish.old effect }
     requires fits { Fits graph.now finish.old }
     ensures done { OnOk result (IsDone graph.now finish.old finish.new effect) }
+    ensures instantiated { OnOk result (StayInstantiated graph.now finish.old finish.new) }
     ensures full { result ≡ Err refusal.TooMany → Outgrows graph.now finish.old }
 {
     match effect {
@@ -177,7 +181,9 @@ pub(crate) fn do_effects(
     requires ordered { IsOrdered graph.now }
     requires grouped { IsGrouped graph.now }
     requires begins { DoneBefore graph.now 0 finish.old }
+    requires none_made { AreInstantiated graph.now finish.old }
     ensures done { OnOk result (DoneBefore graph.now (length graph.now.side_effects) finish.new) }
+    ensures instantiated { OnOk result (AreInstantiated graph.now finish.new) }
     ensures full { result ≡ Err refusal.TooMany → HasTooMany graph.now }
 {
     for effect in graph.side_effects.as_slice() {

@@ -3,8 +3,9 @@ use Rattle.std.proofs.Common.{◌≡◌, ◌≤◌, ◌<◌, ◌+◌, ◌*◌, �
 use Rattle.std.proofs.Common.{None, Ok, Err, refl, sym, ap, subst, ◌∙◌, arith, length, length-append}
 use Rattle.std.proofs.Common.{if◌then◌else◌}
 use Rattle.std.proofs.lemmas.Bool.{lt-ltb}
+use Rattle.std.proofs.lemmas.List.Elements.{All-nil}
 use Rattle.std.specs.List.{filter_map}
-use Rattle.std.specs.Prelude.{slice_get, option_map, nat_lt, sum_by}
+use Rattle.std.specs.Prelude.{All, slice_get, option_map, nat_lt, sum_by}
 use Rattle.pc_types.specs.declared.error.Error.TheVariants as error
 use Rattle.pc_types.specs.TypeTree.{TypeTree, Identity}
 use Rattle.pc_parsed.specs.declared.payload.ItemKind.TheVariants as item
@@ -38,10 +39,11 @@ use Rattle.pc_spec_reading.specs.Value.{and_component, component_value, inside, 
 use Rattle.pc_spec_reading.specs.World.{World, grown, has_room, new_world}
 use Rattle.pc_generate.specs.Generated.{payloads}
 use Rattle.pc_generate.specs.Table.{f, table}
-use Rattle.pc_generate.specs.Valid.{HasLinks, IsValid, adapter_of}
+use Rattle.pc_generate.specs.Valid.{AdaptsFunction, HasLinks, IsValid, adapter_of, function_tree}
 use Rattle.pc_generate.proofs.CountLemmas.{rest_items}
 use Rattle.pc_generate.proofs.FaultLemmas.{no_fault}
-use Rattle.pc_generate.proofs.LogLemmas.{AllBelow, IsBelow, below_later, below_more, found_more, found_same}
+use Rattle.pc_generate.proofs.LogLemmas.{AllBelow, IsBelow, below_later, below_more, found_all_more, found_all_same}
+use Rattle.pc_generate.proofs.LogLemmas.{found_more, found_same}
 use Rattle.pc_generate.proofs.NestLemmas.{argument, first_items, link_items, modules_are, root_is, root_items}
 use Rattle.pc_generate.proofs.NestLemmas.{link_instance, second_items, two_modules}
 use Rattle.pc_generate.proofs.ReadLemmas.{Gives, GrowsByInstance, GrowsByLink, IsGiven, begins, begun_world}
@@ -68,6 +70,7 @@ pub record IsAt (k : ℕ) (now : Moment) : Type 0 where
   pub below : AllBelow now.world.begun now.world.log
   pub core_instances : length (instances_of now.world.log) ≡ k + 1
   pub adapters : length (filter_map adapter_of now.world.log) ≡ k
+  pub typed : All AdaptsFunction (filter_map adapter_of now.world.log)
 
 module _ (enter : Enter) where
   -- an item, and then others
@@ -115,11 +118,11 @@ call_is s k c g at has = rw (at, has) refl
 -- the second component may be entered, whatever there is so far
 abbrev MayEnter : (limit : ℕ) → Enter → Type 0
 MayEnter limit enter =
-    (chain : Chain) (known : List (ℕ × Identity)) (w : World) (ty : TypeTree) (v : CoreValue Mark) (o : Options Mark)
+    (chain : Chain) (known : List (ℕ × Identity)) (w : World) (v : CoreValue Mark) (o : Options Mark)
     → nat_lt w.begun limit ≡ true → has_room (grown w.total 160) ≡ true → AllBelow w.begun w.log
     → Gives w 160 (GrowsByLink w) (enter (record {
       component = closed second_items chain;
-      arguments = (f, func_value (lifted_function ty v o)) ∷ [];
+      arguments = (f, func_value (lifted_function function_tree v o)) ∷ [];
     }) known w)
 
 -- what an instance that was made has under the name
@@ -145,16 +148,16 @@ unfolding read_items
 links_read limit enter may n k zero total now at below counts fits =
     let same : k ≡ k + zero = omega arith in (now, refl, subst (λ m. IsAt m now) same at)
 links_read limit enter may n k (suc left) total now at below counts fits =
-    let (ty, v, o, there) = lifted_there (value_named f at.values) at.gives in
-    let g : Function = lifted_function ty v o in
+    let (v, o, there) = lifted_there (value_named f at.values) at.gives in
+    let g : Function = lifted_function function_tree v o in
     let then_ : Moment = add_value now (func_value g) in
     let first = alias_reads enter n k now (made_instance at.values at.tree) g
     (ap (λ is. slice_get is k) at.instances ∙ last_there at.earlier (made_instance at.values at.tree) k at.many)
     (member_is at.values at.tree (func_value g) there) in
     let (r, entered, gives, begun, grows, logs) = given then_.world 160 (GrowsByLink then_.world) _
-    (may at.chain then_.scope.known then_.world ty v o (lt-ltb now.world.begun limit (omega (arith, below)))
+    (may at.chain then_.scope.known then_.world v o (lt-ltb now.world.begun limit (omega (arith, below)))
     (ap (λ t. has_room (grown t 160)) counts ∙ lt-ltb (total + 160) 4294967295 (omega (arith, fits))) at.below) in
-    let (a, i, lowers, log) = logs in
+    let (a, i, lowers, adapts, log) = logs in
     let call = call_is then_.scope k (closed second_items at.chain) g at.second
     (last_there now.scope.funcs g k at.funcs) in
     let next = instance_reads enter (n + 1) 1 (argument k ∷ []) then_ _ r call entered in
@@ -179,6 +182,10 @@ links_read limit enter may n k (suc left) total now at below counts fits =
           ap (λ (l : List (Entry Mark)). length (filter_map adapter_of l)) log
           ∙ found_same adapter_of (now.world.log ++ made a ∷ []) (instantiated i now.world.begun) refl
           ∙ found_more adapter_of now.world.log (made a) a refl ∙ ap (λ m. m + 1) at.adapters;
+      typed =
+          subst (λ (l : List (Entry Mark)). All AdaptsFunction (filter_map adapter_of l)) (sym log)
+          (found_all_same AdaptsFunction adapter_of (now.world.log ++ made a ∷ []) (instantiated i now.world.begun) refl
+          (found_all_more AdaptsFunction adapter_of now.world.log (made a) a refl at.typed adapts));
     } in
     let (later, reads, is_at) = links_read limit enter may (n + 1 + 1) (k + 1) left (total + 160) _ there_at
     (omega (arith, begun, below)) (grows ∙ ap (λ t. grown t 160) counts) (omega (arith, fits)) in
@@ -262,12 +269,15 @@ root_read limit levels n total w is enough one counts empty fits =
       below = subst (AllBelow r.world.begun) (sym log) (tt, tt);
       core_instances = ap (λ (l : List (Entry Mark)). length (instances_of l)) log;
       adapters = ap (λ (l : List (Entry Mark)). length (filter_map adapter_of l)) log;
+      typed =
+          subst (λ (l : List (Entry Mark)). All AdaptsFunction (filter_map adapter_of l)) (sym log)
+          (All-nil AdaptsFunction);
     } in
-    let may : MayEnter limit enter = λ chain known w ty v o below room all.
+    let may : MayEnter limit enter = λ chain known w v o below room all.
     subst (λ l. Gives w 160 (GrowsByLink w) (enter_at table two_modules limit l (record {
       component = closed second_items chain;
-      arguments = (f, func_value (lifted_function ty v o)) ∷ [];
-    }) known w)) (sym is) (second_gives limit levels chain known w ty v o below room all) in
+      arguments = (f, func_value (lifted_function function_tree v o)) ∷ [];
+    }) known w)) (sym is) (second_gives limit levels chain known w v o below room all) in
     let (later, reads, is_at) = links_read limit enter may 3 0 n (total + 72) then_ at
     (omega (arith, begun, one, enough)) (grows ∙ ap (λ t. grown t 72) counts) (omega (arith, fits)) in (
       later,
@@ -309,6 +319,7 @@ root_done limit levels n total is enough fits =
         begun = omega (arith, at.begun);
         instances = omega (arith, at.core_instances);
         adapters = omega (arith, at.adapters);
+        typed = at.typed;
       },
     )
 

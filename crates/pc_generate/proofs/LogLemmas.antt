@@ -1,9 +1,10 @@
 -- No two links of a chain make the same adapter: each lowers in a component instance of its own.
 use Rattle.std.proofs.Common.{◌≡◌, ◌≤◌, ◌<◌, ◌+◌, ℕ, Bool, true, false, List, [], ◌∷◌, ◌++◌, Option, Some, None, refl}
 use Rattle.std.proofs.Common.{ap, ◌∙◌, arith, length, length-append}
+use Rattle.std.proofs.lemmas.List.Elements.{All-append, All-nil, All-push, All-same}
 use Rattle.std.proofs.lemmas.List.Elements.{filter_map-append}
 use Rattle.std.proofs.lemmas.Bool.{ne_eqb}
-use Rattle.std.specs.Prelude.{⊤, ◌&&◌, ◌||◌, ◌==◌}
+use Rattle.std.specs.Prelude.{⊤, All, ◌&&◌, ◌||◌, ◌==◌}
 use Rattle.std.specs.List.{cons_option, filter_map, list_any}
 use Rattle.pc_types.specs.declared.encoding.StringEncoding.{StringEncoding}
 use Rattle.pc_types.specs.TypeTree.{TypeTree}
@@ -108,3 +109,19 @@ pub found_same : {A B : Type 0} (h : A → Option B) (xs : List A) (x : A) → h
 found_same h xs x is =
     ap length (filter_map-append h xs (x ∷ [])) ∙ length-append (filter_map h xs) (filter_map h (x ∷ []))
     ∙ ap (λ o. length (filter_map h xs) + length (cons_option o [])) is ∙ omega arith
+
+-- what holds of all that is found holds with one found item more
+pub found_all_more : {A B : Type 0} (P : B → Type 0) (h : A → Option B) (xs : List A) (x : A) (y : B) → h x ≡ Some y
+    → All P (filter_map h xs) → P y → All P (filter_map h (xs ++ x ∷ []))
+found_all_more P h xs x y is all one =
+    All-same P (filter_map h (xs ++ x ∷ [])) (filter_map h xs ++ y ∷ [])
+    (filter_map-append h xs (x ∷ []) ∙ ap (λ o. filter_map h xs ++ cons_option o []) is)
+    (All-push P (filter_map h xs) y all one)
+
+-- or with an item of which nothing is found
+pub found_all_same : {A B : Type 0} (P : B → Type 0) (h : A → Option B) (xs : List A) (x : A) → h x ≡ None
+    → All P (filter_map h xs) → All P (filter_map h (xs ++ x ∷ []))
+found_all_same P h xs x is all =
+    All-same P (filter_map h (xs ++ x ∷ [])) (filter_map h xs ++ [])
+    (filter_map-append h xs (x ∷ []) ∙ ap (λ o. filter_map h xs ++ cons_option o []) is)
+    (All-append P (filter_map h xs) [] all (All-nil P))

@@ -1,10 +1,9 @@
 -- What the two components of a chain give, whatever is around them.
 use Rattle.std.proofs.Common.{◌≡◌, ◌+◌, ℕ, suc, true, false, List, [], ◌∷◌, ◌++◌, Option, Some, None, refl, sym}
 use Rattle.std.proofs.Common.{ap, subst, ◌∙◌, arith, if◌then◌else◌}
-use Rattle.std.specs.Prelude.{⊤, nat_lt, codes}
+use Rattle.std.specs.Prelude.{nat_lt, codes}
 use Rattle.pc_types.specs.declared.parsed.CoreKind.TheVariants as core
-use Rattle.pc_types.specs.declared.parsed.PrimType.TheVariants.{U32}
-use Rattle.pc_types.specs.TypeTree.{TypeTree, Identity, a_tree, and_field, func_of, instance_of, no_fields, primitive}
+use Rattle.pc_types.specs.TypeTree.{TypeTree, Identity, and_field, instance_of, no_fields}
 use Rattle.pc_spec_plan.specs.CoreValue.{CoreValue, Options, adapter}
 use Rattle.pc_spec_plan.specs.Log.{Entry, Instantiation, instantiated, made}
 use Rattle.pc_parsed.specs.Mark.{Mark, of_type}
@@ -29,12 +28,13 @@ use Rattle.pc_spec_reading.specs.Value.{instance_value, intrinsic_function, lift
 use Rattle.pc_spec_reading.specs.Value.{type_value, value_named}
 use Rattle.pc_spec_reading.specs.World.{World, grown, has_room}
 use Rattle.pc_generate.specs.Table.{f, signature, table}
+use Rattle.pc_generate.specs.Valid.{AdaptsFunction, function_tree}
 use Rattle.pc_generate.proofs.LogLemmas.{AllBelow, IsBelow, not_made}
 use Rattle.pc_generate.proofs.NestLemmas.{first_items, lowered_items, second_items, two_modules}
 
--- a value is a function that was lifted
+-- a value is a function that was lifted with the type of each
 abbrev pub IsLifted : Value → Type 0
-IsLifted (func_value (lifted_function ty v o)) = ⊤
+IsLifted (func_value (lifted_function ty v o)) = ty ≡ function_tree
 IsLifted _ = ⊥
 
 -- there is such a value
@@ -57,13 +57,14 @@ GrowsByInstance w log = (i : Instantiation Mark) × (log ≡ w.log ++ instantiat
 -- the log gained an adapter, and then such a core instance
 abbrev pub GrowsByLink : World → List (Entry Mark) → Type 0
 GrowsByLink w log =
-    (a : CoreValue Mark) × (i : Instantiation Mark) × IsBelow (w.begun + 1) (made a)
+    (a : CoreValue Mark) × (i : Instantiation Mark) × IsBelow (w.begun + 1) (made a) × AdaptsFunction a
     × (log ≡ (w.log ++ made a ∷ []) ++ instantiated i w.begun ∷ [])
 
 -- the value itself
 pub lifted_there : (x : Option Value) → IsGiven x
-    → (ty : TypeTree) × (v : CoreValue Mark) × (o : Options Mark) × (x ≡ Some (func_value (lifted_function ty v o)))
-lifted_there (Some (func_value (lifted_function ty v o))) is = (ty, v, o, refl)
+    → (v : CoreValue Mark) × (o : Options Mark) × (x ≡ Some (func_value (lifted_function function_tree v o)))
+lifted_there (Some (func_value (lifted_function ty v o))) is =
+    (v, o, ap (λ t. Some (func_value (lifted_function t v o))) is)
 lifted_there (Some (func_value (host_function p))) bad = absurd bad
 lifted_there (Some (func_value (intrinsic_function n))) bad = absurd bad
 lifted_there (Some (module_value m)) bad = absurd bad
@@ -99,12 +100,9 @@ making_is : (now : Moment) (v : CoreValue Mark) → was_made v now.world.log ≡
 unfolding making
 making_is now v is = ap (λ b. if b then now else add_entry now (made v)) is
 
--- the type of each function, and that of an instance that has one
-abbrev pub func_tree : TypeTree
-func_tree = func_of (and_field (codes "x") (primitive U32) no_fields) (a_tree (primitive U32)) false
-
+-- the type of an instance that has a function
 abbrev pub instance_tree : TypeTree
-instance_tree = instance_of (and_field f func_tree no_fields)
+instance_tree = instance_of (and_field f function_tree no_fields)
 
 module _ (limit levels : ℕ) (chain : Chain) (known : List (ℕ × Identity)) (w : World) where
   -- the first component, when it has begun
@@ -122,18 +120,18 @@ module _ (limit levels : ℕ) (chain : Chain) (known : List (ℕ × Identity)) (
       the_options value_at exported_value exports_at body_weight item_weight
   first_gives below room =
       subst (Gives w 72 (GrowsByInstance w)) (sym (begins limit 71 w first_reads below room))
-      (tt, refl, refl, (_, refl))
+      (refl, refl, refl, (_, refl))
 
-  module _ (ty : TypeTree) (v : CoreValue Mark) (o : Options Mark) where
+  module _ (v : CoreValue Mark) (o : Options Mark) where
     -- the second component with its argument, when its import was read
     abbrev imported : Moment
     imported =
-        add_value (begun_in ((f, func_value (lifted_function ty v o)) ∷ []) known chain w.begun (begun_world 159 w))
-        (func_value (lifted_function ty v o))
+        add_value (begun_in ((f, func_value (lifted_function function_tree v o)) ∷ []) known chain w.begun
+        (begun_world 159 w)) (func_value (lifted_function function_tree v o))
 
     -- its adapter
     abbrev lowered : CoreValue Mark
-    lowered = adapter (of_type ty) o (of_type func_tree) (the_options imported.scope signature []) v
+    lowered = adapter (of_type function_tree) o (of_type function_tree) (the_options imported.scope signature []) v
 
     -- it goes on when the adapter was made
     abbrev second_reads : Moment → Outcome Return
@@ -145,7 +143,7 @@ module _ (limit levels : ℕ) (chain : Chain) (known : List (ℕ × Identity)) (
     abbrev second_begun : World → Outcome Return
     second_begun u =
         and_then (read_items table two_modules (enter_at table two_modules limit levels) 0
-        second_items (begun_in ((f, func_value (lifted_function ty v o)) ∷ []) known chain w.begun u))
+        second_items (begun_in ((f, func_value (lifted_function function_tree v o)) ∷ []) known chain w.begun u))
         (returning table second_items)
 
     -- the second component gives a function
@@ -153,7 +151,7 @@ module _ (limit levels : ℕ) (chain : Chain) (known : List (ℕ × Identity)) (
         → AllBelow w.begun w.log → Gives w 160 (GrowsByLink w) (enter_at table two_modules limit (suc levels)
         (record {
           component = closed second_items chain;
-          arguments = (f, func_value (lifted_function ty v o)) ∷ [];
+          arguments = (f, func_value (lifted_function function_tree v o)) ∷ [];
         }) known w)
     unfolding table enter_at read_body read_items read_item read_row read_module read_core_instance
         read_core_alias read_core_exports read_import read_lift read_lower lower_to read_export core_export
@@ -161,5 +159,6 @@ module _ (limit levels : ℕ) (chain : Chain) (known : List (ℕ × Identity)) (
         registered walk newly resource_paths body_weight item_weight
     second_gives below room all =
         subst (Gives w 160 (GrowsByLink w)) (sym (begins limit 159 w second_begun below room
-        ∙ ap second_reads (making_is imported lowered (not_made ty o func_tree imported.scope v w.log all))))
-        (tt, refl, refl, (lowered, _, omega arith, refl))
+        ∙ ap second_reads (making_is imported lowered
+        (not_made function_tree o function_tree imported.scope v w.log all))))
+        (refl, refl, refl, (lowered, _, omega arith, (refl, refl), refl))

@@ -1,12 +1,11 @@
 //! The word that says how long a generated chain is.
 
-ghost use Rattle.std.specs.Prelude.{◌≡◌, ℕ, None, IfSome};
-ghost use Rattle.pc_generate.specs.Count.{IsCount};
+ghost use Rattle.std.specs.Prelude.{◌≡◌};
+ghost use Rattle.pc_generate.specs.Count.{count_in};
 
 /// The number that a word says in decimal, without a zero in front: at least 1, and at most 10000.
 pub fn count_of(word: &str) -> Option<u32>
-    ensures some { IfSome result (IsCount word.now) }
-    ensures none { result ≡ None → (n : ℕ) → ¬ (IsCount word.now n) }
+    ensures { result ≡ count_in word.now }
 {
     let bytes = word.as_bytes();
     if bytes.is_empty() || bytes[0] < b'1' || bytes[0] > b'9' {

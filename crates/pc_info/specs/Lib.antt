@@ -3,6 +3,7 @@ pub mod Mapped
 pub mod Component
 pub mod Definitions
 pub mod Options
+pub mod Known
 pub mod Modules
 pub mod Exports
 pub mod View

@@ -37,9 +37,9 @@ without_facts r adapters = record {
   known_imported_globals = record { items = []; default = None };
   known_imported_memories = record { items = []; default = None };
   known_imported_tables = record { items = []; default = None };
-  globals_known_to_importers = set.empty;
-  memories_known_to_importers = set.empty;
-  tables_known_to_importers = set.empty;
+  globals_known_to_importers = record { defined = 0; unknown = set.empty };
+  memories_known_to_importers = record { defined = 0; unknown = set.empty };
+  tables_known_to_importers = record { defined = 0; unknown = set.empty };
   imported_func_vmctx_representative = record { items = []; default = packed.None };
 }
 

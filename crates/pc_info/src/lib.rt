@@ -21,7 +21,7 @@ pub use initializer::{
     ExtractCallback, ExtractMemory, ExtractPostReturn, ExtractRealloc, ExtractTable,
     GlobalInitializer, InstantiateModule, Resource,
 };
-pub use known::{KnownEntity, KnownFunc, KnownGlobal};
+pub use known::{KnownEntity, KnownFunc, KnownGlobal, KnownToImporters};
 pub use module::{AdapterRecord, ModuleTranslation, SideRecord};
 pub use options::{CanonicalOptions, CanonicalOptionsDataModel, LinearMemoryOptions};
 pub use pc_trampoline::{FixedEncoding, Mark, Transcode, Trap};

@@ -3,11 +3,11 @@
 ghost use Rattle.std.specs.Prelude.{◌≡◌};
 ghost use Rattle.pc_info.specs.Modules.{without_facts};
 
-use crate::known::{KnownEntity, KnownFunc, KnownGlobal};
+use crate::known::{KnownEntity, KnownFunc, KnownGlobal, KnownToImporters};
 use pc_entity::{
-    DefinedGlobalIndex, DefinedMemoryIndex, DefinedTableIndex, EntitySet, FuncIndex, GlobalIndex,
-    MemoryIndex, ModuleInternedTypeIndex, PackedOption, RuntimeComponentInstanceIndex,
-    SecondaryMap, Seq, TableIndex,
+    DefinedGlobalIndex, DefinedMemoryIndex, DefinedTableIndex, FuncIndex, GlobalIndex, MemoryIndex,
+    ModuleInternedTypeIndex, PackedOption, RuntimeComponentInstanceIndex, SecondaryMap, Seq,
+    TableIndex,
 };
 use pc_types::{ModuleRecord, StringEncoding, TypeFuncIndex};
 use std::alloc::Global;
@@ -30,11 +30,11 @@ pub struct ModuleTranslation {
     /// The imported tables that are known.
     pub known_imported_tables: SecondaryMap<TableIndex, Option<KnownEntity<DefinedTableIndex>>>,
     /// The globals that each module that imports them knows.
-    pub globals_known_to_importers: EntitySet<DefinedGlobalIndex>,
+    pub globals_known_to_importers: KnownToImporters<DefinedGlobalIndex>,
     /// The memories that each module that imports them knows.
-    pub memories_known_to_importers: EntitySet<DefinedMemoryIndex>,
+    pub memories_known_to_importers: KnownToImporters<DefinedMemoryIndex>,
     /// The tables that each module that imports them knows.
-    pub tables_known_to_importers: EntitySet<DefinedTableIndex>,
+    pub tables_known_to_importers: KnownToImporters<DefinedTableIndex>,
     /// For an imported function the first one that has the same context in each instance.
     pub imported_func_vmctx_representative: SecondaryMap<FuncIndex, PackedOption<FuncIndex>>,
 }
@@ -55,9 +55,9 @@ impl ModuleTranslation {
             known_imported_globals: SecondaryMap::new(alloc, None),
             known_imported_memories: SecondaryMap::new(alloc, None),
             known_imported_tables: SecondaryMap::new(alloc, None),
-            globals_known_to_importers: EntitySet::new(alloc),
-            memories_known_to_importers: EntitySet::new(alloc),
-            tables_known_to_importers: EntitySet::new(alloc),
+            globals_known_to_importers: KnownToImporters::none(alloc),
+            memories_known_to_importers: KnownToImporters::none(alloc),
+            tables_known_to_importers: KnownToImporters::none(alloc),
             imported_func_vmctx_representative: SecondaryMap::new(alloc, PackedOption::None),
         }
     }
@@ -107,9 +107,9 @@ fn drop_entities(
 ) {}
 
 fn drop_definitions(
-    _globals: EntitySet<DefinedGlobalIndex>,
-    _memories: EntitySet<DefinedMemoryIndex>,
-    _tables: EntitySet<DefinedTableIndex>,
+    _globals: KnownToImporters<DefinedGlobalIndex>,
+    _memories: KnownToImporters<DefinedMemoryIndex>,
+    _tables: KnownToImporters<DefinedTableIndex>,
 ) {}
 
 /// A function of an adapter module: it lifts its callee and lowers it again. Positions are places among the module's

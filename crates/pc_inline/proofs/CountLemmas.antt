@@ -111,4 +111,4 @@ module _ (g : ComponentDfg) (futures streams errors : ℕ) where
         names_still t types types g counted (types_refl types) counted_grows counted_fits g.exports nodes s
 
   pub counted_numbers : (nodes : List (NamedNode Mark)) → NumbersExports g nodes → NumbersExports counted nodes
-  counted_numbers nodes n = record { as_many = n.as_many; last = n.last }
+  counted_numbers nodes n = record { as_many = n.as_many; last = n.last; whole = n.whole }

@@ -1,13 +1,14 @@
 -- Counts that are made one after another.
-use Rattle.std.proofs.Common.{◌≡◌, ◌<◌, ◌+◌, ℕ, true, List, [], ◌∷◌, ◌++◌, fold, length, take, zero, suc, Some}
-use Rattle.std.proofs.Common.{refl, sym, ap, subst, ◌∙◌, arith, if◌then◌else◌}
-use Rattle.std.specs.Prelude.{min, slice_get}
+use Rattle.std.proofs.Common.{◌≡◌, ◌<◌, ◌+◌, ℕ, List, [], ◌∷◌, ◌++◌, fold, length, take, zero, suc, Some}
+use Rattle.std.proofs.Common.{refl, sym, ap, subst, ◌∙◌, arith}
+use Rattle.std.specs.Prelude.{slice_get}
 use Rattle.std.proofs.lemmas.List.{length-append}
 use Rattle.std.proofs.lemmas.Option.{none-some, same_Some}
 use Rattle.pc_entity.specs.Lists.{Kept}
 use Rattle.pc_entity.proofs.Growing.{append_kept, kept_refl, kept_trans, slice_get-append_seam, take-next}
 use Rattle.pc_inline_counts.specs.declared.count.NodeCount.{NodeCount}
 use Rattle.pc_inline_counts.specs.Counts.{after_nodes, count_at, count_or, counts_from}
+use Rattle.pc_inline_counts.proofs.FollowsLemmas.{GoesOn, goes_on_after, goes_on_same, goes_on_twice}
 
 -- the counts of one item more
 counts_push : {A : Type 0} (count : List NodeCount → A → NodeCount) (earlier : List NodeCount) (xs : List A) (x : A)
@@ -35,19 +36,13 @@ pub fold_further : {A B : Type 0} (f : B → A → B) (b : B) (xs : List A) (i :
 fold_further f b xs i x at c d so is =
     is ∙ ap (λ e. f e x) so ∙ sym (fold_push f b (take i xs) x) ∙ ap (fold f b) (sym (take-next xs i x at))
 
--- after one that is refused nothing more is reached
-pub after_stays : (c d : NodeCount) → c.is_refused ≡ true → after_nodes c d ≡ c
-after_stays c d is =
-    ap
-    (λ b. if b then c else record { nodes = min (c.nodes + d.nodes) 4294967295; is_refused = d.is_refused })
-    is
-
--- however much comes after it
-pub fold_stays : {A : Type 0} (count : A → NodeCount) (c : NodeCount) → c.is_refused ≡ true → (xs : List A)
-    → fold (λ d x. after_nodes d (count x)) c xs ≡ c
-fold_stays count c is [] = refl
-fold_stays count c is (x ∷ xs) =
-    ap (λ d. fold (λ e y. after_nodes e (count y)) d xs) (after_stays c (count x) is) ∙ fold_stays count c is xs
+-- a count goes on as more comes after it
+pub fold_goes_on : {A : Type 0} (count : A → NodeCount) (c : NodeCount) (xs : List A)
+    → GoesOn c (fold (λ d x. after_nodes d (count x)) c xs)
+fold_goes_on count c [] = goes_on_same c
+fold_goes_on count c (x ∷ xs) =
+    goes_on_twice c (after_nodes c (count x)) (fold (λ d y. after_nodes d (count y)) (after_nodes c (count x)) xs)
+    (goes_on_after c (count x)) (fold_goes_on count (after_nodes c (count x)) xs)
 
 module _ {A : Type 0} (count : List NodeCount → A → NodeCount) where
   -- the counts before stay as later ones are made

@@ -25,8 +25,7 @@ use Rattle.pc_spec_plan.specs.ExportNode.{ExportNode, and_node}
 use Rattle.pc_parsed.specs.Mark.{of_type}
 use Rattle.pc_spec_reading.specs.Member.{further}
 use Rattle.pc_spec_reading.specs.Nodes.{host_node, host_nodes, more, no_data, then_reach}
-use Rattle.pc_spec_reading.specs.Outcome.{unsupported}
-use Rattle.pc_spec_reading.specs.World.{World}
+use Rattle.pc_spec_reading.specs.World.{World, has_room}
 use Rattle.pc_inline_hosts.specs.HostMembers.{entry_of}
 use Rattle.pc_inline_hosts.specs.HostStands.{fields_list}
 use Rattle.pc_inline_hosts.proofs.FieldLemmas.{IsField, both_inv, fields_declared, tree_at}
@@ -36,10 +35,10 @@ use Rattle.pc_inline_counts.specs.declared.count.NodeCount.{NodeCount}
 use Rattle.pc_inline_counts.specs.Counts.{after_nodes, count_at, count_or, entity_count, entry_count, entry_counts}
 use Rattle.pc_inline_counts.specs.Counts.{one_node}
 use Rattle.pc_inline_counts.specs.Counts.{refused_node, with_export}
-use Rattle.pc_inline_counts.specs.Takes.{Grew, HasTotal, Takes}
-use Rattle.pc_inline_counts.proofs.FoldLemmas.{count_made, fold_stays, kept_at}
-use Rattle.pc_inline_counts.proofs.TakesLemmas.{counting_takes, grew_total, host_leaf_takes, leaf_takes, next_takes}
-use Rattle.pc_inline_counts.proofs.TakesLemmas.{put_takes, refused_takes}
+use Rattle.pc_inline_counts.specs.Follows.{Follows, Grew}
+use Rattle.pc_inline_counts.proofs.FoldLemmas.{count_made, fold_goes_on, kept_at}
+use Rattle.pc_inline_counts.proofs.FollowsLemmas.{counting_follows, host_leaf_follows, leaf_follows, next_follows}
+use Rattle.pc_inline_counts.proofs.FollowsLemmas.{put_follows, refused_follows}
 
 -- the tree of a component type
 abbrev is_component_tree : TypeTree → Bool
@@ -47,20 +46,20 @@ is_component_tree (component_of imports exports) = true
 is_component_tree _ = false
 
 -- a host item that is neither an instance nor a component is one node
-plain_takes : (t : TypeTree) → is_instance_tree t ≡ false → is_component_tree t ≡ false → (p : Path) (w : World)
-    → HasTotal w → Takes one_node w (host_node p t w)
+plain_follows : (t : TypeTree) → is_instance_tree t ≡ false → is_component_tree t ≡ false → (p : Path) (w : World)
+    → Follows one_node w (host_node p t w)
 unfolding host_node
-plain_takes (func_of params result is_async) i c p w total = host_leaf_takes p _ w total
-plain_takes (instance_of exports) i c p w total = absurd (true≢false i)
-plain_takes (component_of imports exports) i c p w total = absurd (true≢false c)
-plain_takes (module_of imports exports) i c p w total = host_leaf_takes p _ w total
-plain_takes _ i c p w total = leaf_takes _ w total
+plain_follows (func_of params result is_async) i c p w = host_leaf_follows p _ w
+plain_follows (instance_of exports) i c p w = absurd (true≢false i)
+plain_follows (component_of imports exports) i c p w = absurd (true≢false c)
+plain_follows (module_of imports exports) i c p w = host_leaf_follows p _ w
+plain_follows _ i c p w = leaf_follows _ w
 
 -- a component of the host is refused
-component_takes : (imports exports : Fields) → (p : Path) (w : World) → HasTotal w
-    → Takes refused_node w (host_node p (component_of imports exports) w)
+component_follows : (imports exports : Fields) → (p : Path) (w : World) → has_room w.total ≡ true
+    → Follows (refused_node ComponentImport) w (host_node p (component_of imports exports) w)
 unfolding host_node
-component_takes imports exports p w total = refused_takes _ (unsupported ComponentImport) w total
+component_follows imports exports p w room = refused_follows _ ComponentImport w room
 
 -- the tree of a type that values have is neither that of an instance nor that of a component
 value_plain : (t : TypeTree) → is_value_tree t ≡ true → (is_instance_tree t ≡ false) × (is_component_tree t ≡ false)
@@ -101,109 +100,109 @@ module _ (known : List (ℕ × Identity)) (c : ℕ) (t : TypeTable) (sound : tab
   entity_below n within entity.Value ok not = absurd (true≢false not)
 
   -- so many nodes are counted of what the host has where its type is an entry
-  abbrev EntryTakes : ℕ → Type 0
-  EntryTakes m =
-      (tree : TypeTree) → tree_of known c t m ≡ Some tree → (p : Path) (w : World) → HasTotal w
-      → Takes (count_at all m) w (host_node p tree w)
+  abbrev EntryFollows : ℕ → Type 0
+  EntryFollows m =
+      (tree : TypeTree) → tree_of known c t m ≡ Some tree → (p : Path) (w : World) → has_room w.total ≡ true
+      → Follows (count_at all m) w (host_node p tree w)
 
-  module _ (n : ℕ) (within : n < length t.types) (earlier : (m : ℕ) → m < n → EntryTakes m) (before : List NodeCount)
+  module _ (n : ℕ) (within : n < length t.types) (earlier : (m : ℕ) → m < n → EntryFollows m) (before : List NodeCount)
       (same : (m : ℕ) → m < n → count_at before m ≡ count_at all m) where
     -- an export
-    export_takes : (e : Entity) → IsBelow n e → (tree : TypeTree) → tree_of known c t (entry_of e) ≡ Some tree
-        → (p : Path) (w : World) → HasTotal w → Takes (entity_count before e) w (host_node p tree w)
-    export_takes e below tree got p w total =
-        subst (λ (d : NodeCount). Takes d w (host_node p tree w))
+    export_follows : (e : Entity) → IsBelow n e → (tree : TypeTree) → tree_of known c t (entry_of e) ≡ Some tree
+        → (p : Path) (w : World) → has_room w.total ≡ true → Follows (entity_count before e) w (host_node p tree w)
+    export_follows e below tree got p w room =
+        subst (λ (d : NodeCount). Follows d w (host_node p tree w))
         (sym (below.1 before ∙ same (entry_of e) below.0))
-        (earlier (entry_of e) below.0 tree got p w total)
+        (earlier (entry_of e) below.0 tree got p w room)
 
     -- the exports after some
-    exports_take : (es : List (List ℕ × Entity)) (fs : Fields)
+    exports_follow : (es : List (List ℕ × Entity)) (fs : Fields)
         → list_all (λ (e : List ℕ × Entity). is_sound_entity (take n t.types) e.1) es ≡ true
         → list_any (λ (e : List ℕ × Entity). is_value e.1) es ≡ false
         → AllZip (IsField known c t) es (fields_list fs) → (p : Path) (count : NodeCount) (w v : World)
-        → Grew w v count.nodes → Takes (fold (with_export before) count es) w (host_nodes p fs v)
-    unfolding host_nodes Takes
-    exports_take [] no_fields ok none are p count w v g = g
-    exports_take [] (and_field name tree fs) ok none are p count w v g = absurd are
-    exports_take (e ∷ es) no_fields ok none are p count w v g = absurd are
-    exports_take (e ∷ es) (and_field name tree fs) ok none are p count w v g =
+        → Grew w v count → Follows (fold (with_export before) count es) w (host_nodes p fs v)
+    unfolding host_nodes Follows
+    exports_follow [] no_fields ok none are p count w v g = g
+    exports_follow [] (and_field name tree fs) ok none are p count w v g = absurd are
+    exports_follow (e ∷ es) no_fields ok none are p count w v g = absurd are
+    exports_follow (e ∷ es) (and_field name tree fs) ok none are p count w v g =
         let both =
         and_true (is_sound_entity (take n t.types) e.1)
         (list_all (λ (x : List ℕ × Entity). is_sound_entity (take n t.types) x.1) es) ok in
         let neither = or_false (is_value e.1) (list_any (λ (x : List ℕ × Entity). is_value x.1) es) none in
         let d = entity_count before e.1 in
         let rest = fold (with_export before) (after_nodes count d) es in
-        next_takes count d rest w v g (host_node (further p name) tree v)
-        (export_takes e.1 (entity_below n within e.1 both.0 neither.0) tree are.0.1 (further p name) v
-        (grew_total w v count.nodes g))
-        (λ is. fold_stays (λ (x : List ℕ × Entity). entity_count before x.1) (after_nodes count d) is es)
+        next_follows count d rest w v g (host_node (further p name) tree v)
+        (export_follows e.1 (entity_below n within e.1 both.0 neither.0) tree are.0.1 (further p name) v g.room)
+        (fold_goes_on (λ (x : List ℕ × Entity). entity_count before x.1) (after_nodes count d) es)
         (λ x u. then_reach (host_nodes p fs u) (more name no_data x))
-        (λ x u grew. put_takes (and_node name no_data x) rest w (host_nodes p fs u)
-        (exports_take es fs both.1 neither.1 are.1 p (after_nodes count d) w u grew))
+        (λ x u grew. put_follows (and_node name no_data x) rest w (host_nodes p fs u)
+        (exports_follow es fs both.1 neither.1 are.1 p (after_nodes count d) w u grew))
 
     -- an instance with its exports
-    instance_takes : (es : List (List ℕ × Entity)) (fs : Fields)
+    instance_follows : (es : List (List ℕ × Entity)) (fs : Fields)
         → list_all (λ (e : List ℕ × Entity). is_sound_entity (take n t.types) e.1) es ≡ true
         → list_any (λ (e : List ℕ × Entity). is_value e.1) es ≡ false
-        → AllZip (IsField known c t) es (fields_list fs) → (p : Path) (w : World) → HasTotal w
-        → Takes (fold (with_export before) one_node es) w (host_node p (instance_of fs) w)
+        → AllZip (IsField known c t) es (fields_list fs) → (p : Path) (w : World)
+        → Follows (fold (with_export before) one_node es) w (host_node p (instance_of fs) w)
     unfolding host_node
-    instance_takes es fs ok none are p w total =
-        counting_takes (fold (with_export before) one_node es) w total _
-        (λ v g. put_takes (node.instance (of_type (instance_of fs))) (fold (with_export before) one_node es) w
-        (host_nodes p fs v) (exports_take es fs ok none are p one_node w v g))
+    instance_follows es fs ok none are p w =
+        counting_follows (fold (with_export before) one_node es) w
+        (fold_goes_on (λ (x : List ℕ × Entity). entity_count before x.1) one_node es) _
+        (λ v g. put_follows (node.instance (of_type (instance_of fs))) (fold (with_export before) one_node es) w
+        (host_nodes p fs v) (exports_follow es fs ok none are p one_node w v g))
 
     -- an entry, of each kind
-    kind_takes : (e : DeclType) → slice_get t.types n ≡ Some e → (tree : TypeTree) → tree_of known c t n ≡ Some tree
-        → (p : Path) (w : World) → HasTotal w → Takes (entry_count before e) w (host_node p tree w)
-    kind_takes (entry.Instance exports) at tree got p w total =
+    kind_follows : (e : DeclType) → slice_get t.types n ≡ Some e → (tree : TypeTree) → tree_of known c t n ≡ Some tree
+        → (p : Path) (w : World) → has_room w.total ≡ true → Follows (entry_count before e) w (host_node p tree w)
+    kind_follows (entry.Instance exports) at tree got p w room =
         let f = fields_declared known c t n tree (ap (is_some_and is_instance) at) got in
         let one : f.0 ≡ exports = cc in
         let s = sound_at t n (entry.Instance exports) sound at in
         let ok =
         (and_true (list_all (λ (e : List ℕ × Entity). is_sound_entity (take n t.types) e.1) exports)
         (distinct_names (names_of exports)) s.0).0 in
-        subst (λ k. Takes (fold (with_export before) one_node exports) w (host_node p k w)) f.3
-        (instance_takes exports f.1 ok s.1
-        (subst (λ (es : List (List ℕ × Entity)). AllZip (IsField known c t) es (fields_list f.1)) one f.4) p w total)
-    kind_takes (entry.Component imports exports) at tree got p w total =
+        subst (λ k. Follows (fold (with_export before) one_node exports) w (host_node p k w)) f.3
+        (instance_follows exports f.1 ok s.1
+        (subst (λ (es : List (List ℕ × Entity)). AllZip (IsField known c t) es (fields_list f.1)) one f.4) p w)
+    kind_follows (entry.Component imports exports) at tree got p w room =
         let x = tree_at known c t n (entry.Component imports exports) at in
         let b = both_inv component_of _ _ tree (sym x.2 ∙ got) in
-        subst (λ k. Takes refused_node w (host_node p k w)) b.4 (component_takes b.0 b.1 p w total)
-    kind_takes entry.Resource at tree got p w total =
+        subst (λ k. Follows (refused_node ComponentImport) w (host_node p k w)) b.4 (component_follows b.0 b.1 p w room)
+    kind_follows entry.Resource at tree got p w room =
         let x = tree_at known c t n entry.Resource at in
         let s = same_Some _ tree (sym x.2 ∙ got) in
-        plain_takes tree (ap is_instance_tree (sym s)) (ap is_component_tree (sym s)) p w total
-    kind_takes (entry.Func params result is_async) at tree got p w total =
+        plain_follows tree (ap is_instance_tree (sym s)) (ap is_component_tree (sym s)) p w
+    kind_follows (entry.Func params result is_async) at tree got p w room =
         let x = tree_at known c t n (entry.Func params result is_async) at in
-        plain_takes tree
+        plain_follows tree
         (both_pass is_instance_tree (λ ps r. func_of ps r is_async) false (λ ps r. refl) _ _ tree (sym x.2 ∙ got))
         (both_pass is_component_tree (λ ps r. func_of ps r is_async) false (λ ps r. refl) _ _ tree (sym x.2 ∙ got))
-        p w total
-    kind_takes (entry.Module imports exports) at tree got p w total =
+        p w
+    kind_follows (entry.Module imports exports) at tree got p w room =
         let x = tree_at known c t n (entry.Module imports exports) at in
-        plain_takes tree (both_pass is_instance_tree module_of false (λ i e. refl) _ _ tree (sym x.2 ∙ got))
-        (both_pass is_component_tree module_of false (λ i e. refl) _ _ tree (sym x.2 ∙ got)) p w total
-    kind_takes d at tree got p w total = defined d at refl refl
+        plain_follows tree (both_pass is_instance_tree module_of false (λ i e. refl) _ _ tree (sym x.2 ∙ got))
+        (both_pass is_component_tree module_of false (λ i e. refl) _ _ tree (sym x.2 ∙ got)) p w
+    kind_follows d at tree got p w room = defined d at refl refl
       where
         defined : (e : DeclType) → slice_get t.types n ≡ Some e → is_defined_type e ≡ true
             → entry_count before e ≡ one_node
-            → Takes (entry_count before e) w (host_node p tree w)
+            → Follows (entry_count before e) w (host_node p tree w)
         defined e there is one =
             let v = value_plain tree (value_tree known c t sound n e tree there is got) in
-            subst (λ k. Takes k w (host_node p tree w)) (sym one) (plain_takes tree v.0 v.1 p w total)
+            subst (λ k. Follows k w (host_node p tree w)) (sym one) (plain_follows tree v.0 v.1 p w)
 
   -- an entry before this many
-  entry_below : (k n : ℕ) → n < k → EntryTakes n
-  entry_below zero n below tree got p w total = absurd (omega (arith, below))
-  entry_below (suc k) n below tree got p w total =
+  entry_below : (k n : ℕ) → n < k → EntryFollows n
+  entry_below zero n below tree got p w room = absurd (omega (arith, below))
+  entry_below (suc k) n below tree got p w room =
       let e = entry_there known c t sound n tree got in
       let m = count_made entry_count t.types n e.0 e.1 in
-      subst (λ d. Takes d w (host_node p tree w)) (sym m.is)
-      (kind_takes n (slice_get_within t.types n e.0 e.1)
+      subst (λ d. Follows d w (host_node p tree w)) (sym m.is)
+      (kind_follows n (slice_get_within t.types n e.0 e.1)
       (λ j less. entry_below k j (omega (arith, less, below))) m.before
-      (λ j less. ap count_or (kept_at m.before all m.kept j (omega (arith, less, m.many)))) e.0 e.1 tree got p w total)
+      (λ j less. ap count_or (kept_at m.before all m.kept j (omega (arith, less, m.many)))) e.0 e.1 tree got p w room)
 
   -- so many nodes are counted of what the host has where its type is this entry
-  pub entry_takes : (n : ℕ) → EntryTakes n
-  entry_takes n = entry_below (suc n) n (omega arith)
+  pub entry_follows : (n : ℕ) → EntryFollows n
+  entry_follows n = entry_below (suc n) n (omega arith)

@@ -1,6 +1,9 @@
--- How many nodes are counted of what is exported. Each count is made of those before it.
-use Rattle.std.specs.Prelude.{◌≡◌, ◌+◌, ℕ, true, false, List, [], ◌∷◌, ◌++◌, Option, None, Some, fold, min, slice_get}
-use Rattle.std.specs.Prelude.{if◌then◌else◌}
+-- How many nodes are counted of what is exported, and what is refused behind them. Each count is made of those before
+-- it.
+use Rattle.std.specs.Prelude.{◌≡◌, ◌+◌, ℕ, List, [], ◌∷◌, ◌++◌, Option, None, Some, fold, min, slice_get}
+use Rattle.pc_types.specs.declared.error.Unsupported.{Unsupported}
+use Rattle.pc_types.specs.declared.error.Unsupported.TheVariants.{ComponentImport, ExportedComponent}
+use Rattle.pc_types.specs.declared.error.Unsupported.TheVariants.{ReexportedIntrinsic, ReexportedIntrinsics}
 use Rattle.pc_types.specs.declared.parsed.DeclType.{DeclType}
 use Rattle.pc_types.specs.declared.parsed.DeclType.TheVariants as entry
 use Rattle.pc_types.specs.declared.parsed.Entity.{Entity}
@@ -13,24 +16,31 @@ use Rattle.pc_inline_state.specs.Tables.{Tables}
 use Rattle.pc_inline_counts.specs.declared.count.NodeCount.{NodeCount}
 use Rattle.pc_inline_counts.specs.declared.instances.NodeCounts.{NodeCounts}
 
+-- no nodes
+abbrev pub nothing : NodeCount
+nothing = record { nodes = 0; refusal = None }
+
 -- a node with nothing under it
 abbrev pub one_node : NodeCount
-one_node = record { nodes = 1; is_refused = false }
+one_node = record { nodes = 1; refusal = None }
 
 -- what is refused before it counts
-abbrev pub refused_node : NodeCount
-refused_node = record { nodes = 0; is_refused = true }
+abbrev pub refused_node : Unsupported → NodeCount
+refused_node u = record { nodes = 0; refusal = Some u }
+
+-- some nodes and those after them, unless something was refused before
+abbrev pub unless_refused : Option Unsupported → NodeCount → NodeCount → NodeCount
+unless_refused (Some u) first next = first
+unless_refused None first next =
+    record { nodes = min (first.nodes + next.nodes) 4294967295; refusal = next.refusal }
 
 -- some nodes and those after them, cut at the greatest number; after one that is refused nothing more is reached
 abbrev pub after_nodes : NodeCount → NodeCount → NodeCount
-after_nodes first next =
-    if first.is_refused
-    then first
-    else record { nodes = min (first.nodes + next.nodes) 4294967295; is_refused = next.is_refused }
+after_nodes first next = unless_refused first.refusal first next
 
--- a count, if there is one; what isn't there is refused
+-- a count, if there is one; what isn't there has no nodes
 abbrev pub count_or : Option NodeCount → NodeCount
-count_or None = refused_node
+count_or None = nothing
 count_or (Some count) = count
 
 -- the count under a number
@@ -50,7 +60,7 @@ entity_count earlier (entity.Instance n) = count_at earlier n
 entity_count earlier (entity.Component n) = count_at earlier n
 entity_count earlier (entity.Module n) = count_at earlier n
 entity_count earlier (entity.Type_ n) = count_at earlier n
-entity_count earlier entity.Value = refused_node
+entity_count earlier entity.Value = nothing
 
 -- some nodes and those of an export
 abbrev pub with_export : List NodeCount → NodeCount → List ℕ × Entity → NodeCount
@@ -60,7 +70,7 @@ with_export earlier count e = after_nodes count (entity_count earlier e.1)
 -- component is refused
 abbrev pub entry_count : List NodeCount → DeclType → NodeCount
 entry_count earlier (entry.Instance exports) = fold (with_export earlier) one_node exports
-entry_count earlier (entry.Component imports exports) = refused_node
+entry_count earlier (entry.Component imports exports) = refused_node ComponentImport
 entry_count earlier _ = one_node
 
 -- the same of each entry of a table
@@ -71,14 +81,14 @@ entry_counts t = counts_from entry_count [] t.types
 abbrev pub definition_count : (entries instances : List NodeCount) → Definition → NodeCount
 definition_count entries instances (definition.HostInstance p ty n) = count_at entries n
 definition_count entries instances (definition.Instance n ty) = count_at instances n.0
-definition_count entries instances (definition.Component s k) = refused_node
-definition_count entries instances (definition.IntrinsicFunc i) = refused_node
-definition_count entries instances definition.Intrinsics = refused_node
+definition_count entries instances (definition.Component s k) = refused_node ExportedComponent
+definition_count entries instances (definition.IntrinsicFunc i) = refused_node ReexportedIntrinsic
+definition_count entries instances definition.Intrinsics = refused_node ReexportedIntrinsics
 definition_count entries instances _ = one_node
 
 -- the same of one that may be there
 abbrev pub maybe_count : (entries instances : List NodeCount) → Option Definition → NodeCount
-maybe_count entries instances None = refused_node
+maybe_count entries instances None = nothing
 maybe_count entries instances (Some d) = definition_count entries instances d
 
 module _ (entries : List NodeCount) (definitions : List Definition) where

@@ -1,3 +1,3 @@
 -- How many nodes are reached of what is exported.
 pub mod Counts
-pub mod Takes
+pub mod Follows

@@ -1,35 +1,47 @@
 //! How many nodes are reached of one thing that is exported.
 
 ghost use Rattle.std.specs.Prelude.{◌≡◌};
-ghost use Rattle.pc_inline_counts.specs.Counts.{after_nodes, count_at, one_node, refused_node};
+ghost use Rattle.pc_inline_counts.specs.Counts.{after_nodes, count_at, nothing, one_node, refused_node};
+
+use pc_types::Unsupported;
 
 /// How many nodes are reached of what is exported: of all that it has, up to the first that is refused.
 #[derive(Clone, Copy)]
 pub struct NodeCount {
     /// How many there are, cut at the greatest number.
     pub nodes: u32,
-    /// Whether one is refused.
-    pub is_refused: bool,
+    /// What is refused behind them, if anything is.
+    pub refusal: Option<Unsupported>,
 }
 
 impl NodeCount {
+    /// No nodes.
+    pub fn nothing() -> NodeCount
+        ensures { result ≡ nothing }
+    {
+        NodeCount {
+            nodes: 0,
+            refusal: None,
+        }
+    }
+
     /// A node with nothing under it.
     pub fn one() -> NodeCount
         ensures { result ≡ one_node }
     {
         NodeCount {
             nodes: 1,
-            is_refused: false,
+            refusal: None,
         }
     }
 
     /// What is refused before it counts.
-    pub fn refused() -> NodeCount
-        ensures { result ≡ refused_node }
+    pub fn refused(what: Unsupported) -> NodeCount
+        ensures { result ≡ refused_node what }
     {
         NodeCount {
             nodes: 0,
-            is_refused: true,
+            refusal: Some(what),
         }
     }
 
@@ -37,22 +49,22 @@ impl NodeCount {
     pub fn and_after(self, next: NodeCount) -> NodeCount
         ensures { result ≡ after_nodes self next }
     {
-        if self.is_refused {
-            return self;
-        }
-        NodeCount {
-            nodes: self.nodes.saturating_add(next.nodes),
-            is_refused: next.is_refused,
+        match self.refusal {
+            Some(_) => self,
+            None => NodeCount {
+                nodes: self.nodes.saturating_add(next.nodes),
+                refusal: next.refusal,
+            },
         }
     }
 }
 
-/// The count under a number; what isn't there is refused.
+/// The count under a number; what isn't there has no nodes.
 pub(crate) fn count_at(counts: &[NodeCount], number: u32) -> NodeCount
     ensures { result ≡ count_at counts.now number }
 {
     match counts.get(number as usize) {
         Some(count) => *count,
-        None => NodeCount::refused(),
+        None => NodeCount::nothing(),
     }
 }

@@ -5,7 +5,7 @@ ghost use Rattle.pc_inline_counts.specs.Counts.{entity_count, entry_count, entry
 
 use crate::count::{NodeCount, count_at};
 use pc_entity::{NoMemory, Seq, Text};
-use pc_types::{DeclType, Entity, TypeTable};
+use pc_types::{DeclType, Entity, TypeTable, Unsupported};
 use std::alloc::Global;
 
 /// How many nodes are reached of an entity, by the entry that it names. There are no component values.
@@ -18,7 +18,7 @@ fn entity_count(earlier: &[NodeCount], entity: Entity) -> NodeCount
         | Entity::Component(n)
         | Entity::Module(n)
         | Entity::Type_(n) => count_at(earlier, n),
-        Entity::Value => NodeCount::refused(),
+        Entity::Value => NodeCount::nothing(),
     }
 }
 
@@ -39,7 +39,7 @@ fn entry_count(earlier: &[NodeCount], entry: &DeclType) -> NodeCount
 {
     match entry {
         DeclType::Instance { exports } => exports_count(earlier, exports.as_slice()),
-        DeclType::Component { .. } => NodeCount::refused(),
+        DeclType::Component { .. } => NodeCount::refused(Unsupported::ComponentImport),
         _ => NodeCount::one(),
     }
 }

@@ -4,12 +4,13 @@ ghost use Rattle.std.specs.Prelude.{◌≡◌, IfOk, fold, slice_get};
 ghost use Rattle.pc_inline_state.specs.Tables.{tables_of};
 ghost use Rattle.pc_inline_counts.specs.Counts.{AreCounts, definition_count, instance_counts, maybe_count, one_node};
 ghost use Rattle.pc_inline_counts.specs.Counts.{with_member};
-ghost use Rattle.pc_inline_counts.specs.Takes.{CountsNodes};
+ghost use Rattle.pc_inline_counts.specs.Follows.{CountsNodes};
 
 use crate::count::{NodeCount, count_at};
 use crate::entries::entry_counts;
 use pc_entity::{NoMemory, PrimaryMap, Seq, TextMap};
 use pc_inline_state::{Definition, DefinitionId, Member, State};
+use pc_types::Unsupported;
 use std::alloc::Global;
 
 /// How many nodes are reached of a definition.
@@ -23,8 +24,9 @@ fn definition_count(
     match definition {
         Definition::Instance { exports, .. } => count_at(instances, exports.0),
         Definition::HostInstance { entry, .. } => count_at(entries, *entry),
-        Definition::Component { .. } | Definition::IntrinsicFunc { .. } | Definition::Intrinsics =>
-            NodeCount::refused(),
+        Definition::Component { .. } => NodeCount::refused(Unsupported::ExportedComponent),
+        Definition::IntrinsicFunc { .. } => NodeCount::refused(Unsupported::ReexportedIntrinsic),
+        Definition::Intrinsics => NodeCount::refused(Unsupported::ReexportedIntrinsics),
         Definition::HostFunc { .. }
         | Definition::LiftedFunc { .. }
         | Definition::StaticModule { .. }
@@ -44,7 +46,7 @@ fn count_of(
 {
     match definitions.get(id) {
         Some(definition) => definition_count(entries, instances, definition),
-        None => NodeCount::refused(),
+        None => NodeCount::nothing(),
     }
 }
 
@@ -107,7 +109,7 @@ impl NodeCounts {
     }
 
     /// How many nodes are reached of a definition.
-    #[tactic(auto, using(crate::proofs::CountLemmas::count_takes))]
+    #[tactic(auto, using(crate::proofs::CountLemmas::count_follows))]
     pub fn of(&self, definition: &Definition) -> NodeCount
         ensures nodes { CountsNodes self.now definition.now result }
         ensures is { result ≡ definition_count self.now.entries self.now.instances definition.now }

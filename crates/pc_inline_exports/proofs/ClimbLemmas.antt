@@ -31,8 +31,10 @@ use Rattle.std.proofs.lemmas.Option.{slice_get_within}
 use Rattle.pc_inline_exports.specs.declared.build.Open.{Open}
 use Rattle.pc_inline_exports.specs.declared.build.Stack.{Stack}
 use Rattle.pc_inline_exports.specs.declared.part.Found.{Found}
-use Rattle.pc_inline_exports.specs.Building.{Climbs, OpenStands, PartFound, opened, with_item}
-use Rattle.pc_inline_exports.specs.Exports.{NameStands, NestedStand, NodeStands, and_nested, host_module_stands}
+use Rattle.pc_inline_exports.specs.Building.{Climbs, OpenStands, PartFound, items_among, items_of, opened, with_item}
+use Rattle.pc_inline_exports.specs.Exports.{IsUnder, NameStands, NestedStand, NodeStands, and_nested}
+use Rattle.pc_inline_exports.specs.Exports.{host_module_stands}
+use Rattle.pc_inline_exports.proofs.UnderLemmas.{grown_stay, whole_more}
 use Rattle.pc_inline_exports.specs.Exports.{imported_stands, instance_stands, lifted_stands, no_nested, node_size}
 use Rattle.pc_inline_exports.specs.Exports.{nodes_size, sizes, static_stands, type_stands}
 use Rattle.pc_types_lists.specs.Types.{Types}
@@ -219,6 +221,10 @@ module _ (t : TypeTable) (ms : List ModuleRecord) (old : State) (x : Subject) (w
               ∙ ap (λ q. within_total (grown w.total (8 * (s.nodes + 1)))
               (resume c.readers c.reader.name c.reader.meta (then_reach q Behind))) made.is;
           items = omega (arith, more, before, after);
+          whole =
+              whole_more st.graph.export_items new.graph.export_items (grown_stay st.graph new.graph keeps.graph)
+              (length old.graph.export_items) s.top.items (items_among (reverse s.callers.items))
+              (f.name, (n, f.data_)) c.whole made.whole;
         }
 
     -- a part that is an instance is reached next
@@ -258,4 +264,7 @@ module _ (t : TypeTable) (ms : List ModuleRecord) (old : State) (x : Subject) (w
               ∙ ap (λ k. within_total (grown w.total (8 * k))
               (resume (c.reader ∷ c.readers) p.name p.meta (reads_on inner next))) (sym nodes);
           items = omega (arith, before);
+          whole = λ n from to.
+              let same : items_of s' ≡ items_of s = λ i. (top i).items ++ items_among (callers i) in
+              subst (λ l. IsUnder st.graph.export_items l n) (sym same) (c.whole n from to);
         }

@@ -2,15 +2,15 @@
 use Rattle.std.proofs.Common.{◌≡◌, inl, inr, ◌<◌, ◌≤◌, ◌+◌, ◌*◌, ℕ, zero, suc, Bool, true, false, ◌||◌, List, []}
 use Rattle.std.proofs.Common.{◌∷◌, ◌++◌, length, map, take, drop, get_or, Option, None, Some, Result, Ok, Err, refl}
 use Rattle.std.proofs.Common.{sym, ap}
-use Rattle.std.proofs.Common.{subst, ◌∙◌, arith, append-nil, append_assoc, true≢false, if◌then◌else◌}
-use Rattle.std.specs.Prelude.{⊤, cond, count_by, nat_lt, slice_get}
+use Rattle.std.proofs.Common.{subst, ◌∙◌, arith, append-nil, true≢false, if◌then◌else◌}
+use Rattle.std.specs.Prelude.{⊤, cond, count_by, slice_get}
 use Rattle.std.specs.Result.{IsErrAnd}
 use Rattle.std.specs.Str.{bytes_eq}
 use Rattle.std.proofs.lemmas.List.{drop_all}
 use Rattle.std.proofs.lemmas.List.Folds.{list_any-append}
 use Rattle.std.proofs.lemmas.List.Recursion.{is_count_by}
 use Rattle.std.proofs.lemmas.List.Sums.{count_by_more_no, count_by_more_yes}
-use Rattle.std.proofs.lemmas.Option.{none-some, same_Some, slice_get_within}
+use Rattle.std.proofs.lemmas.Option.{none-some}
 use Rattle.pc_entity.specs.Lists.{names_of, value_of}
 use Rattle.pc_entity.proofs.LookupLemmas.{left_here}
 use Rattle.pc_types.specs.declared.error.Error.{Error}
@@ -19,7 +19,6 @@ use Rattle.pc_types.specs.declared.error.Place.TheVariants as place
 use Rattle.pc_types.specs.declared.module_record.ModuleRecord.{ModuleRecord}
 use Rattle.pc_types.specs.declared.parsed.TypeTable.{TypeTable}
 use Rattle.pc_types.specs.Names.{distinct_names, has_name}
-use Rattle.pc_types.specs.Table.{table_fault}
 use Rattle.pc_types.proofs.NameLemmas.{are_distinct-again, bytes_eq-sym, map-take_next}
 use Rattle.pc_types_lists.specs.Adds.{most_types}
 use Rattle.pc_spec_plan.specs.ExportNode.{ExportNode, NamedNode}
@@ -27,39 +26,27 @@ use Rattle.pc_parsed.specs.declared.payload.ExternName.{ExternName}
 use Rattle.pc_parsed.specs.declared.payload.ItemKind.{ItemKind}
 use Rattle.pc_parsed.specs.Mark.{Mark}
 use Rattle.pc_spec_reading.specs.Item.{ExportOf}
-use Rattle.pc_spec_reading.specs.Items.{exported_value, value_at}
-use Rattle.pc_spec_reading.specs.Nodes.{Finish, Reached, at_export, in_front, passed, value_node}
-use Rattle.pc_spec_reading.specs.Nodes.{within_total}
-use Rattle.pc_spec_reading.specs.Outcome.{Outcome, and_then, done, fault, over, past, unsupported}
+use Rattle.pc_spec_reading.specs.Items.{value_at}
+use Rattle.pc_spec_reading.specs.Nodes.{Finish, Reached, at_export}
+use Rattle.pc_spec_reading.specs.Outcome.{Outcome, and_then, done, fault, unsupported}
 use Rattle.pc_spec_reading.specs.Reading.{root_exports}
 use Rattle.pc_spec_reading.specs.Scope.{Scope}
 use Rattle.pc_spec_reading.specs.Section.{named_item}
 use Rattle.pc_spec_reading.specs.Value.{Value}
 use Rattle.pc_spec_reading.specs.World.{World, full, grown, has_room}
 use Rattle.pc_inline_state.specs.declared.definition.Definition.{Definition}
-use Rattle.pc_inline_state.specs.declared.definition.Definition.TheVariants as definition
-use Rattle.pc_inline_state.specs.declared.definition.ExportsId.{ExportsId}
 use Rattle.pc_inline_state.specs.declared.error.ItemError.{ItemError}
 use Rattle.pc_inline_state.specs.declared.error.ItemError.TheVariants as item_error
 use Rattle.pc_inline_state.specs.declared.frame.Frame.{Frame}
 use Rattle.pc_inline_state.specs.declared.state.State.{State}
 use Rattle.pc_inline_state.specs.Adds.{Adds, is_type_kind, types_among}
 use Rattle.pc_inline_state.specs.Faults.{error_of}
-use Rattle.pc_inline_state.specs.Frames.{Both, both}
 use Rattle.pc_inline_state.specs.Named.{export_name}
 use Rattle.pc_inline_state.specs.Stands.{DefinitionStands}
-use Rattle.pc_inline_state.specs.Members.{AreEarlier}
-use Rattle.pc_inline_state.specs.Points.{IsInput}
-use Rattle.pc_inline_state.specs.Definitions.{exports_of}
-use Rattle.pc_inline_state.specs.Tables.{Keeps, Tables, tables_of}
+use Rattle.pc_inline_state.specs.Tables.{Keeps, tables_of}
 use Rattle.pc_inline_state.specs.Worlds.{HasNoExports}
 use Rattle.pc_inline_state.proofs.AddsLemmas.{adds_both, adds_refl, adds_weaken}
 use Rattle.pc_inline_state.proofs.StateLemmas.{keeps_refl, keeps_trans}
-use Rattle.pc_inline_counts.specs.declared.count.NodeCount.{NodeCount}
-use Rattle.pc_inline_counts.specs.declared.instances.NodeCounts.{NodeCounts}
-use Rattle.pc_inline_counts.specs.Counts.{AreCounts, count_or, definition_count}
-use Rattle.pc_inline_counts.specs.Takes.{AreStillCounts, CountsNodes, HasHostTypes, IsCounted}
-use Rattle.pc_inline_counts.proofs.CountLemmas.{count_within, counts_made, counts_stay, host_types}
 use Rattle.pc_inline_exports.specs.Exporting.{ExportedSoFar, ExportsEnd, MakesExports, RootStands, behind, if_room}
 use Rattle.pc_inline_exports.specs.Exporting.{most_exported}
 use Rattle.pc_inline_exports.specs.Exports.{NumbersExports}
@@ -67,8 +54,10 @@ use Rattle.pc_inline_exports.specs.OneExport.{ExportsOne, FindsExport, IsFound, 
 use Rattle.pc_inline_exports.specs.OneExport.{types_of_kind}
 use Rattle.pc_inline_exports.specs.Reaching.{IsReachable, stands_value}
 use Rattle.pc_inline_exports.specs.Subjects.{a_value}
+use Rattle.pc_inline_exports.proofs.OnwardLemmas.{at_node, behind_more, behind_node, behind_none, both_none, both_some}
+use Rattle.pc_inline_exports.proofs.OnwardLemmas.{eight_both, err_passed, grown_none, missing_here, room_before, room_is}
+use Rattle.pc_inline_exports.proofs.OnwardLemmas.{room_same, root_roomy, roomy, roomy_has, roomy_same, total_twice}
 use Rattle.pc_inline_exports.proofs.RootLemmas.{root_total, root_works}
-use Rattle.pc_inline_exports.proofs.WithinLemmas.{grown_twice, less_room}
 
 -- a name that none of the entries has isn't found
 name_absent : {V : Type 0} (name : List ℕ) (es : List (List ℕ × V)) → has_name (names_of es) name ≡ false
@@ -91,66 +80,6 @@ or_more false false c more h = h
 or_first : (a b : Bool) → a ≡ true → (a || b) ≡ true
 or_first true b h = refl
 or_first false b h = absurd (true≢false (sym h))
-
--- where the larger total has room, so has the smaller
-room_before : (o : Option ℕ) (n k : ℕ) → has_room (grown o (n + k)) ≡ true → has_room (grown o n) ≡ true
-room_before None n k room = refl
-room_before (Some m) n k room = less_room m n k (nat_lt (m + n) full) refl room
-
-eight_both : (n k : ℕ) → 8 * n + 8 * k ≡ 8 * (n + k)
-eight_both n k = omega arith
-
--- a world in which a total is counted that has room, or none
-abbrev roomy : World → World
-roomy v = if has_room v.total then v else record v { total = None }
-
-roomy_has : (v : World) → has_room (roomy v).total ≡ true
-roomy_has v = by (has_room v.total) refl
-  where
-    by : (b : Bool) → has_room v.total ≡ b
-        → has_room (if b then v else record v { total = None }).total ≡ true
-    by true is = is
-    by false is = refl
-
--- an outcome that this total lets through, or none
-room_same : {A : Type 0} (total : Option ℕ) (x y : Outcome A) → (has_room total ≡ true → x ≡ y)
-    → if_room total x ≡ if_room total y
-room_same {A} total x y same = by (has_room total) same
-  where
-    by : (b : Bool) → (b ≡ true → x ≡ y) → ◌≡◌ {A = Outcome A} (if b then x else past) (if b then y else past)
-    by true s = s refl
-    by false s = refl
-
--- what is looked at after one total and then after a larger one
-room_more : {A : Type 0} (o : Option ℕ) (n k : ℕ) (x : Outcome A)
-    → if_room (grown o n) (if_room (grown o (n + k)) x) ≡ if_room (grown o (n + k)) x
-room_more {A} o n k x =
-    by (has_room (grown o n)) (has_room (grown o (n + k))) refl (room_before o n k)
-  where
-    by : (a b : Bool) → has_room (grown o n) ≡ a → (b ≡ true → has_room (grown o n) ≡ true)
-        → ◌≡◌ {A = Outcome A} (if a then (if b then x else past) else past) (if b then x else past)
-    by true b is le = refl
-    by false false is le = refl
-    by false true is le = absurd (true≢false (sym (le refl) ∙ is))
-
--- an outcome behind a total
-room_then : {A B : Type 0} (total : Option ℕ) (x : Outcome A) (go : A → Outcome B)
-    → and_then (if_room total x) go ≡ if_room total (and_then x go)
-room_then {A} {B} total x go = by (has_room total)
-  where
-    by : (b : Bool) → ◌≡◌ {A = Outcome B} (and_then (if b then x else past) go) (if b then and_then x go else past)
-    by true = refl
-    by false = refl
-
--- a node behind a total
-room_at : {A : Type 0} (n : ℕ) (total : Option ℕ) (o : Reached A) (go : A → World → Outcome Finish)
-    → at_export n (within_total total o) go ≡ if_room total (at_export n o go)
-room_at {A} n total o go = by (has_room total)
-  where
-    by : (b : Bool)
-        → ◌≡◌ {A = Outcome Finish} (at_export n (if b then o else passed) go) (if b then at_export n o go else past)
-    by true = refl
-    by false = refl
 
 -- products of more are more
 mul_le : (a b c : ℕ) → a ≤ b → a * c ≤ b * c
@@ -206,29 +135,6 @@ count_take p xs i =
     let less = passing_take p xs i in
     omega (arith, all, some, less)
 
--- what a total lets through that has room
-room_is : {A : Type 0} (total : Option ℕ) (x : Outcome A) → has_room total ≡ true → if_room total x ≡ x
-room_is {A} total x room = rw room refl
-
--- a total that grows by nothing
-grown_none : (o : Option ℕ) → o ≡ grown o 0
-grown_none None = refl
-grown_none (Some m) = let same : m ≡ m + 0 = omega arith in ap Some same
-
-roomy_same : (v : World) → has_room v.total ≡ true → roomy v ≡ v
-roomy_same v room = rw room refl
-
--- where nothing was found nothing is there
-both_none : {A B : Type 0} (R : A → B → Type 0) (o : Option B) → Both R None o → o ≡ None
-both_none R None h = refl
-both_none R (Some y) h = elim h [ ]
-
--- and where something was found something is
-both_some : {A B : Type 0} (R : A → B → Type 0) (x : A) (o : Option B) → Both R (Some x) o
-    → (y : B) × (o ≡ Some y) × R x y
-both_some R x None h = elim h [ ]
-both_some R x (Some y) (both r) = (y, refl, r)
-
 -- what was found where a call went well
 pub ok_some : (q : Result (Option Definition) ItemError) (o : Option Definition) (d : Definition) → q ≡ Ok o
     → o ≡ Some d → q ≡ Ok (Some d)
@@ -238,95 +144,7 @@ pub ok_none : (q : Result (Option Definition) ItemError) (o : Option Definition)
     → q ≡ Ok None
 ok_none q o was is = was ∙ ap Ok is
 
--- an error has no value of which something holds
-err_passed : {A : Type 0} (r : Result A Error) (e : Error) → IsErrAnd r (λ x. x ≡ e) → r ≡ Err e
-err_passed (Ok x) e is = absurd is
-err_passed (Err x) e is = ap Err is
-
--- what is reached is within the total that as many nodes leave as were counted; what wasn't counted has none
-counted_within : (counts : NodeCounts) (d : Definition) (c : NodeCount) → CountsNodes counts d c
-    → c ≡ definition_count counts.entries counts.instances d → (ms : List ModuleRecord) (b : Tables) (v : Value)
-    (w : World) → table_fault b.table ≡ None → AreStillCounts b counts → DefinitionStands ms b d v
-    → HasHostTypes ms b w.imports → has_room w.total ≡ true
-    → value_node v w ≡ within_total (grown w.total (8 * c.nodes)) (value_node v w)
-counted_within counts d c counting is_c ms b v w sound still is types room = by (exports_of d) refl
-  where
-    none : c.nodes ≡ 0 → value_node v w ≡ within_total (grown w.total (8 * c.nodes)) (value_node v w)
-    none no_nodes =
-        sym (ap (λ k. within_total (grown w.total (8 * k)) (value_node v w)) no_nodes
-        ∙ ap (λ o. within_total o (value_node v w)) (sym (grown_none w.total)) ∙ rw room refl)
-
-    some : IsCounted counts d → value_node v w ≡ within_total (grown w.total (8 * c.nodes)) (value_node v w)
-    some counted = count_within counts d c counting ms b v w sound still counted is types room
-
-    past_end : (e : Definition) (j : ExportsId) → exports_of e ≡ Some j → slice_get counts.instances j.0 ≡ None
-        → (definition_count counts.entries counts.instances e).nodes ≡ 0
-    past_end (definition.Instance j' ty) j exported gone =
-        ap (λ (o : Option NodeCount). (count_or o).nodes)
-        (ap (λ (k : ExportsId). slice_get counts.instances k.0) (same_Some j' j exported) ∙ gone)
-    past_end (definition.HostInstance p ty n) j exported gone = absurd (none-some j exported)
-    past_end (definition.Component s k) j exported gone = absurd (none-some j exported)
-    past_end (definition.HostFunc p ty) j exported gone = absurd (none-some j exported)
-    past_end (definition.LiftedFunc ty func o) j exported gone = absurd (none-some j exported)
-    past_end (definition.IntrinsicFunc i) j exported gone = absurd (none-some j exported)
-    past_end definition.Intrinsics j exported gone = absurd (none-some j exported)
-    past_end (definition.StaticModule m ty) j exported gone = absurd (none-some j exported)
-    past_end (definition.HostModule p ty n) j exported gone = absurd (none-some j exported)
-    past_end (definition.Type_ x) j exported gone = absurd (none-some j exported)
-
-    at : (j : ExportsId) → exports_of d ≡ Some j → (o : Option NodeCount) → slice_get counts.instances j.0 ≡ o
-        → value_node v w ≡ within_total (grown w.total (8 * c.nodes)) (value_node v w)
-    at j exported None gone = none (ap (λ (k : NodeCount). k.nodes) is_c ∙ past_end d j exported gone)
-    at j exported (Some k) there =
-        some (λ i other. subst (λ (y : ExportsId). y.0 < length counts.instances)
-        (same_Some j i (sym exported ∙ other)) (slice_get_within counts.instances j.0 k there))
-
-    by : (o : Option ExportsId) → exports_of d ≡ o
-        → value_node v w ≡ within_total (grown w.total (8 * c.nodes)) (value_node v w)
-    by None exported = some (λ j other. absurd (none-some j (sym exported ∙ other)))
-    by (Some j) exported = at j exported (slice_get counts.instances j.0) refl
-
 module _ (t : TypeTable) (ms : List ModuleRecord) where
-  -- nothing is in front
-  behind_none : (o : Outcome Finish) → o ≡ and_then o (behind t ms [])
-  behind_none (done x) = refl
-  behind_none (fault f p) = refl
-  behind_none over = refl
-  behind_none past = refl
-
-  -- one node more is in front
-  behind_more : (nodes : List (NamedNode Mark)) (x : NamedNode Mark) (o : Outcome Finish)
-      → and_then (and_then o (in_front x)) (behind t ms nodes) ≡ and_then o (behind t ms (nodes ++ x ∷ []))
-  behind_more nodes x (done f) =
-      let same : nodes ++ x ∷ f.0 ≡ (nodes ++ x ∷ []) ++ f.0 = sym (append_assoc nodes (x ∷ []) f.0) in
-      λ j. done (same j, f.1)
-  behind_more nodes x (fault f p) = refl
-  behind_more nodes x over = refl
-  behind_more nodes x past = refl
-
-  root_roomy : (st : State) (f : Frame) (s : Scope) (w : World) (nodes : List (NamedNode Mark))
-      → RootStands t ms st f s w nodes → RootStands t ms st f s (roomy w) nodes
-  root_roomy st f s w nodes root = by (has_room w.total)
-    where
-      by : (b : Bool) → RootStands t ms st f s (if b then w else record w { total = None }) nodes
-      by true = root
-      by false = root_total t ms st f s w None nodes root
-
-  module _ (s : Scope) (e : ExternName × ItemKind × ℕ) (rest : List ExportOf) (n : ℕ) where
-    -- what is read of the exports behind one with its node
-    abbrev behind_node : ExportNode Mark → World → Outcome Finish
-    behind_node y v = and_then (root_exports t s rest (n + 1) v) (in_front (node_named e.0 y))
-
-    missing_here : (w : World) → value_at t s e.1 e.2 ≡ None
-        → root_exports t s (named_item e ∷ rest) n w ≡ root_exports t s rest n w
-    unfolding root_exports exported_value
-    missing_here w none = rw none refl
-
-    value_here : (w : World) (v : Value) → value_at t s e.1 e.2 ≡ Some v
-        → root_exports t s (named_item e ∷ rest) n w ≡ at_export n (value_node v w) behind_node
-    unfolding root_exports exported_value
-    value_here w v there = rw there refl
-
   module _ (es : List (ExternName × ItemKind × ℕ)) (old : State) (f : Frame) where
     -- the exports so far, however many nodes they have
     abbrev pub SoFar : (i n : ℕ) → State → Frame → Type 0
@@ -352,37 +170,14 @@ module _ (t : TypeTable) (ms : List ModuleRecord) where
           record {
             as_many = ap length none.items;
             last = λ n e at. absurd (none-some e (subst (λ xs. slice_get xs n ≡ Some e) none.exports at));
+            whole = λ n below. let many = ap length none.items in absurd (omega (arith, below, many));
           },
-          behind_none (root_exports t s (map named_item es) 0 w)
+          behind_none t ms (root_exports t s (map named_item es) 0 w)
               ∙ sym (room_is (grown w.total 0) (and_then (root_exports t s (map named_item es) 0 w) (behind t ms []))
               (subst (λ o. has_room o ≡ true) (grown_none w.total) room)),
         );
       },
     )
-
-    -- there was no memory before the first
-    pub exports_unbegun : (r : Result ⊤ Error) → IsErrAnd r (λ x. x ≡ error.NoMemory)
-        → MakesExports t ms es old f old f r
-    unfolding ExportsEnd
-    exports_unbegun r is = subst (MakesExports t ms es old f old f) (sym (err_passed r error.NoMemory is)) unbegun
-      where
-        unbegun : MakesExports t ms es old f old f (Err error.NoMemory)
-        unbegun = record {
-          nodes = 0;
-          keeps = keeps_refl (tables_of old);
-          adds = adds_refl t (most_exported t 0 (types_among es)) (tables_of old);
-          exports = λ s w room stands. (
-            root_exports t s (map named_item es) 0 w,
-            sym (room_is (grown w.total 0) (root_exports t s (map named_item es) 0 w)
-                (subst (λ o. has_room o ≡ true) (grown_none w.total) room)),
-            tt,
-          );
-        }
-
-    -- each instance that the root has names those made before it
-    pub old_earlier : (s : Scope) × (w : World) × RootStands t ms old f s w []
-        → AreEarlier old.definitions old.instances
-    old_earlier root = root.2.sound.members
 
     -- the same, of a number, a state and a frame that are equal
     pub so_far_as : (i n m : ℕ) (st new : State) (g h : Frame) → n ≡ m → st ≡ new → g ≡ h → SoFar i m new h
@@ -542,7 +337,7 @@ module _ (t : TypeTable) (ms : List ModuleRecord) where
                   finds.stands s here.1 here.0 here.3,
                   subst (λ h. NumbersExports h here.0) (sym finds.graph) here.4,
                   here.5 ∙ ap (λ o. if_room (grown w.total (8 * far.0)) (and_then o (behind t ms here.0)))
-                      (missing_here s e rest n here.1 missing),
+                      (missing_here t ms s e rest n here.1 missing),
                 );
           },
         )
@@ -598,37 +393,6 @@ module _ (t : TypeTable) (ms : List ModuleRecord) where
           found_absent distinct =
               subst (λ h. value_of e.0.name h.exports ≡ None) (sym finds.graph) (export_absent distinct)
 
-          total_twice : (k : ℕ) (w v : World) → v.total ≡ grown w.total (8 * far.0)
-              → grown v.total (8 * k) ≡ grown w.total (8 * (far.0 + k))
-          total_twice k w v total =
-              ap (λ o. grown o (8 * k)) total ∙ grown_twice w.total (8 * far.0) (8 * k)
-              ∙ ap (grown w.total) (eight_both far.0 k)
-
-          -- what is left at this export, when its node is reached with so many nodes, in a world of which this total is left
-          at_node : (k : ℕ) (s : Scope) (w v : World) (exported : List (NamedNode Mark)) (x : Value)
-              (o : Reached (ExportNode Mark)) → v.total ≡ grown w.total (8 * far.0) → value_at t s e.1 e.2 ≡ Some x
-              → value_node x (roomy v) ≡ within_total (grown (roomy v).total (8 * k)) o
-              → if_room (grown w.total (8 * far.0))
-              (and_then (root_exports t s (named_item e ∷ rest) n v) (behind t ms exported))
-              ≡ if_room (grown w.total (8 * (far.0 + k)))
-              (and_then (at_export n o (behind_node s e rest n)) (behind t ms exported))
-          at_node k s w v exported x o total there reads =
-              let end = and_then (at_export n o (behind_node s e rest n)) (behind t ms exported) in
-              room_same (grown w.total (8 * far.0))
-              (and_then (root_exports t s (named_item e ∷ rest) n v) (behind t ms exported))
-              (if_room (grown w.total (8 * (far.0 + k))) end)
-              (λ room.
-              let same = roomy_same v (subst (λ y. has_room y ≡ true) (sym total) room) in
-              ap (λ y. and_then y (behind t ms exported)) (value_here s e rest n v x there
-              ∙ ap (λ y. at_export n y (behind_node s e rest n))
-              (subst (λ u. value_node x u ≡ within_total (grown u.total (8 * k)) o) same reads)
-              ∙ room_at n (grown v.total (8 * k)) o (behind_node s e rest n))
-              ∙ room_then (grown v.total (8 * k)) (at_export n o (behind_node s e rest n)) (behind t ms exported)
-              ∙ ap (λ y. if_room y end) (total_twice k w v total))
-              ∙ subst (λ m. if_room (grown w.total (8 * far.0)) (if_room (grown w.total m) end)
-              ≡ if_room (grown w.total m) end) (eight_both far.0 k)
-              (room_more w.total (8 * far.0) (8 * k) end)
-
           module _ (st3 : State) (r : Result ⊤ Error) (one : ExportsOne t ms e.0 n d st2 st3 r) where
             abbrev nodes : ℕ
             nodes = far.0 + one.nodes
@@ -664,7 +428,7 @@ module _ (t : TypeTable) (ms : List ModuleRecord) where
               goes = λ s w room root.
                   let here = here_on s w room root in
                   let x = value_found s here.1 here.0 here.3 in
-                  let root2 = root_roomy st2 g2 s here.1 here.0 (finds.stands s here.1 here.0 here.3) in
+                  let root2 = root_roomy t ms st2 g2 s here.1 here.0 (finds.stands s here.1 here.0 here.3) in
                   let y = one.reads g2 s (roomy here.1) here.0 x.0 (roomy_has here.1) root2 x.2 in
                   let made = y.2 in
                   let last = record made.world { total = grown w.total (8 * nodes st3 (Ok tt) one) } in
@@ -675,9 +439,9 @@ module _ (t : TypeTable) (ms : List ModuleRecord) where
                     root_total t ms st3 g2 s made.world (grown w.total (8 * nodes st3 (Ok tt) one)) (here.0 ++ named ∷ [])
                         made.stands,
                     made.numbers (subst (λ h. NumbersExports h here.0) (sym finds.graph) here.4),
-                    here.5 ∙ at_node one.nodes s w here.1 here.0 x.0 y.0 here.2 x.1 y.1
+                    here.5 ∙ at_node t ms s e rest n far.0 one.nodes w here.1 here.0 x.0 y.0 here.2 x.1 y.1
                         ∙ room_same (grown w.total (8 * nodes st3 (Ok tt) one))
-                        (and_then (at_export n y.0 (behind_node s e rest n)) (behind t ms here.0))
+                        (and_then (at_export n y.0 (behind_node t ms s e rest n)) (behind t ms here.0))
                         (and_then (root_exports t s rest (n + 1) last) (behind t ms (here.0 ++ named ∷ [])))
                         (λ still.
                         let before = subst (λ o. has_room o ≡ true) (sym here.2)
@@ -685,45 +449,14 @@ module _ (t : TypeTable) (ms : List ModuleRecord) where
                         (subst (λ k. has_room (grown w.total k) ≡ true) (sym (eight_both far.0 one.nodes)) still)) in
                         let total : made.world.total ≡ grown w.total (8 * nodes st3 (Ok tt) one)
                         = made.total ∙ ap (λ (u : World). grown u.total (8 * one.nodes)) (roomy_same here.1 before)
-                        ∙ total_twice one.nodes w here.1 here.2 in
-                        ap (λ q. and_then (at_export n q (behind_node s e rest n)) (behind t ms here.0)) made.is
-                        ∙ behind_more here.0 named (root_exports t s rest (n + 1) made.world)
+                        ∙ total_twice far.0 one.nodes w here.1 here.2 in
+                        ap (λ q. and_then (at_export n q (behind_node t ms s e rest n)) (behind t ms here.0)) made.is
+                        ∙ behind_more t ms here.0 named (root_exports t s rest (n + 1) made.world)
                         ∙ (λ j. and_then (root_exports t s rest (n + 1) (record made.world { total = total j }))
                         (behind t ms (here.0 ++ named ∷ [])))),
                   );
             },
           )
-
-          -- it has too many nodes to count
-          pub exports_crowded : (counts : NodeCounts) → AreCounts (tables_of old) counts
-              → AreEarlier old.definitions old.instances → (c : NodeCount) → CountsNodes counts d c
-              → c ≡ definition_count counts.entries counts.instances d → IsInput t ms → 536870911 < c.nodes
-              → MakesExports t ms es old f st2 g2 (Err error.TooMany)
-          unfolding ExportsEnd
-          exports_crowded counts made earlier c counting is_c input many = record {
-            nodes = far.0 + c.nodes;
-            keeps = kept2;
-            adds = adds_weaken t (most_exported t far.0 (types_among es))
-                (most_exported t (far.0 + c.nodes) (types_among es)) (tables_of old) (tables_of st2)
-                (more far.0 c.nodes (types_among es * (1 + most_types t))) adds_all2;
-            exports = λ s w room root.
-                let here = here_on s w room root in
-                let x = value_found s here.1 here.0 here.3 in
-                let root2 = root_roomy st2 g2 s here.1 here.0 (finds.stands s here.1 here.0 here.3) in
-                let o = value_node x.0 (roomy here.1) in (
-                  and_then (at_export n o (behind_node s e rest n)) (behind t ms here.0),
-                  here.5 ∙ at_node c.nodes s w here.1 here.0 x.0 o here.2 x.1
-                      (counted_within counts d c counting is_c ms (tables_of st2) x.0 (roomy here.1)
-                      (ap table_fault root2.sound.table ∙ input.table)
-                      (counts_stay (tables_of old) (tables_of st2) counts kept2
-                      (counts_made (tables_of old) counts earlier made)) x.2
-                      (host_types ms st2 (roomy here.1) root2.world) (roomy_has here.1)),
-                  inr (omega (arith, many)),
-                );
-          }
-            where
-              more : (a b c : ℕ) → 4 * a + c ≤ 4 * (a + b) + c
-              more a b c = omega arith
 
           one_fails : (st3 : State) (s : Scope) (w u : World) (exported : List (NamedNode Mark)) (k : ℕ)
               (o : Reached (ExportNode Mark)) (go : ExportNode Mark → World → Outcome Finish) (r : Error)
@@ -759,11 +492,11 @@ module _ (t : TypeTable) (ms : List ModuleRecord) where
             exports = λ s w room root.
                 let here = here_on s w room root in
                 let x = value_found s here.1 here.0 here.3 in
-                let root2 = root_roomy st2 g2 s here.1 here.0 (finds.stands s here.1 here.0 here.3) in
+                let root2 = root_roomy t ms st2 g2 s here.1 here.0 (finds.stands s here.1 here.0 here.3) in
                 let y = one.reads g2 s (roomy here.1) here.0 x.0 (roomy_has here.1) root2 x.2 in (
-                  and_then (at_export n y.0 (behind_node s e rest n)) (behind t ms here.0),
-                  here.5 ∙ at_node one.nodes s w here.1 here.0 x.0 y.0 here.2 x.1 y.1,
-                  one_fails st3 s w (roomy here.1) here.0 one.nodes y.0 (behind_node s e rest n) r y.2,
+                  and_then (at_export n y.0 (behind_node t ms s e rest n)) (behind t ms here.0),
+                  here.5 ∙ at_node t ms s e rest n far.0 one.nodes w here.1 here.0 x.0 y.0 here.2 x.1 y.1,
+                  one_fails st3 s w (roomy here.1) here.0 one.nodes y.0 (behind_node t ms s e rest n) r y.2,
                 );
           }
 

@@ -61,7 +61,7 @@ module _ (ms : List ModuleRecord) (b : Tables) where
           subst (λ o. Both (DefinitionStands ms b) o (Some w)) (sym at) (both is)
 
 -- the item of a kind at an index, but a type
-definition_there : (t : TypeTable) (ms : List ModuleRecord) (st : State) (f : Frame) (s : Scope)
+pub definition_there : (t : TypeTable) (ms : List ModuleRecord) (st : State) (f : Frame) (s : Scope)
     → FrameStands ms (tables_of st) f s → (k : ItemKind) → is_type_kind k ≡ false → (n : ℕ)
     → Both (DefinitionStands ms (tables_of st)) (item_definition st f k n) (value_at t s k n)
 unfolding value_at

@@ -27,7 +27,8 @@ use Rattle.pc_inline_exports.specs.Building.{Climbs, WaitFor}
 use Rattle.pc_inline_exports.proofs.ClimbLemmas.{next_items, part_absent}
 use Rattle.pc_inline_exports.specs.Building.{IsApart, IsWorking, OpenStands, Puts, StillStands, Turned, Working, adds}
 use Rattle.pc_inline_exports.specs.Building.{enters}
-use Rattle.pc_inline_exports.specs.Building.{with_item, work}
+use Rattle.pc_inline_exports.specs.Building.{items_among, items_of, with_item, work}
+use Rattle.pc_inline_exports.specs.Exports.{IsUnder}
 use Rattle.pc_inline_exports.specs.Subjects.{reads_on, resume}
 use Rattle.pc_inline_state.specs.Points.{IsSoundState}
 use Rattle.pc_spec_reading.specs.Nodes.{Reached, passed, refused, within_total}
@@ -284,6 +285,9 @@ module _ (t : TypeTable) (ms : List ModuleRecord) where
               same = c.same ∙ ap (λ m. within_total (grown v.total (8 * m))
                   (resume c.readers c.reader.name c.reader.meta (reads_on c.reader c.world))) (sym nodes);
               items = c.items;
+              whole = λ n from to.
+                  let now : items_of s' ≡ items_of s = λ i. (top i).items ++ items_among (reverse (items i)) in
+                  subst (λ l. IsUnder st.graph.export_items l n) (sym now) (c.whole n from to);
             };
       }
 

@@ -42,7 +42,9 @@ use Rattle.pc_inline_exports.specs.Reaching.{Pushes}
 use Rattle.pc_inline_exports.specs.Reaching.{ReachesOne, in_leaf}
 use Rattle.pc_inline_exports.specs.Subjects.{Subject}
 use Rattle.pc_inline_exports.proofs.LeafLemmas.{static_leaf, type_leaf}
-use Rattle.pc_inline_exports.proofs.PushLemmas.{push_adds, push_exports, push_keeps, push_last, push_more, push_node}
+use Rattle.pc_inline_exports.proofs.PushLemmas.{is_put, push_adds, push_exports, push_keeps, push_last, push_more}
+use Rattle.pc_inline_exports.proofs.PushLemmas.{push_node}
+use Rattle.pc_inline_exports.specs.Exports.{IsWithin, is_it}
 use Rattle.pc_inline_exports.proofs.PushLemmas.{push_types}
 use Rattle.pc_inline_exports.proofs.PushLemmas.{push_work}
 use Rattle.pc_inline_exports.proofs.ViewLemmas.{func_view, lifted_view, module_view, refusal_of, refused_view}
@@ -204,7 +206,8 @@ module _ (t : TypeTable) (ms : List ModuleRecord) (old : State) (d : Definition)
     unfolding OneEnds Pushed
     one_made w x same m (Ok n) pushes =
         let one = push_more t ms mid e new n pushes in
-        let size = m.size in (
+        let size = m.size in
+        let put = is_put t ms mid e new n pushes in (
           reached m.node m.world,
           m.is,
           record {
@@ -216,6 +219,10 @@ module _ (t : TypeTable) (ms : List ModuleRecord) (old : State) (d : Definition)
             item = push_node t ms mid e new n pushes m.node m.exported;
             items = omega (arith, one, same, size);
             last = push_last t ms mid e new n pushes;
+            whole = λ k from to.
+                let number = put.0 in
+                let here : n.0 ≡ k = omega (arith, number, one, same, from, to) in
+                subst (IsWithin new.graph.export_items n.0) here is_it;
           },
         )
     one_made w x same m (Err y) pushes = one_lacks w x m y (pushes.pushed.1)

@@ -1,5 +1,5 @@
 -- An instance all parts of which have items gets its own.
-use Rattle.std.proofs.Common.{◌≡◌, inl, ◌≤◌, ◌+◌, ◌*◌, ◌∙◌, ℕ, List, [], ◌∷◌}
+use Rattle.std.proofs.Common.{◌≡◌, inl, ◌<◌, ◌≤◌, ◌+◌, ◌*◌, ◌∙◌, ℕ, List, [], ◌∷◌, ◌++◌}
 use Rattle.std.proofs.Common.{None, Result, Ok, Err, length, refl, reverse, sym, ap, subst, arith}
 use Rattle.std.specs.Prelude.{slice_get}
 use Rattle.std.specs.List.{AllZip}
@@ -26,13 +26,17 @@ use Rattle.pc_inline_exports.specs.declared.build.Stack.{Stack}
 use Rattle.pc_inline_exports.specs.Building.{WaitFor}
 use Rattle.pc_inline_exports.specs.Building.{AddsPath, Climbs, Closes, Finds, FindsPart, OpenStands}
 use Rattle.pc_inline_exports.specs.Building.{StillStands, Working}
-use Rattle.pc_inline_exports.specs.Building.{sizes_in, with_item}
+use Rattle.pc_inline_exports.specs.Building.{items_among, items_of, sizes_in, with_item}
+use Rattle.pc_inline_exports.specs.Exports.{IsUnder, IsWithin}
+use Rattle.pc_inline_exports.proofs.UnderLemmas.{closed_whole, left_whole}
+use Rattle.pc_dfg.specs.Lists.{NamedExport}
 use Rattle.pc_inline_exports.specs.Reaching.{ExportStands, NodeEnds, Pushed, Pushes, Reaches, SubjectStands, WorkStands}
 use Rattle.pc_inline_exports.specs.Subjects.{Reader, Subject, put_before, resume, subject_node, with_node}
 use Rattle.pc_inline_exports.proofs.ClimbLemmas.{instance_size, instance_exported, open_more, sizes_more}
 use Rattle.pc_inline_exports.proofs.GrownLemmas.{open_kept, opens_kept}
 use Rattle.pc_inline_exports.proofs.InstanceLemmas.{parts_type}
-use Rattle.pc_inline_exports.proofs.PushLemmas.{push_adds, push_exports, push_keeps, push_last, push_more, push_node}
+use Rattle.pc_inline_exports.proofs.PushLemmas.{is_put, push_adds, push_exports, push_keeps, push_last, push_more}
+use Rattle.pc_inline_exports.proofs.PushLemmas.{push_node}
 use Rattle.pc_inline_exports.proofs.PushLemmas.{push_types}
 use Rattle.pc_inline_exports.proofs.PushLemmas.{push_work}
 use Rattle.pc_inline_exports.proofs.TurnLemmas.{fails_full, fails_memory, one_item, working_path}
@@ -144,6 +148,24 @@ module _ (t : TypeTable) (ms : List ModuleRecord) (old : State) (d : Definition)
         module _ (caller : Open) (rest : List Open) (waits : reverse s.callers.items ≡ caller ∷ rest) (s' : Stack)
             (callers : reverse s'.callers.items ≡ rest) (fewer : length s.callers.items ≡ length s'.callers.items + 1)
             (top : s'.top ≡ with_item caller s.top.name n s.top.data_) (nodes : s'.nodes ≡ s.nodes) where
+          left_items : (w : World) (x : Subject) → Climbs t ms old x w st s → (m : ℕ)
+              → length old.graph.export_items ≤ m → m < length new.graph.export_items
+              → IsUnder new.graph.export_items (items_of s') m
+          left_items w x c m from to =
+              let put = is_put t ms st (export.Instance closes.ty s.top.items) new n pushes in
+              let entry : NamedExport = (s.top.name, (n, s.top.data_)) in
+              let open_now : items_of s' ≡ (caller.items ++ entry ∷ []) ++ items_among rest =
+              λ i. (top i).items ++ items_among (callers i) in
+              let open_then : items_of s ≡ s.top.items ++ (caller.items ++ items_among rest) =
+              ap (λ os. s.top.items ++ items_among os) waits in
+              subst (λ l. IsUnder l (items_of s') m) (sym put.1)
+              (subst (λ l. IsUnder (st.graph.export_items ++ export.Instance closes.ty s.top.items ∷ []) l m)
+              (sym open_now)
+              (left_whole st.graph.export_items (length old.graph.export_items) s.top.items closes.ty caller.items
+              (items_among rest) entry put.0
+              (λ k a b. subst (λ l. IsUnder st.graph.export_items l k) open_then (c.whole k a b)) m from
+              (subst (λ l. m < length l) put.1 to)))
+
           climb_out : (w : World) (x : Subject) (c : Climbs t ms old x w st s)
               → slice_get c.reader.parts (length c.reader.reads) ≡ None → Climbs t ms old x w new s'
           unfolding resume
@@ -181,6 +203,7 @@ module _ (t : TypeTable) (ms : List ModuleRecord) (old : State) (d : Definition)
                     ∙ ap (λ m. within_total (grown w.total (8 * m))
                     (resume (y.reader ∷ y.readers) c.reader.name c.reader.meta (reached inner c.world))) (sym nodes);
                 items = omega (arith, more, size, before, one, are);
+                whole = left_items w x c;
               }
 
           pub goes_out : Working t ms old d new s'
@@ -201,6 +224,20 @@ module _ (t : TypeTable) (ms : List ModuleRecord) (old : State) (d : Definition)
         none_waits : (rs : List Reader) → AllZip (OpenStands t ms st) [] rs → rs ≡ []
         none_waits [] all = refl
         none_waits (r ∷ rs) all = absurd all
+
+        closed_items : s.callers.items ≡ [] → (w : World) (x : Subject) → Climbs t ms old x w st s → (m : ℕ)
+            → length old.graph.export_items ≤ m → m < length new.graph.export_items
+            → IsWithin new.graph.export_items n.0 m
+        closed_items none w x c m from to =
+            let put = is_put t ms st (export.Instance closes.ty s.top.items) new n pushes in
+            let all = st.graph.export_items ++ export.Instance closes.ty s.top.items ∷ [] in
+            let open_then : items_of s ≡ s.top.items ++ [] =
+            ap (λ os. s.top.items ++ items_among (reverse os)) none in
+            subst (λ l. IsWithin l n.0 m) (sym put.1)
+            (subst (λ k. IsWithin all k m) (sym put.0)
+            (closed_whole st.graph.export_items (length old.graph.export_items) s.top.items closes.ty
+            (λ k a b. subst (λ l. IsUnder st.graph.export_items l k) open_then (c.whole k a b)) m from
+            (subst (λ l. m < length l) put.1 to)))
 
         pub closed : s.callers.items ≡ [] → Reaches t ms old d new (Ok n)
         unfolding NodeEnds resume
@@ -235,6 +272,7 @@ module _ (t : TypeTable) (ms : List ModuleRecord) (old : State) (d : Definition)
                   item = push_node t ms st e new n pushes inner is_stood;
                   items = omega (arith, size, before, one, are);
                   last = push_last t ms st e new n pushes;
+                  whole = closed_items none w x c;
                 },
               );
         }

@@ -1,6 +1,7 @@
 -- What the functions of this crate rest on, and those of the crates above: the public ones are theirs too.
 mod WithinLemmas
 mod NamesLemmas
+mod UnderLemmas
 pub mod GrownLemmas
 pub mod PushLemmas
 pub mod ViewLemmas
@@ -16,4 +17,6 @@ mod GoesLemmas
 mod RootLemmas
 mod FoundLemmas
 mod NamedLemmas
+mod OnwardLemmas
 mod ExportAllLemmas
+mod CountedLemmas

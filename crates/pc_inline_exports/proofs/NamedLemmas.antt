@@ -42,6 +42,7 @@ use Rattle.pc_inline_state.proofs.StateLemmas.{keeps_trans}
 use Rattle.pc_inline_state.proofs.ZipLemmas.{zip_length}
 use Rattle.pc_inline_exports.specs.Exporting.{RootStands}
 use Rattle.pc_inline_exports.specs.Exports.{NameStands, node_size}
+use Rattle.pc_inline_exports.proofs.UnderLemmas.{grown_stay}
 use Rattle.pc_inline_exports.specs.OneExport.{ExportsOne, NodeNamed, OneEnds, node_named}
 use Rattle.pc_inline_exports.specs.Reaching.{IsReachable, NodeEnds, NodeMade, Reaches, stands_value}
 use Rattle.pc_inline_exports.specs.Subjects.{a_value}
@@ -207,7 +208,7 @@ module _ (t : TypeTable) (ms : List ModuleRecord) (name : ExternName) (number : 
                 (subst IsOrdered (sym is_named) (ordered (omega (arith, last)) moved.sound.ordered)) x is);
             numbers = numbers_more old.graph mid.graph g entry x exported
                 (zip_length (NameStands t old.types old.graph) old.graph.exports exported root.exports) reach.exports
-                made.items last rest put;
+                made.items last rest put (grown_stay old.graph mid.graph reach.keeps.graph) made.whole;
           }
 
       -- it has its name

@@ -179,7 +179,7 @@ module _ (t : TypeTable) (ms : List ModuleRecord) (st : State) (e : Export) (new
 -- An item that was put into the graph.
 module _ (t : TypeTable) (ms : List ModuleRecord) (st : State) (e : Export) (new : State) (n : ExportIndex)
     (p : Pushes st e new (Ok n)) where
-  is_put : (n.0 ≡ length st.graph.export_items) × (new.graph.export_items ≡ st.graph.export_items ++ e ∷ [])
+  pub is_put : (n.0 ≡ length st.graph.export_items) × (new.graph.export_items ≡ st.graph.export_items ++ e ∷ [])
   unfolding Pushed
   is_put = p.pushed
 

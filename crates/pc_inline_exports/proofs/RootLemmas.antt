@@ -1,8 +1,8 @@
 -- The root while its exports are made: whatever total is counted, where types are converted, where a node is reached and
 -- where that node gets its name.
-use Rattle.std.proofs.Common.{◌≡◌, ◌⊎◌, inl, inr, ◌≤◌, ◌+◌, ℕ, zero, suc, List, [], ◌∷◌, ◌++◌, length, take, Option}
+use Rattle.std.proofs.Common.{◌≡◌, ◌⊎◌, inl, inr, ◌<◌, ◌≤◌, ◌+◌, ℕ, zero, suc, List, [], ◌∷◌, ◌++◌, length, take, Option}
 use Rattle.std.proofs.Common.{Some}
-use Rattle.std.proofs.Common.{refl, sym, ap, subst, ◌∙◌, arith}
+use Rattle.std.proofs.Common.{refl, sym, ap, subst, ◌∙◌, arith, append-nil}
 use Rattle.std.specs.Prelude.{slice_get}
 use Rattle.std.specs.List.{AllZip}
 use Rattle.std.proofs.lemmas.List.{length-append}
@@ -38,7 +38,8 @@ use Rattle.pc_inline_canon.proofs.ItemLemmas.{items_same, types_held, used_kept}
 use Rattle.pc_inline_canon.proofs.KeptLemmas.{frame_kept}
 use Rattle.pc_inline_canon.proofs.WorldLemmas.{world_still}
 use Rattle.pc_inline_exports.specs.Exporting.{RootStands}
-use Rattle.pc_inline_exports.specs.Exports.{NameStands, NumbersExports, node_size, sizes}
+use Rattle.pc_inline_exports.specs.Exports.{IsUnder, IsWithin, NameStands, NumbersExports, node_size, sizes}
+use Rattle.pc_inline_exports.proofs.UnderLemmas.{Stay, whole_more}
 use Rattle.pc_inline_exports.specs.Reaching.{WorkStands}
 use Rattle.pc_inline_exports.proofs.GrownLemmas.{name_still, names_still}
 use Rattle.pc_inline_exports.proofs.LeafLemmas.{work_prepared, world_total}
@@ -191,8 +192,10 @@ pub numbers_more : (g mid h : ComponentDfg) (e : NamedExport) (x : NamedNode Mar
     → length g.exports ≡ length nodes → mid.exports ≡ g.exports
     → length mid.export_items ≡ length g.export_items + node_size x.node → e.1.0.0 + 1 ≡ length mid.export_items
     → h ≡ record mid { exports = h.exports } → h.exports ≡ mid.exports ++ e ∷ []
+    → Stay g.export_items mid.export_items
+    → ((k : ℕ) → length g.export_items ≤ k → k < length mid.export_items → IsWithin mid.export_items e.1.0.0 k)
     → NumbersExports g nodes → NumbersExports h (nodes ++ x ∷ [])
-numbers_more g mid h e x nodes long same items last rest put old =
+numbers_more g mid h e x nodes long same items last rest put stay made old =
     let all : h.exports ≡ g.exports ++ e ∷ [] = put ∙ ap (λ es. es ++ e ∷ []) same in
     let few : length h.export_items ≡ length mid.export_items = ap (λ (y : ComponentDfg). length y.export_items) rest in
     let more = sizes_more nodes x in
@@ -210,4 +213,10 @@ numbers_more g mid h e x nodes long same items last rest put old =
                 ap (λ (z : NamedExport). z.1.0.0 + 1) (sym end.0) ∙ last ∙ sym few ∙ many
                 ∙ ap sizes (sym (take_whole (nodes ++ x ∷ []) (n + 1) (omega (arith, long_all, long, end.1))))
           ];
+      whole = λ n below.
+          subst (λ is. IsUnder is h.exports n) (sym (ap (λ (y : ComponentDfg). y.export_items) rest))
+          (subst (λ es. IsUnder mid.export_items es n) (append-nil (g.exports ++ e ∷ []) ∙ sym all)
+          (whole_more g.export_items mid.export_items stay 0 g.exports [] e
+          (λ k from to. subst (λ es. IsUnder g.export_items es k) (sym (append-nil g.exports)) (old.whole k to)) made n
+          (omega arith) (omega (arith, below, few))));
     }

@@ -1,6 +1,6 @@
 -- One turn after the other: a part is reached, or an instance has all its items.
 use Rattle.std.proofs.Common.{None}
-use Rattle.std.proofs.Common.{◌≡◌, ◌⊎◌, inl, ◌≤◌, ◌+◌, ◌*◌, ◌∙◌, ℕ, true, List, [], ◌∷◌}
+use Rattle.std.proofs.Common.{◌≡◌, ◌⊎◌, inl, ◌<◌, ◌≤◌, ◌+◌, ◌*◌, ◌∙◌, ℕ, true, List, [], ◌∷◌}
 use Rattle.std.proofs.Common.{Some, Result, Ok, Err, length, refl, reverse, sym, ap, subst, arith}
 use Rattle.std.specs.Prelude.{slice_get}
 use Rattle.std.specs.List.{AllZip}
@@ -30,7 +30,8 @@ use Rattle.pc_inline_state.proofs.StateLemmas.{keeps_refl, keeps_trans}
 use Rattle.pc_inline_exports.specs.declared.build.Stack.{Stack}
 use Rattle.pc_inline_exports.specs.declared.part.Found.{Found}
 use Rattle.pc_inline_exports.specs.Building.{AddsPath, Climbs, Enters, Finds, FindsPart}
-use Rattle.pc_inline_exports.specs.Building.{OpenStands, PartFound, StillStands, Working, opened, with_item}
+use Rattle.pc_inline_exports.specs.Building.{OpenStands, PartFound, StillStands, Working, items_of, opened, with_item}
+use Rattle.pc_inline_exports.specs.Exports.{IsUnder}
 use Rattle.pc_inline_exports.specs.Reaching.{HasParts, HasSomeParts, IsReachable, NodeEnds, OneEnds, Reaches}
 use Rattle.pc_inline_exports.specs.Reaching.{ReachesOne, SubjectStands, WorkStands}
 use Rattle.pc_inline_exports.specs.Subjects.{Part, Reader, Subject, reads_on, resume, subject_node, with_node}
@@ -81,6 +82,9 @@ module _ (t : TypeTable) (ms : List ModuleRecord) (old : State) (d : Definition)
           waits = c.waits;
           same = c.same;
           items = ap (λ g. length g.export_items) path.graph ∙ c.items;
+          whole = λ n from to.
+              subst (λ g. IsUnder g.export_items (items_of s) n) (sym path.graph)
+              (c.whole n from (subst (λ g. n < length g.export_items) path.graph to));
         };
   }
 
@@ -122,6 +126,7 @@ module _ (t : TypeTable) (ms : List ModuleRecord) (old : State) (d : Definition)
           same = v.reads w
               ∙ ap (λ k. within_total (grown w.total (8 * k)) (resume [] f.name f.data_ (reads_on inner next))) (sym one);
           items = omega arith;
+          whole = λ n from to. absurd (omega (arith, from, to));
         };
   }
 

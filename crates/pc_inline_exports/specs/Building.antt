@@ -28,7 +28,7 @@ use Rattle.pc_inline_state.specs.Tables.{Keeps, tables_of}
 use Rattle.pc_inline_exports.specs.declared.build.Open.{Open}
 use Rattle.pc_inline_exports.specs.declared.build.Stack.{Stack}
 use Rattle.pc_inline_exports.specs.declared.part.Found.{Found}
-use Rattle.pc_inline_exports.specs.Exports.{NameStands, sizes}
+use Rattle.pc_inline_exports.specs.Exports.{IsUnder, NameStands, sizes}
 use Rattle.pc_inline_exports.specs.Reaching.{HasParts, IsReachable, Pushes, Reaches, ReachesOne, SubjectStands}
 use Rattle.pc_inline_exports.specs.Reaching.{WorkStands}
 use Rattle.pc_inline_exports.specs.Subjects.{Part, Reader, Subject, reads_on, resume, subject_node}
@@ -37,6 +37,15 @@ use Rattle.pc_inline_exports.specs.Subjects.{Part, Reader, Subject, reads_on, re
 abbrev pub sizes_in : List Reader → ℕ
 sizes_in [] = 0
 sizes_in (r ∷ rs) = sizes r.reads + sizes_in rs
+
+-- the items of instances, one after the other
+abbrev pub items_among : List Open → List NamedExport
+items_among [] = []
+items_among (o ∷ os) = o.items ++ items_among os
+
+-- those of the instances on a stack, the innermost first
+abbrev pub items_of : Stack → List NamedExport
+items_of s = s.top.items ++ items_among (reverse s.callers.items)
 
 -- the name of a part
 abbrev pub part_name : Part → List ℕ
@@ -111,6 +120,9 @@ module _ (t : TypeTable) (ms : List ModuleRecord) where
         (resume readers reader.name reader.meta (reads_on reader world))
     pub items : length st.graph.export_items
         ≡ length old.graph.export_items + (sizes reader.reads + sizes_in readers)
+    -- what was made is an item of these instances, or inside one
+    pub whole : (n : ℕ) → length old.graph.export_items ≤ n → n < length st.graph.export_items
+        → IsUnder st.graph.export_items (items_of s) n
 
   -- the same in whatever world it began, where so many of the nodes have items
   pub record Working (old : State) (d : Definition) (st : State) (s : Stack) : Type 0 where

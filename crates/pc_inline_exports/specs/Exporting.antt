@@ -39,6 +39,12 @@ if_room total o = if has_room total then o else past
 abbrev pub most_exported : TypeTable → (nodes types : ℕ) → ℕ
 most_exported t nodes types = 4 * nodes + types * (1 + most_types t)
 
+-- what is refused, and that there are too many nodes, is known before anything is done; a list may be full later
+unfoldable pub IsForetold : (old : State) → Frame → (new : State) → Frame → Result ⊤ Error → Type 0
+IsForetold old f new g (Err (error.Unsupported u p)) = (new ≡ old) × (g ≡ f)
+IsForetold old f new g (Err error.TooMany) = ((new ≡ old) × (g ≡ f)) ⊎ IsFullSomewhere (tables_of new)
+IsForetold old f new g r = Unit {0}
+
 module _ (t : TypeTable) (ms : List ModuleRecord) where
   -- the root after its items, in a world, with the nodes of its exports so far
   pub record RootStands (st : State) (f : Frame) (s : Scope) (w : World) (nodes : List (NamedNode Mark)) : Type 0 where

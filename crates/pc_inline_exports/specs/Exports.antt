@@ -1,5 +1,5 @@
 -- What the root exports, against the nodes of the reading.
-use Rattle.std.specs.Prelude.{◌≡◌, ◌+◌, ℕ, List, [], ◌∷◌, Some, length, slice_get, take}
+use Rattle.std.specs.Prelude.{◌≡◌, ◌<◌, ◌+◌, ℕ, List, [], ◌∷◌, Some, length, slice_get, take}
 use Rattle.std.specs.List.{AllZip}
 use Rattle.pc_numbers.specs.declared.component_entity.StaticModuleIndex.{StaticModuleIndex}
 use Rattle.pc_numbers.specs.declared.runtime.ExportIndex.{ExportIndex}
@@ -21,6 +21,7 @@ use Rattle.pc_spec_plan.specs.ExportNode.{ExportNode, ExportNodes, NamedNode}
 use Rattle.pc_parsed.specs.Mark.{Mark, of_type}
 use Rattle.pc_dfg.specs.declared.core_def.CoreDef.{CoreDef}
 use Rattle.pc_dfg.specs.declared.dfg.ComponentDfg.{ComponentDfg}
+use Rattle.pc_dfg.specs.declared.export.Export.{Export}
 use Rattle.pc_dfg.specs.declared.export.Export.TheVariants as export
 use Rattle.pc_dfg.specs.declared.ids.OptionsId.{OptionsId}
 use Rattle.pc_dfg.specs.Lists.{NamedExport}
@@ -97,8 +98,25 @@ abbrev pub sizes : List (NamedNode Mark) → ℕ
 sizes [] = 0
 sizes (x ∷ xs) = node_size x.node + sizes xs
 
+-- Over the items of exports.
+module _ (items : List Export) where
+  -- an item is that of one of these names, or inside an instance that is, at whatever depth
+  pub data IsUnder : List NamedExport → (item : ℕ) → Type 0 where
+    is_named : {es : List NamedExport} {e : NamedExport} (k : ℕ) → slice_get es k ≡ Some e → IsUnder es e.1.0.0
+    is_inside : {es inner : List NamedExport} {e : NamedExport} {ty : TypeComponentInstanceIndex} {n : ℕ} (k : ℕ)
+        → slice_get es k ≡ Some e → slice_get items e.1.0.0 ≡ Some (export.Instance ty inner) → IsUnder inner n
+        → IsUnder es n
+
+  -- an item is this one, or inside it
+  pub data IsWithin (root : ℕ) : (item : ℕ) → Type 0 where
+    is_it : IsWithin root root
+    is_in : {inner : List NamedExport} {ty : TypeComponentInstanceIndex} {n : ℕ}
+        → slice_get items root ≡ Some (export.Instance ty inner) → IsUnder inner n → IsWithin root n
+
 -- a graph has as many export items as its exports have nodes; those of an export stand behind those of the exports
 -- before it, and each has what is under it in front of it
 pub record NumbersExports (g : ComponentDfg) (nodes : List (NamedNode Mark)) : Type 0 where
   pub as_many : length g.export_items ≡ sizes nodes
   pub last : (n : ℕ) (e : NamedExport) → slice_get g.exports n ≡ Some e → e.1.0.0 + 1 ≡ sizes (take (n + 1) nodes)
+  -- no item is there that isn't exported
+  pub whole : (n : ℕ) → n < length g.export_items → IsUnder g.export_items g.exports n

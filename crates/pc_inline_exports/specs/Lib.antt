@@ -6,3 +6,4 @@ pub mod Reaching
 pub mod Building
 pub mod Exporting
 pub mod OneExport
+pub mod Counting

@@ -48,7 +48,7 @@ use Rattle.pc_inline_state.specs.Worlds.{HoldsModule, WorldStands}
 use Rattle.pc_inline_hosts.specs.declared.member.HostMember.{HostMember}
 use Rattle.pc_inline_hosts.specs.HostMembers.{definition_at}
 use Rattle.pc_inline_hosts.specs.HostStands.{HostMemberStands, IsInstanceType, fields_list}
-use Rattle.pc_inline_exports.specs.Exports.{NodeStands, node_size}
+use Rattle.pc_inline_exports.specs.Exports.{IsWithin, NodeStands, node_size}
 use Rattle.pc_inline_exports.specs.Subjects.{Part, Subject, a_value, host_parts, of_host, subject_node, value_parts}
 
 -- an export item is the last of the graph, under its number; or there is no room, and nothing was done
@@ -162,6 +162,9 @@ module _ (t : TypeTable) (ms : List ModuleRecord) where
     pub item : NodeStands t new.types new.graph n.0 node
     pub items : length new.graph.export_items ≡ length old.graph.export_items + node_size node
     pub last : n.0 + 1 ≡ length new.graph.export_items
+    -- what was made is that item, or inside it
+    pub whole : (k : ℕ) → length old.graph.export_items ≤ k → k < length new.graph.export_items
+        → IsWithin new.graph.export_items n.0 k
 
   -- what was reached is the node; or it is refused; or there are too many nodes, or too many entries of a list
   unfoldable pub NodeEnds : (old new : State) → World → (nodes : ℕ) → Reached (ExportNode Mark)

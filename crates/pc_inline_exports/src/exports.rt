@@ -10,21 +10,18 @@ ghost use Rattle.pc_spec_reading.specs.World.{World};
 ghost use Rattle.pc_inline_state.specs.Named.{export_name};
 ghost use Rattle.pc_inline_state.specs.Points.{IsInput};
 ghost use Rattle.pc_inline_state.specs.Worlds.{HasNoExports};
-ghost use Rattle.pc_inline_exports.specs.Exporting.{MakesExports, RootStands};
+ghost use Rattle.pc_inline_exports.specs.Exporting.{IsForetold, MakesExports, RootStands};
 ghost use Rattle.pc_inline_exports.specs.OneExport.{ExportsOne, FindsExport, IsRoot, item_definition};
 ghost use Rattle.pc_inline_exports.specs.Reaching.{IsReachable};
 
 use crate::build::reach_node;
+use crate::count::count_exports;
 use crate::part::Found;
 use pc_entity::{NoMemory, Text, TryClone};
-use pc_inline_counts::NodeCounts;
 use pc_inline_state::{Context, Definition, Frame, ItemError, State, error_at};
 use pc_parsed::{ExternName, ItemKind};
 use pc_types::{ComponentExternData, Error, Place};
 use std::alloc::Global;
-
-/// The most nodes that an export may have: each counts eight in a total, which may not reach 4294967295.
-const MAX_NODES: u32 = 536870911;
 
 /// What a name says of itself.
 fn extern_data(alloc: Global, name: &ExternName) -> Result<ComponentExternData, NoMemory>
@@ -37,7 +34,7 @@ fn extern_data(alloc: Global, name: &ExternName) -> Result<ComponentExternData, 
 }
 
 /// The definition of an item of a component instance, but a type.
-fn item_definition(
+pub(crate) fn item_definition(
     state: &State<'_>,
     frame: &Frame,
     kind: ItemKind,
@@ -130,9 +127,9 @@ fn export_node(
     Ok(())
 }
 
-/// The exports of the root, in order. One that names nothing is passed over, and the number of an export counts
-/// those that are there. The nodes of each are counted before one is made.
-pub fn export_all(
+/// The exports of the root become items of the graph, in order. One that names nothing is passed over, and the number
+/// of an export counts those that are there.
+fn make_exports(
     context: &Context<'_>,
     state: &mut State<'_>,
     frame: &mut Frame,
@@ -146,7 +143,6 @@ pub fn export_all(
     ensures { MakesExports context.now.table.now context.now.modules exports.now
         state.old frame.old state.new frame.new result }
 {
-    let counts = NodeCounts::new(context.alloc, state)?;
     let mut number: u64 = 0;
     for export in exports {
         let found = match exported(context, state, frame, export.1, export.2) {
@@ -154,12 +150,30 @@ pub fn export_all(
             Err(error) => return Err(error_at(error, Place::Export(number))),
         };
         if let Some(definition) = found {
-            if counts.of(&definition).nodes > MAX_NODES {
-                return Err(Error::TooMany);
-            }
             export_node(context, state, &export.0, definition, number)?;
             number += 1;
         }
     }
     Ok(())
+}
+
+/// The exports of the root. They are counted before a node is made: what is refused among them, and that their nodes
+/// are too many, is answered with nothing done.
+pub fn export_all(
+    context: &Context<'_>,
+    state: &mut State<'_>,
+    frame: &mut Frame,
+    exports: &[(ExternName, ItemKind, u32)],
+) -> Result<(), Error>
+    requires input { IsInput context.now.table.now context.now.modules }
+    requires root { (s : Scope) × (w : World)
+        × RootStands context.now.table.now context.now.modules state.old frame.old s w [] }
+    requires unexported { HasNoExports state.old.graph }
+    requires distinct { distinct_names (map export_name exports.now) ≡ true }
+    ensures made { MakesExports context.now.table.now context.now.modules exports.now
+        state.old frame.old state.new frame.new result }
+    ensures foretold { IsForetold state.old frame.old state.new frame.new result }
+{
+    count_exports(context, state, frame, exports)?;
+    make_exports(context, state, frame, exports)
 }

@@ -5,6 +5,7 @@
 #![tactic(auto)]
 
 mod build;
+mod count;
 mod exports;
 mod item;
 mod part;

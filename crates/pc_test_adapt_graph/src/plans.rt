@@ -145,6 +145,19 @@ const OF_STRINGS: [Import; 11] = [
     Import::Trap(Trap(1)),
 ];
 
+/// The same where the adapter is transparent: nothing begins and ends a call.
+const OF_TRANSPARENT: [Import; 9] = [
+    Import::CoreDef(func!(InstanceId(0), 0)),
+    Import::CoreDef(CoreDef::InstanceFlags(RuntimeComponentInstanceIndex(2))),
+    Import::CoreDef(CoreDef::InstanceFlags(RuntimeComponentInstanceIndex(1))),
+    Import::CoreDef(CoreDef::Export(memory!(InstanceId(0), EntityIndex::Memory(MemoryIndex(0))))),
+    Import::CoreDef(func!(InstanceId(0), 1)),
+    Import::CoreDef(CoreDef::Export(memory!(InstanceId(0), EntityIndex::Memory(MemoryIndex(1))))),
+    transcode!(Transcode::Utf8ToLatin1),
+    transcode!(Transcode::Utf8ToCompactUtf16),
+    Import::Trap(Trap(1)),
+];
+
 /// What is imported for adapter 1: what is called, the flags of the lowering and of the lift, memory and callback of
 /// the lift, what prepares and starts a call, and a trap.
 const OF_ASYNC: [Import; 8] = [
@@ -183,39 +196,50 @@ fn is_planned(planned: Option<AdapterPlan>, imports: &[Import], places: [Option<
     }
 }
 
-/// Whether adapters 0 and 1 have their plans.
-fn are_planned(alloc: Global, types: &ComponentTypesBuilder, graph: &ComponentDfg) -> bool {
+/// Whether adapter 0 has these imports, and adapter 1 its plan.
+fn are_planned(
+    alloc: Global,
+    types: &ComponentTypesBuilder,
+    graph: &ComponentDfg,
+    of_strings: &[Import],
+) -> bool {
     let first = plan_of(alloc, types, graph, AdapterId(0));
     let second = plan_of(alloc, types, graph, AdapterId(1));
-    is_planned(
-        first,
-        OF_STRINGS.as_slice(),
-        [Some(10), Some(11), None, Some(12)],
-    ) && is_planned(
-        second,
-        OF_ASYNC.as_slice(),
-        [Some(10), None, Some(11), None],
-    )
+    is_planned(first, of_strings, [Some(10), Some(11), None, Some(12)])
+        && is_planned(
+            second,
+            OF_ASYNC.as_slice(),
+            [Some(10), None, Some(11), None],
+        )
 }
 
 /// Which of the answers on the small graph are those that are wanted.
-fn answers(alloc: Global) -> Result<[bool; 4], PushError> {
+fn answers(alloc: Global) -> Result<[bool; 5], PushError> {
     empty_is_ordered();
     let mut types = ComponentTypesBuilder::new(alloc);
     let table = two_types(alloc)?;
     let is_converted = has_two(alloc, &mut types, &table);
     let mut graph = ComponentDfg::new(alloc);
     fill(alloc, &mut graph, Shape::Small)?;
+    let is_asked = third_lacks(&types, &graph);
+    let is_planned = are_planned(alloc, &types, &graph, OF_STRINGS.as_slice());
+    graph.transparent_adapters.insert(AdapterId(0))?;
+    graph.transparent_adapters.insert(AdapterId(1))?;
     Ok([
         is_converted && has_facts(&types),
         first_has_options(&types, &graph),
-        third_lacks(&types, &graph),
-        are_planned(alloc, &types, &graph),
+        is_asked,
+        is_planned,
+        are_planned(alloc, &types, &graph, OF_TRANSPARENT.as_slice()),
     ])
 }
 
 #[test]
 fn the_adapters_of_a_small_graph_are_planned(rt: HostRuntime) {
     let answers = answers(rt.alloc());
-    holds(&rt, "answers", answers == Ok([true, true, true, true]));
+    holds(
+        &rt,
+        "answers",
+        answers == Ok([true, true, true, true, true]),
+    );
 }

@@ -5,7 +5,7 @@ use pc_tool::Status;
 use std::alloc::{AllocError, Global};
 
 /// Lowered functions of components, in each place where a function can stand, and their plans.
-static ADAPTERS: [(&str, &str); 5] = [
+pub(crate) static ADAPTERS: [(&str, &str); 5] = [
     // async lower
     (
         r#"{"limit":100,"intrinsics":null,"types":{"core":[[["i32"],["i32"]]],
@@ -53,15 +53,13 @@ adapter 2 0 4 0 lift 1 utf8 sync - - - - lower 2 utf8 async - - - -
 modules 2 2
 counts 5 4 0 0 0 0 0 0 0 0 0 0
 init static 0 1 []
-init static 2 - [export(0 func 0), flags(2), flags(1), trampoline(0), trampoline(1), trampoline(2)]
-init static 1 2 [export(1 func 4)]
-init static 3 - [export(2 func 1), flags(3), flags(2), trampoline(0), trampoline(1), trampoline(2)]
-init static 1 3 [export(3 func 4)]
-trampoline 0 enter-sync-call
-trampoline 1 exit-sync-call
-trampoline 2 trap-1
-adapter 2 0 4 0 lift 1 utf8 sync - - - - lower 2 utf8 sync - - - -
-adapter 3 1 4 0 lift 2 utf8 sync - - - - lower 3 utf8 sync - - - -
+init static 2 - [export(0 func 0), flags(2), flags(1), trampoline(0)]
+init static 1 2 [export(1 func 2)]
+init static 3 - [export(2 func 1), flags(3), flags(2), trampoline(0)]
+init static 1 3 [export(3 func 2)]
+trampoline 0 trap-1
+adapter 2 0 2 0 lift 1 utf8 sync - - - - lower 2 utf8 sync - - - -
+adapter 3 1 2 0 lift 2 utf8 sync - - - - lower 3 utf8 sync - - - -
 ",
     ),
     // destructor is an adapter
@@ -80,12 +78,10 @@ adapter 3 1 4 0 lift 2 utf8 sync - - - - lower 3 utf8 sync - - - -
 modules 1 1
 counts 2 3 0 0 0 0 0 0 1 0 0 0
 init static 0 1 []
-init static 1 - [export(0 func 0), flags(2), flags(1), trampoline(0), trampoline(1), trampoline(2)]
-init resource 0 i32 export(1 func 4) 2
-trampoline 0 enter-sync-call
-trampoline 1 exit-sync-call
-trampoline 2 trap-1
-adapter 1 0 4 0 lift 1 utf8 sync - - - - lower 2 utf8 sync - - - -
+init static 1 - [export(0 func 0), flags(2), flags(1), trampoline(0)]
+init resource 0 i32 export(1 func 2) 2
+trampoline 0 trap-1
+adapter 1 0 2 0 lift 1 utf8 sync - - - - lower 2 utf8 sync - - - -
 ",
     ),
     // realloc is an adapter
@@ -117,17 +113,17 @@ import-type 0 \"log\" func
 import 0 0
 init static 0 1 []
 init lower 0 0
-init static 3 - [export(0 func 0), flags(2), flags(1), trampoline(0), trampoline(1), trampoline(2)]
-init realloc 0 export(1 func 4)
-init static 1 2 [trampoline(3)]
-init static 4 - [export(2 func 1), flags(3), flags(2), trampoline(0), trampoline(1), trampoline(2)]
+init static 3 - [export(0 func 0), flags(2), flags(1), trampoline(0)]
+init realloc 0 export(1 func 2)
+init static 1 2 [trampoline(1)]
+init static 4 - [export(2 func 1), flags(3), flags(2), trampoline(2), trampoline(3), trampoline(0)]
 init static 2 3 [export(3 func 4)]
 options 0 2 utf8 sync - - - 0
-trampoline 0 enter-sync-call
-trampoline 1 exit-sync-call
-trampoline 2 trap-1
-trampoline 3 component-lower-import[0] 0 0
-adapter 3 0 4 0 lift 1 utf8 sync - - - - lower 2 utf8 sync - - - -
+trampoline 0 trap-1
+trampoline 1 component-lower-import[0] 0 0
+trampoline 2 enter-sync-call
+trampoline 3 exit-sync-call
+adapter 3 0 2 0 lift 1 utf8 sync - - - - lower 2 utf8 sync - - - -
 adapter 4 1 4 0 lift 2 utf8 sync - - - - lower 3 utf8 sync - - - -
 ",
     ),
@@ -156,14 +152,12 @@ init static 0 1 []
 init static 1 2 []
 init memory 0 export(1 memory 0)
 init memory 1 export(0 memory 0)
-init static 3 - [export(0 func 0), flags(2), flags(1), export(0 memory 0), export(0 func 1), export(1 memory 0), trampoline(0), trampoline(1), trampoline(2), trampoline(3), trampoline(4)]
-init static 2 2 [export(2 func 7)]
+init static 3 - [export(0 func 0), flags(2), flags(1), export(0 memory 0), export(0 func 1), export(1 memory 0), trampoline(0), trampoline(1), trampoline(2)]
+init static 2 2 [export(2 func 5)]
 trampoline 0 component-transcode-utf8_to_latin1-m32-m32 0 1
 trampoline 1 component-transcode-utf8_to_compact_utf16-m32-m32 0 1
-trampoline 2 enter-sync-call
-trampoline 3 exit-sync-call
-trampoline 4 trap-1
-adapter 3 0 7 0 lift 1 compact-utf16 sync - - 3 4 lower 2 utf8 sync - - 5 -
+trampoline 2 trap-1
+adapter 3 0 5 0 lift 1 compact-utf16 sync - - 3 4 lower 2 utf8 sync - - 5 -
 ",
     ),
 ];
@@ -247,26 +241,28 @@ modules 2 1
 counts 4 4 0 0 0 0 0 0 0 0 0 0
 init static 0 1 []
 init static 0 2 []
-init static 2 - [export(0 func 0), flags(3), flags(1), trampoline(0), trampoline(1), trampoline(2), export(1 func 0), flags(3), flags(2), trampoline(0), trampoline(1), trampoline(2)]
-init static 1 3 [export(2 func 8), export(2 func 9)]
-trampoline 0 enter-sync-call
-trampoline 1 exit-sync-call
-trampoline 2 trap-1
-adapter 2 0 8 0 lift 1 utf8 sync - - - - lower 3 utf8 sync - - - -
-adapter 2 1 9 6 lift 2 utf8 sync - - - - lower 3 utf8 sync - - - -
+init static 2 - [export(0 func 0), flags(3), flags(1), trampoline(0), export(1 func 0), flags(3), flags(2), trampoline(0)]
+init static 1 3 [export(2 func 4), export(2 func 5)]
+trampoline 0 trap-1
+adapter 2 0 4 0 lift 1 utf8 sync - - - - lower 3 utf8 sync - - - -
+adapter 2 1 5 4 lift 2 utf8 sync - - - - lower 3 utf8 sync - - - -
 ";
 
-/// Whether the input with two adapters has that plan.
-fn two_are_planned(alloc: Global) -> Result<bool, AllocError> {
+/// Whether a command answers the input with two adapters by this text.
+pub(crate) fn two_are_answered(
+    alloc: Global,
+    command: &str,
+    text: &str,
+) -> Result<bool, AllocError> {
     let input = prefix(alloc, 20)?;
-    is_answered(alloc, "translate", &input, Status::Done, TWO_PLANNED)
+    is_answered(alloc, command, &input, Status::Done, text)
 }
 
 #[test]
 fn adapters_are_planned(rt: HostRuntime) {
     are_planned(&rt, rt.alloc(), ALONE, &ADAPTERS);
-    let is_so = two_are_planned(rt.alloc()).unwrap_or(false);
-    holds(&rt, "two adapters", is_so);
+    let is_so = two_are_answered(rt.alloc(), "translate", TWO_PLANNED);
+    holds(&rt, "two adapters", is_so.unwrap_or(false));
 }
 
 #[test]

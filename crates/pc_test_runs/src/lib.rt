@@ -10,7 +10,11 @@ mod captures;
 #[cfg(test)]
 mod contexts;
 #[cfg(test)]
+mod examples;
+#[cfg(test)]
 mod exports;
+#[cfg(test)]
+mod facts;
 #[cfg(test)]
 mod forms;
 #[cfg(test)]

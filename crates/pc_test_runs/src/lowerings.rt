@@ -385,7 +385,7 @@ modules 1 1
 counts 1 1 0 0 0 0 0 0 0 0 0 0
 init static 0 0 []
 options 0 0 utf8 sync - - - -
-adapter 1 0 4 0 lift 0 utf8 sync - - - - lower 0 utf8 sync - - - -
+adapter 1 0 2 0 lift 0 utf8 sync - - - - lower 0 utf8 sync - - - -
 export \"f\" lifted export(0 func 0) options 0
 ",
 )];

@@ -127,14 +127,17 @@ fn one_byte_over_the_limit_is_too_long(rt: HostRuntime) {
 }
 
 /// Words that name no command.
-static WORDS: [&str; 8] = [
+static WORDS: [&str; 11] = [
     "",
     "translate x",
     "Translate",
     "translat",
     "--help",
     "--version",
+    "gen",
     "gen 0",
+    "gen 01",
+    "gen 10001",
     "x translate",
 ];
 
@@ -166,6 +169,36 @@ const FAILING: Ends = Ends {
 fn other_words_name_no_command(rt: HostRuntime) {
     for words in WORDS.iter() {
         let is_so = comes_to(rt.alloc(), words, b"{", &WHOLE, &UNREAD);
+        holds(&rt, words, is_so.unwrap_or(false));
+        let is_so = comes_to(rt.alloc(), words, b"{", &FAILING, &UNWRITTEN);
+        holds(&rt, words, is_so.unwrap_or(false));
+    }
+}
+
+/// Chains that are generated, and what their plans have.
+static CHAINS: [(&str, &str); 3] = [
+    (
+        "gen 1",
+        "gen 1 instances 3 adapters 1 modules 2 1 inits 3\n",
+    ),
+    (
+        "gen 3",
+        "gen 3 instances 7 adapters 3 modules 2 3 inits 7\n",
+    ),
+    (
+        "gen 20",
+        "gen 20 instances 41 adapters 20 modules 2 20 inits 41\n",
+    ),
+];
+
+#[test]
+fn chains_are_translated_without_an_input(rt: HostRuntime) {
+    for (words, text) in CHAINS.iter() {
+        let want = Ran {
+            left: 1,
+            ..answer(Status::Done, text)
+        };
+        let is_so = comes_to(rt.alloc(), words, b"{", &WHOLE, &want);
         holds(&rt, words, is_so.unwrap_or(false));
         let is_so = comes_to(rt.alloc(), words, b"{", &FAILING, &UNWRITTEN);
         holds(&rt, words, is_so.unwrap_or(false));

@@ -1,8 +1,10 @@
-//! Tests of `pc_text`: what the printed texts look like, while there is memory.
+//! Tests of `pc_text` and `pc_text_facts`: what the printed texts look like, while there is memory.
 #![tactic(auto)]
 
 #[cfg(test)]
 mod exports;
+#[cfg(test)]
+mod facts;
 #[cfg(test)]
 mod faults;
 #[cfg(test)]

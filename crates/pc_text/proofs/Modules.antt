@@ -1,10 +1,14 @@
 -- How many modules are handed in, and how many are ones of adapters.
-use Rattle.std.proofs.Common.{◌≡◌, ◌+◌, ◌-◌, ◌≤◌, Bool, true, false, not, List, length, filter, refl, arith}
+use Rattle.std.proofs.Common.{◌≡◌, ◌+◌, ◌-◌, ◌≤◌, ℕ, Bool, true, false, not, List, [], ◌∷◌, length, filter, map, refl}
+use Rattle.std.proofs.Common.{arith, length-append}
 use Rattle.std.proofs.lemmas.List.{length-map}
 use Rattle.std.proofs.lemmas.List.Filters.{length-filter_both}
+use Rattle.std.proofs.lemmas.List.Sums.{sum_by-cons}
+use Rattle.std.specs.List.{sum_by}
 use Rattle.std.specs.Prelude.{if◌then◌else◌}
 use Rattle.pc_info.specs.declared.module.ModuleTranslation.{ModuleTranslation}
-use Rattle.pc_info.specs.Modules.{handed_in_view, has_some, is_adapter_module, is_handed_in, module_view}
+use Rattle.pc_info.specs.Modules.{adapter_view, adapters_view, handed_in_view, has_some, is_adapter_module}
+use Rattle.pc_info.specs.Modules.{is_handed_in, module_view}
 
 -- a module is handed in or one of adapters
 other : (b : Bool) → b ≡ not (if b then false else true)
@@ -25,3 +29,14 @@ handed_in-rest ms =
     let seen : length (handed_in_view ms) ≡ length (filter is_handed_in ms) =
     length-map (filter is_handed_in ms) module_view in
     omega (arith, all, seen)
+
+-- the adapters of modules are those of each
+pub adapters-total : (k : ℕ) (ms : List ModuleTranslation)
+    → length (adapters_view k ms) ≡ sum_by (λ (m : ModuleTranslation). length m.adapters) ms
+adapters-total k [] = refl
+adapters-total k (m ∷ ms) =
+    let one = length-map m.adapters (adapter_view k) in
+    let rest = adapters-total (k + 1) ms in
+    let both = length-append (map (adapter_view k) m.adapters) (adapters_view (k + 1) ms) in
+    let sum = sum_by-cons (λ (m : ModuleTranslation). length m.adapters) m ms in
+    omega (arith, one, rest, both, sum)

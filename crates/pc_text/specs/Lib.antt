@@ -2,6 +2,7 @@
 pub mod FaultText
 pub mod UsageText
 pub mod ContextText
+pub mod SummaryText
 -- What the functions inside promise each other.
 pub mod Placed
 pub mod ExportWalk

@@ -28,7 +28,7 @@ fn is_adapter_module(which: &ModuleTranslation) -> bool
 }
 
 /// How many of the modules are ones of adapters.
-fn count_adapter_modules(modules: &[ModuleTranslation]) -> usize
+pub(crate) fn count_adapter_modules(modules: &[ModuleTranslation]) -> usize
     ensures { result ≡ length (filter is_adapter_module modules.now) }
 {
     modules

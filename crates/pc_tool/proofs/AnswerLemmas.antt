@@ -10,6 +10,7 @@ use Rattle.pc_info.specs.Exports.{has_items}
 use Rattle.pc_info.specs.View.{view}
 use Rattle.pc_spec_plan.specs.Text.{plan_text}
 use Rattle.pc_offsets.specs.Context.{context_size}
+use Rattle.pc_spec_facts.specs.Text.{facts_text}
 use Rattle.pc_text.specs.ContextText.{context_text}
 use Rattle.pc_parsed.specs.declared.payload.Payload.{Payload}
 use Rattle.pc_input.specs.declared.input.Input.{Input}
@@ -59,6 +60,7 @@ pub plan_printed : {E : Type 0} (c : Command) (plan : ComponentTranslation) (mod
 unfolding Prints
 plan_printed command.Translate plan modules r same is = is
 plan_printed command.Context plan modules r same is = absurd (cc same)
+plan_printed command.Facts plan modules r same is = absurd (cc same)
 
 pub context_printed : {E : Type 0} (c : Command) (plan : ComponentTranslation) (modules : List ModuleTranslation)
     (r : Result (Vec ℕ Global) E) → c ≡ command.Context
@@ -67,6 +69,15 @@ pub context_printed : {E : Type 0} (c : Command) (plan : ComponentTranslation) (
 unfolding Prints
 context_printed command.Translate plan modules r same is = absurd (cc same)
 context_printed command.Context plan modules r same is = is
+context_printed command.Facts plan modules r same is = absurd (cc same)
+
+pub facts_printed : {E : Type 0} (c : Command) (plan : ComponentTranslation) (modules : List ModuleTranslation)
+    (r : Result (Vec ℕ Global) E) → c ≡ command.Facts → IfOk r (λ text. text.items ≡ facts_text modules)
+    → IfOk r (λ text. Prints c plan modules text.items)
+unfolding Prints
+facts_printed command.Translate plan modules r same is = absurd (cc same)
+facts_printed command.Context plan modules r same is = absurd (cc same)
+facts_printed command.Facts plan modules r same is = is
 
 -- the text of two sizes is that of the sizes which they are
 pub sizes_printed : {E : Type 0} (r : Result (Vec ℕ Global) E) (four eight a b : Option ℕ) → four ≡ a → eight ≡ b

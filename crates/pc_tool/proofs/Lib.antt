@@ -1,6 +1,10 @@
 -- what an answer says of an input and of bytes
 pub mod AnswerLemmas
 -- that reasons to be refused exclude a plan
+pub mod CountedLemmas
 pub mod RefusalLemmas
+-- that a generated chain has a plan
+pub mod ChainLemmas
 -- how a run has ended
 pub mod EndLemmas
+pub mod ChainEndLemmas

@@ -9,6 +9,7 @@ use Rattle.pc_info.specs.declared.component.ComponentTranslation.{ComponentTrans
 use Rattle.pc_info.specs.declared.module.ModuleTranslation.{ModuleTranslation}
 use Rattle.pc_info.specs.View.{view}
 use Rattle.pc_offsets.specs.Context.{context_size}
+use Rattle.pc_spec_facts.specs.Text.{facts_text}
 use Rattle.pc_text.specs.ContextText.{context_text}
 use Rattle.pc_text.specs.FaultText.{fault_text, not_json, bad_form}
 use Rattle.pc_spec_reading.specs.Reading.{Reading}
@@ -41,20 +42,18 @@ IsPlanFor input plan modules =
 abbrev pub IsErrorOf : Input → Error → Type 0
 IsErrorOf input e = IsRefusalOf input.table input.intrinsics input.tunables.max_component_instances input.payloads e
 
--- an input is valid: a reading is the answer by the order of answers, its total counted, and without the total
+-- an input is valid: a reading is the answer by the order of answers, its total counted
 pub record IsValid (input : Input) : Type 0 where
   pub reading : Reading
   pub answer : answer_with input.table input.intrinsics input.tunables.max_component_instances
       (Some (counted input.table 0 input.payloads)) input.payloads ≡ Some (Ok reading)
-  pub result : Reading
-  pub uncounted : answer_with input.table input.intrinsics input.tunables.max_component_instances None input.payloads
-      ≡ Some (Ok result)
 
 -- a text is the one that a command makes of a plan and its modules
 unfoldable pub Prints : Command → ComponentTranslation → List ModuleTranslation → (text : List ℕ) → Type 0
 Prints command.Translate plan modules text = text ≡ plan_text (view plan modules)
 Prints command.Context plan modules text =
     text ≡ context_text (context_size 4 plan.component) (context_size 8 plan.component)
+Prints command.Facts plan modules text = text ≡ facts_text modules
 
 -- a text is that of an error
 unfoldable pub Explains : Error → (text : List ℕ) → Type 0
@@ -77,6 +76,10 @@ IsPlanText = IsTextOf command.Translate
 -- a text is that of how many bytes the context of such a plan takes
 abbrev pub IsContextText : (bytes text : List ℕ) → Type 0
 IsContextText = IsTextOf command.Context
+
+-- a text is that of what is recorded of the core modules of such a plan
+abbrev pub IsFactsText : (bytes text : List ℕ) → Type 0
+IsFactsText = IsTextOf command.Facts
 
 -- a text is that of an error which has its cause in the input that bytes stand for
 pub record IsErrorText (bytes text : List ℕ) : Type 0 where

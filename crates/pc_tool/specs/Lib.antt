@@ -3,5 +3,6 @@ pub mod Words
 pub mod Status
 pub mod Headline
 pub mod Run
+pub mod Chain
 -- What the functions inside promise each other.
 pub mod Answers

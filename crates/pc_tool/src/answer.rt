@@ -18,6 +18,7 @@ use pc_input::{DecodeError, Input, decode_input};
 use pc_offsets::{PtrWidth, VMComponentOffsets};
 use pc_stream::{ReadEnd, Source, read_all};
 use pc_text::{bad_form_text, context_text, fault_text, not_json_text, plan_text, too_long_text};
+use pc_text_facts::facts_text;
 use pc_translate::plan_payloads;
 use pc_types::Error;
 use std::alloc::Global;
@@ -137,6 +138,7 @@ fn print(
     match command {
         Command::Translate => plan_text(alloc, plan, modules),
         Command::Context => print_context(alloc, plan),
+        Command::Facts => facts_text(alloc, modules),
     }
 }
 

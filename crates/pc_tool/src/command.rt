@@ -1,16 +1,19 @@
 //! The top call: from words and a source to a sink.
 
-ghost use Rattle.std.specs.Prelude.{◌≡◌, ◌≤◌, ◌⊎◌, None, Some, map};
+ghost use Rattle.std.specs.Prelude.{◌≡◌, ◌≤◌, ◌⊎◌, ⊤, ℕ, None, Some, map};
 ghost use Rattle.std.specs.String.{string_bytes};
 ghost use Rattle.pc_tool.specs.Answers.{Said};
-ghost use Rattle.pc_tool.specs.Headline.{IsContextText, IsPlanText};
+ghost use Rattle.pc_tool.specs.Chain.{ChainEnded};
+ghost use Rattle.pc_tool.specs.Headline.{IsContextText, IsFactsText, IsPlanText};
 ghost use Rattle.pc_tool.specs.Run.{Ended, Tells};
-ghost use Rattle.pc_tool.specs.Words.{command_of};
+ghost use Rattle.pc_tool.specs.Words.{chain_of, command_of};
 ghost use Rattle.pc_tool.specs.declared.words.Command.TheVariants as command;
 
 use crate::answer::{Unanswered, answer_source};
-use crate::words::{Command, command_of};
+use crate::chain::chain_text;
+use crate::words::{Command, chain_of, command_of};
 use crate::{Sink, Source, Status};
+use pc_entity::NoMemory;
 use pc_stream::{Failed, write_all};
 use pc_text::usage_text;
 use std::alloc::Global;
@@ -39,6 +42,18 @@ fn execute<S: Source, W: Sink>(alloc: Global, asked: Command, src: &mut S, out: 
     }
 }
 
+/// Writes what the plan of a generated chain of so many links has.
+fn write_chain<W: Sink>(alloc: Global, n: u32, out: &mut W) -> Status
+    requires few { n ≤ 10000 }
+    ensures { ChainEnded n ⊤ (W.written out.old) (W.written out.new)
+        (W.faults out.old) (W.faults out.new) (out.new ≡ out.old) result }
+{
+    match chain_text(alloc, n) {
+        Ok(text) => say(out, Status::Done, &text),
+        Err(NoMemory) => Status::NoMemory,
+    }
+}
+
 /// Does what words say: reads the whole source, makes the whole text, and only then writes it.
 ///
 /// No memory is taken once the first byte is offered, and whatever the sink leaves is offered again.
@@ -51,18 +66,32 @@ pub fn run<S: Source, W: Sink>(alloc: Global, words: &[String], src: &mut S, out
     ensures context { command_of (map string_bytes words.now) ≡ Some command.Context → result ≡ Status.Done
         → Tells IsContextText (S.left src.old) (S.left src.new) (W.written out.old) (W.written out.new) }
 
+    // The same of `facts`: what was written is the text of what is recorded of the core modules of such a plan.
+    ensures facts { command_of (map string_bytes words.now) ≡ Some command.Facts → result ≡ Status.Done
+        → Tells IsFactsText (S.left src.old) (S.left src.new) (W.written out.old) (W.written out.new) }
+
+    // The words `gen` and a number leave the source alone: what was written says what the plan of a generated chain of
+    // that length has. Such an input is valid, so it isn't refused.
+    ensures generated { (n : ℕ) → chain_of (map string_bytes words.now) ≡ Some n
+        → ChainEnded n (src.new ≡ src.old) (W.written out.old) (W.written out.new)
+        (W.faults out.old) (W.faults out.new) (out.new ≡ out.old) result }
+
     // Words that name no command leave the source alone.
-    ensures no_command { command_of (map string_bytes words.now) ≡ None
+    ensures no_command { command_of (map string_bytes words.now) ≡ None → chain_of (map string_bytes words.now) ≡ None
         → (src.new ≡ src.old) × ((result ≡ Status.Usage) ⊎ (result ≡ Status.WriteFault)) }
 
-    // Each end has its cause, whatever the command. Its fields: `done`, `refused`, `completes`, `usage`, `too_long`,
-    // `gave`, `read_fault`, `write_fault`, `memory`, `reads_never_fall`, `writes_never_fall`.
-    ensures ended { Ended (command_of (map string_bytes words.now))
+    // Each end of a command on an input has its cause, and so has that of words that name no command. Its fields:
+    // `done`, `refused`, `completes`, `usage`, `too_long`, `gave`, `read_fault`, `write_fault`, `memory`,
+    // `reads_never_fall`, `writes_never_fall`.
+    ensures ended { chain_of (map string_bytes words.now) ≡ None → Ended (command_of (map string_bytes words.now))
         (S.left src.old) (S.left src.new) (S.faults src.old) (S.faults src.new)
         (W.written out.old) (W.written out.new) (W.faults out.old) (W.faults out.new) (out.new ≡ out.old) result }
 {
     match command_of(words) {
         Some(asked) => execute(alloc, asked, src, out),
-        None => say(out, Status::Usage, usage_text().as_bytes()),
+        None => match chain_of(words) {
+            Some(n) => write_chain(alloc, n, out),
+            None => say(out, Status::Usage, usage_text().as_bytes()),
+        },
     }
 }

@@ -33,6 +33,7 @@ use Rattle.pc_dfg.proofs.KeptLemmas.{means_kept}
 use Rattle.pc_dfg.proofs.SameLemmas.{adapter_signed, defs_same}
 use Rattle.pc_dfg.proofs.UniqueLemmas.{means_unique}
 use Rattle.pc_dfg_finish.specs.Apart.{IsOfAdapters}
+use Rattle.pc_adapt.specs.Imports.{is_transparent}
 use Rattle.pc_adapt_partition.specs.Adapted.{AreAdapted, AreGivenTo, AreModulesOf, members_from, numbers_of, values_for}
 use Rattle.pc_adapt_partition.specs.Partitions.{facts_by}
 use Rattle.pc_adapt_partition.specs.Wired.{HaveValues}
@@ -45,13 +46,17 @@ use Rattle.pc_inline_state.specs.Stands.{CoreStands}
 use Rattle.pc_translate.specs.Adapted.{Adapts, IsGivenPlanned, NumberedMember, as_handed_in, map_member, whole_adapter}
 use Rattle.pc_translate.specs.Adapted.{IsPlanned, with_numbers}
 use Rattle.pc_translate.specs.Partitioned.{IsPartitioned}
+use Rattle.pc_translate.specs.Transparent.{TellsTransparent}
 use Rattle.pc_translate.proofs.FewestLemmas.{fewest_read}
 use Rattle.pc_translate.proofs.GroupLemmas.{Regrouped, map_both, regroup}
-use Rattle.pc_translate.proofs.MemberLemmas.{AreAdapters, IsSame, Twice, adapter_means, adapter_whole, all_adapters}
-use Rattle.pc_translate.proofs.MemberLemmas.{in_numbers, in_whole, members, members_planned, members_same, members_whole, value_at}
+use Rattle.pc_translate.proofs.MemberLemmas.{AreAdapters, IsMarked, IsSame, Twice, adapter_means, adapter_whole}
+use Rattle.pc_translate.proofs.MemberLemmas.{all_adapters}
+use Rattle.pc_translate.proofs.MemberLemmas.{in_numbers, in_whole, members, members_planned, members_same}
+use Rattle.pc_translate.proofs.MemberLemmas.{members_whole, value_at}
 use Rattle.pc_translate.proofs.MemberLemmas.{value_in, wholes_are}
 use Rattle.pc_adapt_marks.proofs.NamedLemmas.{behind_map}
-use Rattle.pc_translate.proofs.PartitionLemmas.{are_typed, as_read, lift_tree_of, lift_trees, lower_tree_of, lower_trees}
+use Rattle.pc_translate.proofs.PartitionLemmas.{are_typed, as_read, lift_tree_of, lift_trees, lower_tree_of}
+use Rattle.pc_translate.proofs.PartitionLemmas.{lower_trees}
 use Rattle.pc_translate.proofs.WidthLemmas.{lift_told, lower_told}
 
 -- what is given to the modules of groups, by their places
@@ -91,6 +96,7 @@ values_same h (d ∷ ds) (v ∷ vs) (w ∷ ws) a b =
 
 module _ (t : TypeTable) (types : Types) (ms : List ModuleRecord) (g h : ComponentDfg) (r : Reading)
     (modules : List ModuleTranslation) (stands : GraphStands t ms types g r) (tells : TellsApart types) (u : Unsaid)
+    (marks : TellsTransparent r g)
     (told : IsTold u g) (partitioned : IsPartitioned ms r types g h modules) (last : State Mark)
     (of_adapters : (n : ℕ) (m : RuntimeInstance Mark) → slice_get last.instances n ≡ Some m
     → m.component_instance ≡ None → IsOfAdapters h m.instantiation) where
@@ -142,12 +148,12 @@ module _ (t : TypeTable) (types : Types) (ms : List ModuleRecord) (g h : Compone
     as_reading = so types (Fits g) reads (reads_fit g r.imported_resources stands.world.imported_resources)
 
     abbrev all : List (NumberedMember types ms r)
-    all = members types ms g r as_reading (λ m. refl) (λ m. refl) 0 xs
+    all = members types ms g r as_reading (λ m. refl) (λ m. refl) (is_transparent g) 0 xs
 
     -- each adapter of the graph is the reading's
     same_adapter : (k : ℕ) (a : Adapter) (x : Twice types g) → slice_get g.adapters k ≡ Some a
         → slice_get xs k ≡ Some x
-        → IsSame types ms g r as_reading (λ m. refl) (λ m. refl)
+        → IsSame types ms g r as_reading (λ m. refl) (λ m. refl) (is_transparent g)
         (facts_by (lift_trees types g r.log stands.world.adapters))
         (facts_by (lower_trees types g r.log stands.world.adapters)) values (0 + k) a x
     same_adapter k a x at_a at_x =
@@ -157,23 +163,34 @@ module _ (t : TypeTable) (types : Types) (ms : List ModuleRecord) (g h : Compone
         let zero_k : 0 + k ≡ k = omega arith in
         let means = subst (λ j. Means g (def.Adapter (record { 0 = j })) (in_numbers types g x)) zero_k
         (adapter_means types g 0 (adapters_of r.log) xs are k x at_x) in
-        subst (λ j. IsSame types ms g r as_reading (λ m. refl) (λ m. refl)
+        subst (λ j. IsSame types ms g r as_reading (λ m. refl) (λ m. refl) (is_transparent g)
         (facts_by (lift_trees types g r.log stands.world.adapters))
         (facts_by (lower_trees types g r.log stands.world.adapters)) values j a x) here
         (record {
           value = value_at types g xs k x at_x;
           lift_same = ap (λ o. function_facts (lift_tree_of types g r.log stands.world.adapters o)) whole ∙ is.lift_is;
-          lower_same = ap (λ o. function_facts (lower_tree_of types g r.log stands.world.adapters o)) whole ∙ is.lower_is;
-          lift_wide = lift_told ms r g (number_of types (Fits g)) (whole_of types (Fits g)) stands.widths k a at_a x means;
+          lower_same = ap (λ o. function_facts (lower_tree_of types g r.log stands.world.adapters o)) whole
+              ∙ is.lower_is;
+          lift_wide = lift_told ms r g (number_of types (Fits g))
+              (whole_of types (Fits g)) stands.widths k a at_a x means;
           lower_wide =
               lower_told ms r g (number_of types (Fits g)) (whole_of types (Fits g)) stands.widths k a at_a x means;
         })
+
+    -- each is told transparent exactly where it is
+    marked : (k : ℕ) (x : Twice types g) → slice_get xs k ≡ Some x
+        → IsMarked types ms g r as_reading (λ m. refl) (λ m. refl) (is_transparent g) (0 + k) x
+    unfolding TellsTransparent
+    marked k x at =
+        let here : k ≡ 0 + k = omega arith in
+        subst (λ j. IsMarked types ms g r as_reading (λ m. refl) (λ m. refl) (is_transparent g) j x) here
+        (marks k (in_whole types g x) (adapter_whole types g 0 (adapters_of r.log) xs are k x at))
 
     -- so the members of the graph's modules are these
     regrouped : Regrouped (map_member (number_of types reads)) adapted.groups all
     regrouped =
         regroup (map_member (number_of types reads)) adapted.groups all
-        (adapted.all ∙ members_same types ms g r as_reading (λ m. refl) (λ m. refl)
+        (adapted.all ∙ members_same types ms g r as_reading (λ m. refl) (λ m. refl) (is_transparent g)
         (facts_by (lift_trees types g r.log stands.world.adapters))
         (facts_by (lower_trees types g r.log stands.world.adapters)) values 0 g.adapters xs long same_adapter)
 
@@ -209,7 +226,7 @@ module _ (t : TypeTable) (types : Types) (ms : List ModuleRecord) (g h : Compone
         record {
           groups = regrouped.groups;
           adapters = ap (map (whole_adapter types ms r)) flat
-              ∙ members_whole types ms g r as_reading (λ m. refl) (λ m. refl) 0 xs
+              ∙ members_whole types ms g r as_reading (λ m. refl) (λ m. refl) (is_transparent g) 0 xs
               ∙ wholes_are types g 0 (adapters_of r.log) xs are;
           fewest = subst (IsFewest (Needs r.log) (length (adapters_of r.log)))
               (ap (map numbers_of) (sym regrouped.are)
@@ -218,7 +235,7 @@ module _ (t : TypeTable) (types : Types) (ms : List ModuleRecord) (g h : Compone
               stands.world.effects xs are stands.world.adapters.as_many one_adapter (map numbers_of adapted.groups)
               adapted.fewest);
           planned = subst (All (IsPlanned types ms r)) (sym flat)
-              (members_planned types ms g r as_reading (λ m. refl) (λ m. refl) 0 xs);
+              (members_planned types ms g r as_reading (λ m. refl) (λ m. refl) (is_transparent g) 0 xs marked);
           added = adapted.added;
           modules_are = adapted.modules;
           are = subst (λ n. AreModulesOf n (map (with_numbers types ms r) regrouped.groups) adapted.added)

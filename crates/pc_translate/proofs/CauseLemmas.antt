@@ -1,7 +1,7 @@
 -- Why a translation is refused, from what its steps answer.
 use Rattle.std.proofs.Common.{◌≡◌, ℕ, ◌⊎◌, inl, inr, List, ◌∙◌, Option, None, Some, Result, Ok, Err, IfErr, true}
 use Rattle.std.proofs.Common.{false, refl, sym, ap, subst}
-use Rattle.std.specs.Prelude.{nat_lt, option_map, OnOk}
+use Rattle.std.specs.Prelude.{map, nat_lt, option_map, OnOk}
 use Rattle.std.specs.List.{list_all}
 use Rattle.std.specs.Result.{IsErrAnd}
 use Rattle.std.proofs.lemmas.Option.{same_Some}
@@ -20,6 +20,7 @@ use Rattle.pc_parsed.specs.declared.payload.Payload.{Payload}
 use Rattle.pc_parsed.specs.Program.{is_numbered}
 use Rattle.pc_parsed.specs.StaticFault.{static_fault}
 use Rattle.pc_parsed.proofs.KindLemmas.{IsStatic, static_kind}
+use Rattle.pc_spec_facts.specs.Recorded.{bare}
 use Rattle.pc_spec_reading.specs.Answer.{answer_from, ending, or_fault}
 use Rattle.pc_spec_reading.specs.Item.{Items}
 use Rattle.pc_spec_reading.specs.Nest.{root_of}
@@ -248,6 +249,7 @@ pub translates_program : (t : TypeTable) (exposed : Option (List ℕ)) (limit : 
     → Translates t exposed limit ps types p.0 p.1
 unfolding Plans
 translates_program t exposed limit ps program stands can old types tells p planned =
+    let both = planned stands.body stands.root in
     translates t exposed limit ps stands.body stands.nests types p.0 p.1 can tells
-    (subst (λ (ms : List ModuleRecord). IsPlanOfBody t ms limit stands.body types p.0 p.1) stands.modules
-    (planned stands.body stands.root))
+    (subst (λ (ms : List ModuleRecord). IsPlanOfBody t ms limit stands.body types p.0 (map bare p.1)) stands.modules
+    both.0) both.1

@@ -22,7 +22,8 @@ use Rattle.pc_translate.specs.Typed.{TypedAs}
 
 module _ {τ υ : Type 0} (f : τ → υ) where
   mutual
-    value_erased : (v : CoreValue τ) → map_value erased (map_value f v) ≡ map_value erased v
+    -- a value whose types are mapped is the same without types
+    pub value_erased : (v : CoreValue τ) → map_value erased (map_value f v) ≡ map_value erased v
     value_erased (value.exported n item) = refl
     value_erased (value.lowered path ty o) = let a = options_erased o in λ i. value.lowered path tt (a i)
     value_erased (value.builtin kind c parts) = let a = parts_erased parts in λ i. value.builtin kind c (a i)
@@ -85,7 +86,7 @@ module _ {τ υ : Type 0} (f : τ → υ) where
   instantiation_erased (of_host path xs) = let a = arguments_erased xs in λ i. of_host path (a i)
 
   -- core instances whose types are mapped are the same without types
-  owned_erased : (os : List (Owned τ)) → map erase_owned (map (map_owned f) os) ≡ map erase_owned os
+  pub owned_erased : (os : List (Owned τ)) → map erase_owned (map (map_owned f) os) ≡ map erase_owned os
   owned_erased [] = refl
   owned_erased (o ∷ os) =
       let a = instantiation_erased o.instantiation in
@@ -93,7 +94,7 @@ module _ {τ υ : Type 0} (f : τ → υ) where
       λ i. record { instantiation = a i; component_instance = o.component_instance } ∷ b i
 
   -- entries whose types are mapped are the same without types
-  entries_erased : (es : List (Entry τ)) → map erase_entry (map (map_entry f) es) ≡ map erase_entry es
+  pub entries_erased : (es : List (Entry τ)) → map erase_entry (map (map_entry f) es) ≡ map erase_entry es
   entries_erased [] = refl
   entries_erased (e ∷ es) = let rest = entries_erased es in by e rest
     where
@@ -125,7 +126,7 @@ module _ {τ υ : Type 0} (f : τ → υ) where
         λ i. node.and_node name meta (a i) (b i)
 
   -- exports whose types are mapped are the same without types
-  named_erased : (ns : List (NamedNode τ)) → map erase_named (map (map_named f) ns) ≡ map erase_named ns
+  pub named_erased : (ns : List (NamedNode τ)) → map erase_named (map (map_named f) ns) ≡ map erase_named ns
   named_erased [] = refl
   named_erased (n ∷ ns) =
       let a = node_erased n.node in
@@ -133,7 +134,7 @@ module _ {τ υ : Type 0} (f : τ → υ) where
       λ i. record { name = n.name; extern_data = n.extern_data; node = a i } ∷ b i
 
 -- a plan that does what a reading says with types, and makes the instances of its trace, does so without them
-pub does_as : (types : Types) (p : PlanView Mark) (r : Reading) → (h : TypedAs types p r)
+unfoldable pub does_as : (types : Types) (p : PlanView Mark) (r : Reading) → (h : TypedAs types p r)
     → owned_instances h.never_stuck.last
     ≡ map (map_owned (number_of types (ReadsAs r.imported_resources))) (instances_of h.entries) → DoesAs p r
 does_as types p r h makes =

@@ -1,7 +1,8 @@
 -- The adapters of a graph that stands for a reading, each with its types twice: as a number and whole.
-use Rattle.std.proofs.Common.{◌≡◌, ◌<◌, ◌+◌, ℕ, zero, suc, false, All, List, [], ◌∷◌, length, map, None, Some, refl, sym, ap}
+use Rattle.std.proofs.Common.{◌≡◌, ◌<◌, ◌+◌, ℕ, zero, suc, Bool, true, All, List, [], ◌∷◌, length, map, None, Some}
+use Rattle.std.proofs.Common.{refl, sym, ap}
 use Rattle.std.proofs.Common.{subst, ◌∙◌, arith}
-use Rattle.std.specs.Prelude.{slice_get, unwrap_or}
+use Rattle.std.specs.Prelude.{◌↔◌, slice_get, unwrap_or}
 use Rattle.std.proofs.lemmas.List.Elements.{All-cons, All-nil}
 use Rattle.std.proofs.lemmas.Option.{none-some, same_Some, slice_get_within}
 use Rattle.pc_types.specs.declared.module_record.ModuleRecord.{ModuleRecord}
@@ -11,6 +12,7 @@ use Rattle.pc_spec_plan.specs.CoreValue.{CoreValue, map_value}
 use Rattle.pc_trampoline.specs.declared.part.Mark.{Mark}
 use Rattle.pc_parsed.specs.Mark as reading
 use Rattle.pc_spec_reading.specs.Reading.{Reading}
+use Rattle.pc_spec_wiring.specs.Opaque.{IsTransparentIn}
 use Rattle.pc_spec_adapt.specs.Asked.{FunctionFacts}
 use Rattle.pc_spec_adapt.specs.Import.{map_import}
 use Rattle.pc_spec_adapt.specs.Planned.{planned}
@@ -109,7 +111,7 @@ module _ (types : Types) (ms : List ModuleRecord) (g : ComponentDfg) (r : Readin
     (number_kept : (m : Numbered types (Fits g)) → number_of types (ReadsAs r.imported_resources) (as_read m)
     ≡ number_of types (Fits g) m)
     (whole_kept : (m : Numbered types (Fits g)) → whole_of types (ReadsAs r.imported_resources) (as_read m)
-    ≡ whole_of types (Fits g) m) where
+    ≡ whole_of types (Fits g) m) (clear : ℕ → Bool) where
   abbrev number : Numbered types (ReadsAs r.imported_resources) → Mark
   number = number_of types (ReadsAs r.imported_resources)
 
@@ -131,7 +133,7 @@ module _ (types : Types) (ms : List ModuleRecord) (g : ComponentDfg) (r : Readin
     number = n;
     adapter = map_value as_read x;
     imports = planned (lift_facts (map_value whole (map_value as_read x)))
-        (lower_facts (map_value whole (map_value as_read x))) false
+        (lower_facts (map_value whole (map_value as_read x))) (clear n)
         (lift_width ms r (map_value whole (map_value as_read x)))
         (lower_width ms r (map_value whole (map_value as_read x))) (map_value as_read x);
   }
@@ -140,10 +142,28 @@ module _ (types : Types) (ms : List ModuleRecord) (g : ComponentDfg) (r : Readin
   members n [] = []
   members n (x ∷ xs) = member n x ∷ members (n + 1) xs
 
-  pub members_planned : (n : ℕ) (xs : List (Twice types g)) → All (IsPlanned types ms r) (members n xs)
-  members_planned n [] = All-nil (IsPlanned types ms r)
-  members_planned n (x ∷ xs) =
-      All-cons (IsPlanned types ms r) (member n x) (members (n + 1) xs) refl (members_planned (n + 1) xs)
+  -- where a number is told transparent exactly where its adapter is
+  abbrev pub IsMarked : ℕ → Twice types g → Type 0
+  IsMarked n x = (clear n ≡ true) ↔ IsTransparentIn r.log r.nodes (in_whole types g x)
+
+  member_planned : (n : ℕ) (x : Twice types g) → IsMarked n x → IsPlanned types ms r (member n x)
+  member_planned n x told = record {
+    transparent = clear n;
+    told = subst (λ v. (clear n ≡ true) ↔ IsTransparentIn r.log r.nodes v) (sym (wholes_same x)) told;
+    imports = refl;
+  }
+
+  pub members_planned : (n : ℕ) (xs : List (Twice types g))
+      → ((k : ℕ) (x : Twice types g) → slice_get xs k ≡ Some x → IsMarked (n + k) x)
+      → All (IsPlanned types ms r) (members n xs)
+  members_planned n [] told = All-nil (IsPlanned types ms r)
+  members_planned n (x ∷ xs) told =
+      let here : n + 0 ≡ n = omega arith in
+      All-cons (IsPlanned types ms r) (member n x) (members (n + 1) xs)
+      (member_planned n x (subst (λ j. IsMarked j x) here (told zero x refl)))
+      (members_planned (n + 1) xs (λ k y at.
+      let next : n + suc k ≡ n + 1 + k = omega arith in
+      subst (λ j. IsMarked j y) next (told (suc k) y at)))
 
   pub members_whole : (n : ℕ) (xs : List (Twice types g))
       → map (whole_adapter types ms r) (members n xs) ≡ map (in_whole types g) xs
@@ -163,7 +183,7 @@ module _ (types : Types) (ms : List ModuleRecord) (g : ComponentDfg) (r : Readin
       pub lower_wide : is_wide a.lower_options.data_model ≡ lower_width ms r (in_whole types g x)
 
     member_same : (n : ℕ) (a : Adapter) (x : Twice types g) → IsSame n a x
-        → map_member number (member n x) ≡ member_at lift lower vs n a
+        → map_member number (member n x) ≡ member_at lift lower clear vs n a
     member_same n a x s =
         let w = wholes_same x in
         let v = numbers_same x ∙ sym s.value in
@@ -172,19 +192,20 @@ module _ (types : Types) (ms : List ModuleRecord) (g : ComponentDfg) (r : Readin
         let three = ap (lift_width ms r) w ∙ sym s.lift_wide in
         let four = ap (lower_width ms r) w ∙ sym s.lower_wide in
         let y = map_value as_read x in
-        let imports : map (map_import number) (planned (lift_facts (map_value whole y)) (lower_facts (map_value whole y))
-        false (lift_width ms r (map_value whole y)) (lower_width ms r (map_value whole y)) y)
-        ≡ planned (lift n) (lower n) false (is_wide a.lift_options.data_model) (is_wide a.lower_options.data_model)
+        let imports : map (map_import number)
+        (planned (lift_facts (map_value whole y)) (lower_facts (map_value whole y))
+        (clear n) (lift_width ms r (map_value whole y)) (lower_width ms r (map_value whole y)) y)
+        ≡ planned (lift n) (lower n) (clear n) (is_wide a.lift_options.data_model) (is_wide a.lower_options.data_model)
         (vs n) =
-        sym (planned_mapped number (lift_facts (map_value whole y)) (lower_facts (map_value whole y)) false
+        sym (planned_mapped number (lift_facts (map_value whole y)) (lower_facts (map_value whole y)) (clear n)
         (lift_width ms r (map_value whole y)) (lower_width ms r (map_value whole y)) y)
-        ∙ (λ i. planned (one i) (two i) false (three i) (four i) (v i)) in
+        ∙ (λ i. planned (one i) (two i) (clear n) (three i) (four i) (v i)) in
         λ i. record { number = n; adapter = v i; imports = imports i }
 
     -- so are all, from a number on
     pub members_same : (n : ℕ) (adapters : List Adapter) (xs : List (Twice types g)) → length adapters ≡ length xs
         → ((k : ℕ) (a : Adapter) (x : Twice types g) → slice_get adapters k ≡ Some a → slice_get xs k ≡ Some x
-        → IsSame (n + k) a x) → members_from lift lower vs n adapters ≡ with_numbers types ms r (members n xs)
+        → IsSame (n + k) a x) → members_from lift lower clear vs n adapters ≡ with_numbers types ms r (members n xs)
     members_same n [] [] long each = refl
     members_same n [] (x ∷ xs) long each = absurd (omega (arith, long))
     members_same n (a ∷ adapters) [] long each = absurd (omega (arith, long))

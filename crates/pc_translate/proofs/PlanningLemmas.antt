@@ -2,9 +2,12 @@
 use Rattle.std.proofs.Common.{◌≡◌, ℕ, ◌≤◌, ◌<◌, ◌+◌, ◌⊎◌, inl, inr, List, length, map, Some, None, Result, Ok, Err}
 use Rattle.std.proofs.Common.{All, IfOk, arith, refl, sym, ap, subst, ◌∙◌, true}
 use Rattle.std.specs.Prelude.{IfErr, IsSomeAnd, MatchResult, OnOk, Option, slice_get, ⊤, ◌↔◌}
+use Rattle.std.specs.List.{list_all}
 use Rattle.std.specs.Result.{IsErrAnd}
+use Rattle.std.proofs.lemmas.Bool.{cases_lt}
 use Rattle.std.proofs.lemmas.Option.{none-some, same_Some, slice_get-get_or}
 use Rattle.pc_numbers.specs.declared.runtime.ResourceIndex.{ResourceIndex}
+use Rattle.pc_types.specs.Record.{is_sound}
 use Rattle.pc_types.specs.TypeTree.{Identity, TypeTree}
 use Rattle.pc_types_lists.specs.Types.{IsBuilder, IsTooFullFor, KeepsTypes, Types, types_held}
 use Rattle.pc_types_builder.specs.Trees.{IsEntry}
@@ -18,6 +21,7 @@ use Rattle.pc_spec_plan.specs.CoreValue.{CoreValue}
 use Rattle.pc_trampoline.specs.declared.part.Mark.{Mark}
 use Rattle.pc_info.specs.declared.component.ComponentTranslation.{ComponentTranslation}
 use Rattle.pc_info.specs.declared.module.ModuleTranslation.{ModuleTranslation}
+use Rattle.pc_spec_facts.specs.Recorded.{bare}
 use Rattle.pc_spec_reading.specs.Answer.{IsPast}
 use Rattle.pc_spec_reading.specs.Item.{Items}
 use Rattle.pc_spec_reading.specs.Reading.{Reading}
@@ -40,11 +44,12 @@ use Rattle.pc_adapt.specs.Asked.{AreTyped, HoldTypes, LacksFirst}
 use Rattle.pc_adapt_define.specs.Define.{is_taken}
 use Rattle.pc_adapt_partition.specs.Adapted.{AreAdapted}
 use Rattle.pc_adapt_partition.specs.Facts.{HaveTrees}
-use Rattle.pc_adapt_partition.specs.Made.{AddsAtMost, AddsFew, AreModulesApart, Keeps}
+use Rattle.pc_adapt_partition.specs.Made.{AddsAtMost, AddsFew, AddsShort, AreModulesApart, Keeps}
+use Rattle.pc_adapt_partition.specs.Made as made
 use Rattle.pc_adapt_partition.specs.Partitions as parts
 use Rattle.pc_adapt_partition.specs.Partitions.{facts_by}
 use Rattle.pc_adapt_partition.specs.Wired.{AreHandedIn, HaveValues, LiftFunctions}
-use Rattle.pc_inline.specs.Inlines.{GraphStands, HasNoRoom, Inlines, IsFault, StandsForReading}
+use Rattle.pc_inline.specs.Inlines.{GraphStands, HasNoRoom, IsFault, StandsForReading}
 use Rattle.pc_inline_stack.specs.Totals.{CountsGraph, GainsFew}
 use Rattle.pc_inline_state.specs.Gained.{AddsTables}
 use Rattle.pc_inline_state.proofs.HoldsLemmas.{reads_fit, some_reading}
@@ -61,16 +66,17 @@ use Rattle.pc_translate.specs.Adapted.{as_handed_in}
 use Rattle.pc_translate.specs.Adapters.{first_lacking}
 use Rattle.pc_translate.specs.Finished.{IsFinished}
 use Rattle.pc_translate.specs.ModuleTypes.{HasModuleType, HoldsModule, HoldsModules, LacksPlace}
-use Rattle.pc_translate.specs.Partitioned.{IsPartitioned}
-use Rattle.pc_translate.specs.Planning.{Groups, IsPlanOfGraph, IsRefused, IsTooMuch, Plans, PlansGraph, StopsFinish}
-use Rattle.pc_translate.specs.Planning.{StopsGraph, error_of_adapt, error_of_finish}
+use Rattle.pc_translate.specs.Partitioned.{IsGroupedGraph, IsPartitioned}
+use Rattle.pc_translate.specs.Planning.{Groups, HasGraph, IsGraphOf, IsPlanOfGraph, IsRefused, IsTooMuch, Plans}
+use Rattle.pc_translate.specs.Planning.{PlansGraph, StopsFinish, StopsGraph, error_of_adapt, error_of_finish}
+use Rattle.pc_translate.specs.Recorded.{HasFacts}
 use Rattle.pc_translate.specs.Translation.{GainsCounted}
 
--- the graph that was answered stands for the reading
-graph_stands : (t : TypeTable) (ms : List ModuleRecord) (limit : ℕ) (body : Items) (old types : Types)
-    (g : ComponentDfg) → Inlines t ms limit body old types (Ok g) → StandsForReading t ms limit body types g
-unfolding Inlines
-graph_stands t ms limit body old types g h = h
+-- the graph that was answered stands for the reading, and tells which of its adapters are transparent
+graph_is : (t : TypeTable) (ms : List ModuleRecord) (limit : ℕ) (body : Items) (old types : Types)
+    (g : ComponentDfg) → HasGraph t ms limit body old types (Ok g) → IsGraphOf t ms limit body types g
+unfolding HasGraph
+graph_is t ms limit body old types g h = h
 
 -- a fault of the reading is a cause
 refused_by_fault : (t : TypeTable) (ms : List ModuleRecord) (limit : ℕ) (body : Items) (held : ℕ) (e : Error)
@@ -90,8 +96,8 @@ refused_by_fault t ms limit body held error.NoMemory h = h
 
 -- so an instantiation's own error is the plan's
 pub fault_plans : (t : TypeTable) (ms : List ModuleRecord) (limit : ℕ) (body : Items) (old types : Types) (e : Error)
-    → Inlines t ms limit body old types (Err e) → Plans t ms limit body old types (Err e)
-unfolding Inlines Plans
+    → HasGraph t ms limit body old types (Err e) → Plans t ms limit body old types (Err e)
+unfolding HasGraph Plans
 fault_plans t ms limit body old types e h = refused_by_fault t ms limit body (types_held old) e h
 
 -- where the lists of a graph are counted, how much was gained is; and where the tables that are new are known, they are
@@ -196,8 +202,8 @@ module _ (t : TypeTable) (ms : List ModuleRecord) (types : Types) (g : Component
         → ((who : ResourceIndex → Identity) (l w : ℕ → TypeTree) (vs : ℕ → CoreValue Mark)
         → AreTyped types who g l w → AreHandedIn old → HaveValues g vs → LiftFunctions g → IsWired g old
         → IsWired h modules)
-        → IsPartitioned ms r types g h modules
-    partitioned none adapted keeps ordered grouped told distinct interned occurs stays = record {
+        → AddsShort old modules → (made.IsPast h modules → ⊥) → IsPartitioned ms r types g h modules
+    partitioned none adapted keeps ordered grouped told distinct interned occurs stays short room = record {
       complete = by (first_lacking r) refl;
       keeps = keeps;
       ordered = ordered;
@@ -209,10 +215,16 @@ module _ (t : TypeTable) (ms : List ModuleRecord) (types : Types) (g : Component
       wired = stays some.0 lift lower (values types g r.log stand) typed
           (subst AreHandedIn (sym handed_in) (are_handed_in ms)) (have_values types g r.log stand)
           (lift_functions g s.plain ms s.items) (subst (IsWired g) (sym handed_in) (wired g s.plain ms s.items));
+      short = subst (λ ds. AddsShort ds modules) handed_in short;
+      many = numbered (cases_lt 4294967294 (length modules));
       adapted = λ who l w vs are have.
           subst (λ ds. AreAdapted (facts_by l) (facts_by w) vs g h ds modules) handed_in (adapted who l w vs are have);
     }
       where
+        numbered : (4294967294 < length modules) ⊎ (length modules ≤ 4294967294) → length modules ≤ 4294967295
+        numbered (inl past) = absurd (room (made.of_modules past))
+        numbered (inr few) = omega (arith, few)
+
         by : (o : Option ℕ) → first_lacking r ≡ o → first_lacking r ≡ None
         by None is = is
         by (Some a) is = absurd (none (record { 0 = a }) (read_lacks types g r.log stand a is))
@@ -236,6 +248,7 @@ module _ (t : TypeTable) (ms : List ModuleRecord) (types : Types) (g : Component
         → AreTyped types who g l w → AreHandedIn old → HaveValues g vs → LiftFunctions g → IsWired g old
         → IsWired h modules)
         → AreInterned h → OnOk res ((d : CoreDef) → is_taken d ≡ true → Occurs h d → Occurs g d)
+        → OnOk res (AddsShort old modules) → OnOk res (made.IsPast h modules → ⊥)
         → OnOk res (AddsFew (length g.adapters) old modules h)
         → AddsAtMost (length g.adapters) (length g.adapters) g h old modules
         → (res ≡ Err refusal.TooMany → (who : ResourceIndex → Identity) (l w : ℕ → TypeTree)
@@ -244,24 +257,24 @@ module _ (t : TypeTable) (ms : List ModuleRecord) (types : Types) (g : Component
         → MatchResult res (λ x. out ≡ Ok x) (λ e. IsErrAnd out (λ y. y ≡ error_of_adapt e))
         → Groups ms r types g h modules out
     unfolding Groups
-    groups (Ok u) bad adapted keeps ordered grouped told distinct stays interned occurs few most full (Ok v) same = (
+    groups (Ok u) bad adapted keeps ordered grouped told distinct stays interned occurs short room few most full (Ok v) same = (
       partitioned (λ a lacks. ok_no_error u (refusal.BadOptions a) ((bad some.0 lift lower typed a).1 lacks)) adapted
-          keeps ordered grouped told distinct interned occurs stays,
+          keeps ordered grouped told distinct interned occurs stays short room,
       subst (λ ds. AddsFew (length g.adapters) ds modules h) handed_in few,
     )
-    groups (Ok u) bad adapted keeps ordered grouped told distinct stays interned occurs few most full (Err e) same =
+    groups (Ok u) bad adapted keeps ordered grouped told distinct stays interned occurs short room few most full (Err e) same =
         absurd (ok_no_error u e (sym same))
-    groups (Err (refusal.BadOptions a)) bad adapted keeps ordered grouped told distinct stays interned occurs few most
+    groups (Err (refusal.BadOptions a)) bad adapted keeps ordered grouped told distinct stays interned occurs short room few most
         full (Err e) same =
         subst (StopsGraph ms r g) (sym same)
         (a.0, lacks_read types g r.log stand a.0 ((bad some.0 lift lower typed a).0 refl), refl)
-    groups (Err refusal.TooMany) bad adapted keeps ordered grouped told distinct stays interned occurs few most full
+    groups (Err refusal.TooMany) bad adapted keeps ordered grouped told distinct stays interned occurs short room few most full
         (Err e) same =
         subst (StopsGraph ms r g) (sym same) (crowded most (full refl some.0 lift lower typed))
-    groups (Err refusal.NoMemory) bad adapted keeps ordered grouped told distinct stays interned occurs few most full
+    groups (Err refusal.NoMemory) bad adapted keeps ordered grouped told distinct stays interned occurs short room few most full
         (Err e) same =
         subst (StopsGraph ms r g) (sym same) tt
-    groups (Err x) bad adapted keeps ordered grouped told distinct stays interned occurs few most full (Ok v) same =
+    groups (Err x) bad adapted keeps ordered grouped told distinct stays interned occurs short room few most full (Ok v) same =
         absurd same
 
   -- a graph whose adapters have modules, and its plan
@@ -270,21 +283,6 @@ module _ (t : TypeTable) (ms : List ModuleRecord) (types : Types) (g : Component
     done_groups : IsPartitioned ms r types g h modules × AddsFew (length g.adapters) (map as_handed_in ms) modules h
     unfolding Groups
     done_groups = is
-
-    pub grouped_ordered : IsOrdered h
-    grouped_ordered = done_groups.0.ordered
-
-    pub grouped_grouped : IsGrouped h
-    grouped_grouped = done_groups.0.grouped
-
-    same_exports : h.export_items ≡ g.export_items
-    same_exports = ap (λ (i : ComponentDfg). i.export_items) done_groups.0.keeps.rest
-
-    pub grouped_types : All (HasModuleType t) h.export_items
-    grouped_types = subst (All (HasModuleType t)) (sym same_exports) has_types
-
-    pub grouped_held : HoldsModules types t h.export_items
-    grouped_held = subst (HoldsModules types t) (sym same_exports) held_modules
 
     stops_finish : (e : Error) → StopsFinish h e → StopsGraph ms r g e
     stops_finish error.TooMany many = finish_crowded ms g h modules done_groups.0.keeps done_groups.1 many
@@ -304,10 +302,25 @@ module _ (t : TypeTable) (ms : List ModuleRecord) (types : Types) (g : Component
     unfolding PlansGraph
     finish_stops e stops = stops_finish e stops
 
-    pub finish_plans : (plan : ComponentTranslation) → IsFinished types t h plan
-        → PlansGraph t ms r types g (Ok (plan, modules))
+    -- the graph of a plan's modules, whatever is recorded of these later
+    pub grouped_graph : list_all (is_sound t) ms ≡ true → IsGroupedGraph t types h modules
+    grouped_graph sound = record {
+      handed_in = ms;
+      sound = sound;
+      result = r;
+      graph = g;
+      stands = s;
+      partitioned = done_groups.0;
+    }
+
+    pub finish_plans : (plan : ComponentTranslation) (ns : List ModuleTranslation) → IsFinished types t h plan
+        → map bare ns ≡ modules → HasFacts plan ns → PlansGraph t ms r types g (Ok (plan, ns))
     unfolding PlansGraph
-    finish_plans plan finished = record { grouped = h; partitioned = done_groups.0; finished = finished }
+    finish_plans plan ns finished same facts = (
+      subst (λ ds. IsPlanOfGraph t ms r types g plan ds) (sym same)
+          (record { grouped = h; partitioned = done_groups.0; finished = finished }),
+      facts,
+    )
 
   pub groups_stops : (h : ComponentDfg) (modules : List ModuleTranslation) (e : Error)
       → Groups ms r types g h modules (Err e) → PlansGraph t ms r types g (Err e)
@@ -317,6 +330,28 @@ module _ (t : TypeTable) (ms : List ModuleRecord) (types : Types) (g : Component
   pub no_memory_stops : (e : Error) → e ≡ error.NoMemory → PlansGraph t ms r types g (Err e)
   unfolding PlansGraph
   no_memory_stops e is = subst (StopsGraph ms r g) (sym is) tt
+
+-- a graph whose adapters have modules
+module _ (t : TypeTable) (types : Types) (h : ComponentDfg) (modules : List ModuleTranslation)
+    (grouped : IsGroupedGraph t types h modules) where
+  pub grouped_ordered : IsOrdered h
+  grouped_ordered = grouped.partitioned.ordered
+
+  pub grouped_grouped : IsGrouped h
+  grouped_grouped = grouped.partitioned.grouped
+
+  same_exports : h.export_items ≡ grouped.graph.export_items
+  same_exports = ap (λ (i : ComponentDfg). i.export_items) grouped.partitioned.keeps.rest
+
+  pub grouped_types : All (HasModuleType t) h.export_items
+  grouped_types =
+      subst (All (HasModuleType t)) (sym same_exports)
+      (has_types t grouped.handed_in types grouped.graph grouped.result grouped.stands)
+
+  pub grouped_held : HoldsModules types t h.export_items
+  grouped_held =
+      subst (HoldsModules types t) (sym same_exports)
+      (held_modules t grouped.handed_in types grouped.graph grouped.result grouped.stands)
 
 -- the plan of a graph, where the types that it exports were held
 module _ (t : TypeTable) (h : ComponentDfg) (b new : Types) (same : new ≡ b) where
@@ -364,9 +399,12 @@ module _ (t : TypeTable) (h : ComponentDfg) (b new : Types) (same : new ≡ b) w
 
 -- a graph that was answered
 module _ (t : TypeTable) (ms : List ModuleRecord) (limit : ℕ) (body : Items) (old mid : Types) (g : ComponentDfg)
-    (is : Inlines t ms limit body old mid (Ok g)) where
-  answered : StandsForReading t ms limit body mid g
-  answered = graph_stands t ms limit body old mid g is
+    (is : HasGraph t ms limit body old mid (Ok g)) where
+  graph : IsGraphOf t ms limit body mid g
+  graph = graph_is t ms limit body old mid g is
+
+  abbrev answered : StandsForReading t ms limit body mid g
+  answered = graph.stands
 
   -- it stands for the reading of the body
   pub stands_for : (r : Reading) × GraphStands t ms mid g r
@@ -403,13 +441,17 @@ module _ (t : TypeTable) (ms : List ModuleRecord) (limit : ℕ) (body : Items) (
       → (res : Result (ComponentTranslation × List ModuleTranslation) Error)
       → PlansGraph t ms answered.result mid g res → Plans t ms limit body old mid res
   unfolding PlansGraph Plans
-  plans counts (Ok p) of_graph = record {
-    graph = g;
-    stands = answered;
-    grouped = of_graph.grouped;
-    partitioned = of_graph.partitioned;
-    finished = of_graph.finished;
-  }
+  plans counts (Ok p) of_graph = (
+    record {
+      graph = g;
+      stands = answered;
+      tells = graph.tells;
+      grouped = of_graph.0.grouped;
+      partitioned = of_graph.0.partitioned;
+      finished = of_graph.0.finished;
+    },
+    of_graph.1,
+  )
   plans counts (Err e) stops = refused_by counts e stops
 
   module _ (new : Types) (same : new ≡ mid) where

@@ -1,5 +1,5 @@
 -- The modules of adapters in a plan, against the adapters that a reading makes.
-use Rattle.std.specs.Prelude.{◌≡◌, ◌+◌, ◌++◌, ℕ, false, List, [], All, length, map, None, Some, slice_get}
+use Rattle.std.specs.Prelude.{◌≡◌, ◌↔◌, ◌+◌, ◌++◌, ℕ, Bool, true, List, [], All, length, map, None, Some, slice_get}
 use Rattle.std.specs.List.{flat_map}
 use Rattle.pc_types.specs.declared.module_record.ModuleRecord.{ModuleRecord}
 use Rattle.pc_types_lists.specs.Types.{Types}
@@ -16,6 +16,7 @@ use Rattle.pc_info.specs.declared.module.ModuleTranslation.{ModuleTranslation}
 use Rattle.pc_info.specs.Modules.{without_facts}
 use Rattle.pc_parsed.specs.Mark as reading
 use Rattle.pc_spec_reading.specs.Reading.{Reading}
+use Rattle.pc_spec_wiring.specs.Opaque.{IsTransparentIn}
 use Rattle.pc_adapt_partition.specs.Adapted.{AreModulesOf, numbers_of, values_for}
 use Rattle.pc_inline_state.specs.Holds.{Numbered, ReadsAs, number_of, whole_of}
 use Rattle.pc_translate.specs.Adapters.{lift_facts, lift_width, lower_facts, lower_width}
@@ -42,11 +43,14 @@ module _ (types : Types) (ms : List ModuleRecord) (r : Reading) where
   abbrev pub whole_adapter : NumberedMember → CoreValue reading.Mark
   whole_adapter m = map_value (whole_of types (ReadsAs r.imported_resources)) m.adapter
 
-  -- what is imported for an adapter is what is planned for it, by its types and by the widths of its memories
-  abbrev pub IsPlanned : NumberedMember → Type 0
-  IsPlanned m =
-      m.imports ≡ planned (lift_facts (whole_adapter m)) (lower_facts (whole_adapter m)) false
-      (lift_width ms r (whole_adapter m)) (lower_width ms r (whole_adapter m)) m.adapter
+  -- what is imported for an adapter is what is planned for it, by its types, by whether it is transparent, and by the
+  -- widths of its memories
+  pub record IsPlanned (m : NumberedMember) : Type 0 where
+    pub transparent : Bool
+    pub told : (transparent ≡ true) ↔ IsTransparentIn r.log r.nodes (whole_adapter m)
+    pub imports : m.imports
+        ≡ planned (lift_facts (whole_adapter m)) (lower_facts (whole_adapter m)) transparent
+        (lift_width ms r (whole_adapter m)) (lower_width ms r (whole_adapter m)) m.adapter
 
   -- a core module is made of one of these groups of adapters: it is given what is imported for them, one after the other
   abbrev pub IsGivenPlanned : List (List NumberedMember) → Instantiation Mark → Type 0

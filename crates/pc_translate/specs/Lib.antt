@@ -9,5 +9,7 @@ pub mod Lists
 pub mod Causes
 pub mod Translation
 -- What the functions inside promise each other.
+pub mod Transparent
+pub mod Recorded
 pub mod Partitioned
 pub mod Planning

@@ -1,6 +1,9 @@
 -- A graph that stands for a reading, once its adapters have modules.
-use Rattle.std.specs.Prelude.{◌≡◌, ℕ, true, List, None, length, map}
+use Rattle.std.specs.Prelude.{◌≡◌, ◌≤◌, ℕ, true, List, None, length, map}
+use Rattle.std.specs.List.{list_all}
 use Rattle.pc_types.specs.declared.module_record.ModuleRecord.{ModuleRecord}
+use Rattle.pc_types.specs.declared.parsed.TypeTable.{TypeTable}
+use Rattle.pc_types.specs.Record.{is_sound}
 use Rattle.pc_types.specs.TypeTree.{TypeTree}
 use Rattle.pc_types_lists.specs.Types.{Types}
 use Rattle.pc_spec_plan.specs.CoreValue.{CoreValue}
@@ -15,12 +18,13 @@ use Rattle.pc_dfg_linearize.specs.Grouped.{IsGrouped}
 use Rattle.pc_dfg_linearize.specs.Wired.{IsWired, Occurs}
 use Rattle.pc_adapt_define.specs.Define.{is_taken}
 use Rattle.pc_adapt_partition.specs.Adapted.{AreAdapted}
-use Rattle.pc_adapt_partition.specs.Made.{AreModulesApart, Keeps}
+use Rattle.pc_adapt_partition.specs.Made.{AddsShort, AreModulesApart, Keeps}
 use Rattle.pc_adapt_partition.specs.Partitions.{facts_by}
 use Rattle.pc_adapt_partition.specs.Wired.{HaveValues}
 use Rattle.pc_adapt.specs.Asked.{AreTyped}
 use Rattle.pc_types.specs.TypeTree.{Identity}
 use Rattle.pc_numbers.specs.declared.runtime.ResourceIndex.{ResourceIndex}
+use Rattle.pc_inline.specs.Inlines.{GraphStands}
 use Rattle.pc_translate.specs.Adapted.{as_handed_in}
 use Rattle.pc_translate.specs.Adapters.{first_lacking}
 
@@ -36,6 +40,19 @@ pub record IsPartitioned (ms : List ModuleRecord) (r : Reading) (types : Types) 
   pub interned : AreInterned h
   pub occurs : (d : CoreDef) → is_taken d ≡ true → Occurs h d → Occurs g d
   pub wired : IsWired h modules
+  pub short : AddsShort (map as_handed_in ms) modules
+  pub many : length modules ≤ 4294967295
   pub adapted : (who : ResourceIndex → Identity) (lift lower : ℕ → TypeTree) (values : ℕ → CoreValue Mark)
       → AreTyped types who g lift lower → HaveValues g values
       → AreAdapted (facts_by lift) (facts_by lower) values g h (map as_handed_in ms) modules
+
+-- a graph has the modules of the adapters of a graph that stands for some reading, behind modules that can be
+-- translated
+pub record IsGroupedGraph (t : TypeTable) (types : Types) (h : ComponentDfg) (modules : List ModuleTranslation)
+    : Type 0 where
+  pub handed_in : List ModuleRecord
+  pub sound : list_all (is_sound t) handed_in ≡ true
+  pub result : Reading
+  pub graph : ComponentDfg
+  pub stands : GraphStands t handed_in types graph result
+  pub partitioned : IsPartitioned handed_in result types graph h modules

@@ -21,12 +21,15 @@ use Rattle.pc_dfg_linearize.specs.Full.{HasTooMany}
 use Rattle.pc_adapt.specs.declared.error.AdaptError.{AdaptError}
 use Rattle.pc_adapt.specs.declared.error.AdaptError.TheVariants as adapt_error
 use Rattle.pc_adapt_partition.specs.Made.{AddsFew}
+use Rattle.pc_spec_facts.specs.Recorded.{bare}
 use Rattle.pc_inline_state.specs.Adds.{with_modules}
 use Rattle.pc_inline.specs.Inlines.{GraphStands, IsFault, StandsForReading}
 use Rattle.pc_translate.specs.Adapted.{as_handed_in}
 use Rattle.pc_translate.specs.Adapters.{first_lacking}
 use Rattle.pc_translate.specs.Finished.{IsFinished}
 use Rattle.pc_translate.specs.Partitioned.{IsPartitioned}
+use Rattle.pc_translate.specs.Recorded.{HasFacts}
+use Rattle.pc_translate.specs.Transparent.{TellsTransparent}
 
 -- why a graph has no plan, as an error of the translation
 abbrev pub error_of_finish : FinishError → Error
@@ -66,6 +69,18 @@ StopsFinish h error.TooMany = HasTooMany h
 StopsFinish h error.NoMemory = Unit {0}
 StopsFinish h e = ⊥
 
+-- a graph stands for the reading of a body, and tells which of its adapters are transparent
+pub record IsGraphOf (t : TypeTable) (ms : List ModuleRecord) (limit : ℕ) (body : Items) (types : Types)
+    (g : ComponentDfg) : Type 0 where
+  pub stands : StandsForReading t ms limit body types g
+  pub tells : TellsTransparent stands.result g
+
+-- a body has such a graph, or an error that its reading has. The builder held these types before, and holds those now
+unfoldable pub HasGraph : TypeTable → List ModuleRecord → (limit : ℕ) → Items → (old new : Types)
+    → Result ComponentDfg Error → Type 0
+HasGraph t ms limit body old new (Ok g) = IsGraphOf t ms limit body new g
+HasGraph t ms limit body old new (Err e) = IsFault t ms limit body (types_held old) e
+
 -- a plan and its modules are those of a graph that stands for a reading, once its adapters have modules
 pub record IsPlanOfGraph (t : TypeTable) (ms : List ModuleRecord) (r : Reading) (types : Types) (g : ComponentDfg)
     (plan : ComponentTranslation) (modules : List ModuleTranslation) : Type 0 where
@@ -73,17 +88,19 @@ pub record IsPlanOfGraph (t : TypeTable) (ms : List ModuleRecord) (r : Reading) 
   pub partitioned : IsPartitioned ms r types g grouped modules
   pub finished : IsFinished types t grouped plan
 
--- a graph has such a plan, or there is a cause for want of one
+-- a graph has such a plan, with modules of which everything is recorded, or there is a cause for want of one
 unfoldable pub PlansGraph : TypeTable → List ModuleRecord → Reading → Types → ComponentDfg
     → Result (ComponentTranslation × List ModuleTranslation) Error → Type 0
-PlansGraph t ms r types g (Ok p) = IsPlanOfGraph t ms r types g p.0 p.1
+PlansGraph t ms r types g (Ok p) = IsPlanOfGraph t ms r types g p.0 (map bare p.1) × HasFacts p.0 p.1
 PlansGraph t ms r types g (Err e) = StopsGraph ms r g e
 
--- a plan and its modules are those of a graph which stands for the reading of a body, once its adapters have modules
+-- a plan and its modules are those of a graph which stands for the reading of a body and tells which of its adapters
+-- are transparent, once its adapters have modules
 pub record IsPlanOfBody (t : TypeTable) (ms : List ModuleRecord) (limit : ℕ) (body : Items) (types : Types)
     (plan : ComponentTranslation) (modules : List ModuleTranslation) : Type 0 where
   pub graph : ComponentDfg
   pub stands : StandsForReading t ms limit body types graph
+  pub tells : TellsTransparent stands.result graph
   pub grouped : ComponentDfg
   pub partitioned : IsPartitioned ms stands.result types graph grouped modules
   pub finished : IsFinished types t grouped plan
@@ -108,8 +125,9 @@ IsRefused t ms limit body held (error.BadOptions p) = LacksOption t ms limit bod
 IsRefused t ms limit body held error.TooMany = IsTooMuch t ms limit body held
 IsRefused t ms limit body held e = IsFault t ms limit body held e
 
--- a body has such a plan, or an error that its reading has. The builder held these types before, and holds those now
+-- a body has such a plan, with modules of which everything is recorded, or an error that its reading has. The builder
+-- held these types before, and holds those now
 unfoldable pub Plans : TypeTable → List ModuleRecord → (limit : ℕ) → Items → (old new : Types)
     → Result (ComponentTranslation × List ModuleTranslation) Error → Type 0
-Plans t ms limit body old new (Ok r) = IsPlanOfBody t ms limit body new r.0 r.1
+Plans t ms limit body old new (Ok r) = IsPlanOfBody t ms limit body new r.0 (map bare r.1) × HasFacts r.0 r.1
 Plans t ms limit body old new (Err e) = IsRefused t ms limit body (types_held old) e

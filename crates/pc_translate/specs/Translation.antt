@@ -14,6 +14,7 @@ use Rattle.pc_spec_plan.specs.Trace.{run_trace}
 use Rattle.pc_info.specs.declared.component.ComponentTranslation.{ComponentTranslation}
 use Rattle.pc_info.specs.declared.module.ModuleTranslation.{ModuleTranslation}
 use Rattle.pc_info.specs.Exports.{has_items}
+use Rattle.pc_info.specs.Modules.{module_view}
 use Rattle.pc_info.specs.View.{view, counts_view}
 use Rattle.pc_info.specs.Apart.{AreApart}
 use Rattle.pc_parsed.specs.declared.payload.Payload.{Payload}
@@ -24,6 +25,10 @@ use Rattle.pc_spec_reading.specs.Outcome.{done}
 use Rattle.pc_spec_reading.specs.Reading.{Reading, reading_of}
 use Rattle.pc_spec_reading.specs.Section.{modules_of}
 use Rattle.pc_spec_reading.specs.World.{full}
+use Rattle.pc_spec_facts.specs.Recorded.{bare, facts_at}
+use Rattle.pc_spec_wiring.specs.Confined.{IsConfinedRun}
+use Rattle.pc_spec_wiring.specs.Facts.{AreExact}
+use Rattle.pc_spec_wiring.specs.Reached.{KeepsThreadsIn}
 use Rattle.pc_inline_state.specs.Gained.{AddsTables}
 use Rattle.pc_inline_stack.specs.Totals.{GainsFew, HasTotal}
 use Rattle.pc_translate.specs.Adapted.{Adapts}
@@ -60,8 +65,8 @@ pub record Translates (t : TypeTable) (exposed : Option (List ℕ)) (limit : ℕ
   pub typed : TypedAs types (view plan modules) result
   -- no adapter lacks an option
   pub complete : first_lacking result ≡ None
-  -- the modules are those of the payloads, in order, and behind them those of adapters
-  pub adapts : Adapts types (modules_of ps) result modules typed.never_stuck.last
+  -- what is recorded of them aside, the modules are those of the payloads, in order, and behind them those of adapters
+  pub adapts : Adapts types (modules_of ps) result (map bare modules) typed.never_stuck.last
   -- the plan counts what it has
   pub counts : counts_view plan.component ≡ counts_of (view plan modules) result types
   -- nothing is asked of the host, declared or signed but what the reading asks for, declares and signs
@@ -77,6 +82,13 @@ pub record Translates (t : TypeTable) (exposed : Option (List ℕ)) (limit : ℕ
   pub finds : FindsExports plan.component
   -- where the run ends no value stands twice: in the slots of a kind, as an options entry, as a trampoline
   pub values_apart : AreApart (view plan modules) typed.never_stuck.last
+  -- what the run gives to core instances stays within their component instances, and what adapters lift
+  pub confined : IsConfinedRun (view plan modules) typed.never_stuck.last
+  -- from an adapter that need not keep the state of a thread nothing is reached that may see it
+  pub keeps_threads : KeepsThreadsIn result.log result.nodes
+  -- of each module exactly that is recorded which the plan gives: which function imports share a context, what imports
+  -- are known, and what importers may know
+  pub facts : AreExact (view plan modules) (map module_view modules) (facts_at modules)
 
 -- no list of types but that of core signatures grows by much, unless the total of the root's reading is too much; new
 -- core signatures are the table's, and new tables of futures, streams and error contexts are those of entries. So it is

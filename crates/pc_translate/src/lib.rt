@@ -1,8 +1,9 @@
 //! The translator: payloads go in, and out come a plan and its core modules.
 //!
-//! It is four calls: the local program of the payloads (`pc_local`), the graph that stands for its reading
-//! (`pc_inline`), the modules of its adapters (`pc_adapt_partition`), and the plan that the graph becomes
-//! (`pc_dfg_finish`). That the plan does what the nested reading
+//! It is seven calls: the local program of the payloads (`pc_local`), the graph that stands for its reading
+//! (`pc_inline`), which of its adapters are transparent (`pc_analysis_transparent`), the modules of its adapters
+//! (`pc_adapt_partition`), which imports share a context (`pc_analysis_contexts`), the plan that the graph becomes
+//! (`pc_dfg_finish`), and what is known of imports (`pc_analysis_imports`). That the plan does what the nested reading
 //! says follows from what these promise; `specs/Translation.antt` has that statement.
 #![tactic(auto)]
 

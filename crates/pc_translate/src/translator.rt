@@ -15,19 +15,28 @@ ghost use Rattle.pc_dfg_linearize.specs.Grouped.{IsGrouped};
 ghost use Rattle.pc_local.specs.Program.{ProgramStands};
 ghost use Rattle.pc_local.specs.Sound.{AreSoundBodies, IsSoundBody};
 ghost use Rattle.pc_local.specs.Standing.{BodyStands, no_names};
-ghost use Rattle.pc_inline_stack.specs.Totals.{GainsFew};
+ghost use Rattle.pc_inline_state.specs.Gained.{AddsTables};
+ghost use Rattle.pc_inline_stack.specs.Totals.{CountsGraph, GainsFew};
 ghost use Rattle.pc_inline.specs.Inlines.{GraphStands};
+ghost use Rattle.pc_spec_facts.specs.Recorded.{bare};
 ghost use Rattle.pc_translate.specs.Causes.{CanBeRead, HasCause, HasOwnCause};
 ghost use Rattle.pc_translate.specs.Adapted.{as_handed_in};
 ghost use Rattle.pc_translate.specs.Finished.{IsFinished};
 ghost use Rattle.pc_translate.specs.ModuleTypes.{HasModuleType, HoldsModules};
-ghost use Rattle.pc_translate.specs.Planning.{Groups, Plans, PlansGraph, StopsFinish, error_of_adapt, error_of_finish};
+ghost use Rattle.pc_translate.specs.Partitioned.{IsGroupedGraph};
+ghost use Rattle.pc_translate.specs.Planning.{Groups, HasGraph, Plans, PlansGraph, StopsFinish};
+ghost use Rattle.pc_translate.specs.Planning.{error_of_adapt, error_of_finish};
+ghost use Rattle.pc_translate.specs.Recorded.{HasFacts};
+ghost use Rattle.pc_translate.specs.Transparent.{TellsTransparent};
 ghost use Rattle.pc_translate.specs.Translation.{CountsGained, Gains, GainsCounted, IsPlanOf, IsRefusalOf};
 ghost use Rattle.pc_translate.specs.Translation.{Translates};
 
 use crate::plan::finish;
 use pc_adapt::AdaptError;
 use pc_adapt_partition::partition_adapter_modules;
+use pc_analysis_contexts::analyze_same_vmctx_imports;
+use pc_analysis_imports::analyze_imports;
+use pc_analysis_transparent::transparent_adapters;
 use pc_dfg::ComponentDfg;
 use pc_dfg_finish::FinishError;
 use pc_entity::{NoMemory, PrimaryMap, Seq, StaticModuleIndex};
@@ -76,6 +85,59 @@ fn program_of(
         return Err(Error::TooMany);
     }
     translate_payloads(alloc, table, exposed, payloads)
+}
+
+/// Tells a graph which of its adapters need not keep the state of a thread.
+fn mark_transparent(
+    alloc: Global,
+    types: &ComponentTypesBuilder,
+    graph: &mut ComponentDfg,
+) -> Result<(), NoMemory>
+    requires stands { (t : Table) × (ms : List Record) × (r : Reading) × GraphStands t ms types.now graph.old r }
+    ensures marks { OnOk result (graph.new
+        ≡ record graph.old { transparent_adapters = graph.new.transparent_adapters }) }
+    ensures tells { OnOk result ((t : Table) (ms : List Record) (r : Reading)
+        → GraphStands t ms types.now graph.old r → TellsTransparent r graph.new) }
+{
+    let transparent = transparent_adapters(alloc, graph, types)?;
+    graph.transparent_adapters = transparent;
+    Ok(())
+}
+
+/// The graph of a local program, which tells which of its adapters need not keep the state of a thread.
+fn graph_of(
+    alloc: Global,
+    tunables: &Tunables,
+    table: &TypeTable,
+    types: &mut ComponentTypesBuilder,
+    program: &LocalProgram,
+) -> Result<ComponentDfg, Error>
+    requires table { table_fault table.now ≡ None }
+    requires modules { list_all (is_sound table.now) program.now.modules ≡ true }
+    requires stands { (body : Items) × BodyStands program.now.components no_names program.now.root body }
+    requires root { IsSoundBody (length program.now.modules) program.now.root }
+    requires components { AreSoundBodies (length program.now.modules) program.now.components }
+    ensures graph { (body : Items) → BodyStands program.now.components no_names program.now.root body
+        → HasGraph table.now program.now.modules tunables.now.max_component_instances body types.old types.new
+        result }
+    ensures few { (body : Items) → BodyStands program.now.components no_names program.now.root body → (start : ℕ)
+        → IfOk result (CountsGraph table.now program.now.modules tunables.now.max_component_instances start body
+        types.old types.new) }
+    ensures keeps { KeepsTypes types.old types.new }
+    ensures tables { IfOk result
+        (λ g. AddsTables table.now g.num_runtime_component_instances types.old types.new) }
+    ensures adds { (body : Items) → BodyStands program.now.components no_names program.now.root body → (start : ℕ)
+        → GainsFew table.now program.now.modules tunables.now.max_component_instances start body types.old types.new }
+{
+    let mut graph = inline_run(
+        alloc,
+        types,
+        table,
+        program,
+        tunables.max_component_instances,
+    )?;
+    mark_transparent(alloc, types, &mut graph)?;
+    Ok(graph)
 }
 
 /// Why a graph has no plan, as an error of the translation.
@@ -137,6 +199,29 @@ fn finish_graph(
     finish(alloc, graph, table, types).map_err(finish_error)
 }
 
+/// The plan of a graph whose adapters have these modules. What graph and plan tell of the imports of the modules is
+/// recorded of them.
+fn finish_with_facts(
+    alloc: Global,
+    table: &TypeTable,
+    types: &mut ComponentTypesBuilder,
+    graph: ComponentDfg,
+    modules: &mut PrimaryMap<StaticModuleIndex, ModuleTranslation>,
+) -> Result<ComponentTranslation, Error>
+    requires table { table_fault table.now ≡ None }
+    requires grouped { IsGroupedGraph table.now types.old graph modules.old }
+    ensures unchanged { types.new ≡ types.old }
+    ensures plan { IfOk result (λ p. IsFinished types.old table.now graph p) }
+    ensures refused { IfErr result (StopsFinish graph) }
+    ensures bare { OnOk result (map bare modules.new ≡ modules.old) }
+    ensures facts { IfOk result (λ p. HasFacts p modules.new) }
+{
+    analyze_same_vmctx_imports(alloc, &graph, modules)?;
+    let plan = finish_graph(alloc, table, types, graph)?;
+    analyze_imports(alloc, &plan, modules)?;
+    Ok(plan)
+}
+
 /// The plan of a graph that stands for a reading, and its modules: first come modules for the adapters of the graph,
 /// and then the plan that the graph becomes.
 fn plan_of_graph(
@@ -147,6 +232,7 @@ fn plan_of_graph(
     records: PrimaryMap<StaticModuleIndex, ModuleRecord>,
 ) -> Result<PlanWithModules, Error>
     requires table { table_fault table.now ≡ None }
+    requires modules { list_all (is_sound table.now) records ≡ true }
     requires stands { (r : Reading) × GraphStands table.now records types.old graph r }
     ensures unchanged { types.new ≡ types.old }
     ensures plans { (r : Reading) → GraphStands table.now records types.old graph r
@@ -155,7 +241,7 @@ fn plan_of_graph(
     let mut grouped = graph;
     let mut modules = translations(alloc, records)?;
     group_adapters(alloc, types, &mut grouped, &mut modules)?;
-    let plan = finish_graph(alloc, table, types, grouped)?;
+    let plan = finish_with_facts(alloc, table, types, grouped, &mut modules)?;
     Ok((plan, modules))
 }
 
@@ -182,13 +268,7 @@ fn plan_of(
         → (start : ℕ) → IfOk result (λ _. GainsCounted table.now program.modules
         tunables.now.max_component_instances start body types.old types.new) }
 {
-    let graph = inline_run(
-        alloc,
-        types,
-        table,
-        &program,
-        tunables.max_component_instances,
-    )?;
+    let graph = graph_of(alloc, tunables, table, types, &program)?;
     plan_of_graph(alloc, table, types, graph, program.modules)
 }
 

@@ -6,7 +6,8 @@ use Rattle.pc_adapt.proofs.plan.imports_for.Goals as goal
 
 pub returns : goal.returns
 returns c =
-    imports_made c.args.adapter.now (facts_view c.args.lift) (facts_view c.args.lower) c.new-imports.result.items
+    imports_made c.args.adapter.now (facts_view c.args.lift)
+    (facts_view c.args.lower) c.args.transparent c.new-imports.result.items
     c.put_definitions.new.imports.items c.put_strings.new.imports.items c.put_transfers.new.imports.items
     c.put_calls.new.imports.items c.put.new.imports.items c.join.result c.is_async-async_.result
     c.new-imports.ensures.items c.in_ok-put_definitions.ensures c.in_ok-put_strings.ensures

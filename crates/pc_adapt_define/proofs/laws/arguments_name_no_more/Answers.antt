@@ -2,5 +2,5 @@ use Rattle.pc_adapt_define.proofs.OwnLemmas.{arguments_tell}
 use Rattle.pc_adapt_define.proofs.laws.arguments_name_no_more.Goals as goal
 
 pub returns : goal.returns
-returns c g h x lift lower before after y o all one =
-    arguments_tell g x y h x.lower_options.core_type o.held lift lower all.defs all.each one
+returns c g h x lift lower clear before after y o all one =
+    arguments_tell g x y h x.lower_options.core_type o.held lift lower clear all.defs all.each one

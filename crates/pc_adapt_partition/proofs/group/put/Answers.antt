@@ -10,7 +10,8 @@ note-requires c =
     let is = c.in_ok-imports.imports in
     let size : c.len.result ≡ length is.items = omega (arith, c.len.ensures, is.ok) in
     record {
-      room = note_room c.args.types.now c.args.graph.now.adapters c.args.id.0 c.requires.known c.index.result.now
+      room = note_room c.args.types.now c.args.graph.now.adapters c.args.id.0 c.requires.known
+          c.contains-transparent.result c.index.result.now
           c.index-2.result.now c.index.ensures c.index-2.ensures is.items c.in_ok-imports.ensures
           (length c.args.group.now.args) c.len.result size (omega (arith, c.if-len.false, c.len-2.ensures))
           c.requires.room;
@@ -22,7 +23,8 @@ index-requires-3 c = slice_get_within c.args.graph.now.adapters c.args.id.0 c.in
 pub define_all-requires-clause-held : goal.define_all-requires-clause-held
 define_all-requires-clause-held c =
     planned_held c.args.types.now c.args.graph.now c.requires.ordered.held c.args.id.0 c.requires.known
-    c.index.result.now c.index.ensures c.in_ok-imports.imports.items c.in_ok-imports.ensures
+    c.contains-transparent.result c.index.result.now c.index.ensures c.in_ok-imports.imports.items
+    c.in_ok-imports.ensures
 
 pub returns-clause-puts : goal.returns-clause-puts
 returns-clause-puts c =
@@ -31,8 +33,9 @@ returns-clause-puts c =
     let many : c.len-3.result ≡ length is.items = omega (arith, c.len-3.ensures, is.ok) in
     on_ok_weaker c.define_all.result
     (λ defined x lift lower at facts.
-    puts_from c.args.types.now c.args.graph.now c.define_all.new.graph c.args.id.0 c.index.result.now
-    c.index-2.result.now c.index-3.result.now x c.index.ensures c.index-2.ensures c.index-3.ensures at is.items
+    puts_from c.args.types.now c.args.graph.now c.define_all.new.graph c.args.id.0 c.contains-transparent.result
+    c.contains-transparent.ensures c.index.result.now c.index-2.result.now c.index-3.result.now x c.index.ensures
+    c.index-2.ensures c.index-3.ensures at is.items
     c.in_ok-imports.ensures c.args.group.now c.note.new.group c.define_all.new.args c.len-3.result many
     c.in_ok-note.ensures (omega (arith, size, c.if-len.false, c.len-2.ensures, c.requires.room)) defined lift lower
     facts)
@@ -50,4 +53,5 @@ returns-in_err-note-clause-few c = nothing_added 9 1 1 12 c.args.graph.now
 pub returns-clause-few : goal.returns-clause-few
 returns-clause-few c =
     planned_few c.args.types.now c.args.graph.now c.define_all.new.graph c.args.id.0 c.requires.known
-    c.index.result.now c.index.ensures c.in_ok-imports.imports.items c.in_ok-imports.ensures c.define_all.ensures.adds
+    c.contains-transparent.result c.index.result.now c.index.ensures c.in_ok-imports.imports.items
+    c.in_ok-imports.ensures c.define_all.ensures.adds

@@ -1,4 +1,5 @@
 use Rattle.std.proofs.Common.{inl, inr, length, ap, ◌∙◌, subst, arith}
+use Rattle.pc_adapt.specs.Imports.{is_transparent}
 use Rattle.pc_adapt_groups.specs.Needs.{Needs}
 use Rattle.pc_adapt_partition.specs.Made.{HasLong, cut, sum_of}
 use Rattle.pc_adapt_partition.specs.Partitions.{past, long}
@@ -20,7 +21,8 @@ returns-in_err-make_modules-clause-full c is lift lower facts =
       | inl full ↦ past full
       | inr far ↦
           long c.in_ok-groups.groups.items c.in_ok-groups.ensures.fewest
-          (subst (λ ls. HasLong lift lower 0 (cut ls 0 c.args.graph.now.adapters)) c.deref.ensures.value
+          (subst (λ ls. HasLong lift lower (is_transparent c.args.graph.now) 0
+          (cut ls 0 c.args.graph.now.adapters)) c.deref.ensures.value
           (far lift lower facts))
     ]
 

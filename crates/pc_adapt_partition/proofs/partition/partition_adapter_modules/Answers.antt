@@ -1,7 +1,7 @@
 use Rattle.std.proofs.Common.{Ok, refl}
 use Rattle.pc_adapt_partition.specs.Partitions.{facts_by}
 use Rattle.pc_adapt_partition.proofs.AdaptedLemmas.{are_adapted}
-use Rattle.pc_adapt_partition.proofs.PartitionLemmas.{adds_few, apart_all, facts_from, grouped_after, keeps_all}
+use Rattle.pc_adapt_partition.proofs.PartitionLemmas.{adds_few, adds_short, apart_all, facts_from, grouped_after, keeps_all}
 use Rattle.pc_adapt_partition.proofs.PartitionLemmas.{known_from, occurs_all, ordered_after, told_all, wired_all}
 use Rattle.pc_adapt_partition.proofs.RefusalLemmas.{lacking_told, nobody_lacks, not_bad_push, not_bad_ok, push_full}
 use Rattle.pc_adapt_partition.proofs.WiredModuleLemmas.{modules_wired}
@@ -70,6 +70,13 @@ pub returns-clause-few : goal.returns-clause-few
 returns-clause-few c =
     let known = known_from c.args.types.now c.args.dfg.now c.requires.held c.requires.typed in
     adds_few known.lift known.lower c.args.dfg.now c.make.new.graph c.args.modules.now c.make.new.modules
+    c.requires.ordered c.requires.no_modules c.requires.ungrouped
+    (c.in_ok-make.ensures.partitions known.lift known.lower known.facts)
+
+pub returns-clause-short : goal.returns-clause-short
+returns-clause-short c =
+    let known = known_from c.args.types.now c.args.dfg.now c.requires.held c.requires.typed in
+    adds_short known.lift known.lower c.args.dfg.now c.make.new.graph c.args.modules.now c.make.new.modules
     c.requires.ordered c.requires.no_modules c.requires.ungrouped
     (c.in_ok-make.ensures.partitions known.lift known.lower known.facts)
 

@@ -2,7 +2,7 @@ use Rattle.std.proofs.Common.{All, length, subst}
 use Rattle.pc_dfg.specs.Held.{HeldEffect}
 use Rattle.pc_dfg.specs.Names.{each_of, in_effect, in_resource}
 use Rattle.pc_dfg_linearize.specs.Arguments.{CanNumber}
-use Rattle.pc_dfg_finish.proofs.EffectLemmas.{declared_done}
+use Rattle.pc_dfg_finish.proofs.EffectLemmas.{declared_done, resource_stays}
 use Rattle.pc_dfg_finish.proofs.NextLemmas.{next_held, next_ready}
 use Rattle.pc_dfg_finish.proofs.OutgrownLemmas.{resources_outgrow}
 use Rattle.pc_dfg_finish.proofs.RefusedLemmas.{ok_then}
@@ -22,6 +22,12 @@ destructor_of-requires-clause-ready c =
 pub returns-clause-done : goal.returns-clause-done
 returns-clause-done c =
     ok_then c.push_resource.result (declared_done c.args.graph.now c.requires.ordered c.requires.grouped
+    c.args.finish.now c.destructor_of.new.finish c.args.index c.requires.next c.index-resource.result.now
+    c.index-resource.ensures c.in_ok-dtor.dtor c.in_ok-dtor.ensures.prepares _) c.push_resource.ensures.added
+
+pub returns-clause-instantiated : goal.returns-clause-instantiated
+returns-clause-instantiated c =
+    ok_then c.push_resource.result (resource_stays c.args.graph.now c.requires.ordered c.requires.grouped
     c.args.finish.now c.destructor_of.new.finish c.args.index c.requires.next c.index-resource.result.now
     c.index-resource.ensures c.in_ok-dtor.dtor c.in_ok-dtor.ensures.prepares _) c.push_resource.ensures.added
 

@@ -2,7 +2,7 @@ use Rattle.std.proofs.Common.{All, length, subst}
 use Rattle.pc_dfg.specs.Held.{HeldEffect}
 use Rattle.pc_dfg.specs.Names.{each_of, in_effect, in_instance}
 use Rattle.pc_dfg_linearize.specs.Arguments.{CanNumber}
-use Rattle.pc_dfg_finish.proofs.EffectLemmas.{made_done}
+use Rattle.pc_dfg_finish.proofs.EffectLemmas.{instance_stays, made_done}
 use Rattle.pc_dfg_finish.proofs.NextLemmas.{next_held, next_ready}
 use Rattle.pc_dfg_finish.proofs.OutgrownLemmas.{instances_outgrow}
 use Rattle.pc_dfg_finish.proofs.RefusedLemmas.{ok_then}
@@ -22,6 +22,13 @@ instantiation_of-requires-clause-ready c =
 pub returns-clause-done : goal.returns-clause-done
 returns-clause-done c =
     ok_then c.push_instance.result (made_done c.args.graph.now c.requires.ordered c.requires.grouped
+    c.args.finish.now c.instantiation_of.new.finish c.args.instance c.args.owner c.requires.next c.index.result.now
+    c.index.ensures c.in_ok-instantiation.instantiation c.in_ok-instantiation.ensures.prepares _)
+    c.push_instance.ensures.added
+
+pub returns-clause-instantiated : goal.returns-clause-instantiated
+returns-clause-instantiated c =
+    ok_then c.push_instance.result (instance_stays c.args.graph.now c.requires.ordered c.requires.grouped
     c.args.finish.now c.instantiation_of.new.finish c.args.instance c.args.owner c.requires.next c.index.result.now
     c.index.ensures c.in_ok-instantiation.instantiation c.in_ok-instantiation.ensures.prepares _)
     c.push_instance.ensures.added

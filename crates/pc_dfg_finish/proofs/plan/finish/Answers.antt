@@ -26,7 +26,7 @@ returns-clause-plan c =
     let is_plan = Finishes g (module_mark types) in
     if_ok_then (λ (t : ComponentTranslation). t ≡ whole) is_plan c.into_translation.result
     (λ t is. subst is_plan (sym is) (whole_finishes g c.requires.ordered made.before made.done f made.further types
-    e.names e.items made.exports made.interned made.only))
+    e.names e.items made.exports made.interned made.only made.instantiated))
     c.into_translation.ensures.plan
 
 pub returns-in_err-finish-clause-full : goal.returns-in_err-finish-clause-full

@@ -1,13 +1,18 @@
 use Rattle.std.proofs.Common.{length, sym, subst}
 use Rattle.pc_dfg_linearize.specs.Made.{DoneBefore}
+use Rattle.pc_dfg_finish.specs.Instantiated.{AreInstantiated}
 use Rattle.pc_dfg_finish.proofs.OutgrownLemmas.{done_too_many}
-use Rattle.pc_dfg_finish.proofs.StartLemmas.{none_done}
+use Rattle.pc_dfg_finish.proofs.StartLemmas.{none_done, none_instantiated}
 use Rattle.pc_dfg_finish.proofs.WholeLemmas.{all_made}
 use Rattle.pc_dfg_finish.proofs.plan.make.Goals as goal
 
 pub do_effects-requires-clause-begins : goal.do_effects-requires-clause-begins
 do_effects-requires-clause-begins c =
     subst (DoneBefore c.args.graph.now 0) (sym c.in_ok-finish.ensures) (none_done c.args.graph.now)
+
+pub do_effects-requires-clause-none_made : goal.do_effects-requires-clause-none_made
+do_effects-requires-clause-none_made c =
+    subst (AreInstantiated c.args.graph.now) (sym c.in_ok-finish.ensures) (none_instantiated c.args.graph.now)
 
 pub exports-requires-clause-all_made : goal.exports-requires-clause-all_made
 exports-requires-clause-all_made c =
@@ -33,6 +38,7 @@ pub returns-clause-made : goal.returns-clause-made
 returns-clause-made c = record {
   before = c.do_effects.new.finish;
   done = c.in_ok-do_effects.ensures.done;
+  instantiated = c.in_ok-do_effects.ensures.instantiated;
   further = c.in_ok-exported.ensures.further;
   only = c.in_ok-exported.ensures.only;
   exports = c.in_ok-exported.ensures.exports;

@@ -29,7 +29,7 @@ export_all-requires c =
 pub returns : goal.returns
 returns c =
     root_done _ _ _ c.args.root.now _ _ _ c.in_ok-begun.ensures _ c.run.ensures.keeps c.run.ensures.adds _
-    c.in_ok-frame.ensures.runs c.in_ok-frame.ensures.counts _ c.as_slice.ensures _ _ _ c.export_all.ensures
+    c.in_ok-frame.ensures.runs c.in_ok-frame.ensures.counts _ c.as_slice.ensures _ _ _ c.export_all.ensures.made
 
 pub returns-in_err-begun : goal.returns-in_err-begun
 returns-in_err-begun c =

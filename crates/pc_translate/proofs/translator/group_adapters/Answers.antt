@@ -23,6 +23,6 @@ returns c = record {
   groups = λ t ms r stands handed_in.
       let e = c.partition_adapter_modules-grouped.ensures in
       groups t ms _ _ r stands _ _ _ handed_in c.partition_adapter_modules-grouped.result e.bad e.adapted e.keeps
-      e.ordered e.grouped e.told e.distinct e.wired c.entries_are_distinct.ensures.all e.occurs e.few e.most e.full
+      e.ordered e.grouped e.told e.distinct e.wired c.entries_are_distinct.ensures.all e.occurs e.short e.room e.few e.most e.full
       c.map_err.result c.map_err.ensures.cases;
 }

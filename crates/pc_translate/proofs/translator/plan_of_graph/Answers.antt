@@ -1,8 +1,7 @@
 use Rattle.std.proofs.Common.{refl}
 use Rattle.pc_types.specs.declared.error.Error.TheVariants as error
 use Rattle.pc_translate.proofs.PassingLemmas.{passed_err}
-use Rattle.pc_translate.proofs.PlanningLemmas.{finish_plans, finish_stops, grouped_grouped, grouped_held}
-use Rattle.pc_translate.proofs.PlanningLemmas.{grouped_ordered, grouped_types, groups_stops, no_memory_stops}
+use Rattle.pc_translate.proofs.PlanningLemmas.{finish_plans, finish_stops, grouped_graph, groups_stops, no_memory_stops}
 use Rattle.pc_translate.specs.Planning.{PlansGraph}
 use Rattle.pc_translate.proofs.translator.plan_of_graph.Goals as goal
 
@@ -22,29 +21,11 @@ returns-in_err-group_adapters-clause-plans c = λ r stands.
     (groups_stops _ _ _ _ r stands _ _ _
     (c.in_err-group_adapters.ensures.groups _ _ r stands c.in_ok-modules.ensures))
 
-pub finish_graph-requires-clause-ordered : goal.finish_graph-requires-clause-ordered
-finish_graph-requires-clause-ordered c =
+pub finish_with_facts-requires-clause-grouped : goal.finish_with_facts-requires-clause-grouped
+finish_with_facts-requires-clause-grouped c =
     let s = c.requires.stands in
-    grouped_ordered _ _ _ _ s.0 s.1 _ _ _
-    (c.in_ok-group_adapters.ensures.groups _ _ s.0 s.1 c.in_ok-modules.ensures)
-
-pub finish_graph-requires-clause-grouped : goal.finish_graph-requires-clause-grouped
-finish_graph-requires-clause-grouped c =
-    let s = c.requires.stands in
-    grouped_grouped _ _ _ _ s.0 s.1 _ _ _
-    (c.in_ok-group_adapters.ensures.groups _ _ s.0 s.1 c.in_ok-modules.ensures)
-
-pub finish_graph-requires-clause-are_modules : goal.finish_graph-requires-clause-are_modules
-finish_graph-requires-clause-are_modules c =
-    let s = c.requires.stands in
-    grouped_types _ _ _ _ s.0 s.1 _ _ _
-    (c.in_ok-group_adapters.ensures.groups _ _ s.0 s.1 c.in_ok-modules.ensures)
-
-pub finish_graph-requires-clause-held : goal.finish_graph-requires-clause-held
-finish_graph-requires-clause-held c =
-    let s = c.requires.stands in
-    grouped_held _ _ _ _ s.0 s.1 _ _ _
-    (c.in_ok-group_adapters.ensures.groups _ _ s.0 s.1 c.in_ok-modules.ensures)
+    grouped_graph _ _ _ _ s.0 s.1 _ _ _
+    (c.in_ok-group_adapters.ensures.groups _ _ s.0 s.1 c.in_ok-modules.ensures) c.requires.modules
 
 pub returns-in_err-plan-clause-plans : goal.returns-in_err-plan-clause-plans
 returns-in_err-plan-clause-plans c = λ r stands.
@@ -56,4 +37,5 @@ returns-in_err-plan-clause-plans c = λ r stands.
 pub returns-clause-plans : goal.returns-clause-plans
 returns-clause-plans c = λ r stands.
     finish_plans _ _ _ _ r stands _ _ _
-    (c.in_ok-group_adapters.ensures.groups _ _ r stands c.in_ok-modules.ensures) _ c.in_ok-plan.ensures.plan
+    (c.in_ok-group_adapters.ensures.groups _ _ r stands c.in_ok-modules.ensures) _ _ c.in_ok-plan.ensures.plan
+    c.in_ok-plan.ensures.bare c.in_ok-plan.ensures.facts

@@ -1,0 +1,2 @@
+-- graphs without adapters, and modules with few imports
+mod ContextLemmas

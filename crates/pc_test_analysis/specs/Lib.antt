@@ -1,0 +1,2 @@
+-- What the functions of the tests promise each other.
+pub mod Cores

@@ -1,0 +1,3 @@
+-- What the functions of this crate rest on.
+mod Below
+mod Groups
