@@ -1,10 +1,10 @@
 #!/usr/bin/env python3
 """Large and hostile inputs for the program `plan`.
 
-    hostile.py PROGRAM [--mib N] [--seconds N] [--keep FOLDER] [FAMILY ..]
+    hostile.py PROGRAM [--mib N] [--seconds N] [--word WORD] [--keep FOLDER] [FAMILY ..]
 
-Makes one input of at most N MiB (64) for each family, runs `PROGRAM translate` on it, and prints the exit status,
-the first line written, the time of the processor, the peak memory, and the time for each MiB of input. A time that
+Makes one input of at most N MiB (64) for each family, runs PROGRAM on it with one word, which is `translate`, or
+`facts` for a family that is made for it, and prints the exit status, the first line written, the time of the processor, the peak memory, and the time for each MiB of input. A time that
 grows with the square of the input shows when two sizes are compared. It ends with status 1 where a run passed the time
 limit (60 seconds of a processor), was killed, or ended with another status than its family names.
 """
@@ -143,6 +143,33 @@ def chain_of_modules(room):
     link = '{"module":{"ty":1,"imports":[["a","f",["func",0]]],"funcs":[],"tables":0,"memories":[],"globals":0,"tags":0,"exports":[["f","func",0]]}}'
     return document(types, ['"version"', ONE_FUNC, link, INSTANCE] + list(repeated(
         lambda n: '{"instances":[{"instantiate":[1,[["a",%d]]]}]}' % n, room)) + ['"end"'])
+
+
+def chain_of_exports(room, entity, has):
+    """Each core instance is of a module of its own, which exports what it imports: what the one before it exports."""
+    kind = entity[2:entity.index('"', 2)]
+    first = '{"module":{"ty":0,"imports":[],%s,"tags":0,"exports":[["f","%s",0]]}}' % (has, kind)
+    link = MODULE % ('[["a","f",%s]]' % entity, "[]", "0", '[["f","%s",0]]' % kind)
+    piece = link + ',{"instances":[{"instantiate":[%d,[["a",%d]]]}]}'
+    return document(PLAIN_TYPES, ['"version"', first, INSTANCE] + list(repeated(lambda n: piece % (n + 1, n), room)) + ['"end"'])
+
+
+def chain_of_functions(room):
+    """A function that is exported by the module that defines it, and again by very many others, one after the other."""
+    return chain_of_exports(room, '["func",0]', '"funcs":[0],"tables":0,"memories":[],"globals":0')
+
+
+def chain_of_memories(room):
+    """The same of a memory."""
+    return chain_of_exports(room, '["memory",false]', '"funcs":[],"tables":0,"memories":[false],"globals":0')
+
+
+def records_of_many_globals(room):
+    """Modules whose records say that they define a million globals each, four thousand million together. Their facts
+    are as many lines, so this one isn't for the word `facts`."""
+    wide = MODULE % ("[]", "[]", "1000000", "[]") + ',{"instances":[{"instantiate":[%d,[]]}]}'
+    count = min(room // (len(wide % 1000000) + 1), 4000)
+    return document(PLAIN_TYPES, ['"version"', *[wide % n for n in range(count)], '"end"'])
 
 
 def wide_module(room):
@@ -373,8 +400,50 @@ def bag_of_arguments(room):
     return document(PLAIN_TYPES, BASE + [taker(count), bag(count, lambda n: 0), take(1, 1), '"end"'])
 
 
+# so many arguments of all instances together, since a plan's text has each of them
+ARGUMENTS = 4000000
+
+
+def bag_taken(room, times):
+    """The same with so many instances that take them all."""
+    count = min((room - times * len(take(1, 1) + ",")) // (PER_IMPORT + PER_ITEM), MOST, ARGUMENTS // times)
+    return document(PLAIN_TYPES, BASE + [taker(count), bag(count, lambda n: 0)] + [take(1, 1)] * times + ['"end"'])
+
+
+def bag_taken_twice(room):
+    """A core instance of very many items, and two instances that take them all."""
+    return bag_taken(room, 2)
+
+
+def bag_taken_often(room):
+    """The same with a thousand instances."""
+    return bag_taken(room, 1000)
+
+
+def many_homes(room, orders):
+    """Very many core instances, a bag of a function of each, and an instance that takes the bag, for each order."""
+    per_home = len('{"instantiate":[0,[]]},') + PER_ALIAS + PER_IMPORT + len(orders) * PER_ITEM
+    count = min(room // per_home, MOST)
+    made = fill('{"instances":[', lambda n: '{"instantiate":[0,[]]}', "]}", count)
+    named = fill('{"aliases":[', lambda n: '{"core-export":["func",%d,"f"]}' % n, "]}", count)
+    taken = []
+    for place, order in enumerate(orders):
+        taken += [bag(count, lambda n: order(n, count)), take(1, count + 2 * place)]
+    return document(PLAIN_TYPES, ['"version"', ONE_FUNC, taker(count), made, named, *taken, '"end"'])
+
+
+def imports_of_many_homes(room):
+    """A core module of very many imports, each of which is given a function of another instance."""
+    return many_homes(room, [lambda n, count: n])
+
+
+def imports_of_shared_homes(room):
+    """The same with three instances, which are given the functions by pairs, by other pairs, and from behind."""
+    return many_homes(room, [lambda n, count: n // 2, lambda n, count: (n + 1) // 2, lambda n, count: count - 1 - n // 2])
+
+
 def bag_of_aliases(room):
-    """The same, and each item is another function."""
+    """A core instance of very many items, each another function, and one instance that takes them all."""
     count = room // (PER_IMPORT + PER_ITEM + PER_EXPORT + PER_ALIAS)
     return document(PLAIN_TYPES, ['"version"', giver(count), taker(count), INSTANCE, given(count),
                                   bag(count, lambda n: n), take(1, 1), '"end"'])
@@ -497,6 +566,44 @@ def chain_of_adapters(room):
     return document(PLAIN_TYPES, LIFTED + [chain, '{"exports":[["e","func",1]]}', '"end"'])
 
 
+def chain_of_unused_adapters(room):
+    """The same chain, and nothing uses its last link."""
+    chain = fill('{"canon":[', lambda n: LINK % n, "]}", room // PER_LINK)
+    return document(PLAIN_TYPES, LIFTED + [chain, '"end"'])
+
+
+def adapters_in_two_layers(room):
+    """Adapters of their own, and as many again, each of which has one of the first as realloc: two modules."""
+    count = (room - 2 * SIDE * PER_ALIAS) // (len(apart(SIDE * SIDE - 1)) + 1 + PER_LINK)
+    first = fill('{"canon":[', apart, "]}", count)
+    second = fill('{"canon":[', lambda n: LINK % (SIDE + n), "]}", count)
+    return document(PLAIN_TYPES, ['"version"', giver(SIDE), INSTANCE, given(SIDE), LIFTS, first, second, '"end"'])
+
+
+def an_adapter_of_many_instances(room):
+    """One adapter, which each of very many core instances takes."""
+    has = '{"canon":[%s]},{"instances":[{"exports":[["e0000000","func",1]]}]}' % LOWER
+    takes = listed('{"instances":[', lambda n: '{"instantiate":[1,[["a",1]]]}', "]}", room)
+    return document(PLAIN_TYPES, LIFTED + [taker(1), has, takes, '"end"'])
+
+
+def adapters_of_a_long_type(room):
+    """One function type with very many parameters, under very many adapters."""
+    params = fill('{"core":[[[],[]]],"types":[{"module":[[],[]]},{"func":{"params":[', lambda n: '["a%07d","u8"]' % n,
+                  '],"result":null,"async":false}}]}', room // 3 // len('["a0000000","u8"],'))
+    lowered = canon(apart, room - room // 3 - 2 * SIDE * PER_ALIAS)
+    return document(params, ['"version"', giver(SIDE), INSTANCE, given(SIDE), LIFTS, lowered, '"end"'])
+
+
+def adapters_of_many_types(room):
+    """Adapters, each of a function type of its own, which takes a tuple in a tuple, and so on."""
+    entry = '{"tuple":[%s]},{"func":{"params":[["a",%d]],"result":null,"async":false}}'
+    both = '["lift",0,%d,0,[]],["lower",%d,%d,0,[]]'
+    count = room // (len(entry % (1000000, 1000000)) + len(both % (1000000, 1000000, 1000000)) + 2)
+    types = fill(PLAIN_TYPES[:-2] + ",", lambda n: entry % (2 * n if n else '"u8"', 2 * n + 2), "]}", count)
+    return document(types, BASE + [fill('{"canon":[', lambda n: both % (2 * n + 3, n, 2 * n + 3), "]}", count), '"end"'])
+
+
 def adapters_of_adapters(room):
     """Each adapter is lifted and lowered again, and the last is exported."""
     both = '["lower",%d,1,0,[]],["lift",%d,1,0,[]]'
@@ -555,6 +662,23 @@ def lowered_strings(room, last):
 def adapters_of_strings(room):
     """A function of strings is lowered over and over, each time with a memory of its own."""
     return lowered_strings(room, "")
+
+
+# a type with a string and with a handle of each kind, and a resource that it names
+WIDE = '{"core":[[[],[]]],"types":[{"module":[[],[]]},"resource",{"own":1},{"borrow":1},{"future":"u8"},{"stream":"u8"},'
+WIDE += '{"func":{"params":[["s","string"],["o",2],["b",3],["f",4],["t",5],["e","error-context"]],"result":"string","async":false}}]}'
+
+
+def adapters_with_many_imports(room):
+    """One lifted function is lowered over and over; each adapter has every option, and helpers of each kind."""
+    options = '["compact-utf16",["memory",0],["realloc",%d],["post-return",%d]]]'
+    lowered = '["lower",0,6,0,' + options
+    count = (room - 2 * SIDE * PER_ALIAS) // (len(lowered % (SIDE, SIDE)) + 1)
+    has = giver(SIDE).replace('"memories":[]', '"memories":[false]').replace('"exports":[', '"exports":[["m","memory",0],')
+    lift = '{"canon":[["lift",0,6,0,' + options % (0, 0) + "]}"
+    return document(WIDE, ['"version"', '{"types":[{"resource":[1,"i32",null]}]}', has, INSTANCE, given(SIDE),
+                           '{"aliases":[{"core-export":["memory",0,"m"]}]}', lift,
+                           fill('{"canon":[', lambda n: lowered % (n // SIDE % SIDE, n % SIDE), "]}", count), '"end"'])
 
 
 def an_adapter_without_memory(room):
@@ -1098,6 +1222,31 @@ def exported_host_instance(room):
     return over(types, '{"imports":[["i",["instance",4]]]}', '{"exports":[["i","instance",0]]}')
 
 
+# instances from items, the last of which, number 27, has a quarter of a billion nodes: each has the one before it twice
+DOUBLED = ",".join(['{"exports":[[],2]}'] + ['{"exports":[[["a","instance",%d],["b","instance",%d]],2]}' % (n, n) for n in range(27)])
+
+
+def refusal_in_a_tree(room):
+    """An export of a quarter of a billion nodes, then of very many functions, and of a component, which is refused."""
+    items = listed('{"component-instances":[' + DOUBLED + ',{"exports":[[["t","instance",27],',
+                   lambda n: '["e%07d","func",0]' % n, ',["c","component",0]],2]}]}', room)
+    return nesting(IMPORT, CHILD, items, '{"exports":[["x","instance",28]]}')
+
+
+def refusal_behind_a_tree(room):
+    """An export of a quarter of a billion nodes, very many others, and then a component, which is refused."""
+    exported = listed('{"exports":[["x","instance",27],', lambda n: '["e%07d","func",0]' % n, ',["c","component",0]]}', room)
+    return nesting(IMPORT, CHILD, '{"component-instances":[' + DOUBLED + "]}", exported)
+
+
+def refusal_in_a_host_tree(room):
+    """An imported instance of as many nodes and then of a component, which the root exports."""
+    levels = fill(",", lambda n: '{"instance":[["a",["instance",%d]],["b",["instance",%d]]]}' % (n + 3 if n else 2, n + 3 if n else 2), "", 27)
+    types = listed(NEST_TYPES[:-2] + "".join(levels) + ',{"instance":[["t",["instance",30]],',
+                   lambda n: '["e%07d",["func",1]]' % n, ',["c",["component",3]]]}]}', room)
+    return over(types, '{"imports":[["i",["instance",31]]]}', '{"exports":[["x","instance",0]]}')
+
+
 def exported_types(room):
     """The root exports one type under very many names."""
     return nesting(listed('{"exports":[', lambda n: '["e%07d","type",1]' % n, "]}", room))
@@ -1106,6 +1255,14 @@ def exported_types(room):
 def exported_modules(room):
     """The root exports one module under very many names."""
     return nesting(ONE_FUNC, listed('{"exports":[', lambda n: '["e%07d","module",0]' % n, "]}", room))
+
+
+def deep_export_of_a_module(room):
+    """Instances from items, each of which has the one before it, down to a core module; the root exports the last."""
+    made = '{"exports":[[["i","instance",%d]],2]}'
+    count = min(room // (len(made % 1000000) + 1), 100000)
+    items = fill('{"component-instances":[{"exports":[[["m","module",0]],2]},', lambda n: made % n, "]}", count)
+    return nesting(ONE_FUNC, INSTANCE, items, '{"exports":[["i","instance",%d]]}' % count)
 
 
 def many_ends(room):
@@ -1123,16 +1280,18 @@ def not_utf8(room):
 FAMILIES = {
     many_lifts: 0, many_exports: 0, many_lifts_of_form_two: 0, many_exports_of_form_two: 0, an_export_twice: 1,
     small_payloads: 0, empty_sections: 0, many_modules: 0,
-    chain_of_modules: 0, wide_module: 0, wide_imports: 0, many_arguments: 0, long_signature: 0, long_function_type: 0,
+    chain_of_modules: 0, chain_of_functions: 0, chain_of_memories: 0, records_of_many_globals: 0, wide_module: 0, wide_imports: 0, many_arguments: 0, long_signature: 0, long_function_type: 0,
     many_functions: 0, shared_parameters: 0, long_name: 0, long_escapes: 0, names_that_share_a_front: 0, deep_json: 1,
     deepest_json: 1, wide_json: 1, widest_record: 0, many_entries: 0, doubling_tuples: 0, entry_names_itself: 1,
     nested_components: 0, components_in_a_row: 0, open_components: 1, aliases_across_levels: 1, things_across_levels: 1,
-    aliases_at_each_level: 1, names_in_a_bag: 0, names_of_arguments: 1, bag_of_arguments: 0, bag_of_aliases: 0,
+    aliases_at_each_level: 1, names_in_a_bag: 0, names_of_arguments: 1, bag_of_arguments: 0, bag_taken_twice: 0,
+    bag_taken_often: 0, imports_of_many_homes: 0, imports_of_shared_homes: 0, bag_of_aliases: 0,
     small_bags: 0, many_instances: 0, instances_with_a_long_name: 0, aliases_of_one_export: 0, aliases_of_each_kind: 0,
     equal_lowerings: 0, lowerings_apart: 0, used_lowerings: 0, chain_of_lowerings: 0, chain_of_arguments: 0,
-    equal_adapters: 0, adapters_apart: 0, used_adapters: 0, chain_of_adapters: 0, adapters_of_adapters: 0,
-    chain_of_relays: 0, destructors_that_are_adapters: 0, adapters_of_strings: 0, an_adapter_without_memory: 1,
-    adapters_over_wide_records: 0, unused_imports: 0, used_imports: 0, long_signature_lowered: 0, equal_builtins: 0, builtins_apart: 0,
+    equal_adapters: 0, adapters_apart: 0, used_adapters: 0, chain_of_adapters: 0, chain_of_unused_adapters: 0,
+    adapters_in_two_layers: 0, an_adapter_of_many_instances: 0, adapters_of_a_long_type: 0, adapters_of_many_types: 0,
+    adapters_of_adapters: 0, chain_of_relays: 0, destructors_that_are_adapters: 0, adapters_of_strings: 0,
+    adapters_with_many_imports: 0, an_adapter_without_memory: 1, adapters_over_wide_records: 0, unused_imports: 0, used_imports: 0, long_signature_lowered: 0, equal_builtins: 0, builtins_apart: 0,
     used_builtins: 0, results_of_tasks: 0, context_slots: 0, lowered_intrinsics: 0,
     builtins_of_one_resource: 0, builtins_of_many_resources: 0, reads_of_many_streams: 0, reads_of_a_long_type: 0,
     waits_on_one_memory: 0, used_waits: 0, threads_in_children: 0, long_result_in_children: 0,
@@ -1146,8 +1305,13 @@ FAMILIES = {
     imported_resources: 0, one_resource_imported_often: 0, children_with_a_resource: 0, children_given_a_resource: 0,
     resources_between_long_types: 0, resources_between_long_handles: 0, doubling_instance_imported: 0,
     functions_of_a_host_instance: 0, instances_of_a_host_instance: 0, chain_of_host_instances: 0, host_modules: 0, wide_host_module: 0, exported_instance: 0, exported_instances: 0,
-    exported_host_instance: 0, exported_types: 0, exported_modules: 0, many_ends: 1, not_utf8: 1,
+    exported_host_instance: 0, refusal_in_a_tree: 1, refusal_behind_a_tree: 1, refusal_in_a_host_tree: 1,
+    exported_types: 0, exported_modules: 0, deep_export_of_a_module: 0, many_ends: 1, not_utf8: 1,
 }
+
+
+# the families that are made for another word than `translate`: the plan's text of this one has each path in full
+WORDS = {deep_export_of_a_module: "facts"}
 
 
 def write(family, size, path):
@@ -1161,12 +1325,12 @@ def write(family, size, path):
     return length
 
 
-def run(program, path, seconds):
+def run(program, word, path, seconds):
     """The status, the first line, the seconds of processor time and the KiB at the peak."""
     def limits():
         resource.setrlimit(resource.RLIMIT_CPU, (seconds, seconds + 1))
     with open(path, "rb") as src, tempfile.TemporaryFile() as out:
-        child = subprocess.Popen([program, "translate"], stdin=src, stdout=out, stderr=subprocess.DEVNULL, preexec_fn=limits)
+        child = subprocess.Popen([program, word], stdin=src, stdout=out, stderr=subprocess.DEVNULL, preexec_fn=limits)
         _, code, used = os.wait4(child.pid, 0)
         child.returncode = os.waitstatus_to_exitcode(code)
         out.seek(0)
@@ -1180,6 +1344,7 @@ def main():
     parser.add_argument("families", nargs="*", metavar="FAMILY")
     parser.add_argument("--mib", type=float, default=64)
     parser.add_argument("--seconds", type=int, default=60)
+    parser.add_argument("--word", help="the word for all families")
     parser.add_argument("--keep", metavar="FOLDER", help="keep the inputs there")
     args = parser.parse_intermixed_args()
     chosen = [f for f in FAMILIES if not args.families or f.__name__ in args.families]
@@ -1189,8 +1354,9 @@ def main():
     print("%-30s %6s %7s %8s %9s %8s  %s" % ("family", "status", "MiB", "seconds", "peak MiB", "s/MiB", "first line"))
     for family in chosen:
         path = os.path.join(folder, family.__name__ + ".json")
+        word = args.word or WORDS.get(family, "translate")
         size = write(family, int(args.mib * (1 << 20)), path) / (1 << 20)
-        status, line, seconds, peak = run(os.path.abspath(args.program), path, args.seconds)
+        status, line, seconds, peak = run(os.path.abspath(args.program), word, path, args.seconds)
         wrong = "" if status == FAMILIES[family] else "   <- expected status %d" % FAMILIES[family]
         worse += bool(wrong)
         print("%-30s %6d %7.1f %8.2f %9.0f %8.3f  %s%s" % (family.__name__, status, size, seconds, peak / 1024, seconds / size, line, wrong), flush=True)
