@@ -1,13 +1,13 @@
 -- What an instantiation answers: the graph that stands for the reading, or why there is none.
-use Rattle.std.specs.Prelude.{◌≡◌, ◌≤◌, ◌+◌, ℕ, List, length, None, Result, Ok, Err}
-use Rattle.pc_types_lists.specs.Types.{Types, types_held}
+use Rattle.std.specs.Prelude.{◌≡◌, ◌⊎◌, ℕ, List, length, None, Some, Result, Ok, Err}
+use Rattle.pc_types_lists.specs.Types.{Types}
 use Rattle.pc_types.specs.declared.error.Error.{Error}
 use Rattle.pc_types.specs.declared.error.Error.TheVariants as error
 use Rattle.pc_types.specs.declared.module_record.ModuleRecord.{ModuleRecord}
 use Rattle.pc_types.specs.declared.parsed.TypeTable.{TypeTable}
-use Rattle.pc_spec_reading.specs.Answer.{IsPast}
+use Rattle.pc_spec_reading.specs.Answer.{ending}
 use Rattle.pc_spec_reading.specs.Item.{Items}
-use Rattle.pc_spec_reading.specs.Outcome.{bad_type, done, fault, invalid, over, unknown_intrinsic, unsupported}
+use Rattle.pc_spec_reading.specs.Outcome.{done}
 use Rattle.pc_spec_reading.specs.Reading.{Reading, reading_of}
 use Rattle.pc_spec_reading.specs.World.{World}
 use Rattle.pc_dfg.specs.declared.dfg.ComponentDfg.{ComponentDfg}
@@ -16,7 +16,7 @@ use Rattle.pc_inline_exports.specs.Exports.{ExportsStand, NumbersExports}
 use Rattle.pc_inline_state.specs.Worlds.{HasItems, HoldsTypes, IsPlain, WorldStands}
 use Rattle.pc_inline.specs.Widths.{AreWide}
 
--- the world at the end of a reading; no total is counted
+-- the world at the end of a reading, its total aside
 abbrev pub last_world : Reading → World
 last_world r = record {
   log = r.log;
@@ -48,33 +48,17 @@ pub record GraphStands (t : TypeTable) (ms : List ModuleRecord) (types : Types) 
   pub stream_tables : g.num_stream_tables ≡ length types.stream_tables
   pub error_context_tables : g.num_error_context_tables ≡ length types.error_context_tables
 
--- the reading is done, and the graph stands for it
-pub record StandsForReading (t : TypeTable) (ms : List ModuleRecord) (limit : ℕ) (body : Items) (types : Types)
+-- the reading whose total begins with this one is done, and the graph stands for it
+pub record StandsForReading (t : TypeTable) (ms : List ModuleRecord) (limit counted : ℕ) (body : Items) (types : Types)
     (g : ComponentDfg) : Type 0 where
   pub result : Reading
-  pub outcome : reading_of t ms limit None body ≡ done result
+  pub outcome : reading_of t ms limit (Some counted) body ≡ done result
   pub stands : GraphStands t ms types g result
 
--- the total of the reading is too much, wherever it begins that counts the types that were held before, and the core
--- signatures of the table
-abbrev pub HasNoRoom : TypeTable → List ModuleRecord → (limit : ℕ) → Items → (held : ℕ) → Type 0
-HasNoRoom t ms limit body held =
-    (counted : ℕ) → length t.core_funcs + held ≤ counted → IsPast t ms limit counted body
-
--- the reading ends with this fault at its place. So many types were held before
-abbrev pub IsFault : TypeTable → List ModuleRecord → (limit : ℕ) → Items → (held : ℕ) → Error → Type 0
-IsFault t ms limit body held (error.Invalid p) = reading_of t ms limit None body ≡ fault invalid p
-IsFault t ms limit body held (error.BadType p) = reading_of t ms limit None body ≡ fault bad_type p
-IsFault t ms limit body held (error.UnknownIntrinsic p) = reading_of t ms limit None body ≡ fault unknown_intrinsic p
-IsFault t ms limit body held (error.Unsupported u p) = reading_of t ms limit None body ≡ fault (unsupported u) p
-IsFault t ms limit body held error.TooManyInstances = reading_of t ms limit None body ≡ over
-IsFault t ms limit body held error.TooMany = HasNoRoom t ms limit body held
-IsFault t ms limit body held error.NoMemory = Unit {0}
-IsFault t ms limit body held e = ⊥
-
--- the answer is the graph that stands for the reading, or the reading's end; want of memory is free. The builder held
--- these types before, and holds those now
-unfoldable pub Inlines : TypeTable → List ModuleRecord → (limit : ℕ) → Items → (old new : Types)
+-- the answer is the graph that stands for the reading, or the error that the reading ends with; want of memory is free.
+-- The builder holds these types then
+unfoldable pub Inlines : TypeTable → List ModuleRecord → (limit counted : ℕ) → Items → (types : Types)
     → Result ComponentDfg Error → Type 0
-Inlines t ms limit body old new (Ok g) = StandsForReading t ms limit body new g
-Inlines t ms limit body old new (Err e) = IsFault t ms limit body (types_held old) e
+Inlines t ms limit counted body types (Ok g) = StandsForReading t ms limit counted body types g
+Inlines t ms limit counted body types (Err e) =
+    (e ≡ error.NoMemory) ⊎ (ending (reading_of t ms limit (Some counted) body) ≡ Err e)

@@ -1,10 +1,12 @@
 //! The root: it begins, its imports are prepared, its items are read in order, and it exports.
 
-ghost use Rattle.std.specs.Prelude.{◌≡◌, ℕ, None, true, [], length, IfOk, OnOk};
+ghost use Rattle.std.specs.Prelude.{◌≡◌, ◌<◌, ◌≤◌, ◌+◌, ℕ, None, true, [], length, IfOk, OnOk};
 ghost use Rattle.std.specs.List.{list_all};
 ghost use Rattle.pc_types.specs.Record.{is_sound};
 ghost use Rattle.pc_types.specs.Table.{table_fault};
 ghost use Rattle.pc_types_builder.specs.Types.{KeepsTypes};
+ghost use Rattle.pc_types_lists.specs.Types.{types_held};
+ghost use Rattle.pc_weights.specs.Weighs.{HasRootWeight};
 ghost use Rattle.pc_spec_reading.specs.Item.{Items};
 ghost use Rattle.pc_local.specs.Sound.{AreSoundBodies, IsSoundBody};
 ghost use Rattle.pc_local.specs.Standing.{BodyStands, no_names};
@@ -18,7 +20,8 @@ ghost use Rattle.pc_inline_state.specs.Ready.{IsReady};
 ghost use Rattle.pc_inline_stack.specs.Reads.{AreItems, Prepared};
 ghost use Rattle.pc_inline_items.specs.StepsLocal.{PreparesLocal};
 ghost use Rattle.pc_inline_state.specs.Tables.{Keeps, tables_of};
-ghost use Rattle.pc_inline_stack.specs.Totals.{CountsGraph, GainsFew};
+ghost use Rattle.pc_inline_stack.specs.Stacks.{AreWeights};
+ghost use Rattle.pc_inline_stack.specs.Totals.{GainsFew, IsCounted};
 ghost use Rattle.pc_inline_state.specs.Typed.{no_resources};
 
 use pc_dfg::ComponentDfg;
@@ -31,6 +34,7 @@ use pc_local::{LocalInitializer, LocalProgram, Translation};
 use pc_types::{Error, TypeTable};
 use pc_types_builder::{ComponentTypesBuilder, Converted, ResourcesBuilder};
 use pc_types_walk::{Leads, TableNames};
+use pc_weights::Weights;
 use std::alloc::Global;
 use std::mem;
 
@@ -92,15 +96,20 @@ fn begin_root(
     state: &mut State<'_>,
     root: &Translation,
     limit: u32,
+    weight: u32,
+    total: &mut u32,
 ) -> Result<Frame, Error>
     requires input { IsInput context.now.table.now context.now.modules }
     requires ready { IsReady context.now }
     requires fresh { IsFresh context.now.table.now state.old }
     requires stands { (body : Items) × BodyStands state.old.bodies.now no_names root.now body }
     requires bodies { AreSoundBodies (length context.now.modules) state.old.bodies.now }
-    ensures { BeginsRoot context.now.table.now context.now.modules limit root.now state.old state.new result }
+    requires weight { HasRootWeight context.now.table.now context.now.modules root.now weight }
+    requires below { total.old < 4294967295 }
+    ensures { BeginsRoot context.now.table.now context.now.modules limit root.now total.old total.new
+        state.old state.new result }
 {
-    let instance = begin_instance(&mut state.graph, limit)?;
+    let instance = begin_instance(&mut state.graph, limit, total, weight)?;
     let converted = Converted::new(context.alloc, context.table);
     let arguments = TextMap::new(context.alloc);
     let mut frame = Frame::new(context.alloc, converted, instance, arguments);
@@ -114,6 +123,8 @@ pub(crate) fn inline_root(
     state: &mut State<'_>,
     root: &Translation,
     limit: u32,
+    weights: &Weights,
+    counted: u32,
 ) -> Result<(), Error>
     requires input { IsInput context.now.table.now context.now.modules }
     requires ready { IsReady context.now }
@@ -121,11 +132,15 @@ pub(crate) fn inline_root(
     requires stands { (body : Items) × BodyStands state.old.bodies.now no_names root.now body }
     requires sound { IsSoundBody (length context.now.modules) root.now }
     requires bodies { AreSoundBodies (length context.now.modules) state.old.bodies.now }
-    ensures { EndsRoot context.now.table.now context.now.modules limit root.now state.old state.new result }
+    requires root_weight { HasRootWeight context.now.table.now context.now.modules root.now weights.now.root }
+    requires weights { AreWeights context.now.table.now context.now.modules state.old.bodies.now weights.now.bodies }
+    requires below { counted < 4294967295 }
+    ensures { EndsRoot context.now.table.now context.now.modules limit root.now counted state.old state.new result }
 {
-    let begun = begin_root(context, state, root, limit)?;
-    let mut frame = run(context, state, root, begun, limit)?;
-    export_all(context, state, &mut frame, root.exports.as_slice())
+    let mut total = counted;
+    let begun = begin_root(context, state, root, limit, weights.root, &mut total)?;
+    let mut frame = run(context, state, root, begun, limit, &weights.bodies, &mut total)?;
+    export_all(context, state, &mut frame, root.exports.as_slice(), total)
 }
 
 /// No resource is known, and types are converted in the root.
@@ -137,6 +152,10 @@ fn forget_resources(alloc: Global, types: &mut ComponentTypesBuilder)
 
 /// The graph of a program: its root is instantiated symbolically.
 ///
+/// `counted` is the total before the first item: each component instance that begins adds one and the weight of its
+/// body, and each node of the root's exports adds eight. Where it would be full, the answer is `TooMany`; it counts the
+/// core signatures of the table, and the types that the builder holds.
+///
 /// The builder gains the types that the graph names, also on a refusal; the types that it held keep their numbers.
 pub fn inline_run(
     alloc: Global,
@@ -144,24 +163,25 @@ pub fn inline_run(
     table: &TypeTable,
     program: &LocalProgram,
     limit: u32,
+    counted: u32,
 ) -> Result<ComponentDfg, Error>
     requires table { table_fault table.now ≡ None }
     requires modules { list_all (is_sound table.now) program.now.modules ≡ true }
     requires stands { (body : Items) × BodyStands program.now.components no_names program.now.root body }
     requires root { IsSoundBody (length program.now.modules) program.now.root }
     requires components { AreSoundBodies (length program.now.modules) program.now.components }
+    requires below { counted < 4294967295 }
+    requires held { length table.now.core_funcs + types_held types.old ≤ counted }
     ensures inlines { (body : Items) → BodyStands program.now.components no_names program.now.root body
-        → Inlines table.now program.now.modules limit body types.old types.new result }
+        → Inlines table.now program.now.modules limit counted body types.new result }
     ensures few { (body : Items) → BodyStands program.now.components no_names program.now.root body
-        → (counted : ℕ)
-        → IfOk result (CountsGraph table.now program.now.modules limit counted body types.old types.new) }
+        → IfOk result (IsCounted table.now program.now.modules limit counted body types.old types.new) }
     ensures keeps { KeepsTypes types.old types.new }
     ensures tables { IfOk result
         (λ g. AddsTables table.now g.num_runtime_component_instances types.old types.new) }
-    ensures adds { (body : Items) → BodyStands program.now.components no_names program.now.root body
-        → (counted : ℕ)
-        → GainsFew table.now program.now.modules limit counted body types.old types.new }
+    ensures adds { GainsFew table.now counted types.old types.new }
 {
+    let weights = Weights::new(alloc, table, program)?;
     let modules = CoreModules::new(alloc, program.modules.as_slice())?;
     let leads = Leads::new(alloc, table)?;
     let names = TableNames::new(alloc, table)?;
@@ -176,7 +196,7 @@ pub fn inline_run(
     forget_resources(alloc, types);
     let builder = mem::replace(types, ComponentTypesBuilder::new(alloc));
     let mut state = State::new(alloc, builder, numbers, &program.components, table);
-    let inlined = inline_root(&context, &mut state, &program.root, limit);
+    let inlined = inline_root(&context, &mut state, &program.root, limit, &weights, counted);
     let graph = state.take_graph(alloc);
     mem::swap(types, &mut state.types);
     types.types_are_distinct();

@@ -18,7 +18,7 @@ use Rattle.pc_spec_reading.specs.Reading.{root_exports}
 use Rattle.pc_spec_reading.specs.Scope.{Scope}
 use Rattle.pc_spec_reading.specs.Section.{named_item}
 use Rattle.pc_spec_reading.specs.Value.{Value}
-use Rattle.pc_spec_reading.specs.World.{World, grown, has_room}
+use Rattle.pc_spec_reading.specs.World.{World, full, grown, has_room}
 use Rattle.pc_inline_state.specs.declared.frame.Frame.{Frame}
 use Rattle.pc_inline_state.specs.declared.state.State.{State}
 use Rattle.pc_inline_state.specs.Frames.{Both}
@@ -26,19 +26,20 @@ use Rattle.pc_inline_state.specs.Tables.{tables_of}
 use Rattle.pc_inline_counts.specs.declared.count.NodeCount.{NodeCount}
 use Rattle.pc_inline_counts.specs.Counts.{one_node}
 use Rattle.pc_inline_counts.specs.Follows.{Follows, HasHostTypes}
-use Rattle.pc_inline_exports.specs.Exporting.{MakesExports, RootStands, behind, if_room}
+use Rattle.pc_inline_exports.specs.Exporting.{ExportsAll, RootStands, behind, if_room}
 
 -- the count of a type by its number, if it is held
 abbrev pub type_count : TypeTable → ℕ → Option NodeCount
 type_count t n = option_map (λ (e : DeclType). one_node) (slice_get t.types n)
 
--- so many nodes and those of one export more, which isn't refused; or they are too many, or it is refused at its number
-unfoldable pub CountsMore : (nodes : ℕ) → NodeCount → (number : ℕ) → Result ℕ Error → Type 0
-CountsMore nodes c number (Ok m) = (m ≡ nodes + c.nodes) × (m ≤ 536870911) × (c.refusal ≡ None)
-CountsMore nodes c number (Err (error.Unsupported u p)) =
-    (nodes + c.nodes ≤ 536870911) × (c.refusal ≡ Some u) × (p ≡ place.Export number)
-CountsMore nodes c number (Err error.TooMany) = 536870911 < nodes + c.nodes
-CountsMore nodes c number (Err e) = ⊥
+-- so many nodes and those of one export more, which isn't refused; or they are too many for a total, in which each counts
+-- eight, or it is refused at its number
+unfoldable pub CountsMore : (total nodes : ℕ) → NodeCount → (number : ℕ) → Result ℕ Error → Type 0
+CountsMore total nodes c number (Ok m) = (m ≡ nodes + c.nodes) × (total + 8 * m < full) × (c.refusal ≡ None)
+CountsMore total nodes c number (Err (error.Unsupported u p)) =
+    (total + 8 * (nodes + c.nodes) < full) × (c.refusal ≡ Some u) × (p ≡ place.Export number)
+CountsMore total nodes c number (Err error.TooMany) = full ≤ total + 8 * (nodes + c.nodes)
+CountsMore total nodes c number (Err e) = ⊥
 
 module _ (t : TypeTable) (ms : List ModuleRecord) where
   -- what is reached at a value follows a count, in each world in which the host items have their types
@@ -52,23 +53,24 @@ module _ (t : TypeTable) (ms : List ModuleRecord) where
       (s : Scope) (w : World) (nodes : List (NamedNode Mark)) → RootStands t ms st f s w nodes
       → Both (CountsValue st) c (value_at t s k n)
 
-  -- all exports have so few nodes that their number isn't cut, and none of them is refused
-  pub record AreFew (es : List (ExternName × ItemKind × ℕ)) (st : State) (f : Frame) : Type 0 where
+  -- all exports have so few nodes that a total stays below, and none of them is refused
+  pub record AreFew (es : List (ExternName × ItemKind × ℕ)) (total : ℕ) (st : State) (f : Frame) : Type 0 where
     pub nodes : ℕ
-    pub few : nodes ≤ 536870911
+    pub few : total + 8 * nodes < full
     pub reads : (s : Scope) (w : World) → has_room w.total ≡ true → RootStands t ms st f s w []
         → (x : Finish) × (root_exports t s (map named_item es) 0 w ≡ if_room (grown w.total (8 * nodes)) (done x))
 
   -- all exports are counted: they can be made, or this is how they end, with nothing done
-  unfoldable pub CountsExports : List (ExternName × ItemKind × ℕ) → State → Frame → Result ⊤ Error → Type 0
-  CountsExports es st f (Ok end) = AreFew es st f
-  CountsExports es st f (Err e) = MakesExports t ms es st f st f (Err e)
+  unfoldable pub CountsExports : List (ExternName × ItemKind × ℕ) → (total : ℕ) → State → Frame → Result ⊤ Error
+      → Type 0
+  CountsExports es total st f (Ok end) = AreFew es total st f
+  CountsExports es total st f (Err e) = ExportsAll t ms es total st f st f (Err e)
 
   -- the exports up to the ith are counted, of which so many are there and have so many nodes
-  pub record CountedSoFar (es : List (ExternName × ItemKind × ℕ)) (i n nodes : ℕ) (st : State) (f : Frame)
+  pub record CountedSoFar (es : List (ExternName × ItemKind × ℕ)) (total i n nodes : ℕ) (st : State) (f : Frame)
       : Type 0 where
     pub there : n ≤ i
-    pub few : nodes ≤ 536870911
+    pub few : total + 8 * nodes < full
     pub goes : (s : Scope) (w : World) → has_room w.total ≡ true → RootStands t ms st f s w []
         → (exported : List (NamedNode Mark)) × (v : World) × (v.total ≡ grown w.total (8 * nodes))
         × (v.imports ≡ w.imports)

@@ -1,5 +1,5 @@
 -- The exports of the root while they are made, against the nodes of the reading.
-use Rattle.std.specs.Prelude.{◌≡◌, ◌≤◌, ◌+◌, ◌*◌, ◌⊎◌, ⊤, ℕ, true, List, [], ◌++◌, map, take, drop, Result, Ok, Err}
+use Rattle.std.specs.Prelude.{◌≡◌, ◌<◌, ◌≤◌, ◌+◌, ◌*◌, ◌⊎◌, ⊤, ℕ, true, List, [], ◌++◌, map, take, drop, Result, Ok, Err}
 use Rattle.std.specs.Prelude.{Option, if◌then◌else◌}
 use Rattle.std.specs.List.{AllZip}
 use Rattle.pc_entity.specs.Lists.{names_of}
@@ -19,7 +19,7 @@ use Rattle.pc_spec_reading.specs.Outcome.{Outcome, and_then, done, fault, past, 
 use Rattle.pc_spec_reading.specs.Reading.{root_exports}
 use Rattle.pc_spec_reading.specs.Scope.{Scope}
 use Rattle.pc_spec_reading.specs.Section.{named_item}
-use Rattle.pc_spec_reading.specs.World.{World, grown, has_room}
+use Rattle.pc_spec_reading.specs.World.{World, full, grown, has_room}
 use Rattle.pc_inline_state.specs.declared.frame.Frame.{Frame}
 use Rattle.pc_inline_state.specs.declared.state.State.{State}
 use Rattle.pc_inline_state.specs.Adds.{Adds, types_among}
@@ -39,10 +39,9 @@ if_room total o = if has_room total then o else past
 abbrev pub most_exported : TypeTable → (nodes types : ℕ) → ℕ
 most_exported t nodes types = 4 * nodes + types * (1 + most_types t)
 
--- what is refused, and that there are too many nodes, is known before anything is done; a list may be full later
+-- what is refused is known before anything is done
 unfoldable pub IsForetold : (old : State) → Frame → (new : State) → Frame → Result ⊤ Error → Type 0
 IsForetold old f new g (Err (error.Unsupported u p)) = (new ≡ old) × (g ≡ f)
-IsForetold old f new g (Err error.TooMany) = ((new ≡ old) × (g ≡ f)) ⊎ IsFullSomewhere (tables_of new)
 IsForetold old f new g r = Unit {0}
 
 module _ (t : TypeTable) (ms : List ModuleRecord) where
@@ -69,26 +68,44 @@ module _ (t : TypeTable) (ms : List ModuleRecord) where
     pub stands : RootStands st f s world exported
     pub numbers : NumbersExports st.graph exported
 
-  -- how the exports of the root end: they are made; or one is refused; or there are too many nodes, or too many entries
-  -- of a list
-  unfoldable pub ExportsEnd : State → Frame → Scope → World → (nodes : ℕ) → Outcome Finish → Result ⊤ Error → Type 0
-  ExportsEnd st f s w nodes o (Ok end) = RootExports st f s w nodes o
-  ExportsEnd st f s w nodes o (Err (error.Unsupported u p)) = o ≡ fault (unsupported u) p
-  ExportsEnd st f s w nodes o (Err error.TooMany) = IsFullSomewhere (tables_of st) ⊎ (4294967295 ≤ 8 * nodes)
-  ExportsEnd st f s w nodes o (Err error.NoMemory) = Unit {0}
-  ExportsEnd st f s w nodes o (Err e) = ⊥
+  -- how the exports of the root end: they are made; or one is refused; or there are too many entries of a list, or too
+  -- many nodes for a total
+  unfoldable pub ExportsEnd : (total : ℕ) → State → Frame → Scope → World → (nodes : ℕ) → Outcome Finish
+      → Result ⊤ Error → Type 0
+  ExportsEnd total st f s w nodes o (Ok end) = RootExports st f s w nodes o
+  ExportsEnd total st f s w nodes o (Err (error.Unsupported u p)) = o ≡ fault (unsupported u) p
+  ExportsEnd total st f s w nodes o (Err error.TooMany) =
+      IsFullSomewhere (tables_of st) ⊎ (full ≤ total + 8 * nodes)
+  ExportsEnd total st f s w nodes o (Err error.NoMemory) = Unit {0}
+  ExportsEnd total st f s w nodes o (Err e) = ⊥
 
   -- what the exports of the root give: so many nodes were reached, and so much was added; where a total counts these
   -- nodes and is past, the reading is past, and else it ends so
-  pub record MakesExports (es : List (ExternName × ItemKind × ℕ)) (old : State) (f : Frame) (new : State) (g : Frame)
-      (r : Result ⊤ Error) : Type 0 where
+  pub record MakesExports (es : List (ExternName × ItemKind × ℕ)) (total : ℕ) (old : State) (f : Frame) (new : State)
+      (g : Frame) (r : Result ⊤ Error) : Type 0 where
     pub nodes : ℕ
     pub keeps : Keeps (tables_of old) (tables_of new)
     pub adds : Adds t (most_exported t nodes (types_among es)) (tables_of old) (tables_of new)
     pub exports : (s : Scope) (w : World) → has_room w.total ≡ true → RootStands old f s w []
         → (o : Outcome Finish)
         × (root_exports t s (map named_item es) 0 w ≡ if_room (grown w.total (8 * nodes)) o)
-        × ExportsEnd new g s w nodes o r
+        × ExportsEnd total new g s w nodes o r
+
+  -- so many nodes are too many for a total, which was answered with nothing done
+  pub record AreTooMany (total nodes : ℕ) (old : State) (f : Frame) (new : State) (g : Frame) (r : Result ⊤ Error)
+      : Type 0 where
+    pub full : full ≤ total + 8 * nodes
+    pub is : r ≡ Err error.TooMany
+    pub state : new ≡ old
+    pub frame : g ≡ f
+
+  -- all exports of the root, from a total on: the nodes that were reached leave it below, or they are too many. What is
+  -- refused is known before anything is done
+  pub record ExportsAll (es : List (ExternName × ItemKind × ℕ)) (total : ℕ) (old : State) (f : Frame) (new : State)
+      (g : Frame) (r : Result ⊤ Error) : Type 0 where
+    pub made : MakesExports es total old f new g r
+    pub within : (total + 8 * made.nodes < full) ⊎ AreTooMany total made.nodes old f new g r
+    pub foretold : IsForetold old f new g r
 
   -- the exports of the root so far, up to the ith, of which so many are there and have so many nodes
   pub record ExportedSoFar (es : List (ExternName × ItemKind × ℕ)) (i n nodes : ℕ) (old : State) (f : Frame)

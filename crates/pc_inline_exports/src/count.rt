@@ -15,8 +15,8 @@ use pc_inline_state::{Context, Frame, State};
 use pc_parsed::{ExternName, ItemKind};
 use pc_types::{Error, Place};
 
-/// The most nodes that the exports may have: each counts eight in a total, which may not reach 4294967295.
-const MAX_NODES: u32 = 536870911;
+/// The number that a total may not reach. Each node counts eight in it.
+const FULL: u64 = 4294967295;
 
 /// A type that is exported is one node, if its number is held.
 fn type_count(context: &Context<'_>, index: u32) -> Option<NodeCount>
@@ -50,12 +50,12 @@ fn export_count(
     }
 }
 
-/// The nodes so far with those of one export more, unless they are too many then, or it is refused.
-fn count_more(nodes: u32, count: NodeCount, number: u64) -> Result<u32, Error>
-    ensures { CountsMore nodes count number result }
+/// The nodes so far with those of one export more, unless they are too many then for the total, or it is refused.
+fn count_more(total: u32, nodes: u32, count: NodeCount, number: u64) -> Result<u32, Error>
+    ensures { CountsMore total nodes count number result }
 {
     let nodes = nodes.saturating_add(count.nodes);
-    if nodes > MAX_NODES {
+    if u64::from(total) + 8 * u64::from(nodes) >= FULL {
         return Err(Error::TooMany);
     }
     match count.refusal {
@@ -64,24 +64,26 @@ fn count_more(nodes: u32, count: NodeCount, number: u64) -> Result<u32, Error>
     }
 }
 
-/// The exports are counted in their order, up to the first that is refused or that makes their nodes too many.
+/// The exports are counted in their order, up to the first that is refused or whose nodes are too many for the total.
 pub(crate) fn count_exports(
     context: &Context<'_>,
     state: &State<'_>,
     frame: &Frame,
     exports: &[(ExternName, ItemKind, u32)],
+    total: u32,
 ) -> Result<(), Error>
     requires input { IsInput context.now.table.now context.now.modules }
     requires root { (s : Scope) × (w : World)
         × RootStands context.now.table.now context.now.modules state.now frame.now s w [] }
-    ensures { CountsExports context.now.table.now context.now.modules exports.now state.now frame.now result }
+    requires below { total < 4294967295 }
+    ensures { CountsExports context.now.table.now context.now.modules exports.now total state.now frame.now result }
 {
     let counts = NodeCounts::new(context.alloc, state)?;
     let mut nodes: u32 = 0;
     let mut number: u64 = 0;
     for export in exports {
         if let Some(count) = export_count(context, state, frame, &counts, export.1, export.2) {
-            nodes = count_more(nodes, count, number)?;
+            nodes = count_more(total, nodes, count, number)?;
             number += 1;
         }
     }

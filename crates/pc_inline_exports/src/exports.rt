@@ -10,7 +10,7 @@ ghost use Rattle.pc_spec_reading.specs.World.{World};
 ghost use Rattle.pc_inline_state.specs.Named.{export_name};
 ghost use Rattle.pc_inline_state.specs.Points.{IsInput};
 ghost use Rattle.pc_inline_state.specs.Worlds.{HasNoExports};
-ghost use Rattle.pc_inline_exports.specs.Exporting.{IsForetold, MakesExports, RootStands};
+ghost use Rattle.pc_inline_exports.specs.Exporting.{ExportsAll, MakesExports, RootStands};
 ghost use Rattle.pc_inline_exports.specs.OneExport.{ExportsOne, FindsExport, IsRoot, item_definition};
 ghost use Rattle.pc_inline_exports.specs.Reaching.{IsReachable};
 
@@ -140,7 +140,7 @@ fn make_exports(
         × RootStands context.now.table.now context.now.modules state.old frame.old s w [] }
     requires unexported { HasNoExports state.old.graph }
     requires distinct { distinct_names (map export_name exports.now) ≡ true }
-    ensures { MakesExports context.now.table.now context.now.modules exports.now
+    ensures { MakesExports context.now.table.now context.now.modules exports.now 0
         state.old frame.old state.new frame.new result }
 {
     let mut number: u64 = 0;
@@ -157,23 +157,24 @@ fn make_exports(
     Ok(())
 }
 
-/// The exports of the root. They are counted before a node is made: what is refused among them, and that their nodes
-/// are too many, is answered with nothing done.
+/// The exports of the root. They are counted before a node is made, each node as eight in the total: what is refused
+/// among them, and that their nodes are too many, is answered with nothing done.
 pub fn export_all(
     context: &Context<'_>,
     state: &mut State<'_>,
     frame: &mut Frame,
     exports: &[(ExternName, ItemKind, u32)],
+    total: u32,
 ) -> Result<(), Error>
     requires input { IsInput context.now.table.now context.now.modules }
     requires root { (s : Scope) × (w : World)
         × RootStands context.now.table.now context.now.modules state.old frame.old s w [] }
     requires unexported { HasNoExports state.old.graph }
     requires distinct { distinct_names (map export_name exports.now) ≡ true }
-    ensures made { MakesExports context.now.table.now context.now.modules exports.now
+    requires below { total < 4294967295 }
+    ensures { ExportsAll context.now.table.now context.now.modules exports.now total
         state.old frame.old state.new frame.new result }
-    ensures foretold { IsForetold state.old frame.old state.new frame.new result }
 {
-    count_exports(context, state, frame, exports)?;
+    count_exports(context, state, frame, exports, total)?;
     make_exports(context, state, frame, exports)
 }

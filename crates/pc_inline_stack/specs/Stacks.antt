@@ -1,10 +1,12 @@
 -- Component instances one inside another: those of the code against the readers of the reading.
-use Rattle.std.specs.Prelude.{◌≡◌, ◌<◌, ◌≤◌, ◌+◌, ◌-◌, ◌⊎◌, ℕ, zero, suc, Bool, true, false, List, [], ◌∷◌}
+use Rattle.std.specs.Prelude.{◌≡◌, ◌<◌, ◌≤◌, ◌+◌, ◌-◌, ◌⊎◌, ⊤, ℕ, zero, suc, Bool, true, false, List, [], ◌∷◌}
 use Rattle.std.specs.Prelude.{◌*◌, All, drop, length, map, reverse, sum_by}
 use Rattle.std.specs.Prelude.{Option, None, Some, Result, Ok, Err, option_and_then, slice_get, unwrap_or}
+use Rattle.std.specs.List.{AllZip}
 use Rattle.std.specs.Result.{IfOk, OnOk}
 use Rattle.pc_numbers.specs.declared.component_entity.StaticComponentIndex.{StaticComponentIndex}
 use Rattle.pc_types.specs.declared.error.Error.{Error}
+use Rattle.pc_types.specs.declared.error.Error.TheVariants as error
 use Rattle.pc_types.specs.declared.module_record.ModuleRecord.{ModuleRecord}
 use Rattle.pc_types.specs.declared.parsed.TypeTable.{TypeTable}
 use Rattle.pc_types.specs.Table.{is_instance}
@@ -26,6 +28,7 @@ use Rattle.pc_local.specs.declared.item.LocalInitializer.{LocalInitializer}
 use Rattle.pc_local.specs.declared.item.LocalInitializer.TheVariants as local
 use Rattle.pc_local.specs.declared.item.Translation.{Translation}
 use Rattle.pc_local.specs.Standing.{ItemsStand, Names, no_names}
+use Rattle.pc_weights.specs.Weighs.{HasWeight}
 use Rattle.pc_inline_state.specs.declared.closure.Closure.{Closure}
 use Rattle.pc_inline_state.specs.declared.definition.ClosureId.{ClosureId}
 use Rattle.pc_inline_stack.specs.declared.driver.Open.{Open}
@@ -37,7 +40,7 @@ use Rattle.pc_inline_items.specs.Captures.{IsEnclosed}
 use Rattle.pc_inline_stack.specs.Driving.{reading_from}
 use Rattle.pc_inline_state.specs.Frames.{FrameStands}
 use Rattle.pc_inline_state.specs.KnowsSame.{KnowsSame}
-use Rattle.pc_inline_state.specs.Points.{IsSoundState, PointStands}
+use Rattle.pc_inline_state.specs.Points.{IsFullSomewhere, IsSoundState, PointStands}
 use Rattle.pc_inline_stack.specs.Reads.{Ends, items_from}
 use Rattle.pc_inline_state.specs.Tables.{Keeps, Tables, tables_of}
 use Rattle.pc_inline_state.specs.Trails.{undone}
@@ -47,6 +50,10 @@ use Rattle.pc_inline_state.specs.Worlds.{HasNoExports, WorldStands}
 abbrev pub body_at : List Translation → (root : Translation) → Option StaticComponentIndex → Translation
 body_at bodies root None = root
 body_at bodies root (Some s) = unwrap_or (slice_get bodies s.0) root
+
+-- these are the weights of the bodies: of each body of the reading that a body stands for, cut where a total is full
+abbrev pub AreWeights : TypeTable → List ModuleRecord → List Translation → List ℕ → Type 0
+AreWeights t ms bodies weights = AllZip (HasWeight t ms) bodies weights
 
 -- the items of a component instance
 abbrev pub items_of : List Translation → (root : Translation) → Open → List LocalInitializer
@@ -189,83 +196,77 @@ module _ (t : TypeTable) (ms : List ModuleRecord) (bodies : List Translation) (r
           {r : Reader} → OpenStands k o r → ChildHas o r → CallerStands caller w → Waits k o.frame caller.frame j
           → AllStand j os caller ws w.reader → AllStand k (caller ∷ os) o (w ∷ ws) r
 
--- no total is counted, or one that isn't too much
-unfoldable pub HasRoom : Option ℕ → Type 0
-HasRoom None = Unit {0}
-HasRoom (Some n) = n < full
-
--- no total is counted; or what was added and what is left to be added is no more than the root's items add, and what
--- the total has grown by
-unfoldable pub Grew : (first now : Option ℕ) → (added left count : ℕ) → Type 0
-Grew None x added left count = x ≡ None
-Grew (Some n) x added left count = (m : ℕ) × (x ≡ Some m) × (m < full) × (added + n + left ≤ count + m)
-
--- a total is counted, and it is too much
-unfoldable pub IsPast : (first : Option ℕ) → Outcome Moment → Type 0
-IsPast None o = ⊥
-IsPast (Some n) o = o ≡ past
+-- what was added and what is left to be added is no more than the root's items add, and what a total has grown by
+abbrev pub Grew : (counted total added left count : ℕ) → Type 0
+Grew counted total added left count = (total < full) × (added + counted + left ≤ count + total)
 
 module _ (t : TypeTable) (ms : List ModuleRecord) (limit : ℕ) (root : Translation) where
-  -- the reading from a moment on is where the code is, when so much has been added
-  pub record Reached (is : Items) (first : Moment) (st : State) (ks : List Open) (o : Open) (added : ℕ) : Type 0 where
+  -- the reading from a moment on is where the code is, in this total
+  pub record Reached (is : Items) (first : Moment) (st : State) (ks : List Open) (o : Open) (total : ℕ)
+      : Type 0 where
     pub waiting : List Waiting
     pub reader : Reader
     pub world : World
+    pub is_total : world.total ≡ Some total
     pub sound : IsSoundState t ms st
     pub world_stands : WorldStands st.types st.graph world
     pub unexported : HasNoExports st.graph
     pub all : AllStand t ms st.bodies.now root (tables_of st) st.types.resources ks o waiting reader
     pub same : reads_on t ms limit waiting reader o.next world ≡ reading_from t ms limit is first
-    pub grew : Grew first.world.total world.total added (all_most_left t st.bodies.now root ks o)
-        (most_of_items t root.initializers)
 
-  -- the reading began in some moment in which no total was counted
-  pub record Starts (old : State) (f : Frame) : Type 0 where
+  -- the reading began in some moment with this total
+  pub record Starts (old : State) (f : Frame) (counted : ℕ) : Type 0 where
     pub items : Items
     pub first : Moment
     pub stand : ItemsStand old.bodies.now no_names root.initializers items
     pub at : PointStands t ms old f first
-    pub uncounted : first.world.total ≡ None
+    pub is_total : first.world.total ≡ Some counted
 
-  -- so much has been added, whatever the moment was in which the reading began
-  pub record Driven (old : State) (f : Frame) (st : State) (ks : List Open) (o : Open) : Type 0 where
+  -- so much has been added since the reading began with a total, whatever the moment was
+  pub record Driven (old : State) (f : Frame) (counted : ℕ) (st : State) (ks : List Open) (o : Open) (total : ℕ)
+      : Type 0 where
     pub added : ℕ
     pub keeps : Keeps (tables_of old) (tables_of st)
     pub adds : Adds t added (tables_of old) (tables_of st)
+    pub grew : Grew counted total added (all_most_left t st.bodies.now root ks o) (most_of_items t root.initializers)
     pub deep : length ks < st.graph.num_runtime_component_instances
     pub within : st.graph.num_runtime_component_instances ≤ limit
-    pub starts : Starts old f
+    pub starts : Starts old f counted
     pub reads : (is : Items) (first : Moment) → ItemsStand old.bodies.now no_names root.initializers is
-        → PointStands t ms old f first → HasRoom first.world.total
-        → IsPast first.world.total (reading_from t ms limit is first) ⊎ Reached is first st ks o added
+        → PointStands t ms old f first → first.world.total ≡ Some counted → Reached is first st ks o total
 
-  -- component instances stand somewhere in a reading
-  unfoldable pub AreUnderway : State → List Open → Open → Type 0
-  AreUnderway st ks o = (old : State) × (f : Frame) × Driven old f st ks o
+  -- component instances stand somewhere in a reading, where the total is this
+  unfoldable pub AreUnderway : State → List Open → Open → (total : ℕ) → Type 0
+  AreUnderway st ks o total =
+      (old : State) × (f : Frame) × (counted : ℕ) × Driven old f counted st ks o total
 
-  -- the reading ends with an error
-  pub record Fails (is : Items) (first : Moment) (st : State) (f : Frame) (added : ℕ) (e : Error) : Type 0 where
-    pub ends : Ends t ms st f (reading_from t ms limit is first) (Err e)
-    pub total : Option ℕ
-    pub grew : Grew first.world.total total added 0 (most_of_items t root.initializers)
+  -- a reading ends with an error; too much is there where a list is full, or where the reading is past its total
+  unfoldable pub Fails : State → Frame → Outcome Moment → Error → Type 0
+  Fails st f o error.TooMany = IsFullSomewhere (tables_of st) ⊎ (o ≡ past)
+  Fails st f o e = Ends t ms st f o (Err e)
 
-  -- so it is when so much has been added
-  pub record Failed (old : State) (f : Frame) (st : State) (e : Error) : Type 0 where
+  -- the reading ends so, whatever the moment was in which it began with a total, and so much has been added
+  pub record Failed (old : State) (f : Frame) (counted : ℕ) (st : State) (total : ℕ) (e : Error) : Type 0 where
     pub added : ℕ
     pub keeps : Keeps (tables_of old) (tables_of st)
     pub adds : Adds t added (tables_of old) (tables_of st)
+    pub grew : Grew counted total added 0 (most_of_items t root.initializers)
     pub reads : (is : Items) (first : Moment) → ItemsStand old.bodies.now no_names root.initializers is
-        → PointStands t ms old f first → HasRoom first.world.total
-        → IsPast first.world.total (reading_from t ms limit is first) ⊎ Fails is first st f added e
+        → PointStands t ms old f first → first.world.total ≡ Some counted
+        → Fails st f (reading_from t ms limit is first) e
 
   -- the code went on, or the reading ends with the error
-  unfoldable pub GoesOn : {A : Type 0} → (old : State) → Frame → State → List Open → Open → Result A Error → Type 0
-  GoesOn old f st ks o (Ok x) = Driven old f st ks o
-  GoesOn old f st ks o (Err e) = Failed old f st e
+  unfoldable pub GoesOn : {A : Type 0} → (old : State) → Frame → (counted : ℕ) → State → List Open → Open → (total : ℕ)
+      → Result A Error → Type 0
+  GoesOn old f counted st ks o total (Ok x) = Driven old f counted st ks o total
+  GoesOn old f counted st ks o total (Err e) = Failed old f counted st total e
 
   -- a move goes on with the reading, wherever it began
-  unfoldable pub Moves : {A : Type 0} → State → List Open → Open → State → List Open → Open → Result A Error → Type 0
-  Moves st ks o st' ks' o' r = (old : State) (f : Frame) → Driven old f st ks o → GoesOn old f st' ks' o' r
+  unfoldable pub Moves : {A : Type 0} → State → List Open → Open → (total : ℕ) → State → List Open → Open → (total' : ℕ)
+      → Result A Error → Type 0
+  Moves st ks o total st' ks' o' total' r =
+      (old : State) (f : Frame) (counted : ℕ) → Driven old f counted st ks o total
+      → GoesOn old f counted st' ks' o' total' r
 
 -- less is left to do
 unfoldable pub Falls : (limit : ℕ) → (root : Translation) → State → List Open → Open → State → List Open → Open → Type 0
@@ -284,7 +285,7 @@ Turned limit root st ks o st' ks' o' false =
 -- item after whose number there is another one
 pub record Moved {A : Type 0} (t : TypeTable) (ms : List ModuleRecord) (limit : ℕ) (root : Translation) (st : State)
     (ks : List Open) (s : Stack) (st' : State) (s' : Stack) (r : Result A Error) : Type 0 where
-  pub moves : Moves t ms limit root st ks s.top st' (reverse s'.callers.items) s'.top r
+  pub moves : Moves t ms limit root st ks s.top s.total st' (reverse s'.callers.items) s'.top s'.total r
   pub falls : OnOk r (Falls limit root st ks s.top st' (reverse s'.callers.items) s'.top)
   pub waits : OnOk r (AreCounted s.callers.items → AreCounted s'.callers.items)
 
@@ -292,9 +293,17 @@ pub record Moved {A : Type 0} (t : TypeTable) (ms : List ModuleRecord) (limit : 
 -- number there is another one
 pub record Turns (t : TypeTable) (ms : List ModuleRecord) (limit : ℕ) (root : Translation) (st : State) (s : Stack)
     (st' : State) (s' : Stack) (r : Result Bool Error) : Type 0 where
-  pub moves : Moves t ms limit root st (reverse s.callers.items) s.top st' (reverse s'.callers.items) s'.top r
+  pub moves : Moves t ms limit root st (reverse s.callers.items) s.top s.total st' (reverse s'.callers.items) s'.top
+      s'.total r
   pub falls : IfOk r (Turned limit root st (reverse s.callers.items) s.top st' (reverse s'.callers.items) s'.top)
   pub waits : OnOk r (AreCounted s'.callers.items)
+
+-- all turns: they move until the root has ended
+pub record Ended (t : TypeTable) (ms : List ModuleRecord) (limit : ℕ) (root : Translation) (st : State) (s : Stack)
+    (st' : State) (s' : Stack) (r : Result ⊤ Error) : Type 0 where
+  pub moves : Moves t ms limit root st (reverse s.callers.items) s.top s.total st' (reverse s'.callers.items) s'.top
+      s'.total r
+  pub ends : OnOk r ((s'.callers.items ≡ []) × (length (items_of st'.bodies.now root s'.top) ≤ s'.top.next))
 
 -- whether an item begins a component instance
 abbrev pub begins_child : LocalInitializer → Bool

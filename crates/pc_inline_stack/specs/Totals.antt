@@ -4,7 +4,6 @@ use Rattle.pc_types_lists.specs.Adds.{AddsTypes}
 use Rattle.pc_types_lists.specs.Types.{Types}
 use Rattle.pc_types.specs.declared.module_record.ModuleRecord.{ModuleRecord}
 use Rattle.pc_types.specs.declared.parsed.TypeTable.{TypeTable}
-use Rattle.pc_spec_reading.specs.Answer.{IsPast}
 use Rattle.pc_spec_reading.specs.Item.{Items}
 use Rattle.pc_spec_reading.specs.Outcome.{done}
 use Rattle.pc_spec_reading.specs.Reading.{Reading, reading_of}
@@ -32,15 +31,11 @@ module _ (t : TypeTable) (ms : List ModuleRecord) (limit counted : ℕ) (body : 
     pub lists : (l : ListName) → with_modules g l ≤ added
     pub resources : length g.imported_resources + length g.resources ≤ added
 
-  -- the total is too much, or what was added is bounded by it
-  abbrev pub CountsGraph : (old new : Types) → ComponentDfg → Type 0
-  CountsGraph old new g = IsPast t ms limit counted body ⊎ IsCounted old new g
-
-  -- no list of types but that of core signatures grew by more than `added`, and the tables that are new are those of
-  -- entries, in as many component instances and one more. Where the total isn't too much, it grows by more than
-  -- `added`, if that isn't 0
-  pub record GainsFew (old new : Types) : Type 0 where
-    pub added : ℕ
-    pub types : AddsTypes t added old new
-    pub tables : AddsTables t (added + 1) old new
-    pub few : IsPast t ms limit counted body ⊎ ((added ≡ 0) ⊎ (counted + added + 1 < full))
+-- no list of types but that of core signatures grew by more than `added`, and the tables that are new are those of
+-- entries, in as many component instances and one more. A total that began with this one grew by more than `added`, if
+-- that isn't 0, and wasn't full
+pub record GainsFew (t : TypeTable) (counted : ℕ) (old new : Types) : Type 0 where
+  pub added : ℕ
+  pub types : AddsTypes t added old new
+  pub tables : AddsTables t (added + 1) old new
+  pub few : (added ≡ 0) ⊎ (counted + added + 1 < full)

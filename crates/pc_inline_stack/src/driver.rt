@@ -2,7 +2,7 @@
 //! component instance that it stands in goes on when these have been read.
 
 ghost use Rattle.std.specs.Prelude.{◌≡◌, ◌<◌, ◌≤◌, ◌+◌, ◌*◌, ◌++◌, ◌∷◌, ℕ, List, [], false, true, length, map, reverse};
-ghost use Rattle.std.specs.Prelude.{None, Some, slice_get, option_and_then, OnOk};
+ghost use Rattle.std.specs.Prelude.{None, Some, slice_get, option_and_then, OnOk, unwrap_or};
 ghost use Rattle.pc_types.specs.Names.{distinct_names};
 ghost use Rattle.pc_types.specs.declared.parsed.TypeTable.{TypeTable};
 ghost use Rattle.pc_types.specs.Table.{is_instance, table_fault};
@@ -24,9 +24,10 @@ ghost use Rattle.pc_inline_state.specs.Tables.{Keeps, tables_of};
 ghost use Rattle.pc_inline_state.specs.Trails.{Trails, undone};
 ghost use Rattle.pc_inline_stack.specs.Begins.{converting_for};
 ghost use Rattle.pc_inline_stack.specs.Calls.{AddsChild, Calls, GivesBack, IsReturn, Stays, TrailsBack};
-ghost use Rattle.pc_inline_stack.specs.Driving.{Counts, Runs};
+ghost use Rattle.pc_inline_stack.specs.Driving.{AddsCounted, Runs};
 ghost use Rattle.pc_inline_stack.specs.Reads.{AreItems};
-ghost use Rattle.pc_inline_stack.specs.Stacks.{AreCounted, AreUnderway, Moved, Turns, begins_child, body_at};
+ghost use Rattle.pc_inline_stack.specs.Stacks.{AreCounted, AreUnderway, AreWeights, Moved, Turns, begins_child};
+ghost use Rattle.pc_inline_stack.specs.Stacks.{Ended, body_at};
 ghost use Rattle.pc_inline_stack.specs.Stacks.{instance_type_at, items_of};
 
 use crate::begin::begin_instance;
@@ -56,11 +57,12 @@ pub struct Open {
 }
 
 /// The component instances that are being read: the innermost, and those that wait for it, each at the item that began
-/// the next.
+/// the next; and the total of the reading so far.
 #[derive(Drop)]
 pub struct Stack {
     pub callers: Vec<Open>,
     pub top: Open,
+    pub total: u32,
 }
 
 /// What a child begins with.
@@ -184,6 +186,17 @@ fn convert_for(types: &mut ComponentTypesBuilder, instance: RuntimeComponentInst
     types.resources_mut().set_current_instance(instance);
 }
 
+/// The weight of the body of this number.
+fn weight_of(
+    weights: &PrimaryMap<StaticComponentIndex, u32>,
+    body: StaticComponentIndex,
+) -> u32
+    ensures { result ≡ unwrap_or (slice_get weights.now body.0) 4294967295 }
+{
+    // Each component has its weight among these.
+    weights.get(body).copied().unwrap_or(u32::MAX)
+}
+
 /// An instantiation: the component instance waits at it while the items of its child are read.
 fn enter(
     context: &Context<'_>,
@@ -194,10 +207,12 @@ fn enter(
     args: &[(Text, ItemKind, u32)],
     ty: u32,
     limit: u32,
+    weights: &PrimaryMap<StaticComponentIndex, u32>,
 ) -> Result<(), Error>
     requires input { IsInput context.now.table.now context.now.modules }
+    requires weights { AreWeights context.now.table.now context.now.modules state.old.bodies.now weights.now }
     requires here { AreUnderway context.now.table.now context.now.modules limit root.now
-        state.old (reverse stack.old.callers.items) stack.old.top }
+        state.old (reverse stack.old.callers.items) stack.old.top stack.old.total }
     requires item { slice_get (items_of state.old.bodies.now root.now stack.old.top) stack.old.top.next
         ≡ Some (local.ComponentInstantiate component args.now ty) }
     requires next { stack.old.top.next < 18446744073709551615 }
@@ -209,7 +224,8 @@ fn enter(
         Ok(call) => call,
         Err(error) => return Err(error_at(error, stack.top.frame.place_of(stack.top.next))),
     };
-    let instance = begin_instance(&mut state.graph, limit)?;
+    let weight = weight_of(weights, call.body);
+    let instance = begin_instance(&mut state.graph, limit, &mut stack.total, weight)?;
     let converted = child_types(context, &mut stack.top.frame);
     let child = Open {
         frame: Frame::new(context.alloc, converted, instance, call.arguments),
@@ -236,7 +252,7 @@ fn advance(
     requires ready { IsReady context.now }
     requires sound { IsSoundBody (length context.now.modules) root.now }
     requires here { AreUnderway context.now.table.now context.now.modules limit root.now
-        state.old (reverse stack.old.callers.items) stack.old.top }
+        state.old (reverse stack.old.callers.items) stack.old.top stack.old.total }
     requires item { slice_get (items_of state.old.bodies.now root.now stack.old.top) stack.old.top.next
         ≡ Some item.now }
     requires plain { begins_child item.now ≡ false }
@@ -363,7 +379,7 @@ fn leave(
     requires ready { IsReady context.now }
     requires sound { IsSoundBody (length context.now.modules) root.now }
     requires here { AreUnderway context.now.table.now context.now.modules limit root.now
-        state.old (caller ∷ reverse stack.old.callers.items) stack.old.top }
+        state.old (caller ∷ reverse stack.old.callers.items) stack.old.top stack.old.total }
     requires next { caller.next < 18446744073709551615 }
     requires ended { length (items_of state.old.bodies.now root.now stack.old.top) ≤ stack.old.top.next }
     ensures { Moved context.now.table.now context.now.modules limit root.now
@@ -396,12 +412,14 @@ fn read_item(
     stack: &mut Stack,
     item: &LocalInitializer,
     limit: u32,
+    weights: &PrimaryMap<StaticComponentIndex, u32>,
 ) -> Result<(), Error>
     requires input { IsInput context.now.table.now context.now.modules }
     requires ready { IsReady context.now }
     requires sound { IsSoundBody (length context.now.modules) root.now }
+    requires weights { AreWeights context.now.table.now context.now.modules state.old.bodies.now weights.now }
     requires here { AreUnderway context.now.table.now context.now.modules limit root.now
-        state.old (reverse stack.old.callers.items) stack.old.top }
+        state.old (reverse stack.old.callers.items) stack.old.top stack.old.total }
     requires item { slice_get (items_of state.old.bodies.now root.now stack.old.top) stack.old.top.next
         ≡ Some item.now }
     requires next { stack.old.top.next < 18446744073709551615 }
@@ -422,6 +440,7 @@ fn read_item(
             args.as_slice(),
             *ty,
             limit,
+            weights,
         ),
         _ => advance(context, state, root, stack, item, limit),
     }
@@ -434,12 +453,14 @@ fn turn(
     root: &Translation,
     stack: &mut Stack,
     limit: u32,
+    weights: &PrimaryMap<StaticComponentIndex, u32>,
 ) -> Result<bool, Error>
     requires input { IsInput context.now.table.now context.now.modules }
     requires ready { IsReady context.now }
     requires sound { IsSoundBody (length context.now.modules) root.now }
+    requires weights { AreWeights context.now.table.now context.now.modules state.old.bodies.now weights.now }
     requires here { AreUnderway context.now.table.now context.now.modules limit root.now
-        state.old (reverse stack.old.callers.items) stack.old.top }
+        state.old (reverse stack.old.callers.items) stack.old.top stack.old.total }
     requires waits { AreCounted stack.old.callers.items }
     ensures { Turns context.now.table.now context.now.modules limit root.now
         state.old stack.old state.new stack.new result }
@@ -447,7 +468,7 @@ fn turn(
     let body = body_at(state.bodies, root, stack.top.body);
     match body.initializers.as_slice().get(stack.top.next) {
         Some(item) => {
-            read_item(context, state, root, stack, item, limit)?;
+            read_item(context, state, root, stack, item, limit, weights)?;
             Ok(true)
         }
         None => match stack.callers.pop() {
@@ -460,28 +481,56 @@ fn turn(
     }
 }
 
+/// All moves, until the root has ended.
+fn turns(
+    context: &Context<'_>,
+    state: &mut State<'_>,
+    root: &Translation,
+    stack: &mut Stack,
+    limit: u32,
+    weights: &PrimaryMap<StaticComponentIndex, u32>,
+) -> Result<(), Error>
+    requires input { IsInput context.now.table.now context.now.modules }
+    requires ready { IsReady context.now }
+    requires sound { IsSoundBody (length context.now.modules) root.now }
+    requires weights { AreWeights context.now.table.now context.now.modules state.old.bodies.now weights.now }
+    requires here { AreUnderway context.now.table.now context.now.modules limit root.now
+        state.old (reverse stack.old.callers.items) stack.old.top stack.old.total }
+    requires waits { AreCounted stack.old.callers.items }
+    ensures { Ended context.now.table.now context.now.modules limit root.now
+        state.old stack.old state.new stack.new result }
+{
+    'moves: while turn(context, state, root, stack, limit, weights)? {}
+    Ok(())
+}
+
 /// The items of the root are read in order, with those of all component instances that they begin: the root after
 /// them.
+///
+/// Each component instance counts one in the total, and the weight of its body, when it begins. `weights` are those of
+/// the bodies, by number, cut where a total is full.
 pub fn run(
     context: &Context<'_>,
     state: &mut State<'_>,
     root: &Translation,
     frame: Frame,
     limit: u32,
+    weights: &PrimaryMap<StaticComponentIndex, u32>,
+    total: &mut u32,
 ) -> Result<Frame, Error>
     requires input { IsInput context.now.table.now context.now.modules }
     requires ready { IsReady context.now }
     requires sound { IsSoundBody (length context.now.modules) root.now }
+    requires weights { AreWeights context.now.table.now context.now.modules state.old.bodies.now weights.now }
     requires here { IsPoint context.now.table.now context.now.modules state.old frame }
     requires items { AreItems state.old.bodies.now root.now.initializers }
     requires begun { 0 < state.old.graph.num_runtime_component_instances }
     requires within { state.old.graph.num_runtime_component_instances ≤ limit }
+    requires below { total.old < 4294967295 }
     ensures keeps { Keeps (tables_of state.old) (tables_of state.new) }
-    ensures adds { (w : ℕ) × Adds context.now.table.now w (tables_of state.old) (tables_of state.new) }
+    ensures adds { AddsCounted context.now.table.now root.now.initializers total.old total.new state.old state.new }
     ensures runs { Runs context.now.table.now context.now.modules limit root.now.initializers
-        state.old frame state.new result }
-    ensures counts { Counts context.now.table.now context.now.modules limit root.now.initializers
-        state.old frame state.new result }
+        state.old frame total.old state.new total.new result }
 {
     let mut stack = Stack {
         callers: Vec::new(context.alloc),
@@ -491,7 +540,10 @@ pub fn run(
             body: None,
             next: 0,
         },
+        total: *total,
     };
-    'moves: while turn(context, state, root, &mut stack, limit)? {}
+    let ended = turns(context, state, root, &mut stack, limit, weights);
+    *total = stack.total;
+    ended?;
     Ok(stack.top.frame)
 }

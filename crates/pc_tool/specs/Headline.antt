@@ -42,11 +42,10 @@ IsPlanFor input plan modules =
 abbrev pub IsErrorOf : Input → Error → Type 0
 IsErrorOf input e = IsRefusalOf input.table input.intrinsics input.tunables.max_component_instances input.payloads e
 
--- an input is valid: a reading is the answer by the order of answers, its total counted
-pub record IsValid (input : Input) : Type 0 where
-  pub reading : Reading
-  pub answer : answer_with input.table input.intrinsics input.tunables.max_component_instances
-      (Some (counted input.table 0 input.payloads)) input.payloads ≡ Some (Ok reading)
+-- an input is valid: a reading is the answer by the order of answers, where no types were held before
+abbrev pub IsValidInput : Input → Type 0
+IsValidInput input =
+    IsValid input.table input.intrinsics input.tunables.max_component_instances 0 input.payloads
 
 -- a text is the one that a command makes of a plan and its modules
 unfoldable pub Prints : Command → ComponentTranslation → List ModuleTranslation → (text : List ℕ) → Type 0

@@ -1,5 +1,5 @@
 -- The theorem: the plan that a translation answers does what the nested reading of the payloads says.
-use Rattle.std.specs.Prelude.{◌≡◌, ◌<◌, ◌+◌, ◌⊎◌, ℕ, true, List, map, length, option_map, Option, None, Some}
+use Rattle.std.specs.Prelude.{◌≡◌, ◌<◌, ◌+◌, ℕ, true, List, map, length, option_map, Option, Some, Ok}
 use Rattle.pc_types_lists.specs.Adds.{AddsTypes}
 use Rattle.pc_types_lists.specs.Types.{IsBuilder, Types, no_types}
 use Rattle.pc_types.specs.declared.error.Error.{Error}
@@ -18,23 +18,18 @@ use Rattle.pc_info.specs.Modules.{module_view}
 use Rattle.pc_info.specs.View.{view, counts_view}
 use Rattle.pc_info.specs.Apart.{AreApart}
 use Rattle.pc_parsed.specs.declared.payload.Payload.{Payload}
-use Rattle.pc_spec_reading.specs.Answer.{IsPast}
-use Rattle.pc_spec_reading.specs.Item.{Items}
-use Rattle.pc_spec_reading.specs.Nest.{root_of}
-use Rattle.pc_spec_reading.specs.Outcome.{done}
-use Rattle.pc_spec_reading.specs.Reading.{Reading, reading_of}
+use Rattle.pc_spec_reading.specs.Reading.{Reading}
 use Rattle.pc_spec_reading.specs.Section.{modules_of}
+use Rattle.pc_spec_reading.specs.Total.{counted}
 use Rattle.pc_spec_reading.specs.World.{full}
 use Rattle.pc_spec_facts.specs.Recorded.{bare, facts_at}
 use Rattle.pc_spec_wiring.specs.Confined.{IsConfinedRun}
 use Rattle.pc_spec_wiring.specs.Facts.{AreExact}
 use Rattle.pc_spec_wiring.specs.Reached.{KeepsThreadsIn}
 use Rattle.pc_inline_state.specs.Gained.{AddsTables}
-use Rattle.pc_inline_stack.specs.Totals.{GainsFew, HasTotal}
 use Rattle.pc_translate.specs.Adapted.{Adapts}
-use Rattle.pc_translate.specs.Adapters.{first_lacking}
 use Rattle.pc_translate.specs.Asked.{AreSigned, AsksHost, Declares}
-use Rattle.pc_translate.specs.Causes.{CanBeRead, HasCause, HasRoot, meaning}
+use Rattle.pc_translate.specs.Causes.{HasCause, answer_in_order}
 use Rattle.pc_translate.specs.Lists.{FindsExports, IsTidy, NumbersItems}
 use Rattle.pc_translate.specs.Typed.{TypedAs}
 
@@ -53,18 +48,15 @@ abbrev pub counts_of : {τ : Type 0} → PlanView τ → Reading → Types → C
 counts_of plan r types = own_counts plan r.begun (length types.future_tables) (length types.stream_tables)
     (length types.error_context_tables)
 
--- a plan and its modules are what a translation of payloads is to answer, where the types builder holds these types
--- afterwards
-pub record Translates (t : TypeTable) (exposed : Option (List ℕ)) (limit : ℕ) (ps : List Payload) (types : Types)
+-- a plan and its modules are what a translation of payloads is to answer, where the types builder held so many types
+-- before, and holds these afterwards
+pub record Translates (t : TypeTable) (exposed : Option (List ℕ)) (limit held : ℕ) (ps : List Payload) (types : Types)
     (plan : ComponentTranslation) (modules : List ModuleTranslation) : Type 0 where
-  pub can_be_read : CanBeRead t exposed ps
   pub result : Reading
-  pub outcome : meaning t exposed limit ps ≡ Some (done result)
+  pub answer : answer_in_order t exposed limit held ps ≡ Some (Ok result)
   pub does : DoesAs (view plan modules) result
   -- and so it does with its types: under each number the builder holds what the reading has there
   pub typed : TypedAs types (view plan modules) result
-  -- no adapter lacks an option
-  pub complete : first_lacking result ≡ None
   -- what is recorded of them aside, the modules are those of the payloads, in order, and behind them those of adapters
   pub adapts : Adapts types (modules_of ps) result (map bare modules) typed.never_stuck.last
   -- the plan counts what it has
@@ -90,48 +82,37 @@ pub record Translates (t : TypeTable) (exposed : Option (List ℕ)) (limit : ℕ
   -- are known, and what importers may know
   pub facts : AreExact (view plan modules) (map module_view modules) (facts_at modules)
 
--- no list of types but that of core signatures grows by much, unless the total of the root's reading is too much; new
--- core signatures are the table's, and new tables of futures, streams and error contexts are those of entries. So it is
--- wherever the total begins
-unfoldable pub Gains : TypeTable → (exposed : Option (List ℕ)) → (limit : ℕ) → List Payload → (old new : Types) → Type 0
-Gains t exposed limit ps old new =
-    (body : Items) → root_of exposed ps ≡ Some body → (start : ℕ)
-    → GainsFew t (modules_of ps) limit start body old new
-
--- no list of types but that of core signatures grew by more than `added`, and new core signatures are the table's. From
--- where it begins the total of the reading grows by more than `added`, unless it is too much. The reading is done, and
--- each new table of futures, streams or error contexts is that of an entry in a component instance that begins in it
-pub record GainsCounted (t : TypeTable) (ms : List ModuleRecord) (limit start : ℕ) (body : Items) (old new : Types)
-    : Type 0 where
+-- the types that a builder gained where payloads were translated, if the total before the first item is this: no list but
+-- that of core signatures grew by more than `added`, which is less than what the total of the reading has grown by, and
+-- new core signatures are the table's. Each new table of futures, streams or error contexts is that of an entry in a
+-- component instance that begins in the reading
+pub record GainsCounted (t : TypeTable) (counted : ℕ) (r : Reading) (old new : Types) : Type 0 where
+  pub total : ℕ
+  pub is_total : r.total ≡ Some total
+  pub below : total < full
   pub added : ℕ
+  pub few : counted + added < total
   pub types : AddsTypes t added old new
-  pub few : IsPast t ms limit start body
-      ⊎ ((total : ℕ) × HasTotal t ms limit start body total × (total < full) × (start + added < total))
-  pub result : Reading
-  pub outcome : reading_of t ms limit None body ≡ done result
-  pub tables : AddsTables t result.begun old new
+  pub tables : AddsTables t r.begun old new
 
--- so it is where payloads were translated, wherever the total begins
-unfoldable pub CountsGained : TypeTable → (exposed : Option (List ℕ)) → (limit : ℕ) → List Payload
+-- so it is of the reading of payloads, where the builder held so many types before
+unfoldable pub CountsGained : TypeTable → (exposed : Option (List ℕ)) → (limit held : ℕ) → List Payload
     → (old new : Types) → Type 0
-CountsGained t exposed limit ps old new =
-    (body : Items) → root_of exposed ps ≡ Some body → (start : ℕ)
-    → GainsCounted t (modules_of ps) limit start body old new
+CountsGained t exposed limit held ps old new =
+    (r : Reading) × (answer_in_order t exposed limit held ps ≡ Some (Ok r))
+    × GainsCounted t (counted t held ps) r old new
 
--- the types of a builder that held none before the payloads were translated: of each kind but core signatures fewer
--- than their reading counts, wherever the total begins, and no tables but those of entries in component instances that
--- begin
+-- the types of a builder that held none before the payloads were translated
 pub record AreGained (t : TypeTable) (exposed : Option (List ℕ)) (limit : ℕ) (ps : List Payload) (types : Types)
     : Type 0 where
   pub builder : IsBuilder types
-  pub few : HasRoot exposed ps (λ body. (start : ℕ)
-      → GainsCounted t (modules_of ps) limit start body no_types types)
+  pub few : CountsGained t exposed limit 0 ps no_types types
 
 -- a plan and its modules are what a translation is to answer, with a types builder that held no types before
 unfoldable pub IsPlanOf : TypeTable → (exposed : Option (List ℕ)) → (limit : ℕ) → List Payload
     → ComponentTranslation → List ModuleTranslation → Type 0
 IsPlanOf t exposed limit ps plan modules =
-    (types : Types) × AreGained t exposed limit ps types × Translates t exposed limit ps types plan modules
+    (types : Types) × AreGained t exposed limit ps types × Translates t exposed limit 0 ps types plan modules
 
 -- an error has its cause, with a types builder that held no types before
 unfoldable pub IsRefusalOf : TypeTable → (exposed : Option (List ℕ)) → (limit : ℕ) → List Payload → Error → Type 0

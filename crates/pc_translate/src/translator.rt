@@ -286,28 +286,33 @@ pub fn translate(
 ) -> Result<PlanWithModules, Error>
     // The plan does what the nested reading of the payloads says.
     ensures translated { IfOk result (λ r. Translates table.now (option_map (λ name. name.now) exposed.entry)
-        tunables.now.max_component_instances payloads.now types.new r.0 r.1) }
+        tunables.now.max_component_instances (types_held types.old) payloads.now types.new r.0 r.1) }
 
-    // Each refusal has its cause.
+    // Each refusal is the answer by the order of answers, or memory was wanting.
     ensures refused { IfErr result (λ e. HasCause table.now (option_map (λ name. name.now) exposed.entry)
         tunables.now.max_component_instances (types_held types.old) payloads.now e) }
 
+    // Valid payloads are refused for want of memory alone.
+    ensures complete { IsValid table.now (option_map (λ name. name.now) exposed.entry)
+        tunables.now.max_component_instances (types_held types.old) payloads.now
+        → IfErr result (λ e. e ≡ error.NoMemory) }
+
     ensures keeps { KeepsTypes types.old types.new }
 
-    // It gains nothing where the payloads can't be read.
-    ensures early { (CanBeRead table.now (option_map (λ name. name.now) exposed.entry) payloads.now → ⊥)
-        → types.new ≡ types.old }
+    // The builder gains nothing where the payloads don't come to be read.
+    ensures early { (CanBeRead table.now (option_map (λ name. name.now) exposed.entry) (types_held types.old)
+        payloads.now → ⊥) → types.new ≡ types.old }
 
-    // The builder gains few types, unless the total of the reading is too much.
-    ensures adds { Gains table.now (option_map (λ name. name.now) exposed.entry)
-        tunables.now.max_component_instances payloads.now types.old types.new }
+    // It gains few types, whatever is answered.
+    ensures adds { GainsFew table.now (counted table.now (types_held types.old) payloads.now) types.old types.new }
 
     // And those of a plan are fewer than the reading counts.
     ensures counts { IfOk result (λ _. CountsGained table.now (option_map (λ name. name.now) exposed.entry)
-        tunables.now.max_component_instances payloads.now types.old types.new) }
+        tunables.now.max_component_instances (types_held types.old) payloads.now types.old types.new) }
 {
-    let program = program_of(alloc, table, exposed, payloads)?;
-    let translated = plan_of(alloc, tunables, table, types, program)?;
+    let counted = counted(table, types_held(types), payloads);
+    let program = program_of(alloc, table, exposed, payloads, counted)?;
+    let translated = plan_of(alloc, tunables, table, types, program, counted)?;
     // No two signatures are equal, so a lowering has the one of its options; and a type has one number, so an adapter has.
     types.types_are_distinct();
     types.numbers_are_trees();
@@ -417,27 +422,33 @@ impl<'a> Translator<'a> {
         // The plan does what the nested reading of the payloads says.
         ensures translated { IfOk result (λ r. Translates self.entry.table.now
             (option_map (λ name. name.now) self.entry.exposed) self.entry.tunables.now.max_component_instances
-            component.now self.exit.0.now r.0 r.1) }
+            (types_held self.entry.types.now) component.now self.exit.0.now r.0 r.1) }
 
-        // Each refusal has its cause.
+        // Each refusal is the answer by the order of answers, or memory was wanting.
         ensures refused { IfErr result (λ e. HasCause self.entry.table.now
             (option_map (λ name. name.now) self.entry.exposed) self.entry.tunables.now.max_component_instances
             (types_held self.entry.types.now) component.now e) }
 
+        // Valid payloads are refused for want of memory alone.
+        ensures complete { IsValid self.entry.table.now (option_map (λ name. name.now) self.entry.exposed)
+            self.entry.tunables.now.max_component_instances (types_held self.entry.types.now) component.now
+            → IfErr result (λ e. e ≡ error.NoMemory) }
+
         ensures keeps { KeepsTypes self.entry.types.now self.exit.0.now }
 
-        // It gains nothing where the payloads can't be read.
-        ensures early { (CanBeRead self.entry.table.now (option_map (λ name. name.now) self.entry.exposed) component.now
-            → ⊥) → self.exit.0.now ≡ self.entry.types.now }
+        // The builder gains nothing where the payloads don't come to be read.
+        ensures early { (CanBeRead self.entry.table.now (option_map (λ name. name.now) self.entry.exposed)
+            (types_held self.entry.types.now) component.now → ⊥) → self.exit.0.now ≡ self.entry.types.now }
 
-        // The builder gains few types, unless the total of the reading is too much.
-        ensures adds { Gains self.entry.table.now (option_map (λ name. name.now) self.entry.exposed)
-            self.entry.tunables.now.max_component_instances component.now self.entry.types.now self.exit.0.now }
+        // It gains few types, whatever is answered.
+        ensures adds { GainsFew self.entry.table.now
+            (counted self.entry.table.now (types_held self.entry.types.now) component.now)
+            self.entry.types.now self.exit.0.now }
 
         // And those of a plan are fewer than the reading counts.
         ensures counts { IfOk result (λ _. CountsGained self.entry.table.now
             (option_map (λ name. name.now) self.entry.exposed) self.entry.tunables.now.max_component_instances
-            component.now self.entry.types.now self.exit.0.now) }
+            (types_held self.entry.types.now) component.now self.entry.types.now self.exit.0.now) }
     {
         let Translator {
             types,
