@@ -1,6 +1,6 @@
 -- The exports of the root while they are made, against the nodes of the reading.
-use Rattle.std.specs.Prelude.{◌≡◌, ◌<◌, ◌≤◌, ◌+◌, ◌*◌, ◌⊎◌, ⊤, ℕ, true, List, [], ◌++◌, map, take, drop, Result, Ok, Err}
-use Rattle.std.specs.Prelude.{Option, if◌then◌else◌}
+use Rattle.std.specs.Prelude.{◌≡◌, ◌<◌, ◌≤◌, ◌+◌, ◌*◌, ◌⊎◌, ⊤, ℕ, true, List, [], ◌++◌, map, take, drop}
+use Rattle.std.specs.Prelude.{Option, Result, Ok, Err, if◌then◌else◌}
 use Rattle.std.specs.List.{AllZip}
 use Rattle.pc_entity.specs.Lists.{names_of}
 use Rattle.pc_types_lists.specs.Adds.{most_types}
