@@ -1,8 +1,8 @@
 -- The modules of adapters of a plan are those of the adapters that the reading makes.
-use Rattle.std.proofs.Common.{◌≡◌, ◌+◌, ◌++◌, ℕ, zero, suc, All, List, [], ◌∷◌, length, map, None, Some, refl, sym, ap}
+use Rattle.std.proofs.Common.{◌≡◌, ◌+◌, ℕ, zero, suc, All, List, [], ◌∷◌, length, map, None, Some, refl, sym, ap}
 use Rattle.std.proofs.Common.{subst, ◌∙◌, arith}
 use Rattle.std.specs.Prelude.{slice_get}
-use Rattle.std.specs.List.{AllZip, flat_map}
+use Rattle.std.specs.List.{AllZip}
 use Rattle.std.proofs.lemmas.Option.{none-some, same_Some}
 use Rattle.pc_entity.proofs.LookupLemmas.{found_at}
 use Rattle.pc_numbers.specs.declared.component_entity.StaticModuleIndex.{StaticModuleIndex}
@@ -12,11 +12,10 @@ use Rattle.pc_types.specs.declared.parsed.TypeTable.{TypeTable}
 use Rattle.pc_types.specs.TypeTree.{Identity}
 use Rattle.pc_types_lists.specs.Types.{Types}
 use Rattle.pc_spec_plan.specs.CoreValue.{CoreValue}
-use Rattle.pc_spec_plan.specs.Log.{Instantiation, of_static}
+use Rattle.pc_spec_plan.specs.Log.{of_static}
 use Rattle.pc_spec_plan.specs.Machine.{RuntimeInstance, State}
 use Rattle.pc_trampoline.specs.declared.part.Mark.{Mark}
 use Rattle.pc_info.specs.declared.module.ModuleTranslation.{ModuleTranslation}
-use Rattle.pc_parsed.specs.Mark as reading
 use Rattle.pc_spec_reading.specs.Reading.{Reading}
 use Rattle.pc_spec_adapt.specs.Asked.{function_facts}
 use Rattle.pc_spec_adapt.specs.Needs.{Needs, adapters_of}
@@ -34,7 +33,7 @@ use Rattle.pc_dfg.proofs.SameLemmas.{adapter_signed, defs_same}
 use Rattle.pc_dfg.proofs.UniqueLemmas.{means_unique}
 use Rattle.pc_dfg_finish.specs.Apart.{IsOfAdapters}
 use Rattle.pc_adapt.specs.Imports.{is_transparent}
-use Rattle.pc_adapt_partition.specs.Adapted.{AreAdapted, AreGivenTo, AreModulesOf, members_from, numbers_of, values_for}
+use Rattle.pc_adapt_partition.specs.Adapted.{AreAdapted, AreGivenTo, AreModulesOf, numbers_of, values_for}
 use Rattle.pc_adapt_partition.specs.Partitions.{facts_by}
 use Rattle.pc_adapt_partition.specs.Wired.{HaveValues}
 use Rattle.pc_inline.specs.Inlines.{GraphStands}

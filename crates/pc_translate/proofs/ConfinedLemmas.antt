@@ -9,7 +9,7 @@ use Rattle.pc_numbers.specs.declared.runtime.ResourceIndex.{ResourceIndex}
 use Rattle.pc_types.specs.declared.module_record.ModuleRecord.{ModuleRecord}
 use Rattle.pc_types.specs.TypeTree.{Identity}
 use Rattle.pc_types_lists.specs.Types.{Types}
-use Rattle.pc_spec_plan.specs.CoreValue.{CoreValue, erased, map_value}
+use Rattle.pc_spec_plan.specs.CoreValue.{CoreValue, map_value}
 use Rattle.pc_spec_plan.specs.Log.{Entry, Instantiation, declared, declared_resource, erase_entry, erase_owned, instances_of}
 use Rattle.pc_spec_plan.specs.Log.{instantiated, made, needed, of_host, of_static, trace}
 use Rattle.pc_spec_plan.specs.Machine.{RuntimeInstance, State, adapter_from, owned_instances, run}
@@ -19,7 +19,7 @@ use Rattle.pc_trampoline.specs.declared.part.Mark.{Mark}
 use Rattle.pc_info.specs.declared.module.ModuleTranslation.{ModuleTranslation}
 use Rattle.pc_info.specs.Modules.{adapters_view}
 use Rattle.pc_spec_reading.specs.Reading.{Reading}
-use Rattle.pc_spec_adapt.specs.Needs.{adapters_of, made_adapter}
+use Rattle.pc_spec_adapt.specs.Needs.{made_adapter}
 use Rattle.pc_spec_adapt.specs.Record.{Member, functions_in, records_of}
 use Rattle.pc_spec_wiring.specs.Confined.{IsConfined, IsConfinedRun}
 use Rattle.pc_confined.proofs.RunLemmas.{run_confined}

@@ -1,8 +1,8 @@
 -- The places of a graph's adapters are right: the module of a group defines a function for each of its adapters.
-use Rattle.std.proofs.Common.{◌≡◌, ◌<◌, ◌≤◌, ◌+◌, ◌++◌, ◌⊎◌, inl, inr, ℕ, zero, suc, Bool, true, false, All, List, [], ◌∷◌, length}
-use Rattle.std.proofs.Common.{map, cond, Option, None, Some, refl, sym, ap, subst, ◌∙◌, arith, if◌then◌else◌}
-use Rattle.std.specs.Prelude.{count_by, nat_lt, slice_get}
-use Rattle.std.specs.List.{cons_option, filter_map, flat_map}
+use Rattle.std.proofs.Common.{◌≡◌, ◌<◌, ◌+◌, ◌++◌, ◌⊎◌, inl, inr, ℕ, zero, suc, Bool, true, false, All, List, [], ◌∷◌, length}
+use Rattle.std.proofs.Common.{map, cond, None, Some, refl, sym, ap, subst, ◌∙◌, arith, if◌then◌else◌}
+use Rattle.std.specs.Prelude.{count_by, slice_get}
+use Rattle.std.specs.List.{cons_option, filter_map}
 use Rattle.std.proofs.lemmas.Bool.{lt-ltb}
 use Rattle.std.proofs.lemmas.List.{length-map}
 use Rattle.std.proofs.lemmas.List.Elements.{All-cons, All-head, All-nil, All-tail}
@@ -10,7 +10,6 @@ use Rattle.std.proofs.lemmas.List.Sums.{sum_by-cons}
 use Rattle.std.proofs.lemmas.Option.{none-some, same_Some, slice_get_past, slice_get_within}
 use Rattle.pc_numbers.specs.declared.component_entity.StaticModuleIndex.{StaticModuleIndex}
 use Rattle.pc_numbers.specs.declared.entity_index.EntityIndex.{EntityIndex}
-use Rattle.pc_types.specs.declared.module_record.ModuleRecord.{ModuleRecord}
 use Rattle.pc_types.specs.declared.parsed.CoreEntity.{CoreEntity}
 use Rattle.pc_types.specs.declared.parsed.CoreKind.{CoreKind}
 use Rattle.pc_types.specs.declared.parsed.CoreKind.TheVariants as kind
@@ -32,7 +31,7 @@ use Rattle.pc_adapt_modules.specs.Entities.{signature_number}
 use Rattle.pc_adapt_partition.specs.Adapted.{AreAdapted, AreGivenTo, AreModulesOf, functions_for, functions_of, member_at}
 use Rattle.pc_adapt_partition.specs.Adapted.{members_from}
 use Rattle.pc_adapt_partition.specs.Wired.{HaveValues}
-use Rattle.pc_analysis_contexts.specs.Recorded.{AreDefined, IsDefined}
+use Rattle.pc_analysis_contexts.specs.Recorded.{AreDefined}
 use Rattle.pc_translate.proofs.SaidLemmas.{all_in, get_behind, map_at}
 
 -- there are as many places of imports of a kind as imports of it

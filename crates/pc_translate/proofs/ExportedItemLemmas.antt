@@ -1,19 +1,16 @@
 -- The modules among export items are those that are exported at whatever depth, where each item is under the exports.
-use Rattle.std.proofs.Common.{◌≡◌, ◌<◌, ◌≤◌, ◌+◌, ◌&&◌, ◌||◌, ◌==◌, ℕ, zero, suc, Bool, true, false, List, [], ◌∷◌, length, take}
-use Rattle.std.proofs.Common.{Option, None, Some, refl, sym, ap, subst, ◌∙◌, arith, true≢false}
-use Rattle.std.specs.Prelude.{filter_map, nat_lt, option_map, slice_get}
-use Rattle.std.specs.List.{cons_option, list_all, list_any}
-use Rattle.std.proofs.lemmas.Bool.{ltb-true}
+use Rattle.std.proofs.Common.{◌≡◌, ◌<◌, ◌||◌, ℕ, zero, suc, Bool, true, false, List, [], ◌∷◌, length, take}
+use Rattle.std.proofs.Common.{Option, None, Some, refl, sym, ap, ◌∙◌, arith, true≢false}
+use Rattle.std.specs.Prelude.{filter_map, option_map, slice_get}
+use Rattle.std.specs.List.{cons_option, list_any}
 use Rattle.std.proofs.lemmas.Option.{none-some, same_Some, slice_get_within}
-use Rattle.pc_types.specs.declared.type_index.TypeComponentInstanceIndex.{TypeComponentInstanceIndex}
 use Rattle.pc_spec_plan.specs.PlanView as plan
 use Rattle.pc_spec_wiring.specs.Exported.{exports_module, some_export}
 use Rattle.pc_trampoline.specs.declared.part.Mark.{Mark}
-use Rattle.pc_info.specs.declared.component.Component.{Component}
 use Rattle.pc_info.specs.declared.export.Export.{Export}
 use Rattle.pc_info.specs.declared.export.Export.TheVariants as export
-use Rattle.pc_info.specs.Exports.{Entry, are_behind_their_parts, export_view, exports_view, has_items, is_behind_its_parts}
-use Rattle.pc_info.specs.Exports.{named_view, names_below, nested_view, number_of, trees_of, with_export}
+use Rattle.pc_info.specs.Exports.{Entry, export_view}
+use Rattle.pc_info.specs.Exports.{named_view, nested_view, number_of, trees_of, with_export}
 use Rattle.pc_info.proofs.TreeLemmas.{length-trees_of, tree_of}
 use Rattle.pc_entity.proofs.LookupLemmas.{found_at}
 use Rattle.pc_analysis_imports.specs.Exported.{is_exported_in, is_module}

@@ -1,10 +1,10 @@
 -- The modules among the export items of a plan are those that it exports, at whatever depth.
-use Rattle.std.proofs.Common.{◌≡◌, ◌<◌, ◌+◌, ◌&&◌, ℕ, zero, suc, Bool, true, false, List, [], ◌∷◌, length, Option, None, Some}
+use Rattle.std.proofs.Common.{◌≡◌, ◌<◌, ◌+◌, ◌&&◌, ℕ, zero, suc, Bool, true, false, List, [], ◌∷◌, length, Some}
 use Rattle.std.proofs.Common.{refl, sym, ap, subst, ◌∙◌, arith, true≢false}
 use Rattle.std.specs.Prelude.{nat_lt, slice_get}
-use Rattle.std.specs.List.{AllZip, list_all}
+use Rattle.std.specs.List.{AllZip}
 use Rattle.std.proofs.lemmas.Bool.{ltb-true}
-use Rattle.std.proofs.lemmas.Option.{none-some, same_Some, slice_get_within}
+use Rattle.std.proofs.lemmas.Option.{none-some, same_Some}
 use Rattle.pc_types.specs.declared.module_record.ModuleRecord.{ModuleRecord}
 use Rattle.pc_types.specs.declared.parsed.TypeTable.{TypeTable}
 use Rattle.pc_types.specs.declared.type_index.TypeComponentInstanceIndex.{TypeComponentInstanceIndex}
@@ -13,7 +13,7 @@ use Rattle.pc_info.specs.declared.component.ComponentTranslation.{ComponentTrans
 use Rattle.pc_info.specs.declared.export.Export.{Export as PlanItem}
 use Rattle.pc_info.specs.declared.export.Export.TheVariants as item
 use Rattle.pc_info.specs.declared.module.ModuleTranslation.{ModuleTranslation}
-use Rattle.pc_info.specs.Exports.{Entry, are_behind_their_parts, has_items, is_behind_its_parts, names_below, number_of}
+use Rattle.pc_info.specs.Exports.{Entry, are_behind_their_parts, is_behind_its_parts, names_below, number_of}
 use Rattle.pc_info.specs.View.{view}
 use Rattle.pc_spec_reading.specs.Reading.{Reading}
 use Rattle.pc_spec_wiring.specs.Exported.{is_exported}

@@ -1,20 +1,18 @@
 -- What is recorded of the modules of a plan is exactly what the plan gives.
-use Rattle.std.proofs.Common.{◌≡◌, ◌<◌, ◌+◌, ◌++◌, ℕ, zero, suc, Bool, true, false, All, List, [], ◌∷◌, length, map, filter, cond}
-use Rattle.std.proofs.Common.{◌||◌, ◌==◌, Option, None, Some, refl, sym, ap, subst, ◌∙◌, arith}
+use Rattle.std.proofs.Common.{◌≡◌, ◌+◌, ◌++◌, ℕ, suc, All, List, [], ◌∷◌, length, map, filter}
+use Rattle.std.proofs.Common.{◌||◌, ◌==◌, Some, refl, sym, ap, subst, ◌∙◌, arith}
 use Rattle.std.specs.Prelude.{slice_get}
 use Rattle.std.specs.List.{AllZip, list_any}
 use Rattle.std.proofs.lemmas.List.{length-map}
 use Rattle.std.proofs.lemmas.List.Elements.{All-contains, All-cons, All-nil}
-use Rattle.std.proofs.lemmas.Option.{none-some, same_Some}
 use Rattle.pc_types.specs.declared.module_record.ModuleRecord.{ModuleRecord}
 use Rattle.pc_types.specs.declared.parsed.TypeTable.{TypeTable}
 use Rattle.pc_types_lists.specs.Types.{Types}
-use Rattle.pc_spec_plan.specs.CoreValue.{CoreValue}
 use Rattle.pc_trampoline.specs.declared.part.Mark.{Mark}
 use Rattle.pc_info.specs.declared.component.ComponentTranslation.{ComponentTranslation}
 use Rattle.pc_info.specs.declared.module.AdapterRecord.{AdapterRecord}
 use Rattle.pc_info.specs.declared.module.ModuleTranslation.{ModuleTranslation}
-use Rattle.pc_info.specs.Modules.{handed_in_view, is_adapter_module, is_handed_in, module_view}
+use Rattle.pc_info.specs.Modules.{handed_in_view, is_adapter_module, module_view}
 use Rattle.pc_info.specs.declared.export.Export.{Export as PlanItem}
 use Rattle.pc_info.specs.declared.export.Export.TheVariants as item
 use Rattle.pc_info.specs.Standing.{steps_in, trampolines_in}
@@ -24,7 +22,7 @@ use Rattle.pc_spec_adapt.specs.Record.{Member}
 use Rattle.pc_spec_facts.specs.Recorded.{bare, facts_at, facts_if, representative_in}
 use Rattle.pc_spec_reading.specs.Reading.{Reading}
 use Rattle.pc_spec_wiring.specs.Exported.{is_exported}
-use Rattle.pc_spec_wiring.specs.Facts.{AreExact, IsInPlan, RecordsSharing}
+use Rattle.pc_spec_wiring.specs.Facts.{IsInPlan, RecordsSharing}
 use Rattle.pc_dfg.specs.declared.dfg.ComponentDfg.{ComponentDfg}
 use Rattle.pc_dfg.specs.declared.export.Export.{Export}
 use Rattle.pc_dfg.specs.declared.export.Export.TheVariants as export

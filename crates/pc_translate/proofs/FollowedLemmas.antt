@@ -1,8 +1,8 @@
 -- A plan that never gets stuck can be followed from front to back: its steps make instances of modules that are there,
 -- and name instances that were made before.
-use Rattle.std.proofs.Common.{◌≡◌, ◌<◌, ◌+◌, ◌++◌, ◌&&◌, ◌==◌, ℕ, zero, suc, Bool, true, false, List, [], ◌∷◌, Option, None}
+use Rattle.std.proofs.Common.{◌≡◌, ◌<◌, ◌+◌, ◌&&◌, ◌==◌, ℕ, zero, suc, Bool, true, false, List, [], ◌∷◌, Option, None}
 use Rattle.std.proofs.Common.{Some, IfSome, refl, sym, ap, subst, ◌∙◌, arith, length, map, cond, if◌then◌else◌, true≢false}
-use Rattle.std.proofs.Common.{length-append, append-nil, option_and_then}
+use Rattle.std.proofs.Common.{length-append, option_and_then}
 use Rattle.std.specs.Prelude.{Contains, count_by, filter, nat_lt, option_map, slice_get, take}
 use Rattle.std.proofs.lemmas.Bool.{ltb-true}
 use Rattle.std.proofs.lemmas.List.Sums.{sum_by-cons}
@@ -18,7 +18,7 @@ use Rattle.pc_spec_plan.specs.Machine.{path_of, resolve, resolve_maybe, resolve_
 use Rattle.pc_spec_plan.specs.PlanView as plan
 use Rattle.pc_spec_plan.specs.PlanView.{Definition, Initializer, NamedDefinition, PlanView, SlotKind}
 use Rattle.pc_info.specs.Slots.{step_definitions}
-use Rattle.pc_translate.proofs.SaidLemmas.{behind_map, contains_at, place_of}
+use Rattle.pc_translate.proofs.SaidLemmas.{behind_map, place_of}
 
 module _ {A B : Type 0} (P : B → Type 0) where
   -- what is made of what was found

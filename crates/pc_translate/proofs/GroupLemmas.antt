@@ -1,5 +1,5 @@
 -- Lists in groups: what is mapped one by one is mapped group by group.
-use Rattle.std.proofs.Common.{◌≡◌, ℕ, zero, suc, List, [], ◌∷◌, ◌++◌, map, refl, sym, ap, ◌∙◌}
+use Rattle.std.proofs.Common.{◌≡◌, List, [], ◌∷◌, ◌++◌, map, refl, sym, ◌∙◌}
 use Rattle.std.specs.List.{flat_map}
 
 -- a front of a mapped list is a mapped front

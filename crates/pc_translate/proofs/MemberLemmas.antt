@@ -1,10 +1,10 @@
 -- The adapters of a graph that stands for a reading, each with its types twice: as a number and whole.
-use Rattle.std.proofs.Common.{◌≡◌, ◌<◌, ◌+◌, ℕ, zero, suc, Bool, true, All, List, [], ◌∷◌, length, map, None, Some}
+use Rattle.std.proofs.Common.{◌≡◌, ◌+◌, ℕ, zero, suc, Bool, true, All, List, [], ◌∷◌, length, map, Some}
 use Rattle.std.proofs.Common.{refl, sym, ap}
 use Rattle.std.proofs.Common.{subst, ◌∙◌, arith}
 use Rattle.std.specs.Prelude.{◌↔◌, slice_get, unwrap_or}
 use Rattle.std.proofs.lemmas.List.Elements.{All-cons, All-nil}
-use Rattle.std.proofs.lemmas.Option.{none-some, same_Some, slice_get_within}
+use Rattle.std.proofs.lemmas.Option.{none-some, same_Some}
 use Rattle.pc_types.specs.declared.module_record.ModuleRecord.{ModuleRecord}
 use Rattle.pc_types_lists.specs.Types.{Types}
 use Rattle.pc_spec_plan.specs.CoreValue as value
@@ -22,7 +22,6 @@ use Rattle.pc_dfg.specs.declared.dfg.ComponentDfg.{ComponentDfg}
 use Rattle.pc_dfg.specs.Means.{Means}
 use Rattle.pc_adapt.specs.Planned.{is_wide}
 use Rattle.pc_adapt_partition.specs.Adapted.{member_at, members_from}
-use Rattle.pc_adapt_partition.specs.Wired.{HaveValues}
 use Rattle.pc_inline_canon.proofs.MarkLemmas.{value_twice}
 use Rattle.pc_inline_state.specs.Fits.{Fits}
 use Rattle.pc_inline_state.specs.Holds.{Numbered, ReadsAs, number_of, whole_of}

@@ -1,9 +1,9 @@
 -- In the run of a plan the modules of which instances are made for component instances were handed in.
-use Rattle.std.proofs.Common.{◌≡◌, ◌<◌, ◌&&◌, ◌==◌, ◌+◌, ℕ, Bool, true, false, List, [], ◌∷◌, ◌++◌, Option, None, Some}
+use Rattle.std.proofs.Common.{◌≡◌, ◌<◌, ◌&&◌, ◌==◌, ◌+◌, ℕ, Bool, true, false, List, [], ◌∷◌, Option, None, Some}
 use Rattle.std.proofs.Common.{IfSome, refl, sym, subst, ap, ◌∙◌, length, if◌then◌else◌, option_and_then, true≢false}
 use Rattle.std.specs.Prelude.{All, filter, nat_lt, option_map, slice_get}
 use Rattle.std.proofs.lemmas.List.Elements.{All-append, All-cons, All-nil}
-use Rattle.std.proofs.lemmas.Option.{same_Some, slice_get_within}
+use Rattle.std.proofs.lemmas.Option.{slice_get_within}
 use Rattle.pc_entity.specs.Lists.{map_all}
 use Rattle.pc_spec_plan.specs.CoreValue.{CoreValue}
 use Rattle.pc_spec_plan.specs.Log.{Instantiation, of_host, of_static}

@@ -3,7 +3,7 @@
 use Rattle.std.proofs.Common.{◌≡◌, ◌<◌, ℕ, Bool, true, false, true≢false, ◌&&◌, ◌||◌, List, length, Option, None, Some}
 use Rattle.std.proofs.Common.{refl, sym, ap, subst, ◌∙◌, arith}
 use Rattle.std.specs.Prelude.{not, slice_get}
-use Rattle.std.proofs.lemmas.Option.{none-some, same_Some, slice_get_within}
+use Rattle.std.proofs.lemmas.Option.{none-some, slice_get_within}
 use Rattle.pc_entity.proofs.LookupLemmas.{found_at}
 use Rattle.pc_numbers.specs.declared.runtime.ResourceIndex.{ResourceIndex}
 use Rattle.pc_types.specs.declared.type_index.TypeFuncIndex.{TypeFuncIndex}
@@ -31,7 +31,7 @@ use Rattle.pc_dfg.specs.Means.{Means}
 use Rattle.pc_spec_adapt.specs.Asked.{FunctionFacts, function_facts, has_asked, has_options, in_memory, is_there}
 use Rattle.pc_spec_adapt.specs.Asked.{model_of}
 use Rattle.pc_spec_adapt.specs.Needs.{adapters_of}
-use Rattle.pc_adapt.specs.Asked.{AreTyped, HasTypes, HoldTypes, HoldsTypes, adapter_has_options}
+use Rattle.pc_adapt.specs.Asked.{AreTyped, HoldTypes, adapter_has_options}
 use Rattle.pc_adapt.proofs.PlannedLemmas.{Parts, asked_alike, parts_of}
 use Rattle.pc_adapt_partition.specs.Facts.{HaveTrees}
 use Rattle.pc_adapt_partition.specs.Wired.{HaveValues}

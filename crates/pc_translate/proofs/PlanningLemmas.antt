@@ -1,5 +1,5 @@
 -- A plan of a body, or why there is none, from the graph that stands for its reading.
-use Rattle.std.proofs.Common.{◌≡◌, ℕ, ◌≤◌, ◌<◌, ◌+◌, ◌⊎◌, inl, inr, List, length, map, Some, None, Result, Ok, Err}
+use Rattle.std.proofs.Common.{◌≡◌, ℕ, ◌≤◌, ◌<◌, ◌⊎◌, inl, inr, List, length, map, Some, None, Result, Ok, Err}
 use Rattle.std.proofs.Common.{All, IfOk, arith, refl, sym, ap, subst, ◌∙◌, true}
 use Rattle.std.specs.Prelude.{IfErr, IsSomeAnd, MatchResult, OnOk, Option, slice_get, ⊤, ◌↔◌}
 use Rattle.std.specs.List.{list_all}

@@ -1,17 +1,16 @@
 -- What is said of the adapters of a plan's modules is said of adapters that these are made for.
 use Rattle.std.proofs.Common.{◌≡◌, ◌+◌, ◌&&◌, ℕ, zero, suc, Bool, true, false, List, [], ◌∷◌, ◌++◌, Option, None, Some}
-use Rattle.std.proofs.Common.{◌⊎◌, All, refl, sym, ap, subst, ◌∙◌, arith, length, map, true≢false, inl, inr}
-use Rattle.std.specs.Prelude.{option_and_then, option_map, slice_get, if◌then◌else◌}
+use Rattle.std.proofs.Common.{◌⊎◌, All, refl, sym, ap, subst, ◌∙◌, arith, length, map, inl, inr}
+use Rattle.std.specs.Prelude.{option_and_then, slice_get, if◌then◌else◌}
 use Rattle.std.specs.List.{cons_option, flat_map}
 use Rattle.std.proofs.lemmas.List.{append_assoc, length-map, map-append}
 use Rattle.std.proofs.lemmas.List.Elements.{All-contains, All-contains_itself, All-head, All-tail, All-weaker}
 use Rattle.std.proofs.lemmas.List.Elements.{Contains-append_cases}
 use Rattle.std.proofs.lemmas.Option.{get_or_from_slice_get, none-some, same_Some, slice_get-get_or, slice_get_within}
 use Rattle.std.specs.Prelude.{Contains}
-use Rattle.pc_types.specs.declared.encoding.StringEncoding.{StringEncoding}
 use Rattle.pc_spec_plan.specs.CoreValue as value
 use Rattle.pc_spec_plan.specs.CoreValue.{CoreValue, Options}
-use Rattle.pc_spec_plan.specs.Machine.{adapter_from, is_counted, side_options}
+use Rattle.pc_spec_plan.specs.Machine.{adapter_from, is_counted}
 use Rattle.pc_spec_plan.specs.PlanView as plan
 use Rattle.pc_spec_plan.specs.PlanView.{PlanView}
 use Rattle.pc_trampoline.specs.declared.part.Mark.{Mark}

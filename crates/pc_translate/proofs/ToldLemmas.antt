@@ -1,11 +1,9 @@
 -- A graph that stands for a reading tells what values leave out.
-use Rattle.std.proofs.Common.{ℕ, List, None, Some}
-use Rattle.std.specs.Prelude.{slice_get}
+use Rattle.std.proofs.Common.{List, None, Some}
 use Rattle.pc_types.specs.declared.module_record.ModuleRecord.{ModuleRecord}
 use Rattle.pc_types.specs.declared.parsed.TypeTable.{TypeTable}
 use Rattle.pc_types_lists.specs.Types.{IsBuilder, Types}
 use Rattle.pc_spec_reading.specs.Reading.{Reading}
-use Rattle.pc_dfg.specs.declared.adapter.Adapter.{Adapter}
 use Rattle.pc_dfg.specs.declared.adapter.DataModel.{DataModel}
 use Rattle.pc_dfg.specs.declared.adapter.DataModel.TheVariants as side
 use Rattle.pc_dfg.specs.declared.dfg.ComponentDfg.{ComponentDfg}

@@ -1,5 +1,5 @@
 -- A graph that knows which of its adapters are transparent stands for what it stood for.
-use Rattle.std.proofs.Common.{◌≡◌, ℕ, List, refl, arith}
+use Rattle.std.proofs.Common.{◌≡◌, List, refl, arith}
 use Rattle.std.specs.FinSet as set
 use Rattle.std.specs.Ordering.{nat_cmp}
 use Rattle.pc_types.specs.declared.module_record.ModuleRecord.{ModuleRecord}
@@ -15,7 +15,7 @@ use Rattle.pc_dfg.specs.Grows as graph
 use Rattle.pc_dfg.specs.Lists as list
 use Rattle.pc_dfg.specs.Numbers.{slots_of}
 use Rattle.pc_dfg.specs.Ordered.{IsOrdered}
-use Rattle.pc_dfg.specs.Told.{AreInterned, IsTold, Unsaid}
+use Rattle.pc_dfg.specs.Told.{AreInterned}
 use Rattle.pc_dfg.proofs.AddLemmas.{Added, AllAdd, EntryFact, NewHeld, nothing}
 use Rattle.pc_dfg.proofs.PushLemmas.{quiet}
 use Rattle.pc_inline_exports.specs.Exports.{ExportsStand, NumbersExports}

@@ -1,7 +1,7 @@
 -- The set of transparent adapters of a graph that stands for a reading tells which of the reading's adapters are
 -- transparent.
-use Rattle.std.proofs.Common.{◌≡◌, ℕ, true, List, Some}
-use Rattle.std.specs.Prelude.{◌↔◌, IfOk, slice_get}
+use Rattle.std.proofs.Common.{◌≡◌, ℕ, true, List}
+use Rattle.std.specs.Prelude.{◌↔◌}
 use Rattle.std.specs.FinSet as set
 use Rattle.std.specs.Ordering.{nat_cmp}
 use Rattle.pc_numbers.specs.declared.runtime.ResourceIndex.{ResourceIndex}
@@ -9,11 +9,7 @@ use Rattle.pc_types.specs.declared.module_record.ModuleRecord.{ModuleRecord}
 use Rattle.pc_types.specs.declared.parsed.TypeTable.{TypeTable}
 use Rattle.pc_types.specs.TypeTree.{Identity, TypeTree}
 use Rattle.pc_types_lists.specs.Types.{Types}
-use Rattle.pc_spec_plan.specs.CoreValue.{CoreValue}
 use Rattle.pc_spec_reading.specs.Reading.{Reading}
-use Rattle.pc_spec_adapt.specs.Needs.{adapters_of}
-use Rattle.pc_spec_wiring.specs.Opaque as reading
-use Rattle.pc_parsed.specs.Mark.{Mark}
 use Rattle.pc_dfg.specs.declared.dfg.ComponentDfg.{ComponentDfg}
 use Rattle.pc_adapt.specs.Asked as asked
 use Rattle.pc_analysis_transparent.specs.Opaque.{AreTyped, HoldTypes, IsTransparentIn}

@@ -3,7 +3,6 @@ use Rattle.std.proofs.Common.{◌≡◌, ℕ, Bool, false, List, Option, None, S
 use Rattle.std.specs.Prelude.{option_map, slice_get}
 use Rattle.std.proofs.lemmas.Option.{same_Some}
 use Rattle.pc_numbers.specs.declared.entity_index.EntityIndex.TheVariants as entity
-use Rattle.pc_numbers.specs.declared.module_entity.MemoryIndex.{MemoryIndex}
 use Rattle.pc_types.specs.declared.module_record.ModuleRecord.{ModuleRecord}
 use Rattle.pc_spec_plan.specs.CoreValue as value
 use Rattle.pc_spec_plan.specs.CoreValue.{CoreValue, MaybeValue, Options, exported, map_maybe, map_options, map_value}
@@ -21,18 +20,17 @@ use Rattle.pc_dfg.specs.declared.adapter.DataModel.{DataModel}
 use Rattle.pc_dfg.specs.declared.adapter.DataModel.TheVariants as side
 use Rattle.pc_dfg.specs.declared.core_def.CoreDef.{CoreDef}
 use Rattle.pc_dfg.specs.declared.core_def.CoreDef.TheVariants as def
-use Rattle.pc_dfg.specs.declared.core_def.CoreExport.{CoreExport}
 use Rattle.pc_dfg.specs.declared.dfg.ComponentDfg.{ComponentDfg}
 use Rattle.pc_dfg.specs.Means.{Means, MeansMaybe, MeansSide, MeansSideModel, means_export, means_none, means_side}
 use Rattle.pc_dfg.specs.Means.{means_side_gc, means_side_linear, means_some}
 use Rattle.pc_dfg.specs.Numbers.{memory_def}
 use Rattle.pc_dfg.proofs.UniqueLemmas.{means_unique}
-use Rattle.pc_adapt.specs.Imports.{Memory, memory_of}
+use Rattle.pc_adapt.specs.Imports.{Memory}
 use Rattle.pc_adapt.specs.Planned as made
 use Rattle.pc_adapt.specs.Planned.{wide_if}
 use Rattle.pc_adapt.proofs.PlannedLemmas.{parts_of}
 use Rattle.pc_inline.specs.Widths.{AreWide, IsWideModel, memory_value}
-use Rattle.pc_translate.specs.Adapters.{is_wide_maybe, is_wide_side, lift_width, lower_width}
+use Rattle.pc_translate.specs.Adapters.{is_wide_maybe, lift_width, lower_width}
 
 -- the memory of an adapter's lift, if it has one
 abbrev lift_memory : {τ : Type 0} → CoreValue τ → MaybeValue τ

@@ -2,7 +2,7 @@
 -- were handed in.
 use Rattle.std.proofs.Common.{zero, suc, ◌≡◌, ℕ, ◌+◌, List, [], ◌∷◌, length, map, Option, None, Some, true, Bool, refl}
 use Rattle.std.proofs.Common.{sym, ap, ◌<◌, ◌∙◌, ◌++◌, arith, All, Contains, false, subst}
-use Rattle.std.specs.Prelude.{filter, option_map, slice_get}
+use Rattle.std.specs.Prelude.{option_map, slice_get}
 use Rattle.std.proofs.lemmas.List.{append-nil}
 use Rattle.std.proofs.lemmas.List.Elements.{All-append, All-contains, All-cons, All-map, All-nil}
 use Rattle.std.proofs.lemmas.Option.{none-some, same_Some}

@@ -7,7 +7,7 @@ use Rattle.pc_spec_plan.specs.CoreValue.{CoreValue, map_value}
 use Rattle.pc_spec_plan.specs.Log.{Instantiation, of_static}
 use Rattle.pc_spec_plan.specs.Machine.{RuntimeInstance, State}
 use Rattle.pc_trampoline.specs.declared.part.Mark.{Mark}
-use Rattle.pc_spec_adapt.specs.Import.{Import, map_import}
+use Rattle.pc_spec_adapt.specs.Import.{map_import}
 use Rattle.pc_spec_adapt.specs.Needs.{Needs, adapters_of}
 use Rattle.pc_spec_adapt.specs.Planned.{planned}
 use Rattle.pc_spec_adapt.specs.Record.{Member}

@@ -3,7 +3,6 @@ use Rattle.std.specs.Prelude.{◌≡◌, ◌<◌, ◌+◌, ℕ, true, List, map,
 use Rattle.pc_types_lists.specs.Adds.{AddsTypes}
 use Rattle.pc_types_lists.specs.Types.{IsBuilder, Types, no_types}
 use Rattle.pc_types.specs.declared.error.Error.{Error}
-use Rattle.pc_types.specs.declared.module_record.ModuleRecord.{ModuleRecord}
 use Rattle.pc_types.specs.declared.parsed.TypeTable.{TypeTable}
 use Rattle.pc_spec_plan.specs.Counts.{own_counts}
 use Rattle.pc_spec_plan.specs.ExportNode.{erase_named}
