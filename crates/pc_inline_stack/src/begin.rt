@@ -33,8 +33,9 @@ pub fn begin_instance(
     if grown >= FULL {
         return Err(Error::TooMany);
     }
-    // Never refused: fewer than the limit have begun, so that there is a number left.
-    let instance = graph.push_component_instance()?;
+    // Fewer than the limit have begun, so that there is a number left.
+    let instance = RuntimeComponentInstanceIndex(graph.num_runtime_component_instances);
+    graph.num_runtime_component_instances += 1;
     *total = grown as u32;
     Ok(instance)
 }

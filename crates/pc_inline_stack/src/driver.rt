@@ -187,10 +187,7 @@ fn convert_for(types: &mut ComponentTypesBuilder, instance: RuntimeComponentInst
 }
 
 /// The weight of the body of this number.
-fn weight_of(
-    weights: &PrimaryMap<StaticComponentIndex, u32>,
-    body: StaticComponentIndex,
-) -> u32
+fn weight_of(weights: &PrimaryMap<StaticComponentIndex, u32>, body: StaticComponentIndex) -> u32
     ensures { result ≡ unwrap_or (slice_get weights.now body.0) 4294967295 }
 {
     // Each component has its weight among these.
