@@ -34,7 +34,8 @@ use Rattle.pc_inline_stack.specs.Calls.{CallFollows, CallReads, Calls, GivesBack
 use Rattle.pc_inline_stack.specs.Driving.{reading_from}
 use Rattle.pc_inline_state.specs.Faults.{error_of}
 use Rattle.pc_inline_stack.specs.Reads.{Ends}
-use Rattle.pc_inline_stack.specs.Stacks.{Driven, Failed, Fails, Grew, Reached, all_most_left, instance_type_at, items_of}
+use Rattle.pc_inline_stack.specs.Stacks.{Driven, Failed, Fails, Grew, Reached, all_most_left, instance_type_at}
+use Rattle.pc_inline_stack.specs.Stacks.{items_of}
 use Rattle.pc_inline_state.specs.Tables.{Keeps, tables_of}
 use Rattle.pc_inline_state.proofs.AddsLemmas.{adds_refl, adds_trans}
 use Rattle.pc_inline_stack.proofs.BegunLemmas.{begun_adds, begun_graph, begun_keeps}

@@ -177,8 +177,8 @@ module _ (t : TypeTable) (ms : List ModuleRecord) (limit : ℕ) (root : Translat
               → (ks' : List Open) (o' : Open) → ks' ≡ record o { frame = g } ∷ ks → o' ≡ child_open call c done
               → Moves t ms limit root st ks o total (record st' { graph = h; types = ts }) ks' o' total' (Ok x)
           moves_entered x ts current done none ks' o' wait is =
-              subst (λ k. Moves t ms limit root st ks o total (record st' { graph = h; types = ts }) ks' k total' (Ok x))
-              (sym is)
+              subst (λ k. Moves t ms limit root st ks o total (record st' { graph = h; types = ts }) ks' k total'
+              (Ok x)) (sym is)
               (subst (λ k. Moves t ms limit root st ks o total (record st' { graph = h; types = ts }) k
               (child_open call c done) total' (Ok x)) (sym wait)
               (move_goes t ms limit root st ks o total (record st' { graph = h; types = ts })

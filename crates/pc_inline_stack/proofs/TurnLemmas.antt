@@ -18,8 +18,8 @@ module _ (t : TypeTable) (ms : List ModuleRecord) (limit : ℕ) (root : Translat
     (st' : State) (s' : Stack) where
   -- a turn that ends with an error
   turns_fail : (r : Result Bool Error) (P : Error → Type 0) → IsErrAnd r P
-      → Moves t ms limit root st (reverse s.callers.items) s.top s.total st' (reverse s'.callers.items) s'.top s'.total r
-      → Turns t ms limit root st s st' s' r
+      → Moves t ms limit root st (reverse s.callers.items) s.top s.total st' (reverse s'.callers.items) s'.top
+      s'.total r → Turns t ms limit root st s st' s' r
   turns_fail (Ok more) P is moves = absurd is
   turns_fail (Err e) P is moves = record { moves = moves; falls = tt; waits = tt }
 
@@ -62,8 +62,8 @@ module _ (t : TypeTable) (ms : List ModuleRecord) (limit : ℕ) (root : Translat
           → AreCounted s.callers.items → Turns t ms limit root st s st' s' (Ok true)
       unfolding Turned
       left_on x moved each = record {
-        moves = moves_as t ms limit root st (reverse s.callers.items) s.top s.total st' (reverse s'.callers.items) s'.top
-            s'.total x true (as_left (Ok x) moved.moves);
+        moves = moves_as t ms limit root st (reverse s.callers.items) s.top s.total st' (reverse s'.callers.items)
+            s'.top s'.total x true (as_left (Ok x) moved.moves);
         falls = subst (λ o. Falls limit root st (reverse s.callers.items) o st' (reverse s'.callers.items) s'.top) top
             (subst (λ ks. Falls limit root st ks left.top st' (reverse s'.callers.items) s'.top)
             (sym (popped s.callers.items ys w caller is some)) moved.falls);

@@ -151,8 +151,8 @@ fn call_of(
     })
 }
 
-/// What a child has converted when it begins: the types that are the same in each component instance. Its caller has none
-/// of them while it waits.
+/// What a child has converted when it begins: the types that are the same in each component instance. Its caller has
+/// none of them while it waits.
 fn child_types(context: &Context<'_>, frame: &mut Frame) -> Converted
     requires sound { table_fault context.now.table.now ≡ None }
     requires converted { (b : Types) × AreConverted b context.now.table.now frame.old.converted }
