@@ -3,13 +3,13 @@ use Rattle.pc_inline_stack.proofs.MoveLemmas.{underway}
 use Rattle.pc_inline_stack.proofs.MovesLemmas.{moved, none_counted, unmoved}
 use Rattle.pc_inline_stack.proofs.driver.run.Goals as goal
 
-pub turns-requires-clause-here : goal.turns-requires-clause-here
-turns-requires-clause-here c =
+pub turns-ended-requires-clause-here : goal.turns-ended-requires-clause-here
+turns-ended-requires-clause-here c =
     underway _ _ _ _ _ _ _ _ _ _ _ (driven_first _ _ _ c.args.root.now c.args.state.now c.args.frame c.args.total.now
     c.requires.here c.requires.items c.requires.begun c.requires.within c.requires.below _ c.new.ensures.items)
 
-pub turns-requires-clause-waits : goal.turns-requires-clause-waits
-turns-requires-clause-waits c = none_counted _ c.new.ensures.items
+pub turns-ended-requires-clause-waits : goal.turns-ended-requires-clause-waits
+turns-ended-requires-clause-waits c = none_counted _ c.new.ensures.items
 
 pub returns-in_err : goal.returns-in_err
 returns-in_err c =
