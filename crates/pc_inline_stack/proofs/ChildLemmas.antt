@@ -176,7 +176,8 @@ module _ (t : TypeTable) (ms : List ModuleRecord) (limit : ℕ) (root : Translat
                 (λ is first x. inr (child_past t ms limit root is first st' ks o' total (before is first x) component
                 args ty at_now call (reads is first x) deep begins.0
                 (crowded_so total weight (real is first x) (is_weight is first x) begins.1)))
-            child_unbegun g total' error.NoMemory begins = absurd begins
+            child_unbegun g total' error.NoMemory begins =
+                unbegun_so g total' error.NoMemory begins.0 begins.1 (λ is first x. tt)
             child_unbegun g total' (error.Invalid p) begins = absurd begins
             child_unbegun g total' (error.BadType p) begins = absurd begins
             child_unbegun g total' (error.Unsupported u p) begins = absurd begins
