@@ -281,7 +281,7 @@ module _ (t : TypeTable) (ms : List ModuleRecord) (limit counted : ℕ) (bodies 
                 ends_root body now.scope now.world is_total nodes ends.0 reads room (few room) r ends.2
             | inr many ↦
                 subst (InlinesBody t ms limit counted body first st) (sym many.is)
-                (past_root body now.scope now.world is_total nodes ends.0 reads many.full)
+                (past_root body now.scope now.world is_total nodes ends.0 reads many.reaches)
           ]
 
   -- an error is that of each body
