@@ -15,7 +15,7 @@ use Rattle.pc_types.specs.declared.parsed.TypeTable.{TypeTable}
 use Rattle.pc_spec_reading.specs.Item.{Items}
 use Rattle.pc_local.specs.declared.item.Translation.{Translation}
 use Rattle.pc_local.specs.Standing.{BodyStands, no_names}
-use Rattle.pc_weights.specs.Weighs.{HasWeight}
+use Rattle.pc_weights.specs.Weighs.{HasRootWeight, HasWeight}
 use Rattle.pc_dfg.specs.declared.dfg.ComponentDfg.{ComponentDfg}
 use Rattle.pc_inline_state.specs.declared.state.State.{State}
 use Rattle.pc_inline.specs.Roots.{HasAtMost, InlinesBody, InlinesRoot, IsFew, IsRootEnd, RootRead}
@@ -47,13 +47,17 @@ pub stands_among : (bodies' bodies : List Translation) → bodies' ≡ bodies �
 stands_among bodies' bodies among root body stands =
     subst (λ bs. BodyStands bs no_names root body) (sym among) stands
 
--- weights are those of bodies that are the same
-pub weights_among : (t : TypeTable) (given ms : List ModuleRecord) → given ≡ ms → (bodies' bodies : List Translation)
+-- weights are the same among modules and bodies that are the same
+pub root_weighs : (t : TypeTable) (given ms : List ModuleRecord) → given ≡ ms → (root : Translation) (weight : ℕ)
+    → HasRootWeight t ms root weight → HasRootWeight t given root weight
+root_weighs t given ms same root weight weighs = subst (λ xs. HasRootWeight t xs root weight) (sym same) weighs
+
+pub bodies_weigh : (t : TypeTable) (given ms : List ModuleRecord) → given ≡ ms → (bodies' bodies : List Translation)
     → bodies' ≡ bodies → (weights : List ℕ) → AllZip (HasWeight t ms) bodies weights
     → AreWeights t given bodies' weights
-weights_among t given ms same bodies' bodies among weights are =
+bodies_weigh t given ms same bodies' bodies among weights weigh =
     subst (λ xs. AreWeights t xs bodies' weights) (sym same)
-    (subst (λ bs. AreWeights t ms bs weights) (sym among) are)
+    (subst (λ bs. AreWeights t ms bs weights) (sym among) weigh)
 
 module _ (t : TypeTable) (ms : List ModuleRecord) (limit counted : ℕ) where
   -- the graph stands for the reading, with the counts of tables

@@ -1,8 +1,7 @@
 use Rattle.std.proofs.Common.{ap, length, subst, sym, ◌∙◌}
-use Rattle.pc_weights.specs.Weighs.{HasRootWeight}
 use Rattle.pc_local.specs.Sound.{AreSoundBodies, IsSoundBody}
-use Rattle.pc_inline.proofs.RunLemmas.{gains_nothing, run_counts, run_ends, run_gained, run_gains}
-use Rattle.pc_inline.proofs.RunLemmas.{run_keeps, run_unfed, stands_among, weights_among}
+use Rattle.pc_inline.proofs.RunLemmas.{bodies_weigh, gains_nothing, root_weighs, run_counts, run_ends, run_gained}
+use Rattle.pc_inline.proofs.RunLemmas.{run_gains, run_keeps, run_unfed, stands_among}
 use Rattle.pc_inline.proofs.inliner.inline_run.Goals as goal
 
 pub inline_root-inlined-requires-clause-fresh : goal.inline_root-inlined-requires-clause-fresh
@@ -32,12 +31,12 @@ inline_root-inlined-requires-clause-bodies c =
 
 pub inline_root-inlined-requires-clause-root_weight : goal.inline_root-inlined-requires-clause-root_weight
 inline_root-inlined-requires-clause-root_weight c =
-    subst (λ xs. HasRootWeight c.args.table.now xs c.args.program.now.root _)
-    (sym (c.in_ok-modules.ensures ∙ c.as_slice.ensures)) c.in_ok-weights.ensures.root
+    root_weighs _ _ _ (c.in_ok-modules.ensures ∙ c.as_slice.ensures) c.args.program.now.root _
+    c.in_ok-weights.ensures.root
 
 pub inline_root-inlined-requires-clause-weights : goal.inline_root-inlined-requires-clause-weights
 inline_root-inlined-requires-clause-weights c =
-    weights_among _ _ _ (c.in_ok-modules.ensures ∙ c.as_slice.ensures) _ _ c.new-state.ensures.bodies _
+    bodies_weigh _ _ _ (c.in_ok-modules.ensures ∙ c.as_slice.ensures) _ _ c.new-state.ensures.bodies _
     c.in_ok-weights.ensures.bodies
 
 pub returns-clause-inlines : goal.returns-clause-inlines
