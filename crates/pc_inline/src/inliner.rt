@@ -1,6 +1,6 @@
 //! The root: it begins, its imports are prepared, its items are read in order, and it exports.
 
-ghost use Rattle.std.specs.Prelude.{◌≡◌, ◌<◌, ◌≤◌, ◌+◌, ℕ, None, true, [], length, IfOk, OnOk};
+ghost use Rattle.std.specs.Prelude.{◌≡◌, ◌<◌, ◌≤◌, ◌+◌, None, true, [], length, IfOk, OnOk};
 ghost use Rattle.std.specs.List.{list_all};
 ghost use Rattle.pc_types.specs.Record.{is_sound};
 ghost use Rattle.pc_types.specs.Table.{table_fault};
