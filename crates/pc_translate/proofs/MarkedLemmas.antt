@@ -1,5 +1,5 @@
 -- A graph that is told which of its adapters are transparent.
-use Rattle.std.proofs.Common.{◌≡◌, ◌≤◌, ◌+◌, ◌*◌, inl, inr, ℕ, List, length, Some, Ok, Err, refl, sym, ap, subst}
+use Rattle.std.proofs.Common.{◌≡◌, ◌≤◌, ◌+◌, ◌*◌, inl, ℕ, List, length, Some, Ok, Err, refl, sym, subst}
 use Rattle.std.specs.FinSet as set
 use Rattle.std.specs.Ordering.{nat_cmp}
 use Rattle.std.specs.Prelude.{slice_get}
@@ -19,7 +19,7 @@ use Rattle.pc_dfg.specs.Numbers.{slots_of}
 use Rattle.pc_inline_state.specs.Adds.{with_modules}
 use Rattle.pc_inline_exports.specs.Exports.{IsUnder, is_inside, is_named}
 use Rattle.pc_inline.specs.Inlines.{GraphStands, Inlines}
-use Rattle.pc_inline_stack.specs.Totals.{CountsGraph}
+use Rattle.pc_inline_stack.specs.Totals.{IsCounted}
 use Rattle.pc_inline_state.specs.Gained.{AddsTables}
 use Rattle.pc_translate.specs.Planning.{HasGraph}
 use Rattle.pc_translate.specs.Transparent.{TellsTransparent}
@@ -54,63 +54,60 @@ module _ (g : ComponentDfg) (s : set.FinSet nat_cmp) where
   lists_few n few list.export_items = few list.export_items
   lists_few n few list.exports = few list.exports
 
--- a graph and the same one that is told it
-module _ (g h : ComponentDfg) (same : h ≡ record g { transparent_adapters = h.transparent_adapters }) where
-  module _ (t : TypeTable) (ms : List ModuleRecord) (limit : ℕ) (body : Items) (old types : Types) where
-    -- where the one stands for a reading the other does
-    pub marked_graph : Inlines t ms limit body old types (Ok g)
-        → ((r : Reading) → GraphStands t ms types g r → TellsTransparent r h) → HasGraph t ms limit body old types (Ok h)
-    unfolding Inlines HasGraph
-    marked_graph stands tells = record {
-      stands = record {
-        result = stands.result;
-        outcome = stands.outcome;
-        stands = subst (λ x. GraphStands t ms types x stands.result) (sym same)
-            (marked_stands g h.transparent_adapters t ms types stands.result stands.stands);
-      };
-      tells = tells stands.result stands.stands;
-    }
+-- a graph and the same one that is told it, where the reading of a body is counted
+module _ (g h : ComponentDfg) (same : h ≡ record g { transparent_adapters = h.transparent_adapters })
+    (t : TypeTable) (ms : List ModuleRecord) (limit counted : ℕ) (body : Items) (old types : Types) where
+  -- where the lists of the one are counted those of the other are
+  marked_counts : IsCounted t ms limit counted body old types g → IsCounted t ms limit counted body old types h
+  marked_counts c =
+      subst (λ x. IsCounted t ms limit counted body old types x) (sym same)
+      (record {
+        total = c.total;
+        is_total = c.is_total;
+        below = c.below;
+        added = c.added;
+        few = c.few;
+        types = c.types;
+        lists = lists_few g h.transparent_adapters c.added c.lists;
+        resources = c.resources;
+      })
 
-    -- where the lists of the one are counted those of the other are
-    pub marked_counts : (start : ℕ) → CountsGraph t ms limit start body old types g
-        → CountsGraph t ms limit start body old types h
-    marked_counts start (inl past) = inl past
-    marked_counts start (inr c) =
-        subst (λ x. CountsGraph t ms limit start body old types x) (sym same)
-        (inr (record {
-          total = c.total;
-          is_total = c.is_total;
-          below = c.below;
-          added = c.added;
-          few = c.few;
-          types = c.types;
-          lists = lists_few g h.transparent_adapters c.added c.lists;
-          resources = c.resources;
-        }))
-
--- the tables that are new are those of as many component instances
-pub marked_tables : (t : TypeTable) (old types : Types) (begun n : ℕ) → n ≡ begun → AddsTables t begun old types
-    → AddsTables t n old types
-marked_tables t old types begun n same adds = subst (λ m. AddsTables t m old types) (sym same) adds
+  -- where the one stands for a reading the other does
+  pub marked_graph : Inlines t ms limit counted body types (Ok g)
+      → ((r : Reading) → GraphStands t ms types g r → TellsTransparent r h)
+      → IsCounted t ms limit counted body old types g → AddsTables t g.num_runtime_component_instances old types
+      → HasGraph t ms limit counted body old types (Ok h)
+  unfolding Inlines HasGraph
+  marked_graph stands tells few tables = record {
+    stands = record {
+      result = stands.result;
+      outcome = stands.outcome;
+      stands = subst (λ x. GraphStands t ms types x stands.result) (sym same)
+          (marked_stands g h.transparent_adapters t ms types stands.result stands.stands);
+    };
+    tells = tells stands.result stands.stands;
+    few = marked_counts few;
+    tables = subst (λ n. AddsTables t n old types) (sym stands.stands.world.begun) tables;
+  }
 
 -- an error of the instantiation
-pub no_graph : (t : TypeTable) (ms : List ModuleRecord) (limit : ℕ) (body : Items) (old types : Types) (e : Error)
-    → Inlines t ms limit body old types (Err e) → HasGraph t ms limit body old types (Err e)
+pub no_graph : (t : TypeTable) (ms : List ModuleRecord) (limit counted : ℕ) (body : Items) (old types : Types)
+    (e : Error) → Inlines t ms limit counted body types (Err e) → HasGraph t ms limit counted body old types (Err e)
 unfolding Inlines HasGraph
-no_graph t ms limit body old types e h = h
+no_graph t ms limit counted body old types e h = h
 
 -- want of memory is free
-pub no_memory : (t : TypeTable) (ms : List ModuleRecord) (limit : ℕ) (body : Items) (old types : Types)
-    → HasGraph t ms limit body old types (Err error.NoMemory)
+pub no_memory : (t : TypeTable) (ms : List ModuleRecord) (limit counted : ℕ) (body : Items) (old types : Types)
+    → HasGraph t ms limit counted body old types (Err error.NoMemory)
 unfolding HasGraph
-no_memory t ms limit body old types = tt
+no_memory t ms limit counted body old types = inl refl
 
 -- the graph that was answered stands for a reading
-pub graph_read : (t : TypeTable) (ms : List ModuleRecord) (limit : ℕ) (body : Items) (old types : Types)
-    (g : ComponentDfg) → Inlines t ms limit body old types (Ok g)
+pub graph_read : (t : TypeTable) (ms : List ModuleRecord) (limit counted : ℕ) (body : Items) (types : Types)
+    (g : ComponentDfg) → Inlines t ms limit counted body types (Ok g)
     → (u : TypeTable) × (ns : List ModuleRecord) × (r : Reading) × GraphStands u ns types g r
 unfolding Inlines
-graph_read t ms limit body old types g stands = (t, ms, stands.result, stands.stands)
+graph_read t ms limit counted body types g stands = (t, ms, stands.result, stands.stands)
 
 -- what is under names that the root exports is exported
 exported_under : (g : ComponentDfg) (es : List NamedExport) (n : ℕ)

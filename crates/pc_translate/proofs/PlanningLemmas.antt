@@ -9,10 +9,12 @@ use Rattle.std.proofs.lemmas.Option.{none-some, same_Some, slice_get-get_or}
 use Rattle.pc_numbers.specs.declared.runtime.ResourceIndex.{ResourceIndex}
 use Rattle.pc_types.specs.Record.{is_sound}
 use Rattle.pc_types.specs.TypeTree.{Identity, TypeTree}
-use Rattle.pc_types_lists.specs.Types.{IsBuilder, IsTooFullFor, KeepsTypes, Types, types_held}
+use Rattle.pc_types_lists.specs.Types.{IsBuilder, IsTooFullFor, KeepsTypes, Types}
 use Rattle.pc_types_builder.specs.Trees.{IsEntry}
 use Rattle.pc_types.specs.declared.error.Error.{Error}
 use Rattle.pc_types.specs.declared.error.Error.TheVariants as error
+use Rattle.pc_types.specs.declared.error.Place.{Place}
+use Rattle.pc_types.specs.declared.error.Place.TheVariants as place
 use Rattle.pc_types.specs.declared.module_record.ModuleRecord.{ModuleRecord}
 use Rattle.pc_types.specs.declared.parsed.TypeTable.{TypeTable}
 use Rattle.pc_types.specs.declared.type_index.TypeModuleIndex.{TypeModuleIndex}
@@ -22,9 +24,10 @@ use Rattle.pc_trampoline.specs.declared.part.Mark.{Mark}
 use Rattle.pc_info.specs.declared.component.ComponentTranslation.{ComponentTranslation}
 use Rattle.pc_info.specs.declared.module.ModuleTranslation.{ModuleTranslation}
 use Rattle.pc_spec_facts.specs.Recorded.{bare}
-use Rattle.pc_spec_reading.specs.Answer.{IsPast}
+use Rattle.pc_spec_reading.specs.Answer.{ending}
 use Rattle.pc_spec_reading.specs.Item.{Items}
-use Rattle.pc_spec_reading.specs.Reading.{Reading}
+use Rattle.pc_spec_reading.specs.Outcome.{Outcome, done}
+use Rattle.pc_spec_reading.specs.Reading.{Reading, reading_of}
 use Rattle.pc_dfg.specs.declared.core_def.CoreDef.{CoreDef}
 use Rattle.pc_dfg.specs.declared.dfg.ComponentDfg.{ComponentDfg}
 use Rattle.pc_dfg.specs.declared.export.Export.{Export}
@@ -49,9 +52,8 @@ use Rattle.pc_adapt_partition.specs.Made as made
 use Rattle.pc_adapt_partition.specs.Partitions as parts
 use Rattle.pc_adapt_partition.specs.Partitions.{facts_by}
 use Rattle.pc_adapt_partition.specs.Wired.{AreHandedIn, HaveValues, LiftFunctions}
-use Rattle.pc_inline.specs.Inlines.{GraphStands, HasNoRoom, IsFault, StandsForReading}
-use Rattle.pc_inline_stack.specs.Totals.{CountsGraph, GainsFew}
-use Rattle.pc_inline_state.specs.Gained.{AddsTables}
+use Rattle.pc_inline.specs.Inlines.{GraphStands, StandsForReading}
+use Rattle.pc_inline_stack.specs.Totals.{GainsFew}
 use Rattle.pc_inline_state.proofs.HoldsLemmas.{reads_fit, some_reading}
 use Rattle.pc_inline_state.specs.Fits.{Fits}
 use Rattle.pc_inline_state.specs.Worlds as worlds
@@ -64,73 +66,44 @@ use Rattle.pc_translate.proofs.PartitionLemmas.{values}
 use Rattle.pc_translate.proofs.WiredLemmas.{are_handed_in, are_modules, lift_functions, wired}
 use Rattle.pc_translate.specs.Adapted.{as_handed_in}
 use Rattle.pc_translate.specs.Adapters.{first_lacking}
+use Rattle.pc_translate.specs.Causes.{in_the_end, or_lacking}
 use Rattle.pc_translate.specs.Finished.{IsFinished}
 use Rattle.pc_translate.specs.ModuleTypes.{HasModuleType, HoldsModule, HoldsModules, LacksPlace}
 use Rattle.pc_translate.specs.Partitioned.{IsGroupedGraph, IsPartitioned}
-use Rattle.pc_translate.specs.Planning.{Groups, HasGraph, IsGraphOf, IsPlanOfGraph, IsRefused, IsTooMuch, Plans}
+use Rattle.pc_translate.specs.Planning.{Groups, HasGraph, IsGraphOf, IsPlanOfGraph, Plans}
 use Rattle.pc_translate.specs.Planning.{PlansGraph, StopsFinish, StopsGraph, error_of_adapt, error_of_finish}
 use Rattle.pc_translate.specs.Recorded.{HasFacts}
 use Rattle.pc_translate.specs.Translation.{GainsCounted}
 
 -- the graph that was answered stands for the reading, and tells which of its adapters are transparent
-graph_is : (t : TypeTable) (ms : List ModuleRecord) (limit : ℕ) (body : Items) (old types : Types)
-    (g : ComponentDfg) → HasGraph t ms limit body old types (Ok g) → IsGraphOf t ms limit body types g
+graph_is : (t : TypeTable) (ms : List ModuleRecord) (limit counted : ℕ) (body : Items) (old types : Types)
+    (g : ComponentDfg) → HasGraph t ms limit counted body old types (Ok g)
+    → IsGraphOf t ms limit counted body old types g
 unfolding HasGraph
-graph_is t ms limit body old types g h = h
+graph_is t ms limit counted body old types g h = h
 
--- a fault of the reading is a cause
-refused_by_fault : (t : TypeTable) (ms : List ModuleRecord) (limit : ℕ) (body : Items) (held : ℕ) (e : Error)
-    → IsFault t ms limit body held e → IsRefused t ms limit body held e
-refused_by_fault t ms limit body held (error.BadOptions p) h = absurd h
-refused_by_fault t ms limit body held error.TooMany h = λ counted begins. h counted (omega (arith, begins))
-refused_by_fault t ms limit body held (error.Malformed p) h = h
-refused_by_fault t ms limit body held (error.BadTable p) h = h
-refused_by_fault t ms limit body held (error.Unsupported u p) h = h
-refused_by_fault t ms limit body held (error.BadIntrinsics p) h = h
-refused_by_fault t ms limit body held (error.UnknownIntrinsic p) h = h
-refused_by_fault t ms limit body held (error.DefinedTwice p) h = h
-refused_by_fault t ms limit body held (error.Invalid p) h = h
-refused_by_fault t ms limit body held (error.BadType p) h = h
-refused_by_fault t ms limit body held error.TooManyInstances h = h
-refused_by_fault t ms limit body held error.NoMemory h = h
+-- where a reading ends with an error, so does the answer
+error_ends : (o : Outcome Reading) (e : Error) → (e ≡ error.NoMemory) ⊎ (ending o ≡ Err e)
+    → (e ≡ error.NoMemory) ⊎ (in_the_end (ending o) ≡ Err e)
+error_ends o e (inl memory) = inl memory
+error_ends o e (inr ends) = inr (ap in_the_end ends)
+
+-- and where it is done, at the first adapter that lacks an option
+lacking_ends : (o : Outcome Reading) (r : Reading) (a : ℕ) (p : Place) → o ≡ done r → first_lacking r ≡ Some a
+    → p ≡ place.Adapter a → in_the_end (ending o) ≡ Err (error.BadOptions p)
+lacking_ends o r a p is first at =
+    (λ i. in_the_end (ending (is i))) ∙ (λ i. or_lacking (first i) r) ∙ (λ i. Err (error.BadOptions (sym at i)))
 
 -- so an instantiation's own error is the plan's
-pub fault_plans : (t : TypeTable) (ms : List ModuleRecord) (limit : ℕ) (body : Items) (old types : Types) (e : Error)
-    → HasGraph t ms limit body old types (Err e) → Plans t ms limit body old types (Err e)
+pub fault_plans : (t : TypeTable) (ms : List ModuleRecord) (limit counted : ℕ) (body : Items) (old types : Types)
+    (e : Error) → HasGraph t ms limit counted body old types (Err e)
+    → Plans t ms limit counted body old types (Err e)
 unfolding HasGraph Plans
-fault_plans t ms limit body old types e h = refused_by_fault t ms limit body (types_held old) e h
+fault_plans t ms limit counted body old types e h = error_ends (reading_of t ms limit (Some counted) body) e h
 
--- where the lists of a graph are counted, how much was gained is; and where the tables that are new are known, they are
--- those of component instances that begin in the reading
-module _ (t : TypeTable) (ms : List ModuleRecord) (limit start : ℕ) (body : Items) (old new : Types) (g : ComponentDfg)
-    (stands : StandsForReading t ms limit body new g)
-    (tables : AddsTables t g.num_runtime_component_instances old new) where
-  tables_read : AddsTables t stands.result.begun old new
-  tables_read = subst (λ n. AddsTables t n old new) (sym stands.stands.world.begun) tables
-
-  gains_counted : CountsGraph t ms limit start body old new g → GainsFew t ms limit start body old new
-      → GainsCounted t ms limit start body old new
-  gains_counted (inl past) few = record {
-    added = few.added;
-    types = few.types;
-    few = inl past;
-    result = stands.result;
-    outcome = stands.outcome;
-    tables = tables_read;
-  }
-  gains_counted (inr c) few = record {
-    added = c.added;
-    types = c.types;
-    few = inr (c.total, c.is_total, c.below, c.few);
-    result = stands.result;
-    outcome = stands.outcome;
-    tables = tables_read;
-  }
-
--- what holds anyway holds of each answer
-pub of_each : {A E : Type 0} (r : Result A E) (X : Type 0) → X → IfOk r (λ _. X)
-of_each (Ok a) X x = x
-of_each (Err e) X x = tt
+-- two readings that are done alike are one
+same_done : (r s : Reading) → ◌≡◌ {A = Outcome Reading} (done r) (done s) → r ≡ s
+same_done r s is = cc
 
 -- an answer is no error
 ok_no_error : {A E : Type 0} (a : A) (e : E) → ◌≡◌ {A = Result A E} (Ok a) (Err e) → ⊥
@@ -398,84 +371,84 @@ module _ (t : TypeTable) (h : ComponentDfg) (b new : Types) (same : new ≡ b) w
   finish_refused held builder (Err x) full (Ok p) is = absurd is
 
 -- a graph that was answered
-module _ (t : TypeTable) (ms : List ModuleRecord) (limit : ℕ) (body : Items) (old mid : Types) (g : ComponentDfg)
-    (is : HasGraph t ms limit body old mid (Ok g)) where
-  graph : IsGraphOf t ms limit body mid g
-  graph = graph_is t ms limit body old mid g is
+module _ (t : TypeTable) (ms : List ModuleRecord) (limit counted : ℕ) (body : Items) (old mid : Types)
+    (g : ComponentDfg) (is : HasGraph t ms limit counted body old mid (Ok g)) where
+  graph : IsGraphOf t ms limit counted body old mid g
+  graph = graph_is t ms limit counted body old mid g is
 
-  abbrev answered : StandsForReading t ms limit body mid g
+  abbrev answered : StandsForReading t ms limit counted body mid g
   answered = graph.stands
 
   -- it stands for the reading of the body
   pub stands_for : (r : Reading) × GraphStands t ms mid g r
   stands_for = (answered.result, answered.stands)
 
-  -- what stops its plan is a cause
-  refused_by : ((start : ℕ) → CountsGraph t ms limit start body old mid g) → (e : Error)
-      → StopsGraph ms answered.result g e → IsRefused t ms limit body (types_held old) e
-  refused_by counts (error.BadOptions p) stops = record {
-    result = answered.result;
-    outcome = answered.outcome;
-    adapter = stops.0;
-    first = stops.1;
-    is = stops.2;
-  }
-  refused_by counts error.TooMany stops = λ counted begins. by counted (omega (arith, begins)) (counts counted)
-    where
-      by : (counted : ℕ) → length ms ≤ counted → CountsGraph t ms limit counted body old mid g
-          → IsPast t ms limit counted body
-      by counted begins (inl past) = past
-      by counted begins (inr c) = absurd (none_crowded t ms limit counted body old mid g begins c stops)
-  refused_by counts error.NoMemory stops = tt
-  refused_by counts (error.Malformed p) stops = absurd stops
-  refused_by counts (error.BadTable p) stops = absurd stops
-  refused_by counts (error.Unsupported u p) stops = absurd stops
-  refused_by counts (error.BadIntrinsics p) stops = absurd stops
-  refused_by counts (error.UnknownIntrinsic p) stops = absurd stops
-  refused_by counts (error.DefinedTwice p) stops = absurd stops
-  refused_by counts (error.Invalid p) stops = absurd stops
-  refused_by counts (error.BadType p) stops = absurd stops
-  refused_by counts error.TooManyInstances stops = absurd stops
+  -- the total that bounds its lists is that of the reading
+  same_reading : graph.few.is_total.0 ≡ answered.result
+  same_reading = same_done graph.few.is_total.0 answered.result (sym graph.few.is_total.1 ∙ answered.outcome)
 
-  plans : ((start : ℕ) → CountsGraph t ms limit start body old mid g)
-      → (res : Result (ComponentTranslation × List ModuleTranslation) Error)
-      → PlansGraph t ms answered.result mid g res → Plans t ms limit body old mid res
+  -- so the types that were gained are counted
+  gains_counted : GainsCounted t counted answered.result old mid
+  gains_counted = record {
+    total = graph.few.total;
+    is_total = subst (λ (r : Reading). r.total ≡ Some graph.few.total) same_reading graph.few.is_total.2;
+    below = graph.few.below;
+    added = graph.few.added;
+    few = graph.few.few;
+    types = graph.few.types;
+    tables = graph.tables;
+  }
+
+  -- what stops its plan is the end of the answer, where the modules that were handed in are counted: it isn't crowded
+  refused_by : length ms ≤ counted → (e : Error) → StopsGraph ms answered.result g e
+      → (e ≡ error.NoMemory) ⊎ (in_the_end (ending (reading_of t ms limit (Some counted) body)) ≡ Err e)
+  refused_by begins (error.BadOptions p) stops =
+      inr (lacking_ends (reading_of t ms limit (Some counted) body) answered.result stops.0 p answered.outcome stops.1
+      stops.2)
+  refused_by begins error.TooMany stops =
+      absurd (none_crowded t ms limit counted body old mid g begins graph.few stops)
+  refused_by begins error.NoMemory stops = inl refl
+  refused_by begins (error.Malformed p) stops = absurd stops
+  refused_by begins (error.BadTable p) stops = absurd stops
+  refused_by begins (error.Unsupported u p) stops = absurd stops
+  refused_by begins (error.BadIntrinsics p) stops = absurd stops
+  refused_by begins (error.UnknownIntrinsic p) stops = absurd stops
+  refused_by begins (error.DefinedTwice p) stops = absurd stops
+  refused_by begins (error.Invalid p) stops = absurd stops
+  refused_by begins (error.BadType p) stops = absurd stops
+  refused_by begins error.TooManyInstances stops = absurd stops
+
+  plans : length ms ≤ counted → (res : Result (ComponentTranslation × List ModuleTranslation) Error)
+      → PlansGraph t ms answered.result mid g res → Plans t ms limit counted body old mid res
   unfolding PlansGraph Plans
-  plans counts (Ok p) of_graph = (
+  plans begins (Ok p) of_graph = (
     record {
       graph = g;
       stands = answered;
       tells = graph.tells;
+      gains = gains_counted;
       grouped = of_graph.0.grouped;
       partitioned = of_graph.0.partitioned;
       finished = of_graph.0.finished;
     },
     of_graph.1,
   )
-  plans counts (Err e) stops = refused_by counts e stops
+  plans begins (Err e) stops = refused_by begins e stops
 
-  module _ (new : Types) (same : new ≡ mid) where
-    -- so the body has a plan, or there is a cause for want of one
-    pub still_plans : ((start : ℕ) → CountsGraph t ms limit start body old mid g)
-        → (res : Result (ComponentTranslation × List ModuleTranslation) Error)
-        → ((r : Reading) → GraphStands t ms mid g r → PlansGraph t ms r mid g res)
-        → Plans t ms limit body old new res
-    still_plans counts res of_graph =
-        subst (λ x. Plans t ms limit body old x res) (sym same)
-        (plans counts res (of_graph answered.result answered.stands))
+  -- so the body has a plan, or there is a cause for want of one
+  pub still_plans : (new : Types) → new ≡ mid → length ms ≤ counted
+      → (res : Result (ComponentTranslation × List ModuleTranslation) Error)
+      → ((r : Reading) → GraphStands t ms mid g r → PlansGraph t ms r mid g res)
+      → Plans t ms limit counted body old new res
+  still_plans new same begins res of_graph =
+      subst (λ x. Plans t ms limit counted body old x res) (sym same)
+      (plans begins res (of_graph answered.result answered.stands))
 
-    -- types keep their numbers
-    pub still_keeps : KeepsTypes old mid → KeepsTypes old new
-    still_keeps keeps = subst (KeepsTypes old) (sym same) keeps
+-- types keep their numbers
+pub still_keeps : (old mid new : Types) → new ≡ mid → KeepsTypes old mid → KeepsTypes old new
+still_keeps old mid new same keeps = subst (KeepsTypes old) (sym same) keeps
 
-    -- as few were gained
-    pub still_gains : (start : ℕ) → GainsFew t ms limit start body old mid → GainsFew t ms limit start body old new
-    still_gains start few = subst (GainsFew t ms limit start body old) (sym same) few
-
-    -- and they are counted
-    pub still_counts : AddsTables t g.num_runtime_component_instances old mid → (start : ℕ)
-        → CountsGraph t ms limit start body old mid g → GainsFew t ms limit start body old mid
-        → GainsCounted t ms limit start body old new
-    still_counts tables start counts few =
-        subst (GainsCounted t ms limit start body old) (sym same)
-        (gains_counted t ms limit start body old mid g answered tables counts few)
+-- as few were gained
+pub still_gains : (t : TypeTable) (counted : ℕ) (old mid new : Types) → new ≡ mid → GainsFew t counted old mid
+    → GainsFew t counted old new
+still_gains t counted old mid new same few = subst (GainsFew t counted old) (sym same) few

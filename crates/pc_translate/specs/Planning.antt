@@ -1,17 +1,16 @@
 -- What comes of a local program: a plan with its modules that stands for the reading of its root, or why there is none.
-use Rattle.std.specs.Prelude.{◌≡◌, ◌≤◌, ◌<◌, ◌+◌, ◌*◌, ⊤, ℕ, List, None, Result, Some, Ok, Err, length, map}
-use Rattle.pc_types_lists.specs.Types.{Types, types_held}
+use Rattle.std.specs.Prelude.{◌≡◌, ◌<◌, ◌+◌, ◌*◌, ◌⊎◌, ⊤, ℕ, List, Option, Result, Some, Ok, Err, length, map, option_map}
+use Rattle.pc_types_lists.specs.Types.{Types}
 use Rattle.pc_types.specs.declared.error.Error.{Error}
 use Rattle.pc_types.specs.declared.error.Error.TheVariants as error
-use Rattle.pc_types.specs.declared.error.Place.{Place}
 use Rattle.pc_types.specs.declared.error.Place.TheVariants as place
 use Rattle.pc_types.specs.declared.module_record.ModuleRecord.{ModuleRecord}
 use Rattle.pc_types.specs.declared.parsed.TypeTable.{TypeTable}
 use Rattle.pc_info.specs.declared.component.ComponentTranslation.{ComponentTranslation}
 use Rattle.pc_info.specs.declared.module.ModuleTranslation.{ModuleTranslation}
-use Rattle.pc_spec_reading.specs.Answer.{IsPast}
+use Rattle.pc_parsed.specs.declared.payload.Payload.{Payload}
+use Rattle.pc_spec_reading.specs.Answer.{answer_from, ending}
 use Rattle.pc_spec_reading.specs.Item.{Items}
-use Rattle.pc_spec_reading.specs.Outcome.{done}
 use Rattle.pc_spec_reading.specs.Reading.{Reading, reading_of}
 use Rattle.pc_dfg.specs.declared.dfg.ComponentDfg.{ComponentDfg}
 use Rattle.pc_dfg.specs.Lists.{ListName}
@@ -23,13 +22,28 @@ use Rattle.pc_adapt.specs.declared.error.AdaptError.TheVariants as adapt_error
 use Rattle.pc_adapt_partition.specs.Made.{AddsFew}
 use Rattle.pc_spec_facts.specs.Recorded.{bare}
 use Rattle.pc_inline_state.specs.Adds.{with_modules}
-use Rattle.pc_inline.specs.Inlines.{GraphStands, IsFault, StandsForReading}
+use Rattle.pc_inline_state.specs.Gained.{AddsTables}
+use Rattle.pc_inline_stack.specs.Totals.{IsCounted}
+use Rattle.pc_inline.specs.Inlines.{StandsForReading}
 use Rattle.pc_translate.specs.Adapted.{as_handed_in}
 use Rattle.pc_translate.specs.Adapters.{first_lacking}
+use Rattle.pc_translate.specs.Causes.{in_the_end}
 use Rattle.pc_translate.specs.Finished.{IsFinished}
 use Rattle.pc_translate.specs.Partitioned.{IsPartitioned}
 use Rattle.pc_translate.specs.Recorded.{HasFacts}
+use Rattle.pc_translate.specs.Translation.{GainsCounted}
 use Rattle.pc_translate.specs.Transparent.{TellsTransparent}
+
+-- the answer in order, where the total before the first item is this
+unfoldable pub answer_at : TypeTable → (exposed : Option (List ℕ)) → (limit counted : ℕ) → List Payload
+    → Option (Result Reading Error)
+answer_at t exposed limit counted ps = option_map in_the_end (answer_from t exposed limit (Some counted) ps)
+
+-- why payloads don't come to be read, where that is the total: it is the answer whatever the limit is, or memory was
+-- wanting
+unfoldable pub StopsPayloads : TypeTable → (exposed : Option (List ℕ)) → (counted : ℕ) → List Payload → Error → Type 0
+StopsPayloads t exposed counted ps e =
+    (limit : ℕ) → (e ≡ error.NoMemory) ⊎ (answer_at t exposed limit counted ps ≡ Some (Err e))
 
 -- why a graph has no plan, as an error of the translation
 abbrev pub error_of_finish : FinishError → Error
@@ -69,17 +83,22 @@ StopsFinish h error.TooMany = HasTooMany h
 StopsFinish h error.NoMemory = Unit {0}
 StopsFinish h e = ⊥
 
--- a graph stands for the reading of a body, and tells which of its adapters are transparent
-pub record IsGraphOf (t : TypeTable) (ms : List ModuleRecord) (limit : ℕ) (body : Items) (types : Types)
+-- a graph stands for the reading of a body whose total begins with this one, and which bounds its lists and the types
+-- that were gained; it tells which of its adapters are transparent. New tables of futures, streams and error contexts
+-- are those of entries in component instances that begin in the reading
+pub record IsGraphOf (t : TypeTable) (ms : List ModuleRecord) (limit counted : ℕ) (body : Items) (old new : Types)
     (g : ComponentDfg) : Type 0 where
-  pub stands : StandsForReading t ms limit body types g
+  pub stands : StandsForReading t ms limit counted body new g
   pub tells : TellsTransparent stands.result g
+  pub few : IsCounted t ms limit counted body old new g
+  pub tables : AddsTables t stands.result.begun old new
 
--- a body has such a graph, or an error that its reading has. The builder held these types before, and holds those now
-unfoldable pub HasGraph : TypeTable → List ModuleRecord → (limit : ℕ) → Items → (old new : Types)
+-- a body has such a graph, or the error that its reading ends with; want of memory is free
+unfoldable pub HasGraph : TypeTable → List ModuleRecord → (limit counted : ℕ) → Items → (old new : Types)
     → Result ComponentDfg Error → Type 0
-HasGraph t ms limit body old new (Ok g) = IsGraphOf t ms limit body new g
-HasGraph t ms limit body old new (Err e) = IsFault t ms limit body (types_held old) e
+HasGraph t ms limit counted body old new (Ok g) = IsGraphOf t ms limit counted body old new g
+HasGraph t ms limit counted body old new (Err e) =
+    (e ≡ error.NoMemory) ⊎ (ending (reading_of t ms limit (Some counted) body) ≡ Err e)
 
 -- a plan and its modules are those of a graph that stands for a reading, once its adapters have modules
 pub record IsPlanOfGraph (t : TypeTable) (ms : List ModuleRecord) (r : Reading) (types : Types) (g : ComponentDfg)
@@ -95,39 +114,22 @@ PlansGraph t ms r types g (Ok p) = IsPlanOfGraph t ms r types g p.0 (map bare p.
 PlansGraph t ms r types g (Err e) = StopsGraph ms r g e
 
 -- a plan and its modules are those of a graph which stands for the reading of a body and tells which of its adapters
--- are transparent, once its adapters have modules
-pub record IsPlanOfBody (t : TypeTable) (ms : List ModuleRecord) (limit : ℕ) (body : Items) (types : Types)
+-- are transparent, once its adapters have modules; and the types that were gained are counted in that reading
+pub record IsPlanOfBody (t : TypeTable) (ms : List ModuleRecord) (limit counted : ℕ) (body : Items) (old new : Types)
     (plan : ComponentTranslation) (modules : List ModuleTranslation) : Type 0 where
   pub graph : ComponentDfg
-  pub stands : StandsForReading t ms limit body types graph
+  pub stands : StandsForReading t ms limit counted body new graph
   pub tells : TellsTransparent stands.result graph
+  pub gains : GainsCounted t counted stands.result old new
   pub grouped : ComponentDfg
-  pub partitioned : IsPartitioned ms stands.result types graph grouped modules
-  pub finished : IsFinished types t grouped plan
+  pub partitioned : IsPartitioned ms stands.result new graph grouped modules
+  pub finished : IsFinished new t grouped plan
 
--- the reading is done, and this is the place of the first adapter that lacks an option
-pub record LacksOption (t : TypeTable) (ms : List ModuleRecord) (limit : ℕ) (body : Items) (p : Place) : Type 0 where
-  pub result : Reading
-  pub outcome : reading_of t ms limit None body ≡ done result
-  pub adapter : ℕ
-  pub first : first_lacking result ≡ Some adapter
-  pub is : p ≡ place.Adapter adapter
-
--- the total of the reading is too much, wherever it begins that counts the types that were held before, the core
--- signatures of the table, and the modules that were handed in
-abbrev pub IsTooMuch : TypeTable → List ModuleRecord → (limit : ℕ) → Items → (held : ℕ) → Type 0
-IsTooMuch t ms limit body held =
-    (counted : ℕ) → length t.core_funcs + held + length ms ≤ counted → IsPast t ms limit counted body
-
--- why a body has no plan, where so many types were held before
-abbrev pub IsRefused : TypeTable → List ModuleRecord → (limit : ℕ) → Items → (held : ℕ) → Error → Type 0
-IsRefused t ms limit body held (error.BadOptions p) = LacksOption t ms limit body p
-IsRefused t ms limit body held error.TooMany = IsTooMuch t ms limit body held
-IsRefused t ms limit body held e = IsFault t ms limit body held e
-
--- a body has such a plan, with modules of which everything is recorded, or an error that its reading has. The builder
--- held these types before, and holds those now
-unfoldable pub Plans : TypeTable → List ModuleRecord → (limit : ℕ) → Items → (old new : Types)
+-- a body has such a plan, with modules of which everything is recorded, or the error that its reading ends with, or its
+-- first adapter that lacks an option; want of memory is free
+unfoldable pub Plans : TypeTable → List ModuleRecord → (limit counted : ℕ) → Items → (old new : Types)
     → Result (ComponentTranslation × List ModuleTranslation) Error → Type 0
-Plans t ms limit body old new (Ok r) = IsPlanOfBody t ms limit body new r.0 (map bare r.1) × HasFacts r.0 r.1
-Plans t ms limit body old new (Err e) = IsRefused t ms limit body (types_held old) e
+Plans t ms limit counted body old new (Ok r) =
+    IsPlanOfBody t ms limit counted body old new r.0 (map bare r.1) × HasFacts r.0 r.1
+Plans t ms limit counted body old new (Err e) =
+    (e ≡ error.NoMemory) ⊎ (in_the_end (ending (reading_of t ms limit (Some counted) body)) ≡ Err e)

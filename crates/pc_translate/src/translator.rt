@@ -1,36 +1,40 @@
 //! The top call over payloads.
 
-ghost use Rattle.std.specs.Prelude.{◌≡◌, ℕ, List, All, false, true, length, map, None, is_some, IfErr, IfOk, OnOk};
+ghost use Rattle.std.specs.Prelude.{◌≡◌, ◌<◌, ◌≤◌, ◌+◌, ℕ, List, All, true, length, map, None, is_some, IfErr, IfOk};
+ghost use Rattle.std.specs.Prelude.{OnOk};
 ghost use Rattle.std.specs.List.{list_all};
 ghost use Rattle.std.specs.Option.{option_map};
+ghost use Rattle.pc_types.specs.declared.error.Error.TheVariants as error;
 ghost use Rattle.pc_types.specs.declared.module_record.ModuleRecord.{ModuleRecord as Record};
 ghost use Rattle.pc_types.specs.declared.parsed.TypeTable.{TypeTable as Table};
 ghost use Rattle.pc_types.specs.Record.{is_sound};
 ghost use Rattle.pc_types.specs.Table.{table_fault};
 ghost use Rattle.pc_types_lists.specs.Types.{KeepsTypes, no_types, types_held};
+ghost use Rattle.pc_parsed.specs.Program.{is_numbered};
+ghost use Rattle.pc_parsed.specs.StaticFault.{static_fault};
 ghost use Rattle.pc_spec_reading.specs.Item.{Items};
 ghost use Rattle.pc_spec_reading.specs.Reading.{Reading};
+ghost use Rattle.pc_spec_reading.specs.Total.{counted};
 ghost use Rattle.pc_dfg.specs.Ordered.{IsOrdered};
 ghost use Rattle.pc_dfg_linearize.specs.Grouped.{IsGrouped};
 ghost use Rattle.pc_local.specs.Program.{ProgramStands};
 ghost use Rattle.pc_local.specs.Sound.{AreSoundBodies, IsSoundBody};
 ghost use Rattle.pc_local.specs.Standing.{BodyStands, no_names};
-ghost use Rattle.pc_inline_state.specs.Gained.{AddsTables};
-ghost use Rattle.pc_inline_stack.specs.Totals.{CountsGraph, GainsFew};
+ghost use Rattle.pc_inline_stack.specs.Totals.{GainsFew};
 ghost use Rattle.pc_inline.specs.Inlines.{GraphStands};
 ghost use Rattle.pc_spec_facts.specs.Recorded.{bare};
-ghost use Rattle.pc_translate.specs.Causes.{CanBeRead, HasCause, HasOwnCause};
+ghost use Rattle.pc_translate.specs.Causes.{CanBeRead, HasCause, IsValid};
 ghost use Rattle.pc_translate.specs.Adapted.{as_handed_in};
 ghost use Rattle.pc_translate.specs.Finished.{IsFinished};
 ghost use Rattle.pc_translate.specs.ModuleTypes.{HasModuleType, HoldsModules};
 ghost use Rattle.pc_translate.specs.Partitioned.{IsGroupedGraph};
-ghost use Rattle.pc_translate.specs.Planning.{Groups, HasGraph, Plans, PlansGraph, StopsFinish};
+ghost use Rattle.pc_translate.specs.Planning.{Groups, HasGraph, Plans, PlansGraph, StopsFinish, StopsPayloads};
 ghost use Rattle.pc_translate.specs.Planning.{error_of_adapt, error_of_finish};
 ghost use Rattle.pc_translate.specs.Recorded.{HasFacts};
 ghost use Rattle.pc_translate.specs.Transparent.{TellsTransparent};
-ghost use Rattle.pc_translate.specs.Translation.{CountsGained, Gains, GainsCounted, IsPlanOf, IsRefusalOf};
-ghost use Rattle.pc_translate.specs.Translation.{Translates};
+ghost use Rattle.pc_translate.specs.Translation.{CountsGained, IsPlanOf, IsRefusalOf, Translates};
 
+use crate::held::types_held;
 use crate::plan::finish;
 use pc_adapt::AdaptError;
 use pc_adapt_partition::partition_adapter_modules;
@@ -43,10 +47,14 @@ use pc_entity::{NoMemory, PrimaryMap, Seq, StaticModuleIndex};
 use pc_info::{ComponentTranslation, ModuleTranslation};
 use pc_inline::inline_run;
 use pc_local::{LocalProgram, translate_payloads};
-use pc_parsed::{Payload, Tunables, is_numbered};
+use pc_parsed::{Payload, Tunables};
 use pc_types::{Error, ModuleRecord, Place, TypeTable};
 use pc_types_builder::ComponentTypesBuilder;
+use pc_weights::counted;
 use std::alloc::Global;
+
+/// The number that a total may not reach.
+const FULL: u32 = 4294967295;
 
 /// A plan and its core modules.
 pub type PlanWithModules = (
@@ -68,20 +76,24 @@ fn translations(
     Ok(PrimaryMap::from_vec(translations))
 }
 
-/// The local program of payloads, where each thing in them has a number.
+/// The local program of payloads, where the total before the first item isn't full: each thing in them has a number
+/// then.
 fn program_of(
     alloc: Global,
     table: &TypeTable,
     exposed: Option<&str>,
     payloads: &[Payload],
+    counted: u32,
 ) -> Result<LocalProgram, Error>
+    requires numbered { counted < 4294967295 → is_numbered table.now payloads.now ≡ true }
     ensures program { IfOk result (ProgramStands (option_map (λ name. name.now) exposed.entry) payloads.now) }
-    ensures can { OnOk result
-        (CanBeRead table.now (option_map (λ name. name.now) exposed.entry) payloads.now) }
+    ensures below { OnOk result (counted < 4294967295) }
+    ensures sound { OnOk result
+        (static_fault table.now (option_map (λ name. name.now) exposed.entry) payloads.now ≡ None) }
     ensures refused { IfErr result
-        (HasOwnCause table.now (option_map (λ name. name.now) exposed.entry) payloads.now) }
+        (StopsPayloads table.now (option_map (λ name. name.now) exposed.entry) counted payloads.now) }
 {
-    if !is_numbered(table, payloads) {
+    if counted >= FULL {
         return Err(Error::TooMany);
     }
     translate_payloads(alloc, table, exposed, payloads)
@@ -104,30 +116,28 @@ fn mark_transparent(
     Ok(())
 }
 
-/// The graph of a local program, which tells which of its adapters need not keep the state of a thread.
+/// The graph of a local program, which tells which of its adapters need not keep the state of a thread. The total
+/// before the first item is given.
 fn graph_of(
     alloc: Global,
     tunables: &Tunables,
     table: &TypeTable,
     types: &mut ComponentTypesBuilder,
     program: &LocalProgram,
+    counted: u32,
 ) -> Result<ComponentDfg, Error>
     requires table { table_fault table.now ≡ None }
     requires modules { list_all (is_sound table.now) program.now.modules ≡ true }
     requires stands { (body : Items) × BodyStands program.now.components no_names program.now.root body }
     requires root { IsSoundBody (length program.now.modules) program.now.root }
     requires components { AreSoundBodies (length program.now.modules) program.now.components }
+    requires below { counted < 4294967295 }
+    requires held { length table.now.core_funcs + types_held types.old ≤ counted }
     ensures graph { (body : Items) → BodyStands program.now.components no_names program.now.root body
-        → HasGraph table.now program.now.modules tunables.now.max_component_instances body types.old types.new
+        → HasGraph table.now program.now.modules tunables.now.max_component_instances counted body types.old types.new
         result }
-    ensures few { (body : Items) → BodyStands program.now.components no_names program.now.root body → (start : ℕ)
-        → IfOk result (CountsGraph table.now program.now.modules tunables.now.max_component_instances start body
-        types.old types.new) }
     ensures keeps { KeepsTypes types.old types.new }
-    ensures tables { IfOk result
-        (λ g. AddsTables table.now g.num_runtime_component_instances types.old types.new) }
-    ensures adds { (body : Items) → BodyStands program.now.components no_names program.now.root body → (start : ℕ)
-        → GainsFew table.now program.now.modules tunables.now.max_component_instances start body types.old types.new }
+    ensures adds { GainsFew table.now counted types.old types.new }
 {
     let mut graph = inline_run(
         alloc,
@@ -135,6 +145,7 @@ fn graph_of(
         table,
         program,
         tunables.max_component_instances,
+        counted,
     )?;
     mark_transparent(alloc, types, &mut graph)?;
     Ok(graph)
@@ -245,30 +256,30 @@ fn plan_of_graph(
     Ok((plan, modules))
 }
 
-/// The plan of a local program, and its modules: the graph of the program, and then its plan.
+/// The plan of a local program, and its modules: the graph of the program, and then its plan. The total before the first
+/// item is given, which counts the modules of the program.
 fn plan_of(
     alloc: Global,
     tunables: &Tunables,
     table: &TypeTable,
     types: &mut ComponentTypesBuilder,
     program: LocalProgram,
+    counted: u32,
 ) -> Result<PlanWithModules, Error>
     requires table { table_fault table.now ≡ None }
     requires modules { list_all (is_sound table.now) program.modules ≡ true }
     requires stands { (body : Items) × BodyStands program.components no_names program.root body }
     requires root { IsSoundBody (length program.modules) program.root }
     requires components { AreSoundBodies (length program.modules) program.components }
+    requires below { counted < 4294967295 }
+    requires held { length table.now.core_funcs + types_held types.old ≤ counted }
+    requires begins { length program.modules ≤ counted }
     ensures plan { (body : Items) → BodyStands program.components no_names program.root body
-        → Plans table.now program.modules tunables.now.max_component_instances body types.old types.new result }
+        → Plans table.now program.modules tunables.now.max_component_instances counted body types.old types.new result }
     ensures keeps { KeepsTypes types.old types.new }
-    ensures adds { (body : Items) → BodyStands program.components no_names program.root body
-        → (start : ℕ)
-        → GainsFew table.now program.modules tunables.now.max_component_instances start body types.old types.new }
-    ensures counts { (body : Items) → BodyStands program.components no_names program.root body
-        → (start : ℕ) → IfOk result (λ _. GainsCounted table.now program.modules
-        tunables.now.max_component_instances start body types.old types.new) }
+    ensures adds { GainsFew table.now counted types.old types.new }
 {
-    let graph = graph_of(alloc, tunables, table, types, &program)?;
+    let graph = graph_of(alloc, tunables, table, types, &program, counted)?;
     plan_of_graph(alloc, table, types, graph, program.modules)
 }
 

@@ -1,7 +1,5 @@
-use Rattle.std.proofs.Common.{ap}
 use Rattle.pc_types.specs.declared.error.Error.TheVariants as error
-use Rattle.pc_dfg.specs.declared.dfg.ComponentDfg.{ComponentDfg}
-use Rattle.pc_translate.proofs.MarkedLemmas.{graph_read, marked_counts, marked_graph, marked_tables, no_graph, no_memory}
+use Rattle.pc_translate.proofs.MarkedLemmas.{graph_read, marked_graph, no_graph, no_memory}
 use Rattle.pc_translate.proofs.PassingLemmas.{passed_err}
 use Rattle.pc_translate.specs.Planning.{HasGraph}
 use Rattle.pc_translate.proofs.translator.graph_of.Goals as goal
@@ -9,32 +7,22 @@ use Rattle.pc_translate.proofs.translator.graph_of.Goals as goal
 pub returns-in_err-graph-clause-graph : goal.returns-in_err-graph-clause-graph
 returns-in_err-graph-clause-graph c = λ body stands.
     passed_err _ _ (λ r. HasGraph c.args.table.now c.args.program.now.modules c.args.tunables.now.max_component_instances
-    body c.args.types.now c.inline_run.new.types r) c.from_residual.ensures.1
-    (no_graph _ _ _ _ _ _ _ (c.in_err-graph.ensures.inlines body stands))
+    c.args.counted body c.args.types.now c.inline_run.new.types r) c.from_residual.ensures.1
+    (no_graph _ _ _ _ _ _ _ _ (c.in_err-graph.ensures.inlines body stands))
 
 pub mark_transparent-requires : goal.mark_transparent-requires
 mark_transparent-requires c =
     let s = c.requires.stands in
-    record { stands = graph_read _ _ _ s.0 _ _ _ (c.in_ok-graph.ensures.inlines s.0 s.1) }
+    record { stands = graph_read _ _ _ _ s.0 _ _ (c.in_ok-graph.ensures.inlines s.0 s.1) }
 
 pub returns-in_err-mark_transparent-clause-graph : goal.returns-in_err-mark_transparent-clause-graph
 returns-in_err-mark_transparent-clause-graph c = λ body stands.
     passed_err _ error.NoMemory (λ r. HasGraph c.args.table.now c.args.program.now.modules
-    c.args.tunables.now.max_component_instances body c.args.types.now c.inline_run.new.types r)
-    c.from_residual-in_err-mark_transparent.ensures.1 (no_memory _ _ _ _ _ _)
+    c.args.tunables.now.max_component_instances c.args.counted body c.args.types.now c.inline_run.new.types r)
+    c.from_residual-in_err-mark_transparent.ensures.1 (no_memory _ _ _ _ _ _ _)
 
 pub returns-clause-graph : goal.returns-clause-graph
 returns-clause-graph c = λ body stands.
-    marked_graph _ _ c.in_ok-mark_transparent.ensures.marks _ _ _ body _ _ (c.in_ok-graph.ensures.inlines body stands)
-    (λ r s. c.in_ok-mark_transparent.ensures.tells _ _ r s)
-
-pub returns-clause-few : goal.returns-clause-few
-returns-clause-few c = λ body stands start.
-    marked_counts _ _ c.in_ok-mark_transparent.ensures.marks _ _ _ body _ _ start
-    (c.in_ok-graph.ensures.few body stands start)
-
-pub returns-clause-tables : goal.returns-clause-tables
-returns-clause-tables c =
-    marked_tables _ _ _ _ _
-    (ap (λ (x : ComponentDfg). x.num_runtime_component_instances) c.in_ok-mark_transparent.ensures.marks)
-    c.in_ok-graph.ensures.tables
+    marked_graph _ _ c.in_ok-mark_transparent.ensures.marks _ _ _ _ body _ _
+    (c.in_ok-graph.ensures.inlines body stands) (λ r s. c.in_ok-mark_transparent.ensures.tells _ _ r s)
+    (c.in_ok-graph.ensures.few body stands) c.in_ok-graph.ensures.tables

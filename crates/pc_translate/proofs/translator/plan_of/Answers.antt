@@ -1,37 +1,25 @@
 use Rattle.pc_translate.proofs.PassingLemmas.{passed_err}
-use Rattle.pc_translate.proofs.PlanningLemmas.{fault_plans, of_each, stands_for, still_counts, still_gains, still_keeps}
-use Rattle.pc_translate.proofs.PlanningLemmas.{still_plans}
+use Rattle.pc_translate.proofs.PlanningLemmas.{fault_plans, stands_for, still_gains, still_keeps, still_plans}
 use Rattle.pc_translate.specs.Planning.{Plans}
 use Rattle.pc_translate.proofs.translator.plan_of.Goals as goal
 
 pub returns-in_err-graph-clause-plan : goal.returns-in_err-graph-clause-plan
 returns-in_err-graph-clause-plan c = λ body stands.
-    passed_err _ _ (λ r. Plans c.args.table.now c.args.program.modules c.args.tunables.now.max_component_instances body
-    c.args.types.now c.graph_of.new.types r) c.from_residual.ensures.1
-    (fault_plans _ _ _ _ _ _ _ (c.in_err-graph.ensures.graph body stands))
+    passed_err _ _ (λ r. Plans c.args.table.now c.args.program.modules c.args.tunables.now.max_component_instances
+    c.args.counted body c.args.types.now c.graph_of.new.types r) c.from_residual.ensures.1
+    (fault_plans _ _ _ _ _ _ _ _ (c.in_err-graph.ensures.graph body stands))
 
 pub plan_of_graph-requires-clause-stands : goal.plan_of_graph-requires-clause-stands
 plan_of_graph-requires-clause-stands c =
-    let s = c.requires.stands in stands_for _ _ _ s.0 _ _ _ (c.in_ok-graph.ensures.graph s.0 s.1)
+    let s = c.requires.stands in stands_for _ _ _ _ s.0 _ _ _ (c.in_ok-graph.ensures.graph s.0 s.1)
 
 pub returns-clause-plan : goal.returns-clause-plan
 returns-clause-plan c = λ body stands.
-    still_plans _ _ _ body _ _ _ (c.in_ok-graph.ensures.graph body stands) _ c.plan_of_graph.ensures.unchanged
-    (c.in_ok-graph.ensures.few body stands) c.plan_of_graph.result c.plan_of_graph.ensures.plans
+    still_plans _ _ _ _ body _ _ _ (c.in_ok-graph.ensures.graph body stands) _ c.plan_of_graph.ensures.unchanged
+    c.requires.begins c.plan_of_graph.result c.plan_of_graph.ensures.plans
 
 pub returns-clause-keeps : goal.returns-clause-keeps
-returns-clause-keeps c =
-    let s = c.requires.stands in
-    still_keeps _ _ _ s.0 _ _ _ (c.in_ok-graph.ensures.graph s.0 s.1) _ c.plan_of_graph.ensures.unchanged
-    c.in_ok-graph.ensures.keeps
+returns-clause-keeps c = still_keeps _ _ _ c.plan_of_graph.ensures.unchanged c.in_ok-graph.ensures.keeps
 
 pub returns-clause-adds : goal.returns-clause-adds
-returns-clause-adds c = λ body stands start.
-    still_gains _ _ _ body _ _ _ (c.in_ok-graph.ensures.graph body stands) _ c.plan_of_graph.ensures.unchanged start
-    (c.in_ok-graph.ensures.adds body stands start)
-
-pub returns-clause-counts : goal.returns-clause-counts
-returns-clause-counts c = λ body stands start.
-    of_each _ _ (still_counts _ _ _ body _ _ _ (c.in_ok-graph.ensures.graph body stands) _
-    c.plan_of_graph.ensures.unchanged c.in_ok-graph.ensures.tables start
-    (c.in_ok-graph.ensures.few body stands start) (c.in_ok-graph.ensures.adds body stands start))
+returns-clause-adds c = still_gains _ _ _ _ _ c.plan_of_graph.ensures.unchanged c.in_ok-graph.ensures.adds

@@ -1,20 +1,12 @@
-use Rattle.std.proofs.Common.{rules, ◌≡◌, true}
-use Rattle.pc_parsed.specs.Program.{is_numbered}
-use Rattle.pc_translate.proofs.CauseLemmas.{payload_causes, payload_read, too_long}
+use Rattle.std.proofs.Common.{rules, ◌≤◌, ◌<◌, arith}
+use Rattle.pc_translate.proofs.CauseLemmas.{stops, too_many}
 use Rattle.pc_translate.proofs.translator.program_of.Goals as goal
 
-pub returns-then-not-is_numbered-clause-refused : goal.returns-then-not-is_numbered-clause-refused
-returns-then-not-is_numbered-clause-refused c =
-    too_long _ _ _ (grind (rules, c.if-not-is_numbered.true, c.is_numbered.ensures))
+pub returns-then-counted-ge-FULL-clause-refused : goal.returns-then-counted-ge-FULL-clause-refused
+returns-then-counted-ge-FULL-clause-refused c =
+    let many : 4294967295 ≤ c.args.counted = grind (rules, arith, c.if-counted-ge-FULL.true) in too_many _ _ _ _ many
 
 pub returns-clause-refused : goal.returns-clause-refused
 returns-clause-refused c =
-    let numbered : is_numbered c.args.table.now c.args.payloads.now ≡ true =
-    grind (rules, c.if-not-is_numbered.false, c.is_numbered.ensures) in
-    payload_causes _ _ _ numbered _ c.translate_payloads.ensures.refused
-
-pub returns-clause-can : goal.returns-clause-can
-returns-clause-can c =
-    let numbered : is_numbered c.args.table.now c.args.payloads.now ≡ true =
-    grind (rules, c.if-not-is_numbered.false, c.is_numbered.ensures) in
-    payload_read _ _ _ numbered _ c.translate_payloads.ensures.sound
+    let below : c.args.counted < 4294967295 = grind (rules, arith, c.if-counted-ge-FULL.false) in
+    stops _ _ _ _ below _ c.translate_payloads.ensures.refused
