@@ -3,6 +3,7 @@ use Rattle.std.proofs.Common.{◌≡◌, inl, inr, ◌<◌, ◌≤◌, ◌+◌, 
 use Rattle.std.proofs.Common.{get_or, Option, None, Some, Result, Ok, Err, refl, sym, ap, subst, ◌∙◌, arith, true≢false}
 use Rattle.std.specs.Prelude.{⊤, if◌then◌else◌, nat_lt, option_and_then, option_map, slice_get}
 use Rattle.std.specs.Result.{IsErrAnd}
+use Rattle.std.proofs.lemmas.Bool.{ltb-true}
 use Rattle.std.proofs.lemmas.Bool.Decides.{Decides-ltb}
 use Rattle.std.proofs.lemmas.List.{drop_all}
 use Rattle.std.proofs.lemmas.Option.{none-some}
@@ -49,11 +50,11 @@ use Rattle.pc_inline_counts.specs.declared.instances.NodeCounts.{NodeCounts}
 use Rattle.pc_inline_counts.specs.Counts.{AreCounts, one_node}
 use Rattle.pc_inline_counts.specs.Follows.{CountsNodes, Follows, HasHostTypes}
 use Rattle.pc_inline_counts.proofs.CountLemmas.{counted_before, counts_made, host_types, type_follows}
-use Rattle.pc_inline_counts.proofs.FollowsLemmas.{follows_reached, follows_refused, follows_within, not_below}
+use Rattle.pc_inline_counts.proofs.FollowsLemmas.{follows_reached, follows_refused, follows_within}
 use Rattle.pc_inline_exports.specs.Counting.{AreFew, CountedSoFar, CountsExport, CountsExports, CountsValue}
 use Rattle.pc_inline_exports.specs.Counting.{CountsMore, type_count}
-use Rattle.pc_inline_exports.specs.Exporting.{ExportsEnd, IsForetold, MakesExports, RootStands, behind, if_room}
-use Rattle.pc_inline_exports.specs.Exporting.{most_exported}
+use Rattle.pc_inline_exports.specs.Exporting.{ExportsAll, ExportsEnd, IsForetold, MakesExports, RootStands, behind}
+use Rattle.pc_inline_exports.specs.Exporting.{if_room, most_exported}
 use Rattle.pc_inline_exports.specs.OneExport.{item_definition, node_named}
 use Rattle.pc_inline_exports.proofs.FoundLemmas.{definition_there}
 use Rattle.pc_inline_exports.proofs.OnwardLemmas.{at_node, behind_more, behind_node, behind_none, both_none, both_some}
@@ -77,22 +78,23 @@ numbered st None d at = absurd (none-some d at)
 numbered st (Some id) d at = (id, at)
 
 -- one export more makes too many nodes
-pub more_crowded : (nodes : ℕ) (c : NodeCount) (n : ℕ) → 536870911 < nodes + c.nodes
-    → CountsMore nodes c n (Err error.TooMany)
+pub more_crowded : (total nodes : ℕ) (c : NodeCount) (n : ℕ) → full ≤ total + 8 * (nodes + c.nodes)
+    → CountsMore total nodes c n (Err error.TooMany)
 unfolding CountsMore
-more_crowded nodes c n many = many
+more_crowded total nodes c n many = many
 
 -- or is refused
-pub more_refused : (nodes : ℕ) (c : NodeCount) (n : ℕ) (u : Unsupported) → nodes + c.nodes ≤ 536870911
-    → c.refusal ≡ Some u → CountsMore nodes c n (Err (error.Unsupported u (place.Export n)))
+pub more_refused : (total nodes : ℕ) (c : NodeCount) (n : ℕ) (u : Unsupported)
+    → total + 8 * (nodes + c.nodes) < full → c.refusal ≡ Some u
+    → CountsMore total nodes c n (Err (error.Unsupported u (place.Export n)))
 unfolding CountsMore
-more_refused nodes c n u few is = (few, is, refl)
+more_refused total nodes c n u few is = (few, is, refl)
 
 -- or counts
-pub more_counted : (nodes : ℕ) (c : NodeCount) (n m : ℕ) → m ≡ nodes + c.nodes → m ≤ 536870911 → c.refusal ≡ None
-    → CountsMore nodes c n (Ok m)
+pub more_counted : (total nodes : ℕ) (c : NodeCount) (n m : ℕ) → m ≡ nodes + c.nodes → total + 8 * m < full
+    → c.refusal ≡ None → CountsMore total nodes c n (Ok m)
 unfolding CountsMore
-more_counted nodes c n m is few none = (is, few, none)
+more_counted total nodes c n m is few none = (is, few, none)
 
 -- whether an outcome is done
 abbrev is_done : {A : Type 0} → Outcome A → Bool
@@ -111,7 +113,7 @@ below_is n m less = (Decides-ltb n m).1 less
 foretold_so : (st : State) (f : Frame) (e : Error) → IsForetold st f st f (Err e)
 unfolding IsForetold
 foretold_so st f (error.Unsupported u p) = (refl, refl)
-foretold_so st f error.TooMany = inl (refl, refl)
+foretold_so st f error.TooMany = tt
 foretold_so st f error.NoMemory = tt
 foretold_so st f (error.Invalid p) = tt
 foretold_so st f (error.BadType p) = tt
@@ -123,10 +125,9 @@ foretold_so st f (error.UnknownIntrinsic p) = tt
 foretold_so st f (error.DefinedTwice p) = tt
 foretold_so st f (error.BadOptions p) = tt
 
--- where exports can't be made, nothing was done once they are counted
-pub counts_foretell : (st : State) (f : Frame) (e : Error) (r : Result ⊤ Error) → IsErrAnd r (λ x. x ≡ e)
-    → IsForetold st f st f r
-counts_foretell st f e r is = subst (IsForetold st f st f) (sym (err_passed r e is)) (foretold_so st f e)
+-- a total that is below stays so where nothing counts
+nothing_more : (total : ℕ) → total < full → total + 8 * 0 < full
+nothing_more total below = omega (arith, below)
 
 module _ (t : TypeTable) (ms : List ModuleRecord) where
   -- a type is one node, where its number is held
@@ -178,10 +179,10 @@ module _ (t : TypeTable) (ms : List ModuleRecord) where
         (subst (λ o. Both (DefinitionStands ms (tables_of st)) o (value_at t s k n)) (sym is)
         (definition_there t ms st f s root.frame k other n)))) neither
 
-  module _ (es : List (ExternName × ItemKind × ℕ)) (st : State) (f : Frame) where
+  module _ (es : List (ExternName × ItemKind × ℕ)) (total : ℕ) (st : State) (f : Frame) where
     -- the exports are counted so far
     abbrev pub CountedTo : (i n nodes : ℕ) → Type 0
-    CountedTo i n nodes = CountedSoFar t ms es i n nodes st f
+    CountedTo i n nodes = CountedSoFar t ms es total i n nodes st f
 
     -- the same, of numbers that are equal
     pub counted_as : (i n m nodes k : ℕ) → n ≡ m → nodes ≡ k → CountedTo i m k → CountedTo i n nodes
@@ -189,10 +190,10 @@ module _ (t : TypeTable) (ms : List ModuleRecord) where
         subst (λ y. CountedTo i y nodes) (sym number) (subst (CountedTo i m) (sym same) x)
 
     -- nothing is counted yet
-    pub counts_begin : CountedTo 0 0 0
-    counts_begin = record {
+    pub counts_begin : total < full → CountedTo 0 0 0
+    counts_begin below = record {
       there = omega arith;
-      few = omega arith;
+      few = nothing_more total below;
       goes = λ s w room root. (
         [],
         w,
@@ -205,7 +206,7 @@ module _ (t : TypeTable) (ms : List ModuleRecord) where
     }
 
     -- all are counted
-    pub counts_end : (i n nodes : ℕ) → CountedTo i n nodes → length es ≤ i → CountsExports t ms es st f (Ok tt)
+    pub counts_end : (i n nodes : ℕ) → CountedTo i n nodes → length es ≤ i → CountsExports t ms es total st f (Ok tt)
     unfolding CountsExports root_exports
     counts_end i n nodes far end = record {
       nodes = nodes;
@@ -220,21 +221,27 @@ module _ (t : TypeTable) (ms : List ModuleRecord) where
     }
 
     -- there was no memory before the first
-    pub counts_unbegun : (r : Result ⊤ Error) → IsErrAnd r (λ x. x ≡ error.NoMemory) → CountsExports t ms es st f r
+    pub counts_unbegun : total < full → (r : Result ⊤ Error) → IsErrAnd r (λ x. x ≡ error.NoMemory)
+        → CountsExports t ms es total st f r
     unfolding CountsExports ExportsEnd
-    counts_unbegun r is = subst (CountsExports t ms es st f) (sym (err_passed r error.NoMemory is)) unbegun
+    counts_unbegun below r is =
+        subst (CountsExports t ms es total st f) (sym (err_passed r error.NoMemory is)) unbegun
       where
-        unbegun : MakesExports t ms es st f st f (Err error.NoMemory)
+        unbegun : ExportsAll t ms es total st f st f (Err error.NoMemory)
         unbegun = record {
-          nodes = 0;
-          keeps = keeps_refl (tables_of st);
-          adds = adds_refl t (most_exported t 0 (types_among es)) (tables_of st);
-          exports = λ s w room stands. (
-            root_exports t s (map named_item es) 0 w,
-            sym (room_is (grown w.total 0) (root_exports t s (map named_item es) 0 w)
-                (subst (λ o. has_room o ≡ true) (grown_none w.total) room)),
-            tt,
-          );
+          made = record {
+            nodes = 0;
+            keeps = keeps_refl (tables_of st);
+            adds = adds_refl t (most_exported t 0 (types_among es)) (tables_of st);
+            exports = λ s w room stands. (
+              root_exports t s (map named_item es) 0 w,
+              sym (room_is (grown w.total 0) (root_exports t s (map named_item es) 0 w)
+                  (subst (λ o. has_room o ≡ true) (grown_none w.total) room)),
+              tt,
+            );
+          };
+          within = inl (nothing_more total below);
+          foretold = foretold_so st f error.NoMemory;
         }
 
     module _ (i n nodes : ℕ) (far : CountedTo i n nodes) (e : ExternName × ItemKind × ℕ) (within : i < length es)
@@ -327,63 +334,72 @@ module _ (t : TypeTable) (ms : List ModuleRecord) where
           room_here : (w v : World) → v.total ≡ grown w.total (8 * nodes)
               → has_room (grown w.total (8 * (nodes + c.nodes))) ≡ true
               → (roomy v ≡ v) × (has_room (grown (roomy v).total (8 * c.nodes)) ≡ true)
-          room_here w v total room =
+          room_here w v grew room =
               let both = subst (λ k. has_room (grown w.total k) ≡ true) (sym (eight_both nodes c.nodes)) room in
               let before = room_before w.total (8 * nodes) (8 * c.nodes) both in
-              let same = roomy_same v (ap has_room total ∙ before) in (
+              let same = roomy_same v (ap has_room grew ∙ before) in (
                 same,
                 ap (λ (u : World). has_room (grown u.total (8 * c.nodes))) same
-                    ∙ ap has_room (total_twice nodes c.nodes w v total) ∙ room,
+                    ∙ ap has_room (total_twice nodes c.nodes w v grew) ∙ room,
               )
 
           -- its nodes are too many
-          counts_crowded : 536870911 < nodes + c.nodes → CountsExports t ms es st f (Err error.TooMany)
+          counts_crowded : full ≤ total + 8 * (nodes + c.nodes) → CountsExports t ms es total st f (Err error.TooMany)
           unfolding CountsExports ExportsEnd
           counts_crowded many = record {
-            nodes = nodes + c.nodes;
-            keeps = keeps_refl (tables_of st);
-            adds = adds_refl t (most_exported t (nodes + c.nodes) (types_among es)) (tables_of st);
-            exports = λ s w room root.
-                let here = left_at s w room root in (
-                  and_then (at_export n (value_node here.2 (roomy here.1)) (behind_node t ms s e rest n))
-                      (behind t ms here.0),
-                  here.6,
-                  inr (omega (arith, many)),
-                );
+            made = record {
+              nodes = nodes + c.nodes;
+              keeps = keeps_refl (tables_of st);
+              adds = adds_refl t (most_exported t (nodes + c.nodes) (types_among es)) (tables_of st);
+              exports = λ s w room root.
+                  let here = left_at s w room root in (
+                    and_then (at_export n (value_node here.2 (roomy here.1)) (behind_node t ms s e rest n))
+                        (behind t ms here.0),
+                    here.6,
+                    inr many,
+                  );
+            };
+            within = inr (record { reaches = many; is = refl; state = refl; frame = refl });
+            foretold = foretold_so st f error.TooMany;
           }
 
           -- it is refused
-          counts_refused : (u : Unsupported) → c.refusal ≡ Some u
-              → CountsExports t ms es st f (Err (error.Unsupported u (place.Export n)))
+          counts_refused : total + 8 * (nodes + c.nodes) < full → (u : Unsupported) → c.refusal ≡ Some u
+              → CountsExports t ms es total st f (Err (error.Unsupported u (place.Export n)))
           unfolding CountsExports ExportsEnd
-          counts_refused u refusal = record {
-            nodes = nodes + c.nodes;
-            keeps = keeps_refl (tables_of st);
-            adds = adds_refl t (most_exported t (nodes + c.nodes) (types_among es)) (tables_of st);
-            exports = λ s w room root.
-                let here = left_at s w room root in
-                let o = value_node here.2 (roomy here.1) in
-                let end : Outcome Finish = fault (unsupported u) (place.Export n) in (
-                  end,
-                  here.6 ∙ room_same (grown w.total (8 * (nodes + c.nodes)))
-                      (and_then (at_export n o (behind_node t ms s e rest n)) (behind t ms here.0)) end
-                      (λ still.
-                      let r = room_here w here.1 here.3 still in
-                      ap (λ q. and_then (at_export n q (behind_node t ms s e rest n)) (behind t ms here.0))
-                      (follows_refused c (roomy here.1) o here.5 r.1 u refusal)),
-                  refl,
-                );
+          counts_refused few u refusal = record {
+            made = record {
+              nodes = nodes + c.nodes;
+              keeps = keeps_refl (tables_of st);
+              adds = adds_refl t (most_exported t (nodes + c.nodes) (types_among es)) (tables_of st);
+              exports = λ s w room root.
+                  let here = left_at s w room root in
+                  let o = value_node here.2 (roomy here.1) in
+                  let end : Outcome Finish = fault (unsupported u) (place.Export n) in (
+                    end,
+                    here.6 ∙ room_same (grown w.total (8 * (nodes + c.nodes)))
+                        (and_then (at_export n o (behind_node t ms s e rest n)) (behind t ms here.0)) end
+                        (λ still.
+                        let r = room_here w here.1 here.3 still in
+                        ap (λ q. and_then (at_export n q (behind_node t ms s e rest n)) (behind t ms here.0))
+                        (follows_refused c (roomy here.1) o here.5 r.1 u refusal)),
+                    refl,
+                  );
+            };
+            within = inl few;
+            foretold = foretold_so st f (error.Unsupported u (place.Export n));
           }
 
           -- or its nodes are too many
-          pub counts_fail : (x : Error) → CountsMore nodes c n (Err x) → (r : Result ⊤ Error) → IsErrAnd r (λ y. y ≡ x)
-              → CountsExports t ms es st f r
+          pub counts_fail : (x : Error) → CountsMore total nodes c n (Err x) → (r : Result ⊤ Error)
+              → IsErrAnd r (λ y. y ≡ x) → CountsExports t ms es total st f r
           unfolding CountsMore
-          counts_fail x h r up = subst (CountsExports t ms es st f) (sym (err_passed r x up)) (by x h)
+          counts_fail x h r up = subst (CountsExports t ms es total st f) (sym (err_passed r x up)) (by x h)
             where
-              by : (y : Error) → CountsMore nodes c n (Err y) → CountsExports t ms es st f (Err y)
+              by : (y : Error) → CountsMore total nodes c n (Err y) → CountsExports t ms es total st f (Err y)
               by (error.Unsupported u p) k =
-                  subst (λ q. CountsExports t ms es st f (Err (error.Unsupported u q))) (sym k.2) (counts_refused u k.1)
+                  subst (λ q. CountsExports t ms es total st f (Err (error.Unsupported u q))) (sym k.2)
+                  (counts_refused k.0 u k.1)
               by error.TooMany k = counts_crowded k
               by error.NoMemory k = absurd k
               by (error.Invalid p) k = absurd k
@@ -397,7 +413,7 @@ module _ (t : TypeTable) (ms : List ModuleRecord) where
               by (error.BadOptions p) k = absurd k
 
           -- or it goes on behind it
-          pub counts_next : (m : ℕ) → CountsMore nodes c n (Ok m) → CountedTo (i + 1) (n + 1) m
+          pub counts_next : (m : ℕ) → CountsMore total nodes c n (Ok m) → CountedTo (i + 1) (n + 1) m
           unfolding CountsMore
           counts_next m h = record {
             there = omega (arith, far.there);
@@ -415,21 +431,21 @@ module _ (t : TypeTable) (ms : List ModuleRecord) where
                   → root_exports t s (map named_item es) 0 w ≡ if_room (grown w.total (8 * (nodes + c.nodes)))
                   (and_then (at_export n (value_node x (roomy v)) (behind_node t ms s e rest n)) (behind t ms exported))
                   → (b : Bool) → has_room (grown w.total (8 * (nodes + c.nodes))) ≡ b → GoesTo s w (nodes + c.nodes)
-              by s w exported v x total same follows reads true still =
-                  let r = room_here w v total still in
+              by s w exported v x grew same follows reads true still =
+                  let r = room_here w v grew still in
                   let q = follows_reached c (roomy v) (value_node x (roomy v)) follows r.1 h.2 in
                   let named = node_named e.0 q.0 in (
                     exported ++ named ∷ [],
                     q.1,
                     q.3.total ∙ ap (λ (u : World). grown u.total (8 * c.nodes)) r.0
-                        ∙ total_twice nodes c.nodes w v total,
+                        ∙ total_twice nodes c.nodes w v grew,
                     q.3.imports ∙ roomy_imports v ∙ same,
                     reads ∙ ap (λ o. if_room (grown w.total (8 * (nodes + c.nodes)))
                         (and_then (at_export n o (behind_node t ms s e rest n)) (behind t ms exported))) q.2
                         ∙ ap (λ o. if_room (grown w.total (8 * (nodes + c.nodes))) o)
                         (behind_more t ms exported named (root_exports t s rest (n + 1) q.1)),
                   )
-              by s w exported v x total same follows reads false still =
+              by s w exported v x grew same follows reads false still =
                   let last = record v { total = grown w.total (8 * (nodes + c.nodes)) } in (
                     exported,
                     last,
@@ -442,26 +458,42 @@ module _ (t : TypeTable) (ms : List ModuleRecord) where
                         (λ room. absurd (true≢false (sym room ∙ still))),
                   )
 
-    module _ (few : AreFew t ms es st f) (root : (s : Scope) × (w : World) × RootStands t ms st f s w []) where
+    module _ (few : AreFew t ms es total st f) (root : (s : Scope) × (w : World) × RootStands t ms st f s w []) where
       -- in a world with this total
       abbrev with_total : Option ℕ → World
-      with_total total = record root.1 { total = total }
+      with_total counted = record root.1 { total = counted }
 
-      total_stands : (total : Option ℕ) → RootStands t ms st f root.0 (with_total total) []
-      total_stands total = root_total t ms st f root.0 root.1 total [] root.2
+      total_stands : (counted : Option ℕ) → RootStands t ms st f root.0 (with_total counted) []
+      total_stands counted = root_total t ms st f root.0 root.1 counted [] root.2
 
       -- where the nodes of all exports leave room, they are read
-      all_done : (total : Option ℕ) → has_room total ≡ true → has_room (grown total (8 * few.nodes)) ≡ true
-          → (x : Finish) × (root_exports t root.0 (map named_item es) 0 (with_total total) ≡ done x)
-      all_done total room after =
-          let x = few.reads root.0 (with_total total) room (total_stands total) in
-          (x.0, x.1 ∙ room_is (grown total (8 * few.nodes)) (done x.0) after)
+      all_done : (counted : Option ℕ) → has_room counted ≡ true → has_room (grown counted (8 * few.nodes)) ≡ true
+          → (x : Finish) × (root_exports t root.0 (map named_item es) 0 (with_total counted) ≡ done x)
+      all_done counted room after =
+          let x = few.reads root.0 (with_total counted) room (total_stands counted) in
+          (x.0, x.1 ∙ room_is (grown counted (8 * few.nodes)) (done x.0) after)
 
-      fits_zero : has_room (Some (0 + 8 * few.nodes)) ≡ true
-      fits_zero = let below = few.few in below_is (0 + 8 * few.nodes) full (omega (arith, below))
+      -- this total has room, and so it has after all of them
+      fits_before : has_room (Some total) ≡ true
+      fits_before = let below = few.few in below_is total full (omega (arith, below))
 
-      -- so what is found later is known before
-      pub few_foretold : (new : State) (g : Frame) (r : Result ⊤ Error) → MakesExports t ms es st f new g r
+      fits_after : has_room (Some (total + 8 * few.nodes)) ≡ true
+      fits_after = below_is (total + 8 * few.nodes) full few.few
+
+      -- so it has after those that were made
+      few_within : (new : State) (g : Frame) (r : Result ⊤ Error) (h : MakesExports t ms es 0 st f new g r)
+          → total + 8 * h.nodes < full
+      few_within new g r h = by (has_room (Some (total + 8 * h.nodes))) refl
+        where
+          by : (b : Bool) → has_room (Some (total + 8 * h.nodes)) ≡ b → total + 8 * h.nodes < full
+          by true room = ltb-true (total + 8 * h.nodes) full room
+          by false room =
+              let x = all_done (Some total) fits_before fits_after in
+              let y = h.exports root.0 (with_total (Some total)) fits_before (total_stands (Some total)) in
+              absurd (true≢false (ap is_done (sym x.1 ∙ y.1 ∙ no_room (Some (total + 8 * h.nodes)) y.0 room)))
+
+      -- and nothing is refused later
+      few_foretold : (new : State) (g : Frame) (r : Result ⊤ Error) → MakesExports t ms es 0 st f new g r
           → IsForetold st f new g r
       unfolding IsForetold ExportsEnd
       few_foretold new g (Ok end) h = tt
@@ -469,15 +501,7 @@ module _ (t : TypeTable) (ms : List ModuleRecord) where
           let x = all_done None refl refl in
           let y = h.exports root.0 (with_total None) refl (total_stands None) in
           absurd (true≢false (ap is_done (sym x.1 ∙ y.1 ∙ y.2)))
-      few_foretold new g (Err error.TooMany) h =
-          let x = all_done (Some 0) refl fits_zero in
-          let y = h.exports root.0 (with_total (Some 0)) refl (total_stands (Some 0)) in
-          elim y.2 as (λ _. IsForetold st f new g (Err error.TooMany)) [
-            | inl crowded ↦ inr crowded
-            | inr many ↦
-                let past = not_below (0 + 8 * h.nodes) full (omega (arith, many)) in
-                absurd (true≢false (ap is_done (sym x.1 ∙ y.1 ∙ no_room (Some (0 + 8 * h.nodes)) y.0 past)))
-          ]
+      few_foretold new g (Err error.TooMany) h = tt
       few_foretold new g (Err error.NoMemory) h = tt
       few_foretold new g (Err (error.Invalid p)) h = tt
       few_foretold new g (Err (error.BadType p)) h = tt
@@ -489,13 +513,50 @@ module _ (t : TypeTable) (ms : List ModuleRecord) where
       few_foretold new g (Err (error.DefinedTwice p)) h = tt
       few_foretold new g (Err (error.BadOptions p)) h = tt
 
+      -- nodes that are too many by themselves are too many for this total
+      ends_for : (new : State) (g : Frame) (s : Scope) (w : World) (nodes : ℕ) (o : Outcome Finish)
+          (r : Result ⊤ Error) → ExportsEnd t ms 0 new g s w nodes o r → ExportsEnd t ms total new g s w nodes o r
+      unfolding ExportsEnd
+      ends_for new g s w nodes o (Ok end) h = h
+      ends_for new g s w nodes o (Err (error.Unsupported u p)) h = h
+      ends_for new g s w nodes o (Err error.TooMany) h =
+          elim h as (λ _. ExportsEnd t ms total new g s w nodes o (Err error.TooMany)) [
+            | inl crowded ↦ inl crowded
+            | inr many ↦ inr (omega (arith, many))
+          ]
+      ends_for new g s w nodes o (Err error.NoMemory) h = tt
+      ends_for new g s w nodes o (Err (error.Invalid p)) h = absurd h
+      ends_for new g s w nodes o (Err (error.BadType p)) h = absurd h
+      ends_for new g s w nodes o (Err error.TooManyInstances) h = absurd h
+      ends_for new g s w nodes o (Err (error.Malformed p)) h = absurd h
+      ends_for new g s w nodes o (Err (error.BadTable p)) h = absurd h
+      ends_for new g s w nodes o (Err (error.BadIntrinsics p)) h = absurd h
+      ends_for new g s w nodes o (Err (error.UnknownIntrinsic p)) h = absurd h
+      ends_for new g s w nodes o (Err (error.DefinedTwice p)) h = absurd h
+      ends_for new g s w nodes o (Err (error.BadOptions p)) h = absurd h
+
+      -- so the exports are made from this total on
+      pub few_made : (new : State) (g : Frame) (r : Result ⊤ Error) → MakesExports t ms es 0 st f new g r
+          → ExportsAll t ms es total st f new g r
+      few_made new g r h = record {
+        made = record {
+          nodes = h.nodes;
+          keeps = h.keeps;
+          adds = h.adds;
+          exports = λ s w room stands.
+              let x = h.exports s w room stands in (x.0, x.1, ends_for new g s w h.nodes x.0 r x.2);
+        };
+        within = inl (few_within new g r h);
+        foretold = few_foretold new g r h;
+      }
+
     -- exports that can be made
-    pub few_of : CountsExports t ms es st f (Ok tt) → AreFew t ms es st f
+    pub few_of : CountsExports t ms es total st f (Ok tt) → AreFew t ms es total st f
     unfolding CountsExports
     few_of h = h
 
     -- how exports end that can't, once they are counted
-    pub counts_end_so : (e : Error) → CountsExports t ms es st f (Err e) → (r : Result ⊤ Error)
-        → IsErrAnd r (λ x. x ≡ e) → MakesExports t ms es st f st f r
+    pub counts_end_so : (e : Error) → CountsExports t ms es total st f (Err e) → (r : Result ⊤ Error)
+        → IsErrAnd r (λ x. x ≡ e) → ExportsAll t ms es total st f st f r
     unfolding CountsExports
-    counts_end_so e h r is = subst (MakesExports t ms es st f st f) (sym (err_passed r e is)) h
+    counts_end_so e h r is = subst (ExportsAll t ms es total st f st f) (sym (err_passed r e is)) h

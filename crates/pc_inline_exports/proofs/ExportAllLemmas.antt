@@ -192,7 +192,7 @@ module _ (t : TypeTable) (ms : List ModuleRecord) where
 
     -- all is exported
     pub exports_end : (i n : ℕ) (st : State) (g : Frame) → SoFar i n st g → length es ≤ i
-        → MakesExports t ms es old f st g (Ok tt)
+        → MakesExports t ms es 0 old f st g (Ok tt)
     unfolding ExportsEnd root_exports
     exports_end i n st g far end =
         let nodes = far.0 in
@@ -344,7 +344,7 @@ module _ (t : TypeTable) (ms : List ModuleRecord) where
 
         lacks_end : (x : ItemError) → (s : Scope) → (w : World) → (o : Outcome Finish)
             → IsFound t ms st2 (value_at t s e.1 e.2) (Err x)
-            → ExportsEnd t ms st2 g2 s w far.0 o (Err (error_of x (place.Export n)))
+            → ExportsEnd t ms 0 st2 g2 s w far.0 o (Err (error_of x (place.Export n)))
         unfolding IsFound ExportsEnd
         lacks_end (item_error.Fault k) s w o h = absurd h
         lacks_end item_error.TooMany s w o h = inl h
@@ -352,7 +352,7 @@ module _ (t : TypeTable) (ms : List ModuleRecord) where
 
         -- one for whose type there is no room
         pub exports_unfound : (x : ItemError) → q ≡ Err x → (r : Error) → r ≡ error_of x (place.Export n)
-            → MakesExports t ms es old f st2 g2 (Err r)
+            → MakesExports t ms es 0 old f st2 g2 (Err r)
         exports_unfound x was r is_r = record {
           nodes = far.0;
           keeps = kept2;
@@ -362,7 +362,7 @@ module _ (t : TypeTable) (ms : List ModuleRecord) where
               let o = and_then (root_exports t s (named_item e ∷ rest) n here.1) (behind t ms here.0) in (
                 o,
                 here.5,
-                subst (λ y. ExportsEnd t ms st2 g2 s w far.0 o (Err y)) (sym is_r)
+                subst (λ y. ExportsEnd t ms 0 st2 g2 s w far.0 o (Err y)) (sym is_r)
                     (lacks_end x s w o
                     (subst (IsFound t ms st2 (value_at t s e.1 e.2)) was (finds.found s here.1 here.0 here.3))),
               );
@@ -461,13 +461,13 @@ module _ (t : TypeTable) (ms : List ModuleRecord) where
           one_fails : (st3 : State) (s : Scope) (w u : World) (exported : List (NamedNode Mark)) (k : ℕ)
               (o : Reached (ExportNode Mark)) (go : ExportNode Mark → World → Outcome Finish) (r : Error)
               → OneEnds t ms st2 st3 g2 s u exported k e.0 n o (Err r)
-              → ExportsEnd t ms st3 g2 s w (far.0 + k) (and_then (at_export n o go) (behind t ms exported)) (Err r)
+              → ExportsEnd t ms 0 st3 g2 s w (far.0 + k) (and_then (at_export n o go) (behind t ms exported)) (Err r)
           unfolding OneEnds ExportsEnd
           one_fails st3 s w u exported k o go (error.Unsupported x p) h =
               ap (λ q. and_then (at_export n q go) (behind t ms exported)) h.0
               ∙ (λ j. fault (unsupported x) (sym h.1 j))
           one_fails st3 s w u exported k o go error.TooMany h =
-              elim h as (λ _. ExportsEnd t ms st3 g2 s w (far.0 + k)
+              elim h as (λ _. ExportsEnd t ms 0 st3 g2 s w (far.0 + k)
               (and_then (at_export n o go) (behind t ms exported)) (Err error.TooMany)) [
                 | inl full ↦ inl full
                 | inr many ↦ inr (omega (arith, many))
@@ -484,7 +484,7 @@ module _ (t : TypeTable) (ms : List ModuleRecord) where
           one_fails st3 s w u exported k o go (error.BadOptions p) h = absurd h
 
           fails : (st3 : State) (r : Error) → ExportsOne t ms e.0 n d st2 st3 (Err r)
-              → MakesExports t ms es old f st3 g2 (Err r)
+              → MakesExports t ms es 0 old f st3 g2 (Err r)
           fails st3 r one = record {
             nodes = nodes st3 (Err r) one;
             keeps = kept3 st3 (Err r) one;
@@ -503,7 +503,7 @@ module _ (t : TypeTable) (ms : List ModuleRecord) where
           -- it isn't
           pub exports_fail : (st3 : State) (one : Result ⊤ Error) (r : Error) → one ≡ Err r
               → ExportsOne t ms e.0 n d st2 st3 one → (q : Result ⊤ Error) → IsErrAnd q (λ x. x ≡ r)
-              → MakesExports t ms es old f st3 g2 q
+              → MakesExports t ms es 0 old f st3 g2 q
           exports_fail st3 one r was h p up =
-              subst (MakesExports t ms es old f st3 g2) (sym (err_passed p r up))
+              subst (MakesExports t ms es 0 old f st3 g2) (sym (err_passed p r up))
               (fails st3 r (subst (ExportsOne t ms e.0 n d st2 st3) was h))

@@ -32,8 +32,8 @@ use Rattle.pc_inline_exports.specs.Exporting.{ExportsAll, RootStands, behind, if
 abbrev pub type_count : TypeTable → ℕ → Option NodeCount
 type_count t n = option_map (λ (e : DeclType). one_node) (slice_get t.types n)
 
--- so many nodes and those of one export more, which isn't refused; or they are too many for a total, in which each counts
--- eight, or it is refused at its number
+-- so many nodes and those of one export more, which isn't refused; or they are too many for a total, in which each
+-- counts eight, or it is refused at its number
 unfoldable pub CountsMore : (total nodes : ℕ) → NodeCount → (number : ℕ) → Result ℕ Error → Type 0
 CountsMore total nodes c number (Ok m) = (m ≡ nodes + c.nodes) × (total + 8 * m < full) × (c.refusal ≡ None)
 CountsMore total nodes c number (Err (error.Unsupported u p)) =

@@ -1,6 +1,6 @@
 -- The exports of the root while they are made, against the nodes of the reading.
-use Rattle.std.specs.Prelude.{◌≡◌, ◌<◌, ◌≤◌, ◌+◌, ◌*◌, ◌⊎◌, ⊤, ℕ, true, List, [], ◌++◌, map, take, drop, Result, Ok, Err}
-use Rattle.std.specs.Prelude.{Option, if◌then◌else◌}
+use Rattle.std.specs.Prelude.{◌≡◌, ◌<◌, ◌≤◌, ◌+◌, ◌*◌, ◌⊎◌, ⊤, ℕ, true, List, [], ◌++◌, map, take, drop}
+use Rattle.std.specs.Prelude.{Option, Result, Ok, Err, if◌then◌else◌}
 use Rattle.std.specs.List.{AllZip}
 use Rattle.pc_entity.specs.Lists.{names_of}
 use Rattle.pc_types_lists.specs.Adds.{most_types}
@@ -94,7 +94,7 @@ module _ (t : TypeTable) (ms : List ModuleRecord) where
   -- so many nodes are too many for a total, which was answered with nothing done
   pub record AreTooMany (total nodes : ℕ) (old : State) (f : Frame) (new : State) (g : Frame) (r : Result ⊤ Error)
       : Type 0 where
-    pub full : full ≤ total + 8 * nodes
+    pub reaches : full ≤ total + 8 * nodes
     pub is : r ≡ Err error.TooMany
     pub state : new ≡ old
     pub frame : g ≡ f
