@@ -408,12 +408,20 @@ static READ: [(Parts, &str, &str, &str); 11] = [
     (OPTIONS, "3", "149", TOO_MANY),
 ];
 
-/// The input of these parts.
-fn input(alloc: Global, parts: &Parts, limit: &str, tables: &str) -> Result<String, AllocError> {
+/// The input of these parts, where the unsafe intrinsics are exposed under a name or null.
+fn exposing(
+    alloc: Global,
+    parts: &Parts,
+    limit: &str,
+    intrinsics: &str,
+    tables: &str,
+) -> Result<String, AllocError> {
     let texts = [
         r#"{"limit":"#,
         limit,
-        r#","intrinsics":null,"types":{"core":["#,
+        r#","intrinsics":"#,
+        intrinsics,
+        r#","types":{"core":["#,
         parts.core,
         r#"],"types":["#,
         ENTRIES,
@@ -427,6 +435,11 @@ fn input(alloc: Global, parts: &Parts, limit: &str, tables: &str) -> Result<Stri
         r#","end"]}"#,
     ];
     texts.join(alloc, "")
+}
+
+/// The input of these parts, where no intrinsics are exposed.
+fn input(alloc: Global, parts: &Parts, limit: &str, tables: &str) -> Result<String, AllocError> {
+    exposing(alloc, parts, limit, "null", tables)
 }
 
 /// Whether the input of a row ends with this status, and with its text.
@@ -463,6 +476,145 @@ fn what_comes_first_is_told(rt: HostRuntime) {
     are_answered(&rt, rt.alloc(), Status::Refused, &INSTANCE_BY_INSTANCE);
     are_answered(&rt, rt.alloc(), Status::Refused, &STATIC);
     are_answered(&rt, rt.alloc(), Status::Refused, &READ);
+}
+
+/// What stands in front of the module where each item of the root is stuck but the first. 32 entries, 5 items and the
+/// tables; the root, 1 + 4294966214 + 8 + 107. So 927 tables make 4294967294 with nothing behind the module.
+const STUCK: &str =
+    r#"{"imports":[["i",["instance",30]]]},{"aliases":[{"export":["func",9,"f"]}]},"#;
+
+/// Payloads behind the module, whose items weigh though they are never read, and how many tables make 4294967294 with
+/// them: 927, less 1 for each item and its weight.
+static ITEMS: [(&str, u32); 31] = [
+    ("", 927),
+    // what isn't read has no weight
+    (r#","custom""#, 926),
+    (r#","core-types",{"types":["other"]},{"imports":[]}"#, 925),
+    (
+        r#",{"aliases":[{"outer":["type",0,0]},{"outer":["core-type",0,0]}]}"#,
+        925,
+    ),
+    // a type number: 99
+    (r#",{"types":[{"resource":[0,"i32",null]}]}"#, 819),
+    (r#",{"canon":[["resource.drop",0,0]]}"#, 819),
+    (r#",{"canon":[["stream.new",0,0]]}"#, 819),
+    (r#",{"canon":[["future.cancel-read",0,0,true]]}"#, 819),
+    (r#",{"exports":[["e","type",0]]}"#, 819),
+    (r#",{"exports":[["e","func",0]]}"#, 918),
+    // an import of the root twice: with 61 names; with none
+    (r#",{"imports":[["j",["instance",5]]]}"#, 590),
+    (
+        r#",{"imports":[["j",["type",0]],["k",["module",31]]]}"#,
+        497,
+    ),
+    // an option: 1
+    (r#",{"canon":[["lift",0,0,0,[]]]}"#, 819),
+    (r#",{"canon":[["lift",0,0,0,["utf8",["memory",0]]]]}"#, 817),
+    (r#",{"canon":[["stream.read",0,0,["async","utf8"]]]}"#, 817),
+    (
+        r#",{"canon":[["error-context.new",0,["utf8",["memory",0]]],["error-context.drop",0]]}"#,
+        907,
+    ),
+    // a lowering: 32
+    (r#",{"canon":[["lower",0,0,0,[]]]}"#, 787),
+    (r#",{"canon":[["lower",0,0,0,["async"]]]}"#, 786),
+    // the result of a task is a type number, or it is none
+    (r#",{"canon":[["task.return",0,0,[]]]}"#, 819),
+    (r#",{"canon":[["task.return",0,null,[]]]}"#, 918),
+    (r#",{"canon":[["task.return",0,"u32",["utf8"]]]}"#, 917),
+    // a signature, a memory, a start type, a table and a slot: nothing
+    (
+        r#",{"canon":[["waitable-set.wait",0,0],["subtask.cancel",0,true],["task.cancel",0]]}"#,
+        900,
+    ),
+    (
+        r#",{"canon":[["context.get",0,"i32",0],["thread.new-indirect",0,0,0]]}"#,
+        909,
+    ),
+    // an instance of a core module: its arguments, and the most imports of a module, which are none or 3
+    (
+        r#",{"instances":[{"instantiate":[0,[["x",0],["y",0]]]}]}"#,
+        916,
+    ),
+    (
+        r#",{"module":{"ty":31,"imports":[["a","b",["table"]],["a","c",["table"]],["a","d",["table"]]],"funcs":[],
+           "tables":0,"memories":[],"globals":0,"tags":0,"exports":[]}},
+           {"instances":[{"instantiate":[0,[["x",0],["y",0]]]}]}"#,
+        802,
+    ),
+    // items of an instance: 1, and a type number where they are types
+    (
+        r#",{"instances":[{"exports":[["x","func",0],["y","func",0]]}]}"#,
+        916,
+    ),
+    (
+        r#",{"component-instances":[{"exports":[[["x","func",0],["y","type",0]],0]}]}"#,
+        718,
+    ),
+    // an instance of a component: its arguments, its type number, and the 61 names of its type
+    (
+        r#",{"component-instances":[{"instantiate":[0,[["x","func",0],["y","type",0]],0]}]}"#,
+        718,
+    ),
+    (
+        r#",{"component-instances":[{"instantiate":[0,[],5]}]}"#,
+        758,
+    ),
+    // a nested component, whose items don't weigh where it never begins
+    (
+        r#","component","version",{"imports":[["x",["instance",5]]]},"end""#,
+        915,
+    ),
+    (
+        r#",{"aliases":[{"core-export":["func",0,"f"]},{"export":["func",0,"f"]},{"outer":["core-module",0,0]}]}"#,
+        900,
+    ),
+];
+
+/// The import of the unsafe intrinsics, which isn't prepared and names no type: 8.
+const INTRINSICS: &str = r#",{"imports":[["j",["instance",0]]]}"#;
+
+/// Whether a root with these payloads behind the module ends with this text, with so many tables.
+fn ends_with(
+    alloc: Global,
+    behind: &'static str,
+    intrinsics: &str,
+    tables: u32,
+    text: &str,
+) -> Result<bool, AllocError> {
+    let parts = Parts {
+        core: "",
+        more: "",
+        before: STUCK,
+        behind,
+    };
+    let mut number = String::new(alloc);
+    write!(number, "{tables}")?;
+    let input = exposing(alloc, &parts, "1", intrinsics, number.as_str())?;
+    is_answered(alloc, "translate", &input, Status::Refused, text)
+}
+
+/// Whether a root is read up to the item that is stuck, and refused as too many with one table more.
+fn is_bounded(
+    alloc: Global,
+    behind: &'static str,
+    intrinsics: &str,
+    tables: u32,
+) -> Result<bool, AllocError> {
+    let stuck = "fault invalid at instance 0 item 1\n";
+    let is_read = ends_with(alloc, behind, intrinsics, tables, stuck)?;
+    let more = tables.saturating_add(1);
+    Ok(is_read && ends_with(alloc, behind, intrinsics, more, TOO_MANY)?)
+}
+
+#[test]
+fn each_kind_of_item_weighs(rt: HostRuntime) {
+    for &(behind, tables) in ITEMS.iter() {
+        let is_so = is_bounded(rt.alloc(), behind, "null", tables);
+        holds(&rt, behind, is_so.unwrap_or(false));
+    }
+    let is_so = is_bounded(rt.alloc(), INTRINSICS, r#""j""#, 918);
+    holds(&rt, INTRINSICS, is_so.unwrap_or(false));
 }
 
 /// How many options entries the plan of an input has, with a builder that holds the types of another.
