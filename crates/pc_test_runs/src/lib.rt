@@ -46,6 +46,8 @@ mod structure;
 #[cfg(test)]
 mod tools;
 #[cfg(test)]
+mod totals;
+#[cfg(test)]
 mod translator;
 #[cfg(test)]
 mod types;
