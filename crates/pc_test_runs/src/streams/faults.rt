@@ -46,7 +46,7 @@ fn each_read_fails(alloc: Global, input: &[u8], most: usize) -> Result<bool, All
 /// Whether each read of the input with two adapters fails in its turn.
 fn each_read_of_two_fails(alloc: Global, most: usize) -> Result<bool, AllocError> {
     let input = two_adapters(alloc)?;
-    each_read_fails(alloc, input.as_bytes(), most)
+    each_read_fails(alloc, input.as_str().as_bytes(), most)
 }
 
 #[test]
@@ -106,7 +106,12 @@ fn each_write_fails(
 /// Whether each write of the plan of two adapters fails in its turn.
 fn each_write_of_two_fails(alloc: Global, most: usize) -> Result<bool, AllocError> {
     let input = two_adapters(alloc)?;
-    each_write_fails(alloc, input.as_bytes(), TWO_PLANNED.as_bytes(), most)
+    each_write_fails(
+        alloc,
+        input.as_str().as_bytes(),
+        TWO_PLANNED.as_bytes(),
+        most,
+    )
 }
 
 #[test]
