@@ -7,8 +7,8 @@
                                                        build for each number, which takes minutes
 
 A growth is a call that takes memory or makes a piece of it longer. Growths are counted from 1, and one is refused in a
-run; those behind it are granted. Such a run has to end with status 5 and to write nothing, no text and no message. A run
-that ends before its growth has to end as it does with all its memory.
+run; those behind it are granted. Such a run has to end with status 5 and to write nothing, neither to standard output
+nor to standard error. A run that ends before its growth has to end as it does with all its memory.
 
 Inputs are files in an input form, on which the word `translate` is run; without any they are those of bench/growths,
 and the words `gen 20`, of which the first 300 growths are refused: a program with fewer didn't make that plan. It ends
