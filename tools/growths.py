@@ -96,6 +96,14 @@ def wrong(ran, whole):
     return ", ".join(found)
 
 
+def has_too_few(case, growths):
+    """Whether an input has fewer growths than it has to have; that is printed."""
+    if growths >= (case.first or 0):
+        return False
+    print("%s: %d growths, and not %d" % (case.name, growths, case.first), flush=True)
+    return True
+
+
 def refusing(cc, folder):
     """The library that refuses a growth, compiled."""
     source, library = Path(folder) / "refusing.c", Path(folder) / "refusing.so"
@@ -131,9 +139,8 @@ def refuse_each(args, case, run):
         if not ran.refused:
             break
         refused += 1
-    if case.first and not args.growths and refused < case.first:
+    if not args.growths and has_too_few(case, refused):
         faults += 1
-        print("%s: %d growths, and not %d" % (case.name, refused, case.first), flush=True)
     print("%s: %d growths refused, %d ended wrongly; with all memory status %s and %d bytes"
           % (case.name, refused, faults, whole.status, len(whole.text)), flush=True)
     return faults == 0
@@ -185,7 +192,7 @@ def with_try(args):
             taken, ran = whole[case.name]
             print("%s: %d growths; with all memory status %s and %d bytes"
                   % (case.name, taken, ran.status, len(ran.text)), flush=True)
-            is_right = is_right and taken >= (case.first or 0)
+            is_right = not has_too_few(case, taken) and is_right
         most = max(min(whole[case.name][0], case.first or NEVER) for case in args.cases)
         for growth in args.growths or range(1, most + 1):
             ended = try_refused(folder, growth)
