@@ -4,6 +4,8 @@
 #[cfg(test)]
 mod adapters;
 #[cfg(test)]
+mod builders;
+#[cfg(test)]
 mod builtins;
 #[cfg(test)]
 mod captures;
