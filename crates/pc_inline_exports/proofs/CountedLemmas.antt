@@ -359,7 +359,7 @@ module _ (t : TypeTable) (ms : List ModuleRecord) where
                     inr many,
                   );
             };
-            within = inr (record { full = many; is = refl; state = refl; frame = refl });
+            within = inr (record { reaches = many; is = refl; state = refl; frame = refl });
             foretold = foretold_so st f error.TooMany;
           }
 

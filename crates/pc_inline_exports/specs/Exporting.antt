@@ -94,7 +94,7 @@ module _ (t : TypeTable) (ms : List ModuleRecord) where
   -- so many nodes are too many for a total, which was answered with nothing done
   pub record AreTooMany (total nodes : ℕ) (old : State) (f : Frame) (new : State) (g : Frame) (r : Result ⊤ Error)
       : Type 0 where
-    pub full : full ≤ total + 8 * nodes
+    pub reaches : full ≤ total + 8 * nodes
     pub is : r ≡ Err error.TooMany
     pub state : new ≡ old
     pub frame : g ≡ f

@@ -22,6 +22,7 @@ Begins limit weight old new total total' (Err error.TooManyInstances) =
     (limit ≤ old.num_runtime_component_instances) × (new ≡ old) × (total' ≡ total)
 Begins limit weight old new total total' (Err error.TooMany) =
     (old.num_runtime_component_instances < limit) × (full ≤ total + (1 + weight)) × (new ≡ old) × (total' ≡ total)
+Begins limit weight old new total total' (Err error.NoMemory) = (new ≡ old) × (total' ≡ total)
 Begins limit weight old new total total' (Err e) = ⊥
 
 -- the types builder where types are converted for this component instance

@@ -50,10 +50,10 @@ counts_of plan r types = own_counts plan r.begun (length types.future_tables) (l
 
 -- a plan and its modules are what a translation of payloads is to answer, where the types builder held so many types
 -- before, and holds these afterwards
-pub record Translates (t : TypeTable) (exposed : Option (List ℕ)) (limit held : ℕ) (ps : List Payload) (types : Types)
+pub record Translates (t : TypeTable) (exposed : Option (List ℕ)) (limit before : ℕ) (ps : List Payload) (types : Types)
     (plan : ComponentTranslation) (modules : List ModuleTranslation) : Type 0 where
   pub result : Reading
-  pub answer : answer_in_order t exposed limit held ps ≡ Some (Ok result)
+  pub answer : answer_in_order t exposed limit before ps ≡ Some (Ok result)
   pub does : DoesAs (view plan modules) result
   -- and so it does with its types: under each number the builder holds what the reading has there
   pub typed : TypedAs types (view plan modules) result
