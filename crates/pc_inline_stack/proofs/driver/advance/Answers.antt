@@ -26,7 +26,7 @@ returns c = record {
       c.requires.plain c.step-read.new.state c.step-read.new.frame c.in_default.ensures.keeps
       c.in_default.ensures.adds c.in_default.ensures.same c.in_default.ensures.trail _ _ c.in_default.ensures.steps;
   falls = falls_on c.args.context.now.table.now c.args.context.now.modules _ c.args.root.now c.args.state.now _
-      c.args.stack.now.top _ c.args.item.now c.requires.item c.requires.plain c.step-read.new.state
+      c.args.stack.now.top c.args.stack.now.total c.args.item.now c.requires.item c.requires.plain c.step-read.new.state
       c.step-read.new.frame c.in_default.ensures.keeps c.in_default.ensures.adds c.in_default.ensures.same
       c.in_default.ensures.trail;
   waits = λ each. each;

@@ -67,7 +67,8 @@ returns c =
           c.in_ok-instance.ensures.begins c.begin_instance.ensures.grows _ _ c.convert_for.ensures done
           (λ k. lent.child _ k at.1.converted) _ _ waits child;
       falls = falls_entered c.args.context.now.table.now c.args.context.now.modules _ c.args.root.now c.args.state.now
-          _ c.args.stack.now.top _ _ _ _ c.requires.item c.call_of-called.new.state c.in-Ok.ensures.keeps
+          _ c.args.stack.now.top c.args.stack.now.total _ _ _ c.requires.item c.call_of-called.new.state
+          c.in-Ok.ensures.keeps
           c.in-Ok.ensures.adds c.child_types-converted.new.frame same c.in-Ok.call c.in_ok-instance.instance
           c.begin_instance.new.graph _ _ c.in_ok-instance.ensures.begins _ done _ _ waits child;
       waits = one_counted _ _ _ _ c.in_ok-push_caller.ensures c.replace-caller.ensures.value c.requires.next;

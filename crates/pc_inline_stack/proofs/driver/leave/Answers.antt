@@ -44,7 +44,7 @@ returns c =
           c.in_default.ensures.adds c.in_default.ensures.same _ _ c.in_default.ensures.gives
           c.in_default.ensures.trail;
       falls = falls_leaving c.args.context.now.table.now c.args.context.now.modules _ c.args.root.now c.args.state.now _
-          c.args.stack.now.top _ c.args.caller _ ty c.requires.ended c.end_child-ended.new.state
+          c.args.stack.now.top c.args.stack.now.total c.args.caller _ ty c.requires.ended c.end_child-ended.new.state
           c.end_child-ended.new.frame c.in_default.ensures.keeps c.replace-child.new.dest c.replace-child.result
           c.replace-child.ensures.after c.replace-child.ensures.value _ are c.in_default.ensures.adds
           c.in_default.ensures.same;
