@@ -11,11 +11,11 @@ turns-ended-requires-clause-here c =
 pub turns-ended-requires-clause-waits : goal.turns-ended-requires-clause-waits
 turns-ended-requires-clause-waits c = none_counted _ c.new.ensures.items
 
-pub returns-in_err : goal.returns-in_err
-returns-in_err c =
+pub returns-in_err-ended : goal.returns-in_err-ended
+returns-in_err-ended c =
     let first = driven_first _ _ _ c.args.root.now c.args.state.now c.args.frame c.args.total.now c.requires.here
     c.requires.items c.requires.begun c.requires.within c.requires.below _ c.new.ensures.items in
-    let failed = unmoved _ _ _ _ _ _ _ _ _ _ _ _ _ _ _ first _ _ c.in_err.ensures.moves in
+    let failed = unmoved _ _ _ _ _ _ _ _ _ _ _ _ _ _ _ first _ _ c.in_err-ended.ensures.moves in
     record {
       keeps = failed.keeps;
       adds = failed_adds _ _ _ c.args.root.now c.args.state.now c.args.frame _ _ _ _ failed;
@@ -26,8 +26,8 @@ pub returns : goal.returns
 returns c =
     let first = driven_first _ _ _ c.args.root.now c.args.state.now c.args.frame c.args.total.now c.requires.here
     c.requires.items c.requires.begun c.requires.within c.requires.below _ c.new.ensures.items in
-    let driven = moved _ _ _ _ _ _ _ _ _ _ _ _ _ _ _ first _ c.in_ok.ensures.moves in
-    let ends = c.in_ok.ensures.ends in
+    let driven = moved _ _ _ _ _ _ _ _ _ _ _ _ _ _ _ first _ c.in_ok-ended.ensures.moves in
+    let ends = c.in_ok-ended.ensures.ends in
     record {
       keeps = driven.keeps;
       adds = run_adds _ _ _ c.args.root.now c.args.state.now c.args.frame _ _ _ _ _ driven;

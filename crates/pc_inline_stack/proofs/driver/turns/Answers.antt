@@ -12,12 +12,13 @@ moves-init c = (
 
 pub turn-requires-clause-weights : goal.turn-requires-clause-weights
 turn-requires-clause-weights c =
-    still_weights _ _ _ c.args.root.now c.args.state.now c.args.stack.now _ _ c.moves.invariant.0 c.requires.here _
-    c.requires.weights
+    still_weights _ _ _ c.args.root.now c.args.state.now c.args.stack.now c.moves.state c.moves.stack
+    c.moves.invariant.0 c.requires.here _ c.requires.weights
 
 pub turn-requires-clause-here : goal.turn-requires-clause-here
 turn-requires-clause-here c =
-    still_underway _ _ _ c.args.root.now c.args.state.now c.args.stack.now _ _ c.moves.invariant.0 c.requires.here
+    still_underway _ _ _ c.args.root.now c.args.state.now c.args.stack.now c.moves.state c.moves.stack
+    c.moves.invariant.0 c.requires.here
 
 pub turn-requires-clause-waits : goal.turn-requires-clause-waits
 turn-requires-clause-waits c = c.moves.invariant.1
