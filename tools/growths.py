@@ -8,7 +8,9 @@
 
 A growth is a call that takes memory or makes a piece of it longer. Growths are counted from 1, and one is refused in a
 run; those behind it are granted. Such a run has to end with status 5 and to write nothing, neither to standard output
-nor to standard error. A run that ends before its growth has to end as it does with all its memory.
+nor to standard error. A run that ends before its growth has to end as it does with all its memory. So may one whose
+growth is refused while `main` still collects the words: it asks for room for all of them at once, and where that is
+refused for each of them alone.
 
 Inputs are files in an input form, on which the word `translate` is run; without any they are those of bench/growths,
 and the words `gen 20`, of which the first 300 growths are refused: a program with fewer didn't make that plan. It ends
@@ -64,6 +66,9 @@ void *realloc(void *p, size_t n) { return refuses() ? NULL : __libc_realloc(p, n
 # None for all that it has.
 Case = namedtuple("Case", "name words stdin first")
 
+# `main` takes as many growths as it has words, and so many more.
+OF_MAIN = 4
+
 # How a run ended: whether the growth was refused, the status, and what was written. A text that isn't known is None.
 Ran = namedtuple("Ran", "refused status text message")
 
@@ -86,10 +91,13 @@ def numbers(text):
     return sorted(found)
 
 
-def wrong(ran, whole):
+def wrong(case, growth, ran, whole):
     """What is wrong with how a run ended, where it ends as `whole` with all its memory; nothing where it is right."""
+    may_go_on = not ran.refused or growth <= len(case.words) + OF_MAIN
+    if may_go_on and ran[1:] == whole[1:]:
+        return ""
     if not ran.refused:
-        return "" if ran[1:] == whole[1:] else "growth not reached, but status %s" % ran.status
+        return "growth not reached, but status %s" % ran.status
     found = [] if ran.status == NO_MEMORY else ["status %s" % ran.status]
     found += ["%d bytes written" % len(ran.text)] if ran.text else []
     found += ["a message"] if ran.message else []
@@ -129,20 +137,21 @@ def run_refused(program, library, case, growth, seconds):
 
 def refuse_each(args, case, run):
     """Refuses the growths of an input one after the other, up to the first that isn't reached. Whether all is right."""
-    whole, refused, faults = run(case, NEVER), 0, 0
+    whole, refused, without, faults = run(case, NEVER), 0, 0, 0
     for growth in args.growths or range(1, (case.first or NEVER) + 1):
         ran = run(case, growth)
-        fault = wrong(ran, whole)
+        fault = wrong(case, growth, ran, whole)
         if fault:
             faults += 1
             print("%s: growth %d: %s" % (case.name, growth, fault), flush=True)
         if not ran.refused:
             break
         refused += 1
+        without += ran[1:] == whole[1:]
     if not args.growths and has_too_few(case, refused):
         faults += 1
-    print("%s: %d growths refused, %d ended wrongly; with all memory status %s and %d bytes"
-          % (case.name, refused, faults, whole.status, len(whole.text)), flush=True)
+    print("%s: %d growths refused, %d of them done without, %d wrong; with all memory status %s and %d bytes"
+          % (case.name, refused, without, faults, whole.status, len(whole.text)), flush=True)
     return faults == 0
 
 
@@ -196,8 +205,8 @@ def with_try(args):
         most = max(min(whole[case.name][0], case.first or NEVER) for case in args.cases)
         for growth in args.growths or range(1, most + 1):
             ended = try_refused(folder, growth)
-            faults = {name: wrong(ran, whole[name][1]) for name, (_, ran) in ended.items()}
-            found = ["%s: %s" % (name, fault) for name, fault in faults.items() if fault]
+            faults = [(case, wrong(case, growth, ended[case.name][1], whole[case.name][1])) for case in args.cases]
+            found = ["%s: %s" % (case.name, fault) for case, fault in faults if fault]
             refused = sum(ran.refused for _, ran in ended.values())
             print("growth %d: refused in %d of %d inputs; %s"
                   % (growth, refused, len(ended), "; ".join(found) or "each ended rightly"), flush=True)

@@ -1,7 +1,7 @@
 //! The payloads that are translated, with their type table.
 //!
 //! The root has two core modules; the second one imports what the first one exports. A component makes an instance of
-//! each, and the root makes two instances of that component.
+//! each, and the root makes an instance of that component.
 
 use pc_entity::{EntityIndex, FuncIndex, NoMemory, Seq, Text};
 use pc_parsed::{AliasItem, ComponentInstanceItem, Encoding, InstanceItem, OuterKind, Payload};
@@ -103,12 +103,14 @@ fn core_instances(alloc: Global) -> Result<Payload, NoMemory> {
 }
 
 /// An instance of the component.
-fn instance(alloc: Global) -> ComponentInstanceItem {
-    ComponentInstanceItem::Instantiate {
+fn instance(alloc: Global) -> Result<Payload, NoMemory> {
+    let args = Seq::new(alloc);
+    let item = ComponentInstanceItem::Instantiate {
         component: 0,
-        args: Seq::new(alloc),
+        args,
         ty: 1,
-    }
+    };
+    Ok(Payload::ComponentInstanceSection(one(alloc, item)?))
 }
 
 /// The payloads, in written order.
@@ -122,7 +124,7 @@ pub(crate) fn payloads(alloc: Global) -> Result<Seq<Payload>, NoMemory> {
     list.push(Payload::ComponentAliasSection(two(alloc, outer(0), outer(1))?))?;
     list.push(core_instances(alloc)?)?;
     list.push(Payload::End)?;
-    list.push(Payload::ComponentInstanceSection(two(alloc, instance(alloc), instance(alloc))?))?;
+    list.push(instance(alloc)?)?;
     list.push(Payload::End)?;
     Ok(list)
 }
