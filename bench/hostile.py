@@ -3,10 +3,11 @@
 
     hostile.py PROGRAM [--mib N] [--seconds N] [--word WORD] [--keep FOLDER] [FAMILY ..]
 
-Makes one input of at most N MiB (64) for each family, runs PROGRAM on it with one word, which is `translate`, or
-`facts` for a family that is made for it, and prints the exit status, the first line written, the time of the processor, the peak memory, and the time for each MiB of input. A time that
-grows with the square of the input shows when two sizes are compared. It ends with status 1 where a run passed the time
-limit (60 seconds of a processor), was killed, or ended with another status than its family names.
+Makes one input of at most N MiB (64) for each family, and no more than the total of its inputs lets it have
+(`MOST_MIB`), runs PROGRAM on it with one word, which is `translate`, or `facts` for a family that is made for it, and
+prints the exit status, the first line written, the time of the processor, the peak memory, and the time for each MiB of
+input. A time that grows with the square of the input shows when two sizes are compared. It ends with status 1 where a
+run passed the time limit (60 seconds of a processor), was killed, or ended with another status than its family names.
 """
 import argparse
 import os
@@ -1148,12 +1149,22 @@ def resources_between_long_handles(room):
     return resources_between(room, "5", ['"resource",', '{"own":4},'], '["h",["type",4]],')
 
 
-def doubling_instance_imported(room):
-    """Imports of an instance type that has the one before it twice, forty deep, down to one resource."""
+def doubling_instance(room, depth):
+    """Imports of an instance type that has the one before it twice, so deep, down to one resource."""
     levels = fill(',{"instance":[["r",["type",4]]]},',
-                  lambda n: '{"instance":[["a",["instance",%d]],["b",["instance",%d]]]}' % (n + 5, n + 5), "]}", 40)
+                  lambda n: '{"instance":[["a",["instance",%d]],["b",["instance",%d]]]}' % (n + 5, n + 5), "]}", depth)
     types = "".join([NEST_TYPES[:-2], ',"resource"', *levels])
-    return over(types, listed('{"imports":[', lambda n: '["i%07d",["instance",45]]' % n, "]}", room))
+    return over(types, listed('{"imports":[', lambda n: '["i%07d",["instance",%d]]' % (n, depth + 5), "]}", room))
+
+
+def doubling_instance_imported(room):
+    """Seven deep: each import has 382 names."""
+    return doubling_instance(room, 7)
+
+
+def deep_doubling_instance_imported(room):
+    """Forty deep: the names of one import are too many."""
+    return doubling_instance(room, 40)
 
 
 def host_instance(room, entity):
@@ -1304,9 +1315,22 @@ FAMILIES = {
     captures_of_a_child: 0, captures_at_each_level: 0, many_resources: 0, resources_with_destructors: 0,
     imported_resources: 0, one_resource_imported_often: 0, children_with_a_resource: 0, children_given_a_resource: 0,
     resources_between_long_types: 0, resources_between_long_handles: 0, doubling_instance_imported: 0,
+    deep_doubling_instance_imported: 1,
     functions_of_a_host_instance: 0, instances_of_a_host_instance: 0, chain_of_host_instances: 0, host_modules: 0, wide_host_module: 0, exported_instance: 0, exported_instances: 0,
     exported_host_instance: 0, refusal_in_a_tree: 1, refusal_behind_a_tree: 1, refusal_in_a_host_tree: 1,
     exported_types: 0, exported_modules: 0, deep_export_of_a_module: 0, many_ends: 1, not_utf8: 1,
+}
+
+
+# The most MiB of the families whose total grows with the square of the input: a larger input of these comes to
+# 4294967295, so it is refused before anything is read. A type number weighs three times the entries of the table, and an
+# instance of a core module weighs the most imports of one.
+MOST_MIB = {
+    many_functions: 3, shared_parameters: 4, imports_of_many_homes: 7, imports_of_shared_homes: 10,
+    adapters_of_many_types: 2.5, results_of_tasks: 1.5, builtins_of_many_resources: 1.5, reads_of_many_streams: 1.5,
+    reads_of_a_long_type: 1.5, used_waits: 11, long_result_in_children: 1, types_that_hash_alike: 4,
+    children_over_a_long_table: 1, children_with_a_long_type: 1, many_resources: 1.5, imported_resources: 1,
+    resources_between_long_types: 1.5, resources_between_long_handles: 1.5,
 }
 
 
@@ -1355,7 +1379,7 @@ def main():
     for family in chosen:
         path = os.path.join(folder, family.__name__ + ".json")
         word = args.word or WORDS.get(family, "translate")
-        size = write(family, int(args.mib * (1 << 20)), path) / (1 << 20)
+        size = write(family, int(min(args.mib, MOST_MIB.get(family, args.mib)) * (1 << 20)), path) / (1 << 20)
         status, line, seconds, peak = run(os.path.abspath(args.program), word, path, args.seconds)
         wrong = "" if status == FAMILIES[family] else "   <- expected status %d" % FAMILIES[family]
         worse += bool(wrong)

@@ -198,6 +198,8 @@ class Plan:
     def __init__(self, data):
         if data and not data.endswith(b"\n"):
             raise NotAPlan(data.count(b"\n") + 1, "the last line has no end")
+        if data.startswith(b"fault "):
+            raise NotAPlan(1, "the input was refused, and has no plan: %s" % data.splitlines()[0].decode())
         self.lines = [Line(n + 1, text) for n, text in enumerate(data.split(b"\n")[:-1])]
         self.next = 0
         self.read_head()

@@ -1,105 +1,74 @@
-//! The translator as a library: makes a list of payloads, translates it, and prints what its plan counts.
-//!
-//! The list holds a core module, a component that makes an instance of it, and two instances of that component.
+//! The translator as a library: makes a list of payloads, translates it, asks what is recorded of the core modules, and
+//! lays out the context that a runtime makes for the plan.
 #![tactic(auto)]
 
-use pc_entity::{NoMemory, Seq};
-use pc_parsed::{
-    AliasItem, ComponentInstanceItem, Encoding, InstanceItem, OuterKind, Payload, Tunables,
-};
-use pc_translate::plan_payloads;
-use pc_types::{DeclType, Error, ModuleRecord, TypeTable};
+mod payloads;
+
+use pc_entity::{FuncIndex, PackedOption, StaticModuleIndex};
+use pc_info::{ComponentTranslation, KnownFunc, ModuleTranslation};
+use pc_offsets::{PtrWidth, VMComponentOffsets};
+use pc_parsed::Tunables;
+use pc_translate::{PlanWithModules, plan_payloads};
+use pc_types::Error;
 use std::alloc::Global;
 use std::io;
 
-/// A list of one item.
-fn one<T: Drop>(alloc: Global, item: T) -> Result<Seq<T>, NoMemory> {
-    let mut list = Seq::new(alloc);
-    list.push(item)?;
-    Ok(list)
-}
-
-/// The types that the payloads name: 0 is that of the core module, 1 that of an instance without exports.
-fn types(alloc: Global) -> Result<TypeTable, NoMemory> {
-    let (imports, exports) = (Seq::new(alloc), Seq::new(alloc));
-    let mut types = one(alloc, DeclType::Module { imports, exports })?;
-    let exports = Seq::new(alloc);
-    types.push(DeclType::Instance { exports })?;
-    let core_funcs = Seq::new(alloc);
-    Ok(TypeTable { core_funcs, types })
-}
-
-/// A core module in which nothing stands.
-fn module(alloc: Global) -> Payload {
-    let record_ = ModuleRecord {
-        imports: Seq::new(alloc),
-        funcs: Seq::new(alloc),
-        tables: 0,
-        memories: Seq::new(alloc),
-        globals: 0,
-        tags: 0,
-        exports: Seq::new(alloc),
-    };
-    Payload::ModuleSection { record_, ty: 0 }
-}
-
-/// The module that a component finds around it.
-const OUTER: AliasItem = AliasItem::Outer {
-    kind: OuterKind::CoreModule,
-    count: 1,
-    index: 0,
-};
-
-/// An instance of the component.
-fn instance(alloc: Global) -> Result<Payload, NoMemory> {
-    let item = ComponentInstanceItem::Instantiate {
-        component: 0,
-        args: Seq::new(alloc),
-        ty: 1,
-    };
-    Ok(Payload::ComponentInstanceSection(one(alloc, item)?))
-}
-
-/// The payloads, in written order.
-fn payloads(alloc: Global) -> Result<Seq<Payload>, NoMemory> {
-    let encoding = Encoding::Component;
-    let args = Seq::new(alloc);
-    let mut list = one(alloc, Payload::Version { encoding })?;
-    list.push(module(alloc))?;
-    list.push(Payload::ComponentSection)?;
-    list.push(Payload::Version { encoding })?;
-    list.push(Payload::ComponentAliasSection(one(alloc, OUTER)?))?;
-    list.push(Payload::InstanceSection(one(
-        alloc,
-        InstanceItem::Instantiate { module: 0, args },
-    )?))?;
-    list.push(Payload::End)?;
-    list.push(instance(alloc)?)?;
-    list.push(instance(alloc)?)?;
-    list.push(Payload::End)?;
-    Ok(list)
-}
-
-/// How many core instances and component instances the plan has.
-fn counts(alloc: Global) -> Result<(u32, u32), Error> {
+/// The plan of the payloads, and its core modules.
+fn plan(alloc: Global) -> Result<PlanWithModules, Error> {
     let tunables = Tunables {
         max_component_instances: 100,
     };
-    let table = types(alloc)?;
-    let list = payloads(alloc)?;
-    let (plan, _) = plan_payloads(alloc, &tunables, &table, None, list.as_slice())?;
-    let component = &plan.component;
-    Ok((
-        component.num_runtime_instances,
-        component.num_runtime_component_instances,
-    ))
+    let table = payloads::types(alloc)?;
+    let list = payloads::payloads(alloc)?;
+    plan_payloads(alloc, &tunables, &table, None, list.as_slice())
+}
+
+/// Prints how many instances the plan makes.
+fn print_counts(rt: &impl Print, plan: &ComponentTranslation) -> io::Result<()> {
+    println!(rt;
+        "{} core instances, {} component instances",
+        plan.component.num_runtime_instances, plan.component.num_runtime_component_instances
+    )
+}
+
+/// Prints what two function imports of a core module are known to be in each of its instances, and whether they share
+/// a context.
+fn print_facts(rt: &impl Print, which: &ModuleTranslation) -> io::Result<()> {
+    for n in 0..2 {
+        let known = which.known_imported_functions.get(FuncIndex(n));
+        if let Some(KnownFunc::DefinedWasmFunction(of, func)) = known {
+            println!(rt; "import {n} is function {} of module {}", func.0, of.0)?;
+        }
+        let shares = which.imported_func_vmctx_representative.get(FuncIndex(n));
+        if let PackedOption::Some(first) = shares {
+            println!(rt; "import {n} has the context of import {}", first.0)?;
+        }
+    }
+    Ok(())
+}
+
+/// Prints how long the context is that a runtime makes, with pointers of eight bytes, and for how many component
+/// instances it has flags.
+fn print_layout(rt: &impl Print, plan: &ComponentTranslation) -> io::Result<()> {
+    match VMComponentOffsets::new(PtrWidth::Eight, &plan.component) {
+        Some(offsets) => println!(rt;
+            "a context of {} bytes, with flags for {} component instances",
+            offsets.size_of_vmctx(),
+            offsets.may_leave().count()
+        ),
+        None => println!(rt; "no context is so long"),
+    }
 }
 
 fn main(rt: HostRuntime) -> io::Result<()> {
-    match counts(rt.alloc()) {
-        Ok((core, components)) => println!(rt;
-            "{core} core instances, {components} component instances"
-        ),
+    match plan(rt.alloc()) {
+        Ok((plan, modules)) => {
+            print_counts(&rt, &plan)?;
+            if let Some(user) = modules.get(StaticModuleIndex(1)) {
+                print_facts(&rt, user)?;
+            }
+            print_layout(&rt, &plan)
+        }
         Err(error) => println!(rt; "{error}"),
     }
 }

@@ -77,9 +77,9 @@ first_used = record {
   known = λ r i at. absurd (none-some i at);
 }
 
-first_done : (types : Types) → WorldStands types first_graph first_world
+first_done : (types : Types) (total : ℕ) → WorldStands types first_graph (first_world total)
 unfolding paths_needed
-first_done types = record {
+first_done types total = record {
   effects = tt;
   order = refl;
   are_declared = λ k x at. absurd (none-some x at);
@@ -131,8 +131,9 @@ first_frame c done = record {
 }
 
 -- no resource is known at first
-first_knows : (g : ComponentDfg) (k : Resources) → k ≡ no_resources → KnowsSame g k first_moment.scope
-first_knows g k none = subst (λ j. KnowsSame g j first_moment.scope) (sym none) (record {
+first_knows : (g : ComponentDfg) (k : Resources) (total : ℕ) → k ≡ no_resources
+    → KnowsSame g k (first_moment total).scope
+first_knows g k total none = subst (λ j. KnowsSame g j (first_moment total).scope) (sym none) (record {
   known = λ n. neither;
   current = refl;
 })
@@ -162,11 +163,11 @@ first_sound t ms old fresh bodies g graph ordered = record {
 -- and is where the reading begins
 pub first_point : (t : TypeTable) (ms : List ModuleRecord) (old : State) → IsFresh t old
     → AreSoundBodies (length ms) old.bodies.now → (g : ComponentDfg) → g ≡ first_graph → IsOrdered g
-    → (c : RuntimeComponentInstanceIndex) → c.0 ≡ 0 → (done : Layers) → AreConverted old.types t done
-    → PointStands t ms (record old { graph = g }) (first_frame c done) first_moment
-first_point t ms old fresh bodies g graph ordered c zero done none = record {
+    → (c : RuntimeComponentInstanceIndex) → c.0 ≡ 0 → (done : Layers) → AreConverted old.types t done → (total : ℕ)
+    → PointStands t ms (record old { graph = g }) (first_frame c done) (first_moment total)
+first_point t ms old fresh bodies g graph ordered c zero done none total = record {
   sound = first_sound t ms old fresh bodies g graph ordered;
-  here = first_knows g old.types.resources fresh.resources;
+  here = first_knows g old.types.resources total fresh.resources;
   converted = none;
   frame = record {
     core_funcs = tt;
@@ -183,7 +184,7 @@ first_point t ms old fresh bodies g graph ordered c zero done none = record {
     component_instance = sym zero;
     begun = subst (λ h. HasBegun h c.0) (sym graph) (omega (arith, zero));
   };
-  world = subst (λ h. WorldStands old.types h first_world) (sym graph) (first_done old.types);
+  world = subst (λ h. WorldStands old.types h (first_world total)) (sym graph) (first_done old.types total);
   unexported = record {
     exports = ap (λ h. h.exports) graph;
     items = ap (λ h. h.export_items) graph;

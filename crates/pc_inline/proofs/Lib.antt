@@ -4,7 +4,6 @@ mod PrepareAllLemmas
 mod RootLemmas
 mod FreshLemmas
 mod WidthLemmas
-mod EndLemmas
 mod SkipLemmas
 mod TotalLemmas
 mod DriverLemmas

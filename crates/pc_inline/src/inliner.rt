@@ -1,6 +1,6 @@
 //! The root: it begins, its imports are prepared, its items are read in order, and it exports.
 
-ghost use Rattle.std.specs.Prelude.{◌≡◌, ◌<◌, ◌≤◌, ◌+◌, ℕ, None, true, [], length, IfOk, OnOk};
+ghost use Rattle.std.specs.Prelude.{◌≡◌, ◌<◌, ◌≤◌, ◌+◌, None, true, [], length, IfOk, OnOk};
 ghost use Rattle.std.specs.List.{list_all};
 ghost use Rattle.pc_types.specs.Record.{is_sound};
 ghost use Rattle.pc_types.specs.Table.{table_fault};
@@ -139,7 +139,15 @@ pub(crate) fn inline_root(
 {
     let mut total = counted;
     let begun = begin_root(context, state, root, limit, weights.root, &mut total)?;
-    let mut frame = run(context, state, root, begun, limit, &weights.bodies, &mut total)?;
+    let mut frame = run(
+        context,
+        state,
+        root,
+        begun,
+        limit,
+        &weights.bodies,
+        &mut total,
+    )?;
     export_all(context, state, &mut frame, root.exports.as_slice(), total)
 }
 
@@ -196,7 +204,14 @@ pub fn inline_run(
     forget_resources(alloc, types);
     let builder = mem::replace(types, ComponentTypesBuilder::new(alloc));
     let mut state = State::new(alloc, builder, numbers, &program.components, table);
-    let inlined = inline_root(&context, &mut state, &program.root, limit, &weights, counted);
+    let inlined = inline_root(
+        &context,
+        &mut state,
+        &program.root,
+        limit,
+        &weights,
+        counted,
+    );
     let graph = state.take_graph(alloc);
     mem::swap(types, &mut state.types);
     types.types_are_distinct();

@@ -1,6 +1,6 @@
 //! The exports of the root are counted before a node of them is made.
 
-ghost use Rattle.std.specs.Prelude.{◌≡◌, []};
+ghost use Rattle.std.specs.Prelude.{◌≡◌, ◌<◌, []};
 ghost use Rattle.pc_spec_reading.specs.Scope.{Scope};
 ghost use Rattle.pc_spec_reading.specs.World.{World};
 ghost use Rattle.pc_inline_state.specs.Points.{IsInput};

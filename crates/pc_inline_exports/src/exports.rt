@@ -1,6 +1,6 @@
 //! The exports of the root.
 
-ghost use Rattle.std.specs.Prelude.{◌≡◌, [], map, true, None, IfOk};
+ghost use Rattle.std.specs.Prelude.{◌≡◌, ◌<◌, [], map, true, None, IfOk};
 ghost use Rattle.pc_entity.specs.Lists.{value_of};
 ghost use Rattle.pc_types.specs.Names.{distinct_names};
 ghost use Rattle.pc_parsed.specs.declared.payload.ItemKind.TheVariants as kind;

@@ -17,7 +17,9 @@ use Rattle.pc_dfg.specs.Lists.{ListName, entries_of}
 use Rattle.pc_dfg.specs.Numbers.{slots_of}
 use Rattle.pc_dfg.specs.Ordered.{IsOrdered}
 use Rattle.pc_dfg.specs.Pushed.{with_component_instance}
+use Rattle.pc_dfg.proofs.AddLemmas.{Added, AllAdd, EntryFact, NewHeld, nothing}
 use Rattle.pc_dfg.proofs.AllLemmas.{all_more}
+use Rattle.pc_dfg.proofs.PushLemmas.{quiet}
 use Rattle.pc_inline_state.specs.declared.state.State.{State}
 use Rattle.pc_inline_state.specs.Points.{IsSoundState}
 use Rattle.pc_inline_state.specs.Adds.{Adds}
@@ -39,6 +41,29 @@ use Rattle.pc_inline_state.proofs.ZipLemmas.{zip_more}
 -- its graph
 abbrev pub begun_graph : ComponentDfg → ComponentDfg
 begun_graph g = with_component_instance g
+
+begun_all_add : (P : EntryFact) (g : ComponentDfg) → AllAdd P g (begun_graph g)
+unfolding slots_of
+begun_all_add P g (list.slots plan.memory) = nothing
+begun_all_add P g l = nothing
+
+-- it has grown
+pub begun_grows : (g : ComponentDfg) → graph.Grows g (begun_graph g)
+begun_grows g = record {
+  lists = λ l. (begun_all_add (λ l n x. Unit {0}) g l).extends;
+  component_instances = omega arith;
+  signatures = λ place s at. at;
+}
+
+-- it keeps its order
+pub begun_ordered : (g : ComponentDfg) → IsOrdered g → IsOrdered (begun_graph g)
+begun_ordered g ordered =
+    let added : Added g (begun_graph g) = record {
+      lists = begun_all_add (NewHeld g (begun_graph g)) g;
+      component_instances = omega arith;
+      signatures = λ place s at. at;
+    } in
+    quiet g (begun_graph g) added ordered refl refl refl
 
 module _ (g : ComponentDfg) (grows : graph.Grows g (begun_graph g)) where
   begun_items : (ms : List ModuleRecord) → HasItems ms g → HasItems ms (begun_graph g)

@@ -1,25 +1,27 @@
 -- The moves of a driver of component instances, from where it begins to where it ends.
-use Rattle.std.proofs.Common.{◌≡◌, ◌<◌, ◌≤◌, ◌+◌, ◌⊎◌, ◌-◌, ℕ, List, [], Option, None, Some, Result, Ok, Err}
-use Rattle.std.proofs.Common.{length, refl, reverse, sym, ap, subst, ◌∙◌, arith, inl, inr}
+use Rattle.std.proofs.Common.{◌≡◌, ◌<◌, ◌≤◌, ◌-◌, ℕ, List, [], None, Some, Result, Ok, Err, length, refl, reverse}
+use Rattle.std.proofs.Common.{sym, ap, subst, ◌∙◌, arith}
 use Rattle.std.specs.Result.{IsErrAnd}
 use Rattle.pc_types.specs.declared.error.Error.{Error}
+use Rattle.pc_types.specs.declared.error.Error.TheVariants as error
 use Rattle.pc_types.specs.declared.module_record.ModuleRecord.{ModuleRecord}
 use Rattle.pc_types.specs.declared.parsed.TypeTable.{TypeTable}
 use Rattle.pc_spec_reading.specs.Item.{Items}
-use Rattle.pc_spec_reading.specs.Outcome.{Outcome, done, past}
+use Rattle.pc_spec_reading.specs.Outcome.{Outcome, done}
 use Rattle.pc_spec_reading.specs.Reading.{enter_at, read_items}
 use Rattle.pc_spec_reading.specs.Scope.{Moment}
+use Rattle.pc_spec_reading.specs.World.{full}
 use Rattle.pc_local.specs.declared.item.Translation.{Translation}
 use Rattle.pc_local.specs.Standing.{ItemsStand, no_names}
 use Rattle.pc_inline_stack.specs.declared.driver.Open.{Open}
 use Rattle.pc_inline_state.specs.declared.frame.Frame.{Frame}
 use Rattle.pc_inline_state.specs.declared.state.State.{State}
-use Rattle.pc_inline_state.specs.Adds.{Adds, most_of_items}
-use Rattle.pc_inline_stack.specs.Driving.{Counts, CountsItems, EndsIn, EndsRun, Runs, reading_from}
+use Rattle.pc_inline_state.specs.Adds.{most_of_items}
+use Rattle.pc_inline_stack.specs.Driving.{AddsCounted, EndsRun, Runs, reading_from}
 use Rattle.pc_inline_state.specs.Points.{IsPoint, PointStands}
-use Rattle.pc_inline_stack.specs.Reads.{AreItems, Ends}
-use Rattle.pc_inline_stack.specs.Stacks.{Driven, Failed, Grew, HasRoom, IsPast, Reached, all_most_left}
-use Rattle.pc_inline_stack.specs.Stacks.{AllStand, child_stands, items_of, reads_on, resume, root_stands}
+use Rattle.pc_inline_stack.specs.Reads.{AreItems}
+use Rattle.pc_inline_stack.specs.Stacks.{AllStand, Driven, Failed, Fails, Reached, all_most_left, child_stands}
+use Rattle.pc_inline_stack.specs.Stacks.{items_of, reads_on, resume, root_stands}
 use Rattle.pc_inline_stack.specs.Stacks.{Reader, Waiting}
 use Rattle.pc_inline_state.specs.Tables.{tables_of}
 use Rattle.pc_inline_state.proofs.AddsLemmas.{adds_refl}
@@ -27,17 +29,16 @@ use Rattle.pc_inline_stack.proofs.EnclosedLemmas.{root_enclosed}
 use Rattle.pc_inline_stack.proofs.MoveLemmas.{reached_point}
 use Rattle.pc_inline_stack.proofs.ReadLemmas.{none_left}
 use Rattle.pc_inline_stack.proofs.ResumeLemmas.{root_ends}
-use Rattle.pc_inline_stack.proofs.StackLemmas.{grew_more}
 use Rattle.pc_inline_state.proofs.StateLemmas.{keeps_refl}
 
 module _ (t : TypeTable) (ms : List ModuleRecord) (limit : ℕ) (root : Translation) where
-  module _ (old : State) (f : Frame) (point : IsPoint t ms old f)
+  module _ (old : State) (f : Frame) (counted : ℕ) (point : IsPoint t ms old f)
       (are : AreItems old.bodies.now root.initializers) where
-    abbrev uncounted : Moment → Moment
-    uncounted now = record now { world = record now.world { total = None } }
+    abbrev counting : Moment → Moment
+    counting now = record now { world = record now.world { total = Some counted } }
 
-    uncounted_point : (now : Moment) → PointStands t ms old f now → PointStands t ms old f (uncounted now)
-    uncounted_point now at = record {
+    counting_point : (now : Moment) → PointStands t ms old f now → PointStands t ms old f (counting now)
+    counting_point now at = record {
       sound = at.sound;
       here = at.here;
       converted = at.converted;
@@ -64,19 +65,15 @@ module _ (t : TypeTable) (ms : List ModuleRecord) (limit : ℕ) (root : Translat
     abbrev pub root_open : Open
     root_open = record { frame = f; closure = None; body = None; next = 0 }
 
-    root_grew : (first : Option ℕ) (left count : ℕ) → left ≡ count → HasRoom first → Grew first first 0 left count
-    unfolding Grew HasRoom
-    root_grew None left count same room = refl
-    root_grew (Some n) left count same room = (n, refl, room, omega (arith, same))
-
     root_reached : (is : Items) (first : Moment) → ItemsStand old.bodies.now no_names root.initializers is
-        → PointStands t ms old f first → HasRoom first.world.total
-        → Reached t ms limit root is first old [] root_open 0
+        → PointStands t ms old f first → first.world.total ≡ Some counted
+        → Reached t ms limit root is first old [] root_open counted
     unfolding resume
-    root_reached is first stand at room = record {
+    root_reached is first stand at some = record {
       waiting = [];
       reader = record { scope = first.scope; names = no_names; body = is };
       world = first.world;
+      is_total = some;
       sound = at.sound;
       world_stands = at.world;
       unexported = at.unexported;
@@ -91,185 +88,120 @@ module _ (t : TypeTable) (ms : List ModuleRecord) (limit : ℕ) (root : Translat
       same =
           let whole : limit - 0 ≡ limit = omega arith in
           ap (λ l. read_items t ms (enter_at t ms limit l) 0 is first) whole;
-      grew = root_grew first.world.total (all_most_left t old.bodies.now root [] root_open)
-          (most_of_items t root.initializers) (omega arith) room;
     }
+
+    -- what is left of the root is all that its items add
+    root_left : all_most_left t old.bodies.now root [] root_open ≡ most_of_items t root.initializers
+    root_left = omega arith
 
     -- nothing was read yet
     driven_alone : 0 < old.graph.num_runtime_component_instances
-        → old.graph.num_runtime_component_instances ≤ limit → Driven t ms limit root old f old [] root_open
-    driven_alone begun within = record {
-      added = 0;
-      keeps = keeps_refl (tables_of old);
-      adds = adds_refl t 0 (tables_of old);
-      deep = begun;
-      within = within;
-      starts = record {
-        items = are.0;
-        first = uncounted point.0;
-        stand = are.1;
-        at = uncounted_point point.0 point.1;
-        uncounted = refl;
-      };
-      reads = λ is first stand at room. inr (root_reached is first stand at room);
-    }
+        → old.graph.num_runtime_component_instances ≤ limit → counted < full
+        → Driven t ms limit root old f counted old [] root_open counted
+    driven_alone begun within below =
+        let left = root_left in
+        record {
+          added = 0;
+          keeps = keeps_refl (tables_of old);
+          adds = adds_refl t 0 (tables_of old);
+          grew = (below, omega (arith, left));
+          deep = begun;
+          within = within;
+          starts = record {
+            items = are.0;
+            first = counting point.0;
+            stand = are.1;
+            at = counting_point point.0 point.1;
+            is_total = refl;
+          };
+          reads = root_reached;
+        }
 
     -- when none waits yet
     pub driven_first : 0 < old.graph.num_runtime_component_instances
-        → old.graph.num_runtime_component_instances ≤ limit → (waiting : List Open) → waiting ≡ []
-        → Driven t ms limit root old f old (reverse waiting) root_open
-    driven_first begun within waiting none =
-        subst (λ ks. Driven t ms limit root old f old (reverse ks) root_open) (sym none) (driven_alone begun within)
+        → old.graph.num_runtime_component_instances ≤ limit → counted < full → (waiting : List Open) → waiting ≡ []
+        → Driven t ms limit root old f counted old (reverse waiting) root_open counted
+    driven_first begun within below waiting none =
+        subst (λ ks. Driven t ms limit root old f counted old (reverse ks) root_open counted) (sym none)
+        (driven_alone begun within below)
 
-  module _ (old : State) (f : Frame) (st : State) where
-    -- the errors of a reading that failed are what the driver says
-    failed_runs : (e : Error) → Failed t ms limit root old f st e
-        → Runs t ms limit root.initializers old f st (Err e)
-    unfolding Runs EndsRun HasRoom IsPast
-    failed_runs e failed is now stand at none =
-        let room : HasRoom now.world.total = subst HasRoom (sym none) tt in
-        elim (failed.reads is now stand at room)
-        as (λ _. Ends t ms st f (reading_from t ms limit is now) (Err e)) [
-          | inl gone ↦ absurd (subst (λ n. IsPast n (reading_from t ms limit is now)) none gone)
-          | inr x ↦ x.ends
-        ]
+  module _ (old : State) (f : Frame) (counted : ℕ) (st : State) where
+    fails_ends : (total : ℕ) (o : Outcome Moment) (e : Error) → Fails t ms limit root st f o e
+        → EndsRun t ms limit st f total o (Err e)
+    unfolding Fails EndsRun
+    fails_ends total o error.TooMany fails = fails
+    fails_ends total o e fails = fails
 
-    counted_fails : (n : ℕ) (e : Error) (o : Outcome Moment) (failed : Failed t ms limit root old f st e)
-        (total : Option ℕ) → Grew (Some n) total failed.added 0 (most_of_items t root.initializers)
-        → CountsItems t ms limit root.initializers n old st o (Err e)
-    unfolding Grew EndsIn
-    counted_fails n e o failed total grew =
-        let few = grew.3 in
-        record {
-          added = failed.added;
-          total = grew.0;
-          adds = failed.adds;
-          few = omega (arith, few);
-          below = grew.2;
-          ends = tt;
-        }
+    module _ (total : ℕ) (e : Error) (failed : Failed t ms limit root old f counted st total e) where
+      -- no more was added than is counted
+      pub failed_adds : AddsCounted t root.initializers counted total old st
+      failed_adds =
+          let few = failed.grew.1 in
+          record {
+            added = failed.added;
+            adds = failed.adds;
+            few = omega (arith, few);
+            below = failed.grew.0;
+          }
 
-    -- where the total is counted it grew enough
-    failed_counts : (e : Error) → Failed t ms limit root old f st e
-        → Counts t ms limit root.initializers old f st (Err e)
-    unfolding Counts HasRoom IsPast
-    failed_counts e failed is now n stand at some below =
-        let room : HasRoom now.world.total = subst HasRoom (sym some) below in
-        elim (failed.reads is now stand at room)
-        as (λ _. (reading_from t ms limit is now ≡ past)
-        ⊎ CountsItems t ms limit root.initializers n old st (reading_from t ms limit is now) (Err e)) [
-          | inl gone ↦ inl (subst (λ k. IsPast k (reading_from t ms limit is now)) some gone)
-          | inr x ↦ inr (counted_fails n e (reading_from t ms limit is now) failed x.total
-              (subst (λ k. Grew k x.total failed.added 0 (most_of_items t root.initializers)) some x.grew))
-        ]
+      failed_runs : Runs t ms limit root.initializers old f counted st total (Err e)
+      unfolding Runs
+      failed_runs is now stand at some =
+          fails_ends total (reading_from t ms limit is now) e (failed.reads is now stand at some)
 
-    module _ (o : Open) (driven : Driven t ms limit root old f st [] o)
+      -- the reading ends with the error
+      pub run_fails : (r : Result Frame Error) → IsErrAnd r (λ x. x ≡ e)
+          → Runs t ms limit root.initializers old f counted st total r
+      run_fails (Ok x) is = absurd is
+      run_fails (Err x) is =
+          subst (λ y. Runs t ms limit root.initializers old f counted st total (Err y)) (sym is) failed_runs
+
+    module _ (o : Open) (total : ℕ) (driven : Driven t ms limit root old f counted st [] o total)
         (end : length (items_of st.bodies.now root o) ≤ o.next) where
-      root_done : (is : Items) (first : Moment) (x : Reached t ms limit root is first st [] o driven.added)
-          → (last : Moment) × (reading_from t ms limit is first ≡ done last) × PointStands t ms st o.frame last
-          × (last.world ≡ x.world)
+      root_done : (is : Items) (first : Moment) (x : Reached t ms limit root is first st [] o total)
+          → (last : Moment) × (reading_from t ms limit is first ≡ done last) × (last.world.total ≡ Some total)
+          × PointStands t ms st o.frame last
       root_done is first x =
           by [] o x.waiting x.reader x.all refl refl x.same
-          (reached_point t ms limit root is first st [] o driven.added x)
+          (reached_point t ms limit root is first st [] o total x)
         where
           by : (ks : List Open) (p : Open) (ws : List Waiting) (r : Reader)
               → AllStand t ms st.bodies.now root (tables_of st) st.types.resources ks p ws r → ks ≡ [] → p ≡ o
               → reads_on t ms limit ws r o.next x.world ≡ reading_from t ms limit is first
               → PointStands t ms st o.frame (record { scope = r.scope; world = x.world })
-              → (last : Moment) × (reading_from t ms limit is first ≡ done last) × PointStands t ms st o.frame last
-              × (last.world ≡ x.world)
+              → (last : Moment) × (reading_from t ms limit is first ≡ done last) × (last.world.total ≡ Some total)
+              × PointStands t ms st o.frame last
           by ks p ws r (root_stands h) none same reads at = (
             record { scope = r.scope; world = x.world },
             sym reads ∙ root_ends t ms limit r o.next x.world (none_left st.bodies.now r.names
                 (items_of st.bodies.now root o) r.body o.next end
                 (subst (λ q. ItemsStand st.bodies.now r.names (items_of st.bodies.now root q) r.body) same h.items)),
+            x.is_total,
             at,
-            refl,
           )
           by ks p ws r (child_stands h has caller waits all) none same reads at = let y : ⊥ = cc in absurd y
 
       -- the root has ended where the reading has
-      driven_runs : Runs t ms limit root.initializers old f st (Ok o.frame)
-      unfolding Runs EndsRun Ends HasRoom IsPast
-      driven_runs is now stand at none =
-          let room : HasRoom now.world.total = subst HasRoom (sym none) tt in
-          elim (driven.reads is now stand at room)
-          as (λ _. (last : Moment) × (reading_from t ms limit is now ≡ done last) × PointStands t ms st o.frame last) [
-            | inl gone ↦ absurd (subst (λ n. IsPast n (reading_from t ms limit is now)) none gone)
-            | inr x ↦ (let d = root_done is now x in (d.0, d.1, d.2))
-          ]
+      driven_runs : Runs t ms limit root.initializers old f counted st total (Ok o.frame)
+      unfolding Runs EndsRun
+      driven_runs is now stand at some = root_done is now (driven.reads is now stand at some)
 
-      counted_done : (is : Items) (first : Moment) (n : ℕ) (x : Reached t ms limit root is first st [] o driven.added)
-          → first.world.total ≡ Some n
-          → CountsItems t ms limit root.initializers n old st (reading_from t ms limit is first) (Ok o.frame)
-      unfolding Grew EndsIn
-      counted_done is first n x some =
-          let grew : Grew (Some n) x.world.total (driven.added + 0) 0 (most_of_items t root.initializers) =
-          subst (λ k. Grew k x.world.total (driven.added + 0) 0 (most_of_items t root.initializers)) some
-          (grew_more first.world.total x.world.total x.world.total driven.added
-          (all_most_left t st.bodies.now root [] o) 0 0 (most_of_items t root.initializers) refl (omega arith) x.grew)
-          in
-          let few = grew.3 in
-          let d = root_done is first x in
-          record {
-            added = driven.added;
-            total = grew.0;
-            adds = driven.adds;
-            few = omega (arith, few);
-            below = grew.2;
-            ends = (d.0, d.1, ap (λ w. w.total) d.3 ∙ grew.1, d.2);
-          }
-
-      -- in the total that was counted
-      driven_counts : Counts t ms limit root.initializers old f st (Ok o.frame)
-      unfolding Counts HasRoom IsPast
-      driven_counts is now n stand at some below =
-          let room : HasRoom now.world.total = subst HasRoom (sym some) below in
-          elim (driven.reads is now stand at room)
-          as (λ _. (reading_from t ms limit is now ≡ past)
-          ⊎ CountsItems t ms limit root.initializers n old st (reading_from t ms limit is now) (Ok o.frame)) [
-            | inl gone ↦ inl (subst (λ k. IsPast k (reading_from t ms limit is now)) some gone)
-            | inr x ↦ inr (counted_done is now n x some)
-          ]
-
-  module _ (old : State) (f : Frame) (st : State) (ks : List Open) (o : Open)
-      (driven : Driven t ms limit root old f st ks o) (none : ks ≡ [])
-      (end : length (items_of st.bodies.now root o) ≤ o.next) where
-    abbrev last_driven : Driven t ms limit root old f st [] o
-    last_driven = subst (λ k. Driven t ms limit root old f st k o) none driven
-
-    -- what was added
-    pub run_adds : (w : ℕ) × Adds t w (tables_of old) (tables_of st)
-    run_adds = (last_driven.added, last_driven.adds)
+  module _ (old : State) (f : Frame) (counted : ℕ) (st : State) (ks : List Open) (o : Open) (total : ℕ)
+      (driven : Driven t ms limit root old f counted st ks o total) where
+    -- no more was added than is counted
+    pub run_adds : AddsCounted t root.initializers counted total old st
+    run_adds =
+        let few = driven.grew.1 in
+        record {
+          added = driven.added;
+          adds = driven.adds;
+          few = omega (arith, few);
+          below = driven.grew.0;
+        }
 
     -- the root is where the reading has ended
-    pub run_ends : (g : Frame) → g ≡ o.frame → Runs t ms limit root.initializers old f st (Ok g)
-    run_ends g is =
-        subst (λ x. Runs t ms limit root.initializers old f st (Ok x)) (sym is)
-        (driven_runs old f st o last_driven end)
-
-    -- in the total that was counted
-    pub run_counts : (g : Frame) → g ≡ o.frame → Counts t ms limit root.initializers old f st (Ok g)
-    run_counts g is =
-        subst (λ x. Counts t ms limit root.initializers old f st (Ok x)) (sym is)
-        (driven_counts old f st o last_driven end)
-
-  module _ (old : State) (f : Frame) (st : State) (e : Error) (failed : Failed t ms limit root old f st e)
-      (r : Result Frame Error) (is : IsErrAnd r (λ x. x ≡ e)) where
-    -- where the reading failed
-    pub run_fails : Runs t ms limit root.initializers old f st r
-    run_fails = by r is
-      where
-        by : (r : Result Frame Error) → IsErrAnd r (λ x. x ≡ e) → Runs t ms limit root.initializers old f st r
-        by (Ok x) is = absurd is
-        by (Err x) is =
-            subst (λ y. Runs t ms limit root.initializers old f st (Err y)) (sym is) (failed_runs old f st e failed)
-
-    -- so much was counted
-    pub run_fails_counts : Counts t ms limit root.initializers old f st r
-    run_fails_counts = by r is
-      where
-        by : (r : Result Frame Error) → IsErrAnd r (λ x. x ≡ e) → Counts t ms limit root.initializers old f st r
-        by (Ok x) is = absurd is
-        by (Err x) is =
-            subst (λ y. Counts t ms limit root.initializers old f st (Err y)) (sym is) (failed_counts old f st e failed)
+    pub run_ends : ks ≡ [] → length (items_of st.bodies.now root o) ≤ o.next
+        → Runs t ms limit root.initializers old f counted st total (Ok o.frame)
+    run_ends none end =
+        driven_runs old f counted st o total
+        (subst (λ k. Driven t ms limit root old f counted st k o total) none driven) end

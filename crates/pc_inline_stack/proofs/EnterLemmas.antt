@@ -1,13 +1,12 @@
 -- A child begins on a stack of component instances, or the item that begins it is refused.
-use Rattle.std.proofs.Common.{◌≡◌, ◌<◌, ◌≤◌, ◌+◌, ◌*◌, ◌⊎◌, ℕ, suc, true, false, Bool, List, [], ◌∷◌, Option, None}
-use Rattle.std.proofs.Common.{Some}
-use Rattle.std.proofs.Common.{Result, Ok, Err, length, map, refl, sym, ap, subst, ◌∙◌, arith, inl, inr}
+use Rattle.std.proofs.Common.{◌≡◌, ◌<◌, ◌≤◌, ◌+◌, ◌*◌, ℕ, suc, true, false, Bool, List, [], ◌∷◌, Option, Some, Result}
+use Rattle.std.proofs.Common.{Ok, Err, length, map, refl, sym, ap, subst, ◌∙◌, arith}
 use Rattle.std.specs.Prelude.{slice_get, nat_lt, unwrap_or}
 use Rattle.pc_entity.specs.Lists.{value_of}
 use Rattle.pc_inline_state.specs.declared.definition.ClosureId.{ClosureId}
 use Rattle.pc_local.specs.Plain.{plain_item}
 use Rattle.pc_spec_reading.specs.Reading.{beginning}
-use Rattle.std.proofs.lemmas.Bool.{le-ltb, lt-ltb, ltb-true}
+use Rattle.std.proofs.lemmas.Bool.{le-ltb, lt-ltb}
 use Rattle.std.proofs.lemmas.Option.{same_Some}
 use Rattle.pc_numbers.specs.declared.runtime.RuntimeComponentInstanceIndex.{RuntimeComponentInstanceIndex}
 use Rattle.pc_types.specs.declared.error.Place.TheVariants as place
@@ -18,7 +17,7 @@ use Rattle.pc_types_builder.specs.Converted.{AreConverted}
 use Rattle.pc_types_lists.specs.Types.{Resources}
 use Rattle.pc_parsed.specs.declared.payload.ItemKind.{ItemKind}
 use Rattle.pc_spec_reading.specs.Item.{ArgumentOf, Items, and_item, exports_in, instantiate_component_item}
-use Rattle.pc_spec_reading.specs.Outcome.{Fault, Outcome, fault, over, past}
+use Rattle.pc_spec_reading.specs.Outcome.{Fault, fault, over, past}
 use Rattle.pc_spec_reading.specs.Scope.{Moment}
 use Rattle.pc_spec_reading.specs.Section.{argument_of, named_item}
 use Rattle.pc_spec_reading.specs.Total.{body_weight}
@@ -43,7 +42,7 @@ use Rattle.pc_inline_stack.specs.Driving.{reading_from}
 use Rattle.pc_inline_state.specs.Faults.{error_of, fault_of}
 use Rattle.pc_inline_stack.specs.Reads.{Ends, items_from}
 use Rattle.pc_inline_state.specs.Points.{PointStands}
-use Rattle.pc_inline_stack.specs.Stacks.{AllStand, CallerStands, Fails, Grew, IsPast, OpenStands, Reached, Reader}
+use Rattle.pc_inline_stack.specs.Stacks.{AllStand, CallerStands, Fails, Grew, OpenStands, Reached, Reader}
 use Rattle.pc_inline_stack.specs.Stacks.{Waiting, Waits, all_most_left, body_at, child_stands, items_of, reads_on}
 use Rattle.pc_inline_stack.specs.Stacks.{types_exported}
 use Rattle.pc_inline_state.specs.Stands.{Stands}
@@ -53,12 +52,12 @@ use Rattle.pc_inline_stack.proofs.CurrentLemmas.{current_keeps, current_sound, c
 use Rattle.pc_inline_stack.proofs.EnclosedLemmas.{enclosed_kept}
 use Rattle.pc_inline_canon.proofs.KeptLemmas.{stands_kept}
 use Rattle.pc_inline_items.proofs.LocalLemmas.{plain_is}
-use Rattle.pc_inline_stack.proofs.LeftLemmas.{call_parts, most_child, most_here}
-use Rattle.pc_inline_stack.proofs.MoveLemmas.{ends_fault, point_of, reached_point, this_item, top_open}
+use Rattle.pc_inline_stack.proofs.LeftLemmas.{most_child}
+use Rattle.pc_inline_stack.proofs.MoveLemmas.{ends_fault, fails_so, point_of, reached_point, this_item, top_open}
 use Rattle.pc_inline_stack.proofs.ResumeLemmas.{begins, begins_over, begins_past, call_refused, child_begins}
 use Rattle.pc_inline_stack.proofs.ResumeLemmas.{child_of}
 use Rattle.pc_inline_stack.proofs.ResumeLemmas.{waits_at}
-use Rattle.pc_inline_stack.proofs.StackLemmas.{all_kept, as_deep, grew_more, top_goes, top_stands}
+use Rattle.pc_inline_stack.proofs.StackLemmas.{all_kept, as_deep, top_goes, top_stands}
 use Rattle.pc_inline_stack.proofs.WeightLemmas.{most_of_body, types_named}
 use Rattle.pc_inline_state.proofs.KnowsLemmas.{knows_grown}
 use Rattle.pc_inline_state.proofs.StateLemmas.{keeps_trans}
@@ -95,16 +94,11 @@ abbrev pub for_arguments : TypeTable → List (List ℕ × ItemKind × ℕ) → 
 for_arguments t args = types_among args * (1 + most_types t)
 
 -- the total grows by what a child weighs
-grew_child : (first now : Option ℕ) (weight added converted left more next count : ℕ) → more ≤ weight
-    → converted + next ≡ left + more → has_room (grown now (1 + weight)) ≡ true → Grew first now added left count
-    → Grew first (grown now (1 + weight)) (added + (converted + 1)) next count
-unfolding Grew
-grew_child None now weight added converted left more next count heavy same room h = ap (λ o. grown o (1 + weight)) h
-grew_child (Some n) now weight added converted left more next count heavy same room h =
-    let few = h.3 in
-    let is : grown now (1 + weight) ≡ Some (h.0 + (1 + weight)) = ap (λ o. grown o (1 + weight)) h.1 in
-    let below : h.0 + (1 + weight) < full = ltb-true (h.0 + (1 + weight)) full (sym (ap has_room is) ∙ room) in
-    (h.0 + (1 + weight), is, below, omega (arith, few, heavy, same))
+grew_child : (counted total weight added converted left more next count : ℕ) → more ≤ weight
+    → converted + next ≡ left + more → total + (1 + weight) < full → Grew counted total added left count
+    → Grew counted (total + (1 + weight)) (added + (converted + 1)) next count
+grew_child counted total weight added converted left more next count heavy same below h =
+    let few = h.1 in (below, omega (arith, few, heavy, same))
 
 -- what items and exports add weighs no more where they are these
 heavy : (items types its those one weight : ℕ) → items ≡ its → types ≡ those → its + those * one ≤ weight
@@ -112,21 +106,12 @@ heavy : (items types its those one weight : ℕ) → items ≡ its → types ≡
 heavy items types its those one weight same given le =
     subst (λ n. n + types * one ≤ weight) (sym same) (subst (λ n. its + n * one ≤ weight) (sym given) le)
 
--- where it is too much, it is counted
-grew_past : (first now : Option ℕ) (weight added left count : ℕ) (o : Outcome Moment)
-    → has_room (grown now (1 + weight)) ≡ false → Grew first now added left count → o ≡ past → IsPast first o
-unfolding Grew IsPast
-grew_past None now weight added left count o full h is =
-    let room : has_room (grown now (1 + weight)) ≡ true = ap (λ x. has_room (grown x (1 + weight))) h in
-    let x : ⊥ = cc in absurd x
-grew_past (Some n) now weight added left count o full h is = is
-
 module _ (t : TypeTable) (ms : List ModuleRecord) (limit : ℕ) (root : Translation) (is : Items) (first : Moment)
-    (st : State) (ks : List Open) (o : Open) (added : ℕ) (x : Reached t ms limit root is first st ks o added)
+    (st : State) (ks : List Open) (o : Open) (total : ℕ) (x : Reached t ms limit root is first st ks o total)
     (component : ℕ) (args : List (List ℕ × ItemKind × ℕ)) (ty : ℕ)
     (at : slice_get (items_of st.bodies.now root o) o.next ≡ Some (local.ComponentInstantiate component args ty)) where
   abbrev here : Moment
-  here = point_of t ms limit root is first st ks o added x
+  here = point_of t ms limit root is first st ks o total x
 
   abbrev the_args : List ArgumentOf
   the_args = map argument_of args
@@ -139,7 +124,7 @@ module _ (t : TypeTable) (ms : List ModuleRecord) (limit : ℕ) (root : Translat
       ≡ and_item (instantiate_component_item component the_args ty) (items_from (suc o.next) x.reader.body)
   unfolding plain_item
   this_call =
-      let i = this_item t ms limit root is first st ks o added x (local.ComponentInstantiate component args ty) at in
+      let i = this_item t ms limit root is first st ks o total x (local.ComponentInstantiate component args ty) at in
       i.2 ∙ ap (λ j. and_item j (items_from (suc o.next) x.reader.body))
       (sym (plain_is st.bodies.now x.reader.names (local.ComponentInstantiate component args ty)
       (instantiate_component_item component the_args ty) i.0 refl i.1))
@@ -147,23 +132,13 @@ module _ (t : TypeTable) (ms : List ModuleRecord) (limit : ℕ) (root : Translat
   pub call_follows : (st' : State) (r : Result Call ItemError) → Calls t ms component the_args ty st o.frame st' r
       → CallFollows t ms st' ty (read_call t x.reader.scope component the_args ty) r
   unfolding Calls
-  call_follows st' r calls = calls here (reached_point t ms limit root is first st ks o added x)
+  call_follows st' r calls = calls here (reached_point t ms limit root is first st ks o total x)
 
   refused : (k : Fault) → read_call t x.reader.scope component the_args ty ≡ Err k
       → reading_from t ms limit is first ≡ fault k (place.Reading x.reader.scope.component_instance o.next)
   refused k stuck =
       sym x.same
       ∙ call_refused t ms limit x.waiting x.reader o.next x.world component the_args ty this_call k stuck
-
-  -- where nothing more is read
-  pub grew_here : (more : ℕ) → more ≤ converting + 4
-      → Grew first.world.total x.world.total (added + more) 0 (most_of_items t root.initializers)
-  grew_here more few =
-      let parts = call_parts t (types_among args) in
-      grew_more first.world.total x.world.total x.world.total added (all_most_left t st.bodies.now root ks o) more 0
-      (most_of_items t root.initializers) refl
-      (most_here t st.bodies.now root ks o (local.ComponentInstantiate component args ty) at more
-      (omega (arith, few, parts))) x.grew
 
   call_ends : (st' : State) (f : Frame) (e : ItemError)
       → CallFollows t ms st' ty (read_call t x.reader.scope component the_args ty) (Err e)
@@ -173,26 +148,25 @@ module _ (t : TypeTable) (ms : List ModuleRecord) (limit : ℕ) (root : Translat
   call_ends st' f (item_error.Fault k) follows =
       ends_fault t ms st' f (reading_from t ms limit is first) k (place.Reading o.frame.component_instance.0 o.next)
       (refused (fault_of k) follows ∙ ap (λ n. fault (fault_of k) (place.Reading n o.next))
-      (top_open t ms limit root is first st ks o added x).frame.component_instance)
+      (top_open t ms limit root is first st ks o total x).frame.component_instance)
   call_ends st' f item_error.TooMany follows = follows
   call_ends st' f item_error.NoMemory follows = tt
 
   -- the item is refused
   pub call_fails : (st' : State) (f : Frame) (e : ItemError) → Calls t ms component the_args ty st o.frame st' (Err e)
-      → Fails t ms limit root is first st' f (added + converting)
+      → Fails t ms limit root st' f (reading_from t ms limit is first)
       (error_of e (place.Reading o.frame.component_instance.0 o.next))
-  call_fails st' f e calls = record {
-    ends = call_ends st' f e (call_follows st' (Err e) calls);
-    total = x.world.total;
-    grew = grew_here converting (omega arith);
-  }
+  call_fails st' f e calls =
+      fails_so t ms limit root st' f (reading_from t ms limit is first)
+      (error_of e (place.Reading o.frame.component_instance.0 o.next))
+      (call_ends st' f e (call_follows st' (Err e) calls))
 
   module _ (st' : State) (g : Frame) (keeps : Keeps (tables_of st) (tables_of st'))
       (frame : g ≡ record o.frame { converted = g.converted }) (known : st'.types.resources ≡ st.types.resources)
       (stays : Stays t ms st o.frame st' g) where
     pub stays_here : PointStands t ms st' g here
     unfolding Stays
-    stays_here = stays here (reached_point t ms limit root is first st ks o added x)
+    stays_here = stays here (reached_point t ms limit root is first st ks o total x)
 
     pub all_here : AllStand t ms st.bodies.now root (tables_of st') st'.types.resources ks (record o { frame = g })
         x.waiting
@@ -216,20 +190,18 @@ module _ (t : TypeTable) (ms : List ModuleRecord) (limit : ℕ) (root : Translat
         })
 
     -- the types among the arguments were converted, and nothing was read
-    abbrev pub call_reached : Reached t ms limit root is first st' ks (record o { frame = g }) added
+    abbrev pub call_reached : Reached t ms limit root is first st' ks (record o { frame = g }) total
     call_reached = record {
       waiting = x.waiting;
       reader = x.reader;
       world = x.world;
+      is_total = x.is_total;
       sound = stays_here.sound;
       world_stands = stays_here.world;
       unexported = stays_here.unexported;
       all = subst (λ bs. AllStand t ms bs root (tables_of st') st'.types.resources ks (record o { frame = g }) x.waiting
           x.reader) (sym keeps.bodies) all_here;
       same = x.same;
-      grew = subst (λ bs. Grew first.world.total x.world.total added
-          (all_most_left t bs root ks (record o { frame = g })) (most_of_items t root.initializers)) (sym keeps.bodies)
-          x.grew;
     }
 
   module _ (call : Call)
@@ -251,13 +223,70 @@ module _ (t : TypeTable) (ms : List ModuleRecord) (limit : ℕ) (root : Translat
     -- as many as the limit have begun
     pub child_over : length ks < limit → limit ≤ st.graph.num_runtime_component_instances
         → reading_from t ms limit is first ≡ over
-    child_over deep full =
+    child_over deep above =
         let begun = x.world_stands.begun in
         child_reading deep ∙ begins_over limit (body_weight t ms reads_call.stands.body) x.world
         (reads_on t ms limit waiting_now (child_of x.reader x.world reads_call.read reads_call.stands.names
-        reads_call.stands.body reads_call.stands.chain) 0) (le-ltb x.world.begun limit (omega (arith, begun, full)))
+        reads_call.stands.body reads_call.stands.chain) 0) (le-ltb x.world.begun limit (omega (arith, begun, above)))
 
-    module _ (c : RuntimeComponentInstanceIndex) (g : ComponentDfg) (begins_so : Begins limit st.graph g (Ok c))
+    -- whether the total has room for the child
+    room_for : (b : Bool) → nat_lt (total + (1 + body_weight t ms reads_call.stands.body)) full ≡ b
+        → has_room (grown x.world.total (1 + body_weight t ms reads_call.stands.body)) ≡ b
+    room_for b is = ap (λ n. has_room (grown n (1 + body_weight t ms reads_call.stands.body))) x.is_total ∙ is
+
+    begun_below : st.graph.num_runtime_component_instances < limit → nat_lt x.world.begun limit ≡ true
+    begun_below below =
+        let begun = x.world_stands.begun in lt-ltb x.world.begun limit (omega (arith, below, begun))
+
+    -- the total would be full
+    pub child_past : length ks < limit → st.graph.num_runtime_component_instances < limit
+        → full ≤ total + (1 + body_weight t ms reads_call.stands.body) → reading_from t ms limit is first ≡ past
+    child_past deep below crowded =
+        child_reading deep ∙ begins_past limit (body_weight t ms reads_call.stands.body) x.world
+        (reads_on t ms limit waiting_now (child_of x.reader x.world reads_call.read reads_call.stands.names
+        reads_call.stands.body reads_call.stands.chain) 0) (begun_below below)
+        (room_for false (le-ltb (total + (1 + body_weight t ms reads_call.stands.body)) full crowded))
+
+    child_translation : body_at st.bodies.now root (Some call.body) ≡ reads_call.stands.translation
+    child_translation = ap (λ (y : Option Translation). unwrap_or y root) reads_call.stands.there
+
+    child_body : (body_at st.bodies.now root (Some call.body)).initializers
+        ≡ reads_call.stands.translation.initializers
+    child_body = ap (λ (tr : Translation). tr.initializers) child_translation
+
+    -- what the items of the child add at the most, and its exports when it ends
+    abbrev most_begun : ℕ
+    most_begun =
+        let tr = body_at st.bodies.now root (Some call.body) in
+        most_of_items t tr.initializers + types_among tr.exports * (1 + most_types t)
+
+    -- it weighs no more than the body
+    most_weighs : most_begun ≤ body_weight t ms reads_call.stands.body
+    most_weighs =
+        let s = reads_call.stands in
+        let tr = body_at st.bodies.now root (Some call.body) in
+        let most = most_of_body t ms st.bodies.now s.names s.translation.initializers s.body s.stands.items in
+        let given : types_among tr.exports ≡ types_exported (exports_in s.body) =
+        ap (λ (tr : Translation). types_among tr.exports) child_translation
+        ∙ types_named s.translation.exports ∙ ap types_exported s.stands.exports in
+        heavy (most_of_items t tr.initializers) (types_among tr.exports) (most_of_items t s.translation.initializers)
+        (types_exported (exports_in s.body)) (1 + most_types t) (body_weight t ms s.body)
+        (ap (most_of_items t) child_body) given (omega (arith, most))
+
+    -- so the total grows by no less than it
+    pub child_grew : (c : RuntimeComponentInstanceIndex) (done : Layers) (counted added count : ℕ)
+        → total + (1 + body_weight t ms reads_call.stands.body) < full
+        → Grew counted total added (all_most_left t st.bodies.now root ks o) count
+        → Grew counted (total + (1 + body_weight t ms reads_call.stands.body)) (added + (converting + 1))
+        (all_most_left t st.bodies.now root (o ∷ ks) (child_open call c done)) count
+    child_grew c done counted added count below grew =
+        let child = child_open call c done in
+        grew_child counted total (body_weight t ms reads_call.stands.body) added converting
+        (all_most_left t st.bodies.now root ks o) most_begun (all_most_left t st.bodies.now root (o ∷ ks) child) count
+        most_weighs (most_child t st.bodies.now root ks o component args ty at child call.body refl refl) below grew
+
+    module _ (c : RuntimeComponentInstanceIndex) (g : ComponentDfg) (weight total' : ℕ)
+        (begins_so : Begins limit weight st.graph g total total' (Ok c))
         (grows : graph.Grows st.graph (begun_graph st.graph)) (done : Layers)
         (none : (r : Resources) → AreConverted (record st.types { resources = r }) t done) where
       abbrev st_begun : State
@@ -278,12 +307,6 @@ module _ (t : TypeTable) (ms : List ModuleRecord) (limit : ℕ) (root : Translat
       reader_now = child_of x.reader x.world reads_call.read reads_call.stands.names reads_call.stands.body
           reads_call.stands.chain
 
-      child_translation : body_at st.bodies.now root (child_open call c done).body ≡ reads_call.stands.translation
-      child_translation = ap (λ (y : Option Translation). unwrap_or y root) reads_call.stands.there
-
-      child_body : items_of st.bodies.now root (child_open call c done) ≡ reads_call.stands.translation.initializers
-      child_body = ap (λ (tr : Translation). tr.initializers) child_translation
-
       child_open_stands : c.0 ≡ st.graph.num_runtime_component_instances
           → OpenStands t ms st.bodies.now root (tables_of st_now) st_now.types.resources (child_open call c done)
           reader_now
@@ -291,7 +314,7 @@ module _ (t : TypeTable) (ms : List ModuleRecord) (limit : ℕ) (root : Translat
           let s = reads_call.stands in
           let begun = x.world_stands.begun in
           let knows = knows_grown st.graph st.types.resources x.reader.scope
-          (top_open t ms limit root is first st ks o added x).here st_now.graph keeps_now.fits in
+          (top_open t ms limit root is first st ks o total x).here st_now.graph keeps_now.fits in
           record {
             frame = record {
               core_funcs = tt;
@@ -335,7 +358,7 @@ module _ (t : TypeTable) (ms : List ModuleRecord) (limit : ℕ) (root : Translat
       -- with the resources of now it goes on
       caller_waits : Waits st_now.types.resources (child_open call c done).frame o.frame st.types.resources
       caller_waits =
-          let top = top_open t ms limit root is first st ks o added x in
+          let top = top_open t ms limit root is first st ks o total x in
           let number : st.types.resources.current.0 ≡ o.frame.component_instance.0 =
           top.here.current ∙ top.frame.component_instance in
           record { known = λ n. refl; current = λ i. record { 0 = number i } }
@@ -344,77 +367,45 @@ module _ (t : TypeTable) (ms : List ModuleRecord) (limit : ℕ) (root : Translat
           × (c.0 ≡ st.graph.num_runtime_component_instances) × (g ≡ begun_graph st.graph)
           × (IsOrdered st.graph → IsOrdered g)
       unfolding Begins
-      unfold_begins = begins_so
+      unfold_begins = (begins_so.0, begins_so.1, begins_so.2, begins_so.3)
 
-      -- the child is read, or the total is too much
-      pub child_reached : length ks < limit
-          → IsPast first.world.total (reading_from t ms limit is first)
-          ⊎ Reached t ms limit root is first (record st { graph = g; types = converting_for st.types c }) (o ∷ ks)
-          (child_open call c done) (added + (converting + 1))
-      child_reached deep =
+      child_now : length ks < limit → total + (1 + body_weight t ms reads_call.stands.body) < full
+          → Reached t ms limit root is first st_now (o ∷ ks) (child_open call c done)
+          (total + (1 + body_weight t ms reads_call.stands.body))
+      child_now deep room =
           let b = unfold_begins in
           let s = reads_call.stands in
-          let weight = body_weight t ms s.body in
-          let begun = x.world_stands.begun in
-          let l = b.0 in
-          let below : nat_lt x.world.begun limit ≡ true =
-          lt-ltb x.world.begun limit (omega (arith, l, begun)) in
-          subst (λ h. IsPast first.world.total (reading_from t ms limit is first)
-          ⊎ Reached t ms limit root is first (record st { graph = h; types = converting_for st.types c }) (o ∷ ks)
-          (child_open call c done) (added + (converting + 1))) (sym b.2)
-          (by (has_room (grown x.world.total (1 + weight))) refl below)
-        where
-          by : (room : Bool) → has_room (grown x.world.total (1 + body_weight t ms reads_call.stands.body)) ≡ room
-              → nat_lt x.world.begun limit ≡ true
-              → IsPast first.world.total (reading_from t ms limit is first)
-              ⊎ Reached t ms limit root is first st_now (o ∷ ks) (child_open call c done) (added + (converting + 1))
-          by false crowded below =
-              inl (grew_past first.world.total x.world.total (body_weight t ms reads_call.stands.body) added
-              (all_most_left t st.bodies.now root ks o) (most_of_items t root.initializers)
-              (reading_from t ms limit is first) crowded x.grew
-              (child_reading deep ∙ begins_past limit (body_weight t ms reads_call.stands.body) x.world
-              (reads_on t ms limit waiting_now reader_now 0) below crowded))
-          by true room below =
-              let b = unfold_begins in
-              let s = reads_call.stands in
-              let weight = body_weight t ms s.body in
-              let total = grown x.world.total (1 + weight) in
-              let child = child_open call c done in
-              let left = most_child t st.bodies.now root ks o component args ty at child call.body refl refl in
-              let most = most_of_body t ms st.bodies.now s.names s.translation.initializers s.body s.stands.items in
-              let given : types_among (body_at st.bodies.now root child.body).exports ≡ types_exported
-              (exports_in s.body) =
-              ap (λ (tr : Translation). types_among tr.exports) child_translation
-              ∙ types_named s.translation.exports ∙ ap types_exported s.stands.exports in
-              let same = ap (most_of_items t) child_body in
-              inr record {
-                waiting = waiting_now;
-                reader = reader_now;
-                world = record x.world { begun = x.world.begun + 1; total = total };
-                sound = current_sound t ms st_begun known_now
-                    (begun_sound t ms st grows (subst (λ h. IsOrdered st.graph → IsOrdered h) b.2 b.3) x.sound);
-                world_stands = current_world st.types st_begun.graph known_now _
-                    (begun_stands st.graph grows st.types x.world total x.world_stands);
-                unexported = begun_unexported st.graph grows x.unexported;
-                all = child_stands (child_open_stands b.1)
-                    (record {
-                      index = call.body;
-                      is = refl;
-                      exports = ap (λ (tr : Translation). map named_item tr.exports) child_translation
-                          ∙ s.stands.exports;
-                    })
-                    caller_stands caller_waits (all_kept t ms st.bodies.now root (tables_of st)
-                    (tables_of st_now) keeps_now st.types.resources ks o x.waiting x.reader x.all);
-                same = sym (begins limit weight x.world (reads_on t ms limit waiting_now reader_now 0) below room)
-                    ∙ sym (child_reading deep);
-                grew = grew_child first.world.total x.world.total weight added converting
-                    (all_most_left t st.bodies.now root ks o)
-                    (most_of_items t (items_of st.bodies.now root child)
-                    + types_among (body_at st.bodies.now root child.body).exports * (1 + most_types t))
-                    (all_most_left t st.bodies.now root (o ∷ ks) child) (most_of_items t root.initializers)
-                    (heavy (most_of_items t (items_of st.bodies.now root child))
-                    (types_among (body_at st.bodies.now root child.body).exports)
-                    (most_of_items t s.translation.initializers)
-                    (types_exported (exports_in s.body)) (1 + most_types t) weight same given
-                    (omega (arith, most))) left room x.grew;
-              }
+          let weighs = body_weight t ms s.body in
+          let grows_to = grown x.world.total (1 + weighs) in
+          record {
+            waiting = waiting_now;
+            reader = reader_now;
+            world = record x.world { begun = x.world.begun + 1; total = grows_to };
+            is_total = ap (λ n. grown n (1 + weighs)) x.is_total;
+            sound = current_sound t ms st_begun known_now
+                (begun_sound t ms st grows (subst (λ h. IsOrdered st.graph → IsOrdered h) b.2 b.3) x.sound);
+            world_stands = current_world st.types st_begun.graph known_now _
+                (begun_stands st.graph grows st.types x.world grows_to x.world_stands);
+            unexported = begun_unexported st.graph grows x.unexported;
+            all = child_stands (child_open_stands b.1)
+                (record {
+                  index = call.body;
+                  is = refl;
+                  exports = ap (λ (tr : Translation). map named_item tr.exports) child_translation
+                      ∙ s.stands.exports;
+                })
+                caller_stands caller_waits (all_kept t ms st.bodies.now root (tables_of st)
+                (tables_of st_now) keeps_now st.types.resources ks o x.waiting x.reader x.all);
+            same = sym (begins limit weighs x.world (reads_on t ms limit waiting_now reader_now 0) (begun_below b.0)
+                (room_for true (lt-ltb (total + (1 + weighs)) full room)))
+                ∙ sym (child_reading deep);
+          }
+
+      -- the child is read
+      pub child_reached : length ks < limit → total + (1 + body_weight t ms reads_call.stands.body) < full
+          → Reached t ms limit root is first (record st { graph = g; types = converting_for st.types c }) (o ∷ ks)
+          (child_open call c done) (total + (1 + body_weight t ms reads_call.stands.body))
+      child_reached deep room =
+          subst (λ h. Reached t ms limit root is first (record st { graph = h; types = converting_for st.types c })
+          (o ∷ ks) (child_open call c done) (total + (1 + body_weight t ms reads_call.stands.body)))
+          (sym unfold_begins.2) (child_now deep room)

@@ -1,6 +1,6 @@
 -- A child on a stack of component instances ends: what waits for it goes on.
 use Rattle.std.proofs.Common.{◌≡◌, ◌≤◌, ◌+◌, ◌*◌, ℕ, true, List, ◌∷◌, Result}
-use Rattle.std.proofs.Common.{Ok, Err, length, map, refl, sym, ap, subst, ◌∙◌, arith}
+use Rattle.std.proofs.Common.{Ok, Err, length, map, refl, sym, ap, subst, ◌∙◌}
 use Rattle.std.specs.Prelude.{⊤, option_and_then, unwrap_or}
 use Rattle.pc_numbers.specs.declared.runtime.RuntimeComponentInstanceIndex.{RuntimeComponentInstanceIndex}
 use Rattle.pc_types.specs.declared.error.Place.TheVariants as place
@@ -25,24 +25,23 @@ use Rattle.pc_inline_state.specs.declared.error.ItemError.{ItemError}
 use Rattle.pc_inline_state.specs.declared.error.ItemError.TheVariants as item_error
 use Rattle.pc_inline_state.specs.declared.frame.Frame.{Frame}
 use Rattle.pc_inline_state.specs.declared.state.State.{State}
-use Rattle.pc_inline_state.specs.Adds.{most_converted, most_of_items, types_among}
+use Rattle.pc_inline_state.specs.Adds.{most_converted, types_among}
 use Rattle.pc_inline_stack.specs.Calls.{GivesBack, IsReturn, ReturnStands, TrailsBack}
 use Rattle.pc_inline_stack.specs.Driving.{reading_from}
 use Rattle.pc_inline_state.specs.Faults.{error_of, fault_of}
 use Rattle.pc_inline_state.specs.Points.{Follows, Goes}
 use Rattle.pc_inline_stack.specs.Reads.{Ends, items_from}
-use Rattle.pc_inline_stack.specs.Stacks.{AllStand, AreUnderway, CallerStands, ChildHas, Fails, Grew, OpenStands}
-use Rattle.pc_inline_stack.specs.Stacks.{Reached}
+use Rattle.pc_inline_stack.specs.Stacks.{AllStand, AreUnderway, CallerStands, ChildHas, Fails, OpenStands, Reached}
 use Rattle.pc_inline_stack.specs.Stacks.{Reader, Waiting, Waits, all_most_left, body_at, child_stands, instance_type}
 use Rattle.pc_inline_stack.specs.Stacks.{instance_type_at, items_of, reads_on, root_stands}
 use Rattle.pc_inline_items.specs.Captures.{IsEnclosed}
 use Rattle.pc_inline_state.specs.Tables.{Keeps, Tables, tables_of}
 use Rattle.pc_inline_stack.proofs.LeftLemmas.{most_returns}
-use Rattle.pc_inline_stack.proofs.MoveLemmas.{ends_fault, point_of, reached_point, underway_reached}
+use Rattle.pc_inline_stack.proofs.MoveLemmas.{ends_fault, fails_so, point_of, reached_point, underway_reached}
 use Rattle.pc_inline_stack.proofs.ReadLemmas.{none_left}
 use Rattle.pc_inline_stack.proofs.ResumeLemmas.{child_ends, return_on, return_refused}
 use Rattle.pc_inline_stack.proofs.RowLemmas.{return_keeps}
-use Rattle.pc_inline_stack.proofs.StackLemmas.{all_kept, grew_more, top_goes, top_stands}
+use Rattle.pc_inline_stack.proofs.StackLemmas.{all_kept, top_goes, top_stands}
 
 -- the innermost ends, and the one that waits for it is the next
 pub record ChildStands (t : TypeTable) (ms : List ModuleRecord) (bodies : List Translation) (root : Translation)
@@ -89,8 +88,8 @@ abbrev pub for_return : TypeTable → (root : Translation) → State → Open �
 for_return t root st o = types_among (its_exports root st o) * (1 + most_types t) + most_converted t 1
 
 module _ (t : TypeTable) (ms : List ModuleRecord) (limit : ℕ) (root : Translation) (is : Items) (first : Moment)
-    (st : State) (caller : Open) (ks : List Open) (o : Open) (added : ℕ)
-    (x : Reached t ms limit root is first st (caller ∷ ks) o added) where
+    (st : State) (caller : Open) (ks : List Open) (o : Open) (total : ℕ)
+    (x : Reached t ms limit root is first st (caller ∷ ks) o total) where
   pub the_stack : ChildStands t ms st.bodies.now root (tables_of st) st.types.resources caller ks o x.waiting x.reader
   the_stack =
       child_stack t ms st.bodies.now root (tables_of st) st.types.resources (caller ∷ ks) o x.waiting x.reader x.all
@@ -103,12 +102,12 @@ module _ (t : TypeTable) (ms : List ModuleRecord) (limit : ℕ) (root : Translat
       the_stack.rest
 
   abbrev here : Moment
-  here = point_of t ms limit root is first st (caller ∷ ks) o added x
+  here = point_of t ms limit root is first st (caller ∷ ks) o total x
 
   -- the innermost ends for the one that waits for it
   return_stands : ReturnStands t ms st o.frame caller.frame here the_stack.w.reader.scope the_stack.resources
   return_stands = record {
-    ended = reached_point t ms limit root is first st (caller ∷ ks) o added x;
+    ended = reached_point t ms limit root is first st (caller ∷ ks) o total x;
     frame = caller_open.frame;
     here = caller_open.here;
     converted = caller_open.converted;
@@ -127,6 +126,12 @@ module _ (t : TypeTable) (ms : List ModuleRecord) (limit : ℕ) (root : Translat
   pub its_type_there : has_entry t is_instance
       (unwrap_or (instance_type_at (items_of st.bodies.now root caller) caller.next) 0) ≡ true
   its_type_there = ap (has_entry t is_instance) its_type ∙ the_stack.waits.is_typed
+
+  -- what its exports add at the most, and what waits for it behind, is left before
+  pub left_less : (f : Frame) → for_return t root st o
+      + all_most_left t st.bodies.now root ks (record caller { frame = f; next = caller.next + 1 })
+      ≤ all_most_left t st.bodies.now root (caller ∷ ks) o
+  left_less f = most_returns t st.bodies.now root ks caller o the_stack.has.index the_stack.has.is f
 
   module _ (ty : ℕ) (ty_is : ty ≡ unwrap_or (instance_type_at (items_of st.bodies.now root caller) caller.next) 0)
       (end : length (items_of st.bodies.now root o) ≤ o.next) (st' : State) (g : Frame)
@@ -163,11 +168,6 @@ module _ (t : TypeTable) (ms : List ModuleRecord) (limit : ℕ) (root : Translat
         reading_here ∙ child_ends t ms limit the_stack.w the_stack.ws x.reader o.next x.world none
         ∙ return_refused t ms limit the_stack.w the_stack.ws (record { exports = gives; world = x.world }) k stuck
 
-    less : (f : Frame) → (for_return t root st o)
-        + all_most_left t st.bodies.now root ks (record caller { frame = f; next = caller.next + 1 })
-        ≤ all_most_left t st.bodies.now root (caller ∷ ks) o
-    less f = most_returns t st.bodies.now root ks caller o the_stack.has.index the_stack.has.is f
-
     return_ends : (f : Frame) → g.component_instance ≡ caller.frame.component_instance → (e : ItemError)
         → Follows t ms st' g (read_return t there gives the_stack.w.ty) (Err e)
         → Ends t ms st' f (reading_from t ms limit is first)
@@ -185,18 +185,12 @@ module _ (t : TypeTable) (ms : List ModuleRecord) (limit : ℕ) (root : Translat
     -- what waits can't go on
     pub leave_fails : (f : Frame) → g.component_instance ≡ caller.frame.component_instance → (e : ItemError)
         → GivesBack t ms (its_exports root st o) ty st o.frame caller.frame st' g (Err e)
-        → Fails t ms limit root is first st' f (added + (for_return t root st o))
+        → Fails t ms limit root st' f (reading_from t ms limit is first)
         (error_of e (place.Reading g.component_instance.0 caller.next))
     leave_fails f same e given =
-        let few = less g in
-        record {
-          ends = return_ends f same e (returned (Err e) given);
-          total = x.world.total;
-          grew = grew_more first.world.total x.world.total x.world.total added
-              (all_most_left t st.bodies.now root (caller ∷ ks) o) (for_return t root st o) 0
-              (most_of_items t root.initializers) refl
-              (omega (arith, few)) x.grew;
-        }
+        fails_so t ms limit root st' f (reading_from t ms limit is first)
+        (error_of e (place.Reading g.component_instance.0 caller.next))
+        (return_ends f same e (returned (Err e) given))
 
     goes_on : (done : ⊤) → GivesBack t ms (its_exports root st o) ty st o.frame caller.frame st' g (Ok done)
         → Goes t ms st' g (read_return t there gives the_stack.w.ty)
@@ -239,7 +233,7 @@ module _ (t : TypeTable) (ms : List ModuleRecord) (limit : ℕ) (root : Translat
 
       -- what waits has the child's instance
       pub return_reached : TrailsBack st o.frame caller.frame st' g
-          → Reached t ms limit root is first st' ks caller_then (added + (for_return t root st o))
+          → Reached t ms limit root is first st' ks caller_then total
       unfolding TrailsBack
       return_reached trails =
           let s = the_stack in
@@ -249,6 +243,7 @@ module _ (t : TypeTable) (ms : List ModuleRecord) (limit : ℕ) (root : Translat
             waiting = s.ws;
             reader = reader_then;
             world = next.now.world;
+            is_total = kept.total ∙ x.is_total;
             sound = next.stands.sound;
             world_stands = next.stands.world;
             unexported = next.stands.unexported;
@@ -262,19 +257,12 @@ module _ (t : TypeTable) (ms : List ModuleRecord) (limit : ℕ) (root : Translat
                 ∙ sym (return_on t ms limit s.w s.ws (record { exports = gives; world = x.world }) next.now next.done)
                 ∙ sym (child_ends t ms limit s.w s.ws x.reader o.next x.world none)
                 ∙ sym reading_here;
-            grew = subst (λ bs. Grew first.world.total next.now.world.total (added + (for_return t root st o))
-                (all_most_left t bs root ks caller_then) (most_of_items t root.initializers)) (sym keeps.bodies)
-                (grew_more first.world.total x.world.total next.now.world.total added
-                (all_most_left t st.bodies.now root (caller ∷ ks) o) (for_return t root st o)
-                (all_most_left t st.bodies.now root ks caller_then) (most_of_items t root.initializers) kept.total
-                (less g) x.grew);
           }
 
     -- where it went on
     pub left_goes : (done : ⊤) → GivesBack t ms (its_exports root st o) ty st o.frame caller.frame st' g (Ok done)
         → TrailsBack st o.frame caller.frame st' g
-        → Reached t ms limit root is first st' ks (record caller { frame = g; next = caller.next + 1 })
-        (added + (for_return t root st o))
+        → Reached t ms limit root is first st' ks (record caller { frame = g; next = caller.next + 1 }) total
         × (st'.graph.num_runtime_component_instances ≡ st.graph.num_runtime_component_instances)
     left_goes done given trails =
         let next = goes_on done given in
@@ -282,16 +270,16 @@ module _ (t : TypeTable) (ms : List ModuleRecord) (limit : ℕ) (root : Translat
 
 -- what a call asks for by which the child of one that waits ends
 module _ (t : TypeTable) (ms : List ModuleRecord) (limit : ℕ) (root : Translation) (st : State) (caller : Open)
-    (ks : List Open) (o : Open) (under : AreUnderway t ms limit root st (caller ∷ ks) o) where
+    (ks : List Open) (o : Open) (total : ℕ) (under : AreUnderway t ms limit root st (caller ∷ ks) o total) where
   -- the child has ended
   pub underway_return : IsReturn t ms st o.frame caller.frame
   underway_return =
-      let r = underway_reached t ms limit root st (caller ∷ ks) o under in
-      is_return t ms limit root r.0 r.1 st caller ks o r.2 r.3
+      let r = underway_reached t ms limit root st (caller ∷ ks) o total under in
+      is_return t ms limit root r.0 r.1 st caller ks o total r.2
 
   -- its type is an instance type
   pub underway_type : has_entry t is_instance
       (unwrap_or (instance_type_at (items_of st.bodies.now root caller) caller.next) 0) ≡ true
   underway_type =
-      let r = underway_reached t ms limit root st (caller ∷ ks) o under in
-      its_type_there t ms limit root r.0 r.1 st caller ks o r.2 r.3
+      let r = underway_reached t ms limit root st (caller ∷ ks) o total under in
+      its_type_there t ms limit root r.0 r.1 st caller ks o total r.2

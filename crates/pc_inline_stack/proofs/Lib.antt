@@ -8,6 +8,7 @@ mod ResumeLemmas
 pub mod LoopAddsLemmas
 pub mod WeightLemmas
 mod WorkLemmas
+mod WeighsLemmas
 mod LeftLemmas
 mod StackLemmas
 mod BeginsLemmas

@@ -26,6 +26,7 @@ use Rattle.pc_spec_reading.specs.Section.{argument_of}
 use Rattle.pc_local.specs.declared.item.LocalInitializer.{LocalInitializer}
 use Rattle.pc_local.specs.declared.item.LocalInitializer.TheVariants as local
 use Rattle.pc_local.specs.declared.item.Translation.{Translation}
+use Rattle.pc_weights.specs.Weighs.{HasWeight}
 use Rattle.pc_dfg.specs.declared.dfg.ComponentDfg.{ComponentDfg}
 use Rattle.pc_dfg.specs.Grows as graph
 use Rattle.pc_inline_stack.specs.declared.driver.Call.{Call}
@@ -39,9 +40,8 @@ use Rattle.pc_inline_stack.specs.Begins.{Begins, converting_for}
 use Rattle.pc_inline_stack.specs.Calls.{Calls, GivesBack, IsReturn, Stays, TrailsBack}
 use Rattle.pc_inline_state.specs.Faults.{error_of}
 use Rattle.pc_inline_stack.specs.declared.driver.Stack.{Stack}
-use Rattle.pc_inline_stack.specs.Stacks.{AreCounted, AreUnderway, Driven, Failed, Falls, GoesOn, Moved, Moves}
-use Rattle.pc_inline_stack.specs.Stacks.{Turned, begins_child}
-use Rattle.pc_inline_stack.specs.Stacks.{instance_type_at, items_of, work}
+use Rattle.pc_inline_stack.specs.Stacks.{AreCounted, AreUnderway, AreWeights, Driven, Failed, Falls, GoesOn, Moved}
+use Rattle.pc_inline_stack.specs.Stacks.{Moves, Turned, begins_child, instance_type_at, items_of, work}
 use Rattle.pc_inline_items.specs.StepsLocal.{StepsLocal}
 use Rattle.pc_inline_state.specs.Tables.{Keeps, tables_of}
 use Rattle.pc_inline_state.specs.Trails.{Trails}
@@ -51,6 +51,7 @@ use Rattle.pc_inline_stack.proofs.EnterLemmas.{child_open, for_arguments}
 use Rattle.pc_inline_stack.proofs.LeaveLemmas.{for_return, its_exports, underway_return, underway_type}
 use Rattle.pc_inline_stack.proofs.SoundLemmas.{sound_exports}
 use Rattle.pc_inline_stack.proofs.MoveLemmas.{item_fails, item_goes}
+use Rattle.pc_inline_stack.proofs.WeighsLemmas.{weight_at}
 use Rattle.pc_inline_stack.proofs.WorkLemmas.{falls_among, work_enters, work_goes, work_leaves}
 
 -- an item that begins no component instance
@@ -97,25 +98,29 @@ child_is call c f done is =
     ap (λ x. record { frame = x; closure = Some call.closure; body = Some call.body; next = 0 }) is
 
 module _ (t : TypeTable) (ms : List ModuleRecord) (limit : ℕ) (root : Translation) (st : State) (ks : List Open)
-    (o : Open) (st' : State) (ks' : List Open) (o' : Open) where
+    (o : Open) (total : ℕ) (st' : State) where
   -- a move that ends with an error
-  move_fails : {A : Type 0} (r : Result A Error) (e : Error) → IsErrAnd r (λ x. x ≡ e)
-      → ((old : State) (f : Frame) → Driven t ms limit root old f st ks o → Failed t ms limit root old f st' e)
-      → Moves t ms limit root st ks o st' ks' o' r
+  move_fails : (ks' : List Open) (o' : Open) (total' : ℕ) {A : Type 0} (r : Result A Error) (e : Error)
+      → IsErrAnd r (λ x. x ≡ e)
+      → ((old : State) (f : Frame) (counted : ℕ) → Driven t ms limit root old f counted st ks o total
+      → Failed t ms limit root old f counted st' total' e)
+      → Moves t ms limit root st ks o total st' ks' o' total' r
   unfolding Moves GoesOn
-  move_fails (Ok x) e is each = absurd is
-  move_fails (Err x) e is each =
-      λ old f driven. subst (Failed t ms limit root old f st') (sym is) (each old f driven)
+  move_fails ks' o' total' (Ok x) e is each = absurd is
+  move_fails ks' o' total' (Err x) e is each =
+      λ old f counted driven.
+      subst (Failed t ms limit root old f counted st' total') (sym is) (each old f counted driven)
 
   -- a move that goes on
-  pub move_goes : {A : Type 0} (x : A)
-      → ((old : State) (f : Frame) → Driven t ms limit root old f st ks o → Driven t ms limit root old f st' ks' o')
-      → Moves t ms limit root st ks o st' ks' o' (Ok x)
+  pub move_goes : (ks' : List Open) (o' : Open) (total' : ℕ) {A : Type 0} (x : A)
+      → ((old : State) (f : Frame) (counted : ℕ) → Driven t ms limit root old f counted st ks o total
+      → Driven t ms limit root old f counted st' ks' o' total')
+      → Moves t ms limit root st ks o total st' ks' o' total' (Ok x)
   unfolding Moves GoesOn
-  move_goes x each = each
+  move_goes ks' o' total' x each = each
 
 module _ (t : TypeTable) (ms : List ModuleRecord) (limit : ℕ) (root : Translation) (st : State) (ks : List Open)
-    (o : Open)
+    (o : Open) (total : ℕ)
   where
     module _ (component : ℕ) (args : List (List ℕ × ItemKind × ℕ)) (ty : ℕ)
         (at : slice_get (items_of st.bodies.now root o) o.next ≡ Some
@@ -126,59 +131,69 @@ module _ (t : TypeTable) (ms : List ModuleRecord) (limit : ℕ) (root : Translat
       pub moves_refused : {A : Type 0} (e : ItemError) → Calls t ms component (map argument_of args) ty st o.frame st'
           (Err e) → (r : Result A Error) (p : Place) → p ≡ place.Reading g.component_instance.0 o.next
           → IsErrAnd r (λ x. x ≡ error_of e p) → (ks' : List Open) (o' : Open)
-          → Moves t ms limit root st ks o st' ks' o' r
+          → Moves t ms limit root st ks o total st' ks' o' total r
       moves_refused e calls r p there is ks' o' =
           let same : p ≡ place.Reading o.frame.component_instance.0 o.next =
           there ∙ ap (λ (h : Frame). place.Reading h.component_instance.0 o.next) frame in
-          move_fails t ms limit root st ks o st' ks' o' r (error_of e p) is
-          (λ old f driven. subst (λ q. Failed t ms limit root old f st' (error_of e q)) (sym same)
-          (call_failed t ms limit root old f st ks o driven component args ty at st' keeps adds e calls))
+          move_fails t ms limit root st ks o total st' ks' o' total r (error_of e p) is
+          (λ old f counted driven. subst (λ q. Failed t ms limit root old f counted st' total (error_of e q))
+          (sym same)
+          (call_failed t ms limit root old f counted st ks o total driven component args ty at st' keeps adds e calls))
 
       module _ (known : st'.types.resources ≡ st.types.resources) (stays : Stays t ms st o.frame st' g) (call : Call)
-          (calls : Calls t ms component (map argument_of args) ty st o.frame st' (Ok call)) where
-        -- no child begins
-        pub moves_unbegun : {A : Type 0} (h : ComponentDfg) (e : Error) → Begins limit st'.graph h (Err e)
-            → (r : Result A Error) → IsErrAnd r (λ x. x ≡ e) → (ks' : List Open) (o' : Open)
-            → Moves t ms limit root st ks o (record st' { graph = h }) ks' o' r
-        moves_unbegun h e begins r is ks' o' =
-            move_fails t ms limit root st ks o (record st' { graph = h }) ks' o' r e is
-            (λ old f driven. child_unbegun t ms limit root old f st ks o driven component args ty at st' keeps adds g
-            frame
-            known stays call calls h e begins)
+          (calls : Calls t ms component (map argument_of args) ty st o.frame st' (Ok call)) (weights : List ℕ)
+          (are : AreWeights t ms st.bodies.now weights) (weight : ℕ)
+          (weight_is : weight ≡ unwrap_or (slice_get weights call.body.0) 4294967295) where
+        -- this is the weight of the body of the child
+        weighs : (tr : Translation) → slice_get st'.bodies.now call.body.0 ≡ Some tr → HasWeight t ms tr weight
+        weighs tr there =
+            weight_at t ms st.bodies.now weights are call.body.0 weight weight_is tr
+            (ap (λ bs. slice_get bs call.body.0) (sym keeps.bodies) ∙ there)
 
-        module _ (c : RuntimeComponentInstanceIndex) (h : ComponentDfg) (begins : Begins limit st'.graph h (Ok c))
-            (grown : graph.Grows st'.graph h) where
+        -- no child begins
+        pub moves_unbegun : {A : Type 0} (h : ComponentDfg) (total' : ℕ) (e : Error)
+            → Begins limit weight st'.graph h total total' (Err e)
+            → (r : Result A Error) → IsErrAnd r (λ x. x ≡ e) → (ks' : List Open) (o' : Open)
+            → Moves t ms limit root st ks o total (record st' { graph = h }) ks' o' total' r
+        moves_unbegun h total' e begins r is ks' o' =
+            move_fails t ms limit root st ks o total (record st' { graph = h }) ks' o' total' r e is
+            (λ old f counted driven. child_unbegun t ms limit root old f counted st ks o total driven component args ty
+            at st' keeps adds g frame known stays call calls weight weighs h total' e begins)
+
+        module _ (c : RuntimeComponentInstanceIndex) (h : ComponentDfg) (total' : ℕ)
+            (begins : Begins limit weight st'.graph h total total' (Ok c)) (grown : graph.Grows st'.graph h) where
           -- there was no memory
           pub moves_unfed : {A : Type 0} (r : Result A Error) → IsErrAnd r (λ x. x ≡ error.NoMemory)
-              → (ks' : List Open) (o' : Open) → Moves t ms limit root st ks o (record st' { graph = h }) ks' o' r
+              → (ks' : List Open) (o' : Open)
+              → Moves t ms limit root st ks o total (record st' { graph = h }) ks' o' total' r
           moves_unfed r is ks' o' =
-              move_fails t ms limit root st ks o (record st' { graph = h }) ks' o' r error.NoMemory is
-              (λ old f driven. child_unfed t ms limit root old f st ks o driven component args ty at st' keeps adds g
-              frame
-              known stays call calls c h begins grown)
+              move_fails t ms limit root st ks o total (record st' { graph = h }) ks' o' total' r error.NoMemory is
+              (λ old f counted driven. child_unfed t ms limit root old f counted st ks o total driven component args ty
+              at st' keeps adds g frame known stays call calls weight weighs c h total' begins grown)
 
           -- the child is read, and types are converted for it
           pub moves_entered : {A : Type 0} (x : A) (ts : Types) → ts ≡ converting_for st'.types c
-              → (done : Layers) → ((r : Resources) → AreConverted (record st'.types { resources = r }) t done) → (ks' : List Open) (o' : Open)
-              → ks' ≡ record o { frame = g } ∷ ks → o' ≡ child_open call c done
-              → Moves t ms limit root st ks o (record st' { graph = h; types = ts }) ks' o' (Ok x)
+              → (done : Layers) → ((r : Resources) → AreConverted (record st'.types { resources = r }) t done)
+              → (ks' : List Open) (o' : Open) → ks' ≡ record o { frame = g } ∷ ks → o' ≡ child_open call c done
+              → Moves t ms limit root st ks o total (record st' { graph = h; types = ts }) ks' o' total' (Ok x)
           moves_entered x ts current done none ks' o' wait is =
-              subst (λ k. Moves t ms limit root st ks o (record st' { graph = h; types = ts }) ks' k (Ok x)) (sym is)
-              (subst (λ k. Moves t ms limit root st ks o (record st' { graph = h; types = ts }) k
-              (child_open call c done)
-              (Ok x)) (sym wait)
-              (move_goes t ms limit root st ks o (record st' { graph = h; types = ts }) (record o { frame = g } ∷ ks)
-              (child_open call c done) x
-              (λ old f driven. child_driven t ms limit root old f st ks o driven component args ty at st' keeps adds g
-              frame known stays call calls c h begins grown ts current done none)))
+              subst (λ k. Moves t ms limit root st ks o total (record st' { graph = h; types = ts }) ks' k total'
+              (Ok x)) (sym is)
+              (subst (λ k. Moves t ms limit root st ks o total (record st' { graph = h; types = ts }) k
+              (child_open call c done) total' (Ok x)) (sym wait)
+              (move_goes t ms limit root st ks o total (record st' { graph = h; types = ts })
+              (record o { frame = g } ∷ ks) (child_open call c done) total' x
+              (λ old f counted driven. child_driven t ms limit root old f counted st ks o total driven component args ty
+              at st' keeps adds g frame known stays call calls weight weighs c h total' begins grown ts current done
+              none)))
 
       -- less is left to do where a child is read
-      pub falls_entered : (call : Call) (c : RuntimeComponentInstanceIndex) (h : ComponentDfg)
-          → Begins limit st'.graph h (Ok c) → (ts : Types) (done : Layers) (ks' : List Open) (o' : Open)
-          → ks' ≡ record o { frame = g } ∷ ks → o' ≡ child_open call c done
+      pub falls_entered : (call : Call) (c : RuntimeComponentInstanceIndex) (h : ComponentDfg) (weight total' : ℕ)
+          → Begins limit weight st'.graph h total total' (Ok c) → (ts : Types) (done : Layers) (ks' : List Open)
+          (o' : Open) → ks' ≡ record o { frame = g } ∷ ks → o' ≡ child_open call c done
           → Falls limit root st ks o (record st' { graph = h; types = ts }) ks' o'
       unfolding Begins work
-      falls_entered call c h begins ts done ks' o' wait is =
+      falls_entered call c h weight total' begins ts done ks' o' wait is =
           let more = keeps.graph.component_instances in
           let below = begins.0 in
           let number : h.num_runtime_component_instances ≡ st'.graph.num_runtime_component_instances + 1 =
@@ -201,19 +216,21 @@ module _ (t : TypeTable) (ms : List ModuleRecord) (limit : ℕ) (root : Translat
       pub moves_stuck : {A : Type 0} (e : ItemError) → StepsLocal t ms o.closure l st o.frame st' g (Err e)
           → (r : Result A Error) → (p : Place) → p ≡ place.Reading g.component_instance.0 o.next
           → IsErrAnd r (λ x. x ≡ error_of e p) → (ks' : List Open) (o' : Open)
-          → Moves t ms limit root st ks o st' ks' o' r
+          → Moves t ms limit root st ks o total st' ks' o' total r
       moves_stuck e steps r p there is ks' o' =
-          move_fails t ms limit root st ks o st' ks' o' r (error_of e p) is
-          (λ old f driven. subst (λ q. Failed t ms limit root old f st' (error_of e q)) (sym there)
-          (item_fails t ms limit root old f st ks o driven l at plain st' g keeps adds same trail e steps))
+          move_fails t ms limit root st ks o total st' ks' o' total r (error_of e p) is
+          (λ old f counted driven. subst (λ q. Failed t ms limit root old f counted st' total (error_of e q))
+          (sym there)
+          (item_fails t ms limit root old f counted st ks o total driven l at plain st' g keeps adds same trail e
+          steps))
 
       -- an item is read
       pub moves_on : {A : Type 0} (x : A) (done : ⊤) → StepsLocal t ms o.closure l st o.frame st' g (Ok done)
-          → Moves t ms limit root st ks o st' ks (record o { frame = g; next = o.next + 1 }) (Ok x)
+          → Moves t ms limit root st ks o total st' ks (record o { frame = g; next = o.next + 1 }) total (Ok x)
       moves_on x done steps =
-          move_goes t ms limit root st ks o st' ks (record o { frame = g; next = o.next + 1 }) x
-          (λ old f driven. item_goes t ms limit root old f st ks o driven l at plain st' g keeps adds same trail done
-          steps)
+          move_goes t ms limit root st ks o total st' ks (record o { frame = g; next = o.next + 1 }) total x
+          (λ old f counted driven. item_goes t ms limit root old f counted st ks o total driven l at plain st' g keeps
+          adds same trail done steps)
 
       -- less is left to do
       pub falls_on : Falls limit root st ks o st' ks (record o { frame = g; next = o.next + 1 })
@@ -234,22 +251,25 @@ module _ (t : TypeTable) (ms : List ModuleRecord) (limit : ℕ) (root : Translat
           → GivesBack t ms (its_exports root st o) ty st o.frame caller.frame st' g (Err e) → (p : Place)
           → p ≡ place.Reading g.component_instance.0 caller.next → (r : Result A Error)
           → IsErrAnd r (λ x. x ≡ error_of e p) → (ks' : List Open) (o' : Open)
-          → Moves t ms limit root st (caller ∷ ks) o st' ks' o' r
+          → Moves t ms limit root st (caller ∷ ks) o total st' ks' o' total r
       moves_crowded e gives p there r is ks' o' =
-          move_fails t ms limit root st (caller ∷ ks) o st' ks' o' r (error_of e p) is
-          (λ old f driven. subst (λ q. Failed t ms limit root old f st' (error_of e q)) (sym there)
-          (left_failed t ms limit root old f st caller ks o driven ty ty_is end st' g keeps adds same e gives))
+          move_fails t ms limit root st (caller ∷ ks) o total st' ks' o' total r (error_of e p) is
+          (λ old f counted driven. subst (λ q. Failed t ms limit root old f counted st' total (error_of e q))
+          (sym there)
+          (left_failed t ms limit root old f counted st caller ks o total driven ty ty_is end st' g keeps adds same e
+          gives))
 
       -- it has what the child exports
       moves_left : {A : Type 0} (x : A) (done : ⊤)
           → GivesBack t ms (its_exports root st o) ty st o.frame caller.frame st' g (Ok done)
           → TrailsBack st o.frame caller.frame st' g
-          → Moves t ms limit root st (caller ∷ ks) o st' ks (record caller { frame = g; next = caller.next + 1 }) (Ok x)
+          → Moves t ms limit root st (caller ∷ ks) o total st' ks (record caller { frame = g; next = caller.next + 1 })
+          total (Ok x)
       moves_left x done gives trails =
-          move_goes t ms limit root st (caller ∷ ks) o st' ks (record caller { frame = g; next = caller.next + 1 }) x
-          (λ old f driven. left_driven t ms limit root old f st caller ks o driven ty ty_is end st' g keeps adds same
-          done
-          gives trails)
+          move_goes t ms limit root st (caller ∷ ks) o total st' ks
+          (record caller { frame = g; next = caller.next + 1 }) total x
+          (λ old f counted driven. left_driven t ms limit root old f counted st caller ks o total driven ty ty_is end
+          st' g keeps adds same done gives trails)
 
       -- less is left to do
       falls_left : Falls limit root st (caller ∷ ks) o st' ks (record caller { frame = g; next = caller.next + 1 })
@@ -260,38 +280,37 @@ module _ (t : TypeTable) (ms : List ModuleRecord) (limit : ℕ) (root : Translat
           (work_leaves st.bodies.now root limit st.graph.num_runtime_component_instances ks o caller g)
 
 module _ (t : TypeTable) (ms : List ModuleRecord) (limit : ℕ) (root : Translation) (st : State) (ks : List Open)
-    (o : Open) (st' : State) (ks' : List Open) (o' : Open) where
+    (o : Open) (total : ℕ) (st' : State) (ks' : List Open) (o' : Open) (total' : ℕ) where
   -- a move that goes on, whatever it answers
-  pub moves_as : {A B : Type 0} (x : A) (y : B) → Moves t ms limit root st ks o st' ks' o' (Ok x)
-      → Moves t ms limit root st ks o st' ks' o' (Ok y)
+  pub moves_as : {A B : Type 0} (x : A) (y : B) → Moves t ms limit root st ks o total st' ks' o' total' (Ok x)
+      → Moves t ms limit root st ks o total st' ks' o' total' (Ok y)
   unfolding Moves GoesOn
   moves_as x y moves = moves
 
   -- and one that ends with an error
-  pub moves_end : {B : Type 0} (A : Type 0) (e : Error) → Moves t ms limit root {A = A} st ks o st' ks' o' (Err e)
-      → (r : Result B Error) → IsErrAnd r (λ x. x ≡ e) → Moves t ms limit root st ks o st' ks' o' r
+  pub moves_end : {B : Type 0} (A : Type 0) (e : Error)
+      → Moves t ms limit root {A = A} st ks o total st' ks' o' total' (Err e)
+      → (r : Result B Error) → IsErrAnd r (λ x. x ≡ e) → Moves t ms limit root st ks o total st' ks' o' total' r
   unfolding Moves GoesOn
-  moves_end A e moves r is = move_fails t ms limit root st ks o st' ks' o' r e is moves
+  moves_end A e moves r is = move_fails t ms limit root st ks o total st' ks' o' total' r e is moves
 
-module _ (t : TypeTable) (ms : List ModuleRecord) (limit : ℕ) (root : Translation) (st : State) (ks : List Open)
-    (o : Open) (st' : State) (ks' : List Open) (o' : Open) (old : State) (f : Frame)
-    (driven : Driven t ms limit root old f st ks o) where
-  -- where a move went on
-  pub moved : {A : Type 0} (x : A) → Moves t ms limit root st ks o st' ks' o' (Ok x)
-      → Driven t ms limit root old f st' ks' o'
-  unfolding Moves GoesOn
-  moved x moves = moves old f driven
+  module _ (old : State) (f : Frame) (counted : ℕ) (driven : Driven t ms limit root old f counted st ks o total) where
+    -- where a move went on
+    pub moved : {A : Type 0} (x : A) → Moves t ms limit root st ks o total st' ks' o' total' (Ok x)
+        → Driven t ms limit root old f counted st' ks' o' total'
+    unfolding Moves GoesOn
+    moved x moves = moves old f counted driven
 
-  -- and where it ended
-  pub unmoved : (A : Type 0) (e : Error) → Moves t ms limit root {A = A} st ks o st' ks' o' (Err e)
-      → Failed t ms limit root old f st' e
-  unfolding Moves GoesOn
-  unmoved A e moves = moves old f driven
+    -- and where it ended
+    pub unmoved : (A : Type 0) (e : Error) → Moves t ms limit root {A = A} st ks o total st' ks' o' total' (Err e)
+        → Failed t ms limit root old f counted st' total' e
+    unfolding Moves GoesOn
+    unmoved A e moves = moves old f counted driven
 
 -- a call that ends with an error
 pub error_moved : {A : Type 0} (t : TypeTable) (ms : List ModuleRecord) (limit : ℕ) (root : Translation) (st : State)
     (ks : List Open) (s : Stack) (st' : State) (s' : Stack) (r : Result A Error) (P : Error → Type 0) → IsErrAnd r P
-    → Moves t ms limit root st ks s.top st' (reverse s'.callers.items) s'.top r
+    → Moves t ms limit root st ks s.top s.total st' (reverse s'.callers.items) s'.top s'.total r
     → Moved t ms limit root st ks s st' s' r
 error_moved t ms limit root st ks s st' s' (Ok x) P is moves = absurd is
 error_moved t ms limit root st ks s st' s' (Err e) P is moves = record { moves = moves; falls = tt; waits = tt }
@@ -332,7 +351,7 @@ none_wait (x ∷ xs) is = absurd (omega (arith, is))
 
 -- where the innermost is another name for the child, and the next for the one that waits for it
 module _ (t : TypeTable) (ms : List ModuleRecord) (limit : ℕ) (root : Translation) (st : State) (ks : List Open)
-    (o caller : Open) (ty : ℕ)
+    (o : Open) (total : ℕ) (caller : Open) (ty : ℕ)
     (ty_is : ty ≡ unwrap_or (instance_type_at (items_of st.bodies.now root caller) caller.next) 0)
     (end : length (items_of st.bodies.now root o) ≤ o.next) (st' : State) (g : Frame)
     (keeps : Keeps (tables_of st) (tables_of st')) (next child : Open) (after : next ≡ caller) (was : child ≡ o)
@@ -361,19 +380,21 @@ module _ (t : TypeTable) (ms : List ModuleRecord) (limit : ℕ) (root : Translat
   pub leaves_crowded : {A : Type 0} (e : ItemError) → GivesBack t ms es ty st child.frame next.frame st' g (Err e)
       → (p : Place) → p ≡ place.Reading g.component_instance.0 next.next → (r : Result A Error)
       → IsErrAnd r (λ x. x ≡ error_of e p) → (ks' : List Open) (o' : Open)
-      → Moves t ms limit root st (caller ∷ ks) o st' ks' o' r
+      → Moves t ms limit root st (caller ∷ ks) o total st' ks' o' total r
   leaves_crowded e gives p there r is ks' o' =
-      moves_crowded t ms limit root st ks o caller ty ty_is end st' g keeps adds_so same_so e (gives_so (Err e) gives) p
+      moves_crowded t ms limit root st ks o total caller ty ty_is end st' g keeps adds_so same_so e
+      (gives_so (Err e) gives) p
       (there ∙ ap (λ (k : Open). place.Reading g.component_instance.0 k.next) after) r is ks' o'
 
   -- it goes on
   pub leaves : {A : Type 0} (x : A) (done : ⊤) → GivesBack t ms es ty st child.frame next.frame st' g (Ok done)
       → TrailsBack st child.frame next.frame st' g
-      → Moves t ms limit root st (caller ∷ ks) o st' ks (record next { frame = g; next = next.next + 1 }) (Ok x)
+      → Moves t ms limit root st (caller ∷ ks) o total st' ks (record next { frame = g; next = next.next + 1 }) total
+      (Ok x)
   leaves x done gives trails =
-      subst (λ k. Moves t ms limit root st (caller ∷ ks) o st' ks (record k { frame = g; next = k.next + 1 }) (Ok x))
-      (sym after)
-      (moves_left t ms limit root st ks o caller ty ty_is end st' g keeps adds_so same_so x done
+      subst (λ k. Moves t ms limit root st (caller ∷ ks) o total st' ks (record k { frame = g; next = k.next + 1 })
+      total (Ok x)) (sym after)
+      (moves_left t ms limit root st ks o total caller ty ty_is end st' g keeps adds_so same_so x done
       (gives_so (Ok done) gives)
       (subst (λ (k : Open). TrailsBack st k.frame caller.frame st' g) was
       (subst (λ (k : Open). TrailsBack st child.frame k.frame st' g) after trails)))
@@ -382,7 +403,7 @@ module _ (t : TypeTable) (ms : List ModuleRecord) (limit : ℕ) (root : Translat
   pub falls_leaving : Falls limit root st (caller ∷ ks) o st' ks (record next { frame = g; next = next.next + 1 })
   falls_leaving =
       subst (λ k. Falls limit root st (caller ∷ ks) o st' ks (record k { frame = g; next = k.next + 1 })) (sym after)
-      (falls_left t ms limit root st ks o caller ty ty_is end st' g keeps adds_so same_so)
+      (falls_left t ms limit root st ks o total caller ty ty_is end st' g keeps adds_so same_so)
 
 -- the type of a child, as the code finds it
 pub leaving_type : (st : State) (root : Translation) (caller : Open) (ty : ℕ) (found : Option ℕ)
@@ -393,27 +414,27 @@ leaving_type st root caller ty found there is = is ∙ ap (λ o. unwrap_or o 0) 
 -- what is asked where a child ends
 module _ (t : TypeTable) (ms : List ModuleRecord) (limit : ℕ) (root : Translation) where
   -- it has ended
-  pub leaving_return : (st : State) (caller : Open) (ks : List Open) (o : Open)
-      → AreUnderway t ms limit root st (caller ∷ ks) o → (next child : Open) → next ≡ caller → child ≡ o
+  pub leaving_return : (st : State) (caller : Open) (ks : List Open) (o : Open) (total : ℕ)
+      → AreUnderway t ms limit root st (caller ∷ ks) o total → (next child : Open) → next ≡ caller → child ≡ o
       → IsReturn t ms st child.frame next.frame
-  leaving_return st caller ks o under next child after was =
+  leaving_return st caller ks o total under next child after was =
       subst (λ (k : Open). IsReturn t ms st k.frame next.frame) (sym was)
       (subst (λ (k : Open). IsReturn t ms st o.frame k.frame) (sym after)
-      (underway_return t ms limit root st caller ks o under))
+      (underway_return t ms limit root st caller ks o total under))
 
   -- its exports have names of their own
   pub leaving_named : IsSoundBody (length ms) root → (st : State) (caller : Open) (ks : List Open) (o : Open)
-      → AreUnderway t ms limit root st (caller ∷ ks) o → (child : Open) → child ≡ o
+      (total : ℕ) → AreUnderway t ms limit root st (caller ∷ ks) o total → (child : Open) → child ≡ o
       → (es : List (ExternName × ItemKind × ℕ)) → es ≡ its_exports root st child
       → distinct_names (map export_name es) ≡ true
-  leaving_named sound st caller ks o under child was es are =
+  leaving_named sound st caller ks o total under child was es are =
       ap (λ xs. distinct_names (map export_name xs)) (are ∙ ap (its_exports root st) was)
-      ∙ sound_exports t ms limit root sound st (caller ∷ ks) o under
+      ∙ sound_exports t ms limit root sound st (caller ∷ ks) o total under
 
   -- its type is an instance type
-  pub leaving_typed : (st : State) (caller : Open) (ks : List Open) (o : Open)
-      → AreUnderway t ms limit root st (caller ∷ ks) o → (ty : ℕ)
+  pub leaving_typed : (st : State) (caller : Open) (ks : List Open) (o : Open) (total : ℕ)
+      → AreUnderway t ms limit root st (caller ∷ ks) o total → (ty : ℕ)
       → ty ≡ unwrap_or (instance_type_at (items_of st.bodies.now root caller) caller.next) 0
       → has_entry t is_instance ty ≡ true
-  leaving_typed st caller ks o under ty is =
-      ap (has_entry t is_instance) is ∙ underway_type t ms limit root st caller ks o under
+  leaving_typed st caller ks o total under ty is =
+      ap (has_entry t is_instance) is ∙ underway_type t ms limit root st caller ks o total under

@@ -26,11 +26,11 @@ sound_at n bodies root all first (Some s) = by (slice_get bodies s.0) refl
 
 module _ (t : TypeTable) (ms : List ModuleRecord) (limit : ℕ) (root : Translation)
     (first : IsSoundBody (length ms) root)
-    (st : State) (ks : List Open) (o : Open) (under : AreUnderway t ms limit root st ks o) where
+    (st : State) (ks : List Open) (o : Open) (total : ℕ) (under : AreUnderway t ms limit root st ks o total) where
   sound_body : IsSoundBody (length ms) (body_at st.bodies.now root o.body)
   sound_body =
-      let r = underway_reached t ms limit root st ks o under in
-      let x = r.3 in
+      let r = underway_reached t ms limit root st ks o total under in
+      let x = r.2 in
       sound_at (length ms) st.bodies.now root x.sound.bodies first o.body
 
   -- the item that the innermost reads is

@@ -1,6 +1,5 @@
 -- Component instances on a stack, as the tables grow and the innermost goes on.
-use Rattle.std.proofs.Common.{◌≡◌, ◌≤◌, ◌+◌, ℕ, List, Option, None, Some, length}
-use Rattle.std.proofs.Common.{refl, ◌∙◌, arith}
+use Rattle.std.proofs.Common.{◌≡◌, ◌≤◌, ◌+◌, ℕ, List, Option, None, Some, length, refl, arith}
 use Rattle.std.specs.Prelude.{slice_get}
 use Rattle.pc_types.specs.declared.module_record.ModuleRecord.{ModuleRecord}
 use Rattle.pc_types.specs.declared.parsed.TypeTable.{TypeTable}
@@ -89,9 +88,7 @@ module _ (t : TypeTable) (ms : List ModuleRecord) (bodies : List Translation) (r
         child_stands (open_kept k o r h) has caller waits (all_kept j os q vs w.reader all)
 
 -- more was added, of what was left, and the total is the same
-pub grew_more : (first now next : Option ℕ) (added left more fewer count : ℕ) → next ≡ now → more + fewer ≤ left
-    → Grew first now added left count → Grew first next (added + more) fewer count
-unfolding Grew
-grew_more None now next added left more fewer count same less h = same ∙ h
-grew_more (Some n) now next added left more fewer count same less h =
-    let few = h.3 in (h.0, same ∙ h.1, h.2, omega (arith, few, less))
+pub grew_more : (counted total added left more fewer count : ℕ) → more + fewer ≤ left
+    → Grew counted total added left count → Grew counted total (added + more) fewer count
+grew_more counted total added left more fewer count less h =
+    let few = h.1 in (h.0, omega (arith, few, less))

@@ -23,8 +23,8 @@ module _ (t : TypeTable) (ms : List ModuleRecord) (limit : ℕ) where
   abbrev pub reading_from : Items → Moment → Outcome Moment
   reading_from is now = read_items t ms (enter_at t ms limit limit) 0 is now
 
-  -- the root after its items, where the reading has this total; or the error of an item; or there is too much: a list is
-  -- full, or the total
+  -- the root after its items, where the reading has this total; or the error of an item; or there is too much: a list
+  -- is full, or the total
   unfoldable pub EndsRun : State → Frame → (total : ℕ) → Outcome Moment → Result Frame Error → Type 0
   EndsRun st f total o (Ok g) =
       (last : Moment) × (o ≡ done last) × (last.world.total ≡ Some total) × PointStands t ms st g last

@@ -303,7 +303,7 @@ pub record Ended (t : TypeTable) (ms : List ModuleRecord) (limit : ℕ) (root : 
     (st' : State) (s' : Stack) (r : Result ⊤ Error) : Type 0 where
   pub moves : Moves t ms limit root st (reverse s.callers.items) s.top s.total st' (reverse s'.callers.items) s'.top
       s'.total r
-  pub ends : OnOk r ((s'.callers.items ≡ []) × (length (items_of st'.bodies.now root s'.top) ≤ s'.top.next))
+  pub ends : OnOk r ((reverse s'.callers.items ≡ []) × (length (items_of st'.bodies.now root s'.top) ≤ s'.top.next))
 
 -- whether an item begins a component instance
 abbrev pub begins_child : LocalInitializer → Bool

@@ -4,7 +4,7 @@ ghost use Rattle.std.specs.Prelude.{◌<◌};
 ghost use Rattle.pc_dfg.specs.Grows.{Grows};
 ghost use Rattle.pc_inline_stack.specs.Begins.{Begins};
 
-use pc_dfg::{ComponentDfg, PushError};
+use pc_dfg::ComponentDfg;
 use pc_entity::RuntimeComponentInstanceIndex;
 use pc_types::Error;
 
@@ -33,13 +33,9 @@ pub fn begin_instance(
     if grown >= FULL {
         return Err(Error::TooMany);
     }
-    match graph.push_component_instance() {
-        Ok(instance) => {
-            *total = grown as u32;
-            Ok(instance)
-        }
-        // Never for want of a number, since fewer than the limit have begun.
-        Err(PushError::TooMany) => Err(Error::TooMany),
-        Err(PushError::NoMemory) => Err(Error::NoMemory),
-    }
+    // Fewer than the limit have begun, so that there is a number left.
+    let instance = RuntimeComponentInstanceIndex(graph.num_runtime_component_instances);
+    graph.num_runtime_component_instances += 1;
+    *total = grown as u32;
+    Ok(instance)
 }

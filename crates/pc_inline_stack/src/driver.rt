@@ -151,8 +151,8 @@ fn call_of(
     })
 }
 
-/// What a child has converted when it begins: the types that are the same in each component instance. Its caller has none
-/// of them while it waits.
+/// What a child has converted when it begins: the types that are the same in each component instance. Its caller has
+/// none of them while it waits.
 fn child_types(context: &Context<'_>, frame: &mut Frame) -> Converted
     requires sound { table_fault context.now.table.now ≡ None }
     requires converted { (b : Types) × AreConverted b context.now.table.now frame.old.converted }
@@ -187,10 +187,7 @@ fn convert_for(types: &mut ComponentTypesBuilder, instance: RuntimeComponentInst
 }
 
 /// The weight of the body of this number.
-fn weight_of(
-    weights: &PrimaryMap<StaticComponentIndex, u32>,
-    body: StaticComponentIndex,
-) -> u32
+fn weight_of(weights: &PrimaryMap<StaticComponentIndex, u32>, body: StaticComponentIndex) -> u32
     ensures { result ≡ unwrap_or (slice_get weights.now body.0) 4294967295 }
 {
     // Each component has its weight among these.

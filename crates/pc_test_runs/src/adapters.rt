@@ -223,6 +223,11 @@ fn prefix(alloc: Global, count: usize) -> Result<String, AllocError> {
     between(alloc, TYPES, payloads.as_str(), "]}")
 }
 
+/// The input with two adapters.
+pub(crate) fn two_adapters(alloc: Global) -> Result<String, AllocError> {
+    prefix(alloc, 20)
+}
+
 /// Whether the first so many payloads are refused with this text.
 fn is_refused(alloc: Global, count: usize, fault: &str) -> Result<bool, AllocError> {
     let input = prefix(alloc, count)?;
@@ -236,7 +241,7 @@ fn ends_too_early(alloc: Global, count: usize) -> Result<bool, AllocError> {
 }
 
 /// The plan of the input with two adapters: one module has both.
-const TWO_PLANNED: &str = "plan 1
+pub(crate) const TWO_PLANNED: &str = "plan 1
 modules 2 1
 counts 4 4 0 0 0 0 0 0 0 0 0 0
 init static 0 1 []
@@ -254,7 +259,7 @@ pub(crate) fn two_are_answered(
     command: &str,
     text: &str,
 ) -> Result<bool, AllocError> {
-    let input = prefix(alloc, 20)?;
+    let input = two_adapters(alloc)?;
     is_answered(alloc, command, &input, Status::Done, text)
 }
 

@@ -188,23 +188,23 @@ fn every_kind_of_payload_is_read(rt: HostRuntime) {
     are_refused_with(&rt, rt.alloc(), PAYLOADS, &WITH_CONTENT, first);
 }
 
-/// A core module with 4294967294 globals.
+/// A core module with 4294967293 globals, so that its payload and they are 4294967294.
 const AT_THE_LIMIT: &str =
+    r#"{"limit":1,"intrinsics":null,"types":{"core":[],"types":[]},"payloads":[{"module":{"ty":0,"imports":[],
+       "funcs":[],"tables":0,"memories":[],"globals":4294967293,"tags":0,"exports":[]}}]}"#;
+
+/// Two core modules with 4294967293 entities together, of two kinds. With their payloads they are 4294967295.
+const OVER_THE_LIMIT: &str =
+    r#"{"limit":1,"intrinsics":null,"types":{"core":[],"types":[]},"payloads":[{"module":{"ty":0,"imports":[],
+       "funcs":[],"tables":0,"memories":[],"globals":4294967292,"tags":0,"exports":[]}},{"module":{"ty":0,
+       "imports":[["e","t",["table"]]],"funcs":[],"tables":0,"memories":[],"globals":0,"tags":0,"exports":[]}}]}"#;
+
+/// A core module with 4294967294 globals, which are 4294967295 with its payload.
+const TOO_MANY_GLOBALS: &str =
     r#"{"limit":1,"intrinsics":null,"types":{"core":[],"types":[]},"payloads":[{"module":{"ty":0,"imports":[],
        "funcs":[],"tables":0,"memories":[],"globals":4294967294,"tags":0,"exports":[]}}]}"#;
 
-/// Two core modules with 4294967295 entities together, of two kinds.
-const OVER_THE_LIMIT: &str =
-    r#"{"limit":1,"intrinsics":null,"types":{"core":[],"types":[]},"payloads":[{"module":{"ty":0,"imports":[],
-       "funcs":[],"tables":0,"memories":[],"globals":4294967294,"tags":0,"exports":[]}},{"module":{"ty":0,
-       "imports":[["e","t",["table"]]],"funcs":[],"tables":0,"memories":[],"globals":0,"tags":0,"exports":[]}}]}"#;
-
-/// A core module with 4294967295 globals.
-const TOO_MANY_GLOBALS: &str =
-    r#"{"limit":1,"intrinsics":null,"types":{"core":[],"types":[]},"payloads":[{"module":{"ty":0,"imports":[],
-       "funcs":[],"tables":0,"memories":[],"globals":4294967295,"tags":0,"exports":[]}}]}"#;
-
-/// The same where no component instance may begin, with and without a fault of the table.
+/// One with 4294967295 where no component instance may begin, with and without a fault of the table.
 const TOO_MANY_AT_LIMIT_ZERO: &str =
     r#"{"limit":0,"intrinsics":null,"types":{"core":[],"types":[{"module":[[],[]]}]},"payloads":["version",
        {"module":{"ty":0,"imports":[],"funcs":[],"tables":0,"memories":[],"globals":4294967295,"tags":0,
@@ -221,7 +221,7 @@ const A_BAD_ENTRY_AT_LIMIT_ZERO: &str =
        {"module":{"ty":0,"imports":[],"funcs":[],"tables":0,"memories":[],"globals":5,"tags":0,
        "exports":[]}},"end"]}"#;
 
-/// Lists, and what they are refused for: that a list has room for its numbers is looked at first.
+/// Lists, and what they are refused for: the total before the first item is looked at first.
 static NUMBERED: [(&str, &str); 6] = [
     (AT_THE_LIMIT, "fault malformed at payload 0 item 0\n"),
     (OVER_THE_LIMIT, "fault too-many\n"),

@@ -4,6 +4,8 @@
 #[cfg(test)]
 mod adapters;
 #[cfg(test)]
+mod builders;
+#[cfg(test)]
 mod builtins;
 #[cfg(test)]
 mod captures;
@@ -45,6 +47,8 @@ mod streams;
 mod structure;
 #[cfg(test)]
 mod tools;
+#[cfg(test)]
+mod totals;
 #[cfg(test)]
 mod translator;
 #[cfg(test)]

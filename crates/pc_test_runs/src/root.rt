@@ -95,7 +95,7 @@ export \"c\" lifted export(0 func 0) options 1
 ];
 
 /// A lift of a core function that isn't there.
-const CORE_FUNCTION_MISSING: &str =
+pub(crate) const CORE_FUNCTION_MISSING: &str =
     r#"{"limit":100,"intrinsics":null,"types":{"core":[[["i32"],["i32"]]],
        "types":[{"func":{"params":[["x","u32"]],"result":"u32","async":false}},{"module":[[],[]]}]},
        "payloads":["version",{"module":{"ty":1,"imports":[],"funcs":[0],"tables":0,"memories":[],"globals":0,

@@ -1,5 +1,6 @@
-//! Streams that move little a call, and fail at each of their calls in turn; and the other sources and sinks.
+//! Streams that move little a call, or fail at each of their calls in turn; and the other sources and sinks.
 
+mod faults;
 mod host;
 mod memory;
 
@@ -29,86 +30,6 @@ fn is_done(alloc: Global, read_most: usize, write_most: usize) -> Result<bool, A
 fn little_a_call_is_enough(rt: HostRuntime) {
     for (read_most, write_most) in LITTLE.iter() {
         let is_so = is_done(rt.alloc(), *read_most, *write_most);
-        holds(&rt, "bytes a call", is_so.unwrap_or(false));
-    }
-}
-
-/// Whether a run ends with a fault where this read fails, which leaves this many bytes, and writes nothing.
-fn read_fails(alloc: Global, read_most: usize, n: u64, left: usize) -> Result<bool, AllocError> {
-    let ends = Ends {
-        read_most,
-        read_fails: n,
-        ..WHOLE
-    };
-    let fault = Ran {
-        status: Status::ReadFault,
-        written: &[],
-        left,
-        read_faults: 1,
-        write_faults: 0,
-    };
-    smallest_comes_to(alloc, &ends, &fault)
-}
-
-/// Whether each read fails in its turn. The last one finds the end.
-fn each_read_fails(alloc: Global, most: usize) -> Result<bool, AllocError> {
-    let mut left = SMALLEST.len();
-    for n in 0..1000 {
-        if !read_fails(alloc, most, n, left)? {
-            return Ok(false);
-        }
-        if left == 0 {
-            return Ok(true);
-        }
-        left = left.saturating_sub(most);
-    }
-    Ok(false)
-}
-
-#[test]
-fn a_failed_read_writes_nothing(rt: HostRuntime) {
-    for most in [1, 7, 64] {
-        let is_so = each_read_fails(rt.alloc(), most);
-        holds(&rt, "bytes a call", is_so.unwrap_or(false));
-    }
-}
-
-/// Whether a run ends with a fault where this write fails, before which so many bytes were written.
-fn write_fails(alloc: Global, write_most: usize, n: u64, kept: usize) -> Result<bool, AllocError> {
-    let ends = Ends {
-        write_most,
-        write_fails: n,
-        ..WHOLE
-    };
-    let fault = Ran {
-        status: Status::WriteFault,
-        written: &SMALLEST_PLAN.as_bytes()[..kept.min(SMALLEST_PLAN.len())],
-        left: 0,
-        read_faults: 0,
-        write_faults: 1,
-    };
-    smallest_comes_to(alloc, &ends, &fault)
-}
-
-/// Whether each write fails in its turn.
-fn each_write_fails(alloc: Global, most: usize) -> Result<bool, AllocError> {
-    let mut kept = 0usize;
-    for n in 0..1000 {
-        if kept >= SMALLEST_PLAN.len() {
-            return Ok(true);
-        }
-        if !write_fails(alloc, most, n, kept)? {
-            return Ok(false);
-        }
-        kept = kept.saturating_add(most);
-    }
-    Ok(false)
-}
-
-#[test]
-fn a_failed_write_leaves_a_front(rt: HostRuntime) {
-    for most in [1, 7] {
-        let is_so = each_write_fails(rt.alloc(), most);
         holds(&rt, "bytes a call", is_so.unwrap_or(false));
     }
 }

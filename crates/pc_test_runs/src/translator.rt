@@ -9,7 +9,7 @@ use pc_types_builder::ComponentTypesBuilder;
 use std::alloc::Global;
 
 /// How many options entries the plan has that goes into a builder.
-fn options_into(
+pub(crate) fn options_into(
     alloc: Global,
     types: &mut ComponentTypesBuilder,
     input: &Input,

@@ -1,5 +1,5 @@
 -- A generated chain has a plan, and its plan has as many adapters as the chain has links.
-use Rattle.std.proofs.Common.{◌≡◌, ◌≢◌, ◌≤◌, ◌<◌, ◌⊎◌, inl, inr, ◌+◌, ℕ, Bool, true, false, List, [], ◌∷◌, ◌++◌, Option, Some, None}
+use Rattle.std.proofs.Common.{◌≡◌, ◌≤◌, ◌<◌, inl, inr, ◌+◌, ℕ, true, List, [], ◌∷◌, ◌++◌, Option, Some, None}
 use Rattle.std.proofs.Common.{Result, Ok, Err, IfErr, IfOk, refl, sym, ap, subst, ◌∙◌, arith, length, length-append, map}
 use Rattle.std.proofs.Common.{if◌then◌else◌}
 use Rattle.std.proofs.lemmas.List.{length-map}
@@ -10,12 +10,11 @@ use Rattle.pc_types.specs.declared.error.Error.{Error}
 use Rattle.pc_types.specs.declared.error.Error.TheVariants as error
 use Rattle.pc_types.specs.declared.module_record.ModuleRecord.{ModuleRecord}
 use Rattle.pc_types_lists.specs.Types.{Types}
-use Rattle.pc_types.specs.declared.parsed.TypeTable.{TypeTable}
-use Rattle.pc_spec_plan.specs.CoreValue.{CoreValue, DataModel, Options, adapter, gc, linear}
+use Rattle.pc_spec_plan.specs.CoreValue.{CoreValue, DataModel, adapter, gc, linear}
 use Rattle.pc_spec_plan.specs.Log.{Entry, declared, declared_resource, instantiated, made, needed}
 use Rattle.pc_spec_plan.specs.Machine.{State}
 use Rattle.pc_spec_adapt.specs.Asked.{function_facts, has_asked, model_of}
-use Rattle.pc_spec_adapt.specs.Needs.{adapters_of, made_adapter}
+use Rattle.pc_spec_adapt.specs.Needs.{adapters_of}
 use Rattle.pc_spec_adapt.specs.Record.{Member, functions_in, record_at, records_from}
 use Rattle.pc_trampoline.specs.declared.part.Mark.{Mark}
 use Rattle.pc_info.specs.declared.component.ComponentTranslation.{ComponentTranslation}
@@ -23,9 +22,7 @@ use Rattle.pc_info.specs.declared.module.ModuleTranslation.{ModuleTranslation}
 use Rattle.pc_info.specs.Modules.{adapter_view, adapters_view}
 use Rattle.pc_parsed.specs.declared.payload.Payload.{Payload}
 use Rattle.pc_parsed.specs.Mark as reading
-use Rattle.pc_spec_reading.specs.Answer.{answer_from, answer_of}
 use Rattle.pc_spec_reading.specs.Reading.{Reading}
-use Rattle.pc_spec_reading.specs.Total.{counted}
 use Rattle.pc_inline_state.specs.Holds.{ReadsAs, number_of}
 use Rattle.pc_spec_facts.specs.Recorded.{bare}
 use Rattle.pc_adapt_modules.specs.Entities.{signature_number}
@@ -37,10 +34,10 @@ use Rattle.pc_generate.specs.Valid.{AdaptsFunction, IsValid as IsValidChain, ada
 use Rattle.pc_generate.proofs.ChainLemmas.{valid}
 use Rattle.pc_translate.specs.Adapted.{Adapts, NumberedMember, as_handed_in, map_member, whole_adapter, with_numbers}
 use Rattle.pc_translate.specs.Adapters.{first_lacking, is_complete, lacking_from}
-use Rattle.pc_translate.specs.Causes.{answer_with, meaning}
+use Rattle.pc_translate.specs.Causes.{answer_in_order, in_the_end, or_lacking}
 use Rattle.pc_translate.specs.Translation.{IsPlanOf, IsRefusalOf}
 use Rattle.pc_tool.specs.Chain.{IsChainPlan}
-use Rattle.pc_tool.proofs.CountedLemmas.{answered_counted, answered_uncounted, done_uncounted, not_both}
+use Rattle.pc_tool.proofs.RefusalLemmas.{not_both}
 
 -- the adapters of a log are those that its entries make
 made_are : (log : List (Entry reading.Mark)) → filter_map adapter_of log ≡ adapters_of log
@@ -82,36 +79,16 @@ chain_complete n v =
     none_lacks 0 (adapters_of v.result_.log) (subst (All AdaptsFunction) (made_are v.result_.log) v.has_links.typed)
 
 module _ (n : ℕ) (v : IsValidChain n) where
-  abbrev chain_total : ℕ
-  chain_total = counted table 0 (payloads n)
-
-  -- its answer, by the total before the first item
-  chain_answer : answer_from table None (n + 2) (Some chain_total) (payloads n) ≡ Some (Ok v.result_)
-  unfolding answer_of
-  chain_answer = v.is_done
-
-  counted_ok : answer_with table None (n + 2) (Some chain_total) (payloads n) ≡ Some (Ok v.result_)
-  counted_ok =
-      answered_counted table None (n + 2) chain_total (payloads n) v.result_ chain_answer (chain_complete n v)
-
-  uncounted_ok : answer_with table None (n + 2) None (payloads n) ≡ Some (Ok (record v.result_ { total = None }))
-  uncounted_ok =
-      answered_uncounted table None (n + 2) chain_total (payloads n) v.result_ chain_answer (chain_complete n v)
+  -- its reading is its answer
+  chain_answer : answer_in_order table None (n + 2) 0 (payloads n) ≡ Some (Ok v.result_)
+  unfolding answer_in_order
+  chain_answer =
+      ap (option_map in_the_end) v.is_done ∙ ap (λ o. Some (or_lacking o v.result_)) (chain_complete n v)
 
   refused_for_memory : (e : Error) → IsRefusalOf table None (n + 2) (payloads n) e → e ≡ error.NoMemory
   unfolding IsRefusalOf
-  refused_for_memory error.NoMemory h = refl
-  refused_for_memory error.TooMany h = absurd (not_both _ v.result_ error.TooMany counted_ok h.0)
-  refused_for_memory (error.Unsupported u p) h = absurd (not_both _ _ _ uncounted_ok h.1)
-  refused_for_memory (error.Invalid p) h = absurd (not_both _ _ _ uncounted_ok h.1)
-  refused_for_memory (error.BadType p) h = absurd (not_both _ _ _ uncounted_ok h.1)
-  refused_for_memory (error.Malformed p) h = absurd (not_both _ _ _ uncounted_ok h.1)
-  refused_for_memory (error.BadTable p) h = absurd (not_both _ _ _ uncounted_ok h.1)
-  refused_for_memory (error.BadIntrinsics p) h = absurd (not_both _ _ _ uncounted_ok h.1)
-  refused_for_memory (error.UnknownIntrinsic p) h = absurd (not_both _ _ _ uncounted_ok h.1)
-  refused_for_memory (error.DefinedTwice p) h = absurd (not_both _ _ _ uncounted_ok h.1)
-  refused_for_memory (error.BadOptions p) h = absurd (not_both _ _ _ uncounted_ok h.1)
-  refused_for_memory error.TooManyInstances h = absurd (not_both _ _ _ uncounted_ok h.1)
+  refused_for_memory e (inl memory) = memory
+  refused_for_memory e (inr answered) = absurd (not_both _ v.result_ e chain_answer answered)
 
 -- a chain has no refusal but want of memory
 pub chain_refused : (n : ℕ) → n ≤ 10000 → (e : Error) → IsRefusalOf table None (n + 2) (payloads n) e
@@ -204,11 +181,10 @@ module _ (types : Types) (rs : List ModuleRecord) (r : Reading) (ms : List Modul
 -- the plan of a chain has few adapters
 pub chain_few : (n : ℕ) → n ≤ 10000 → (plan : ComponentTranslation) (ms : List ModuleTranslation)
     → IsChainPlan n plan ms → length (adapters_view 0 ms) < 18446744073709551616
-unfolding IsPlanOf meaning
+unfolding IsPlanOf
 chain_few n few plan ms is =
     let v : IsValidChain n = valid n few in
-    let reads = (done_uncounted table None (n + 2) (chain_total n v) (payloads n) v.result_ (chain_answer n v)).1 in
-    let same : is.2.result ≡ record v.result_ { total = None } = cc (is.2.outcome, reads) in
+    let same : is.2.result ≡ v.result_ = cc (is.2.answer, chain_answer n v) in
     let made_ : length (adapters_of is.2.result.log) ≡ n =
     ap (λ (r : Reading). length (adapters_of r.log)) same ∙ ap length (sym (made_are v.result_.log))
     ∙ v.has_links.adapters in

@@ -1,8 +1,9 @@
 -- How a run has ended: an answer was written or a part of it, there was none, or the usage was written.
-use Rattle.std.proofs.Common.{◌≡◌, ◌⊎◌, ◌↔◌, inl, inr, ℕ, ◌<◌, ◌≤◌, List, length, drop, Option, Some, None, Result, Ok}
+use Rattle.std.proofs.Common.{◌≡◌, ◌≢◌, ◌⊎◌, ◌↔◌, inl, inr, ℕ, ◌<◌, ◌≤◌, List, length, drop, Option, Some, None, Result, Ok}
 use Rattle.std.proofs.Common.{sym, ap, ◌∙◌, refl, subst, arith}
 use Rattle.pc_stream.specs.Stream.{Takes, ShowsFault}
 use Rattle.pc_stream.specs.declared.whole.TheConstants.{MAX_INPUT}
+use Rattle.pc_input.specs.declared.input.Input.{Input}
 use Rattle.pc_text.specs.FaultText.{too_long}
 use Rattle.pc_text.specs.UsageText.{usage}
 use Rattle.pc_tool.specs.declared.answer.Answer.{Answer}
@@ -12,7 +13,7 @@ use Rattle.pc_tool.specs.declared.status.Status.{Status}
 use Rattle.pc_tool.specs.declared.status.Status.TheVariants as status
 use Rattle.pc_tool.specs.declared.words.Command.{Command}
 use Rattle.pc_tool.specs.Answers.{Answers, AnswersSource, Said, status_of, text_of}
-use Rattle.pc_tool.specs.Headline.{IsTextOf, IsFaultText}
+use Rattle.pc_tool.specs.Headline.{Decodes, IsFaultText, IsTextOf, IsValidInput}
 use Rattle.pc_tool.specs.Run.{Ended, GaveTooMuch, IsDue, Tells, WroteFront}
 use Rattle.pc_tool.proofs.RefusalLemmas.{told_has_no_fault}
 
@@ -48,6 +49,22 @@ answered answer.TooLong = tt
 abbrev Gave : (left left_new : Option (List ℕ)) → (TooMany : Type 0) → Type 0
 Gave left left_new TooMany = (told : List ℕ) → left ≡ Some told → (n : ℕ) × (n ≤ length told)
     × (left_new ≡ Some (drop n told)) × (TooMany ↔ (MAX_INPUT < n))
+
+-- so many bytes aren't too many
+gave_few : (left left_new : Option (List ℕ)) (told : List ℕ) → left ≡ Some told → length told ≤ MAX_INPUT
+    → GaveTooMuch left left_new → ⊥
+gave_few left left_new told is few much = let g = much.gave told is in omega (arith, g.1, g.2, few)
+
+-- what ends in no other way is done, or there was no memory
+done_or_memory : (s : Status) → s ≢ status.Refused → s ≢ status.Usage → s ≢ status.ReadFault → s ≢ status.WriteFault
+    → s ≢ status.TooLong → (s ≡ status.Done) ⊎ (s ≡ status.NoMemory)
+done_or_memory status.Done refused usage_ read write long = inl refl
+done_or_memory status.Refused refused usage_ read write long = absurd (refused refl)
+done_or_memory status.Usage refused usage_ read write long = absurd (usage_ refl)
+done_or_memory status.ReadFault refused usage_ read write long = absurd (read refl)
+done_or_memory status.WriteFault refused usage_ read write long = absurd (write refl)
+done_or_memory status.NoMemory refused usage_ read write long = inr refl
+done_or_memory status.TooLong refused usage_ read write long = absurd (long refl)
 
 -- what was said whole has the status that it was to have, and any other end is a write fault
 module _ (written written_new : Option (List ℕ)) (writes writes_new : ℕ) (s : Status) (text : List ℕ)
@@ -158,14 +175,29 @@ module _ (c : Command) (left left_new : Option (List ℕ)) (reads reads_new : �
       λ e. made_tells _ _ _ _ _ a answers (whole status.Done (λ w. cc w) e) in
       let refuses : result ≡ status.Refused → Tells IsFaultText left left_new written written_new =
       λ e. fault_tells _ _ _ _ _ a answers (whole status.Refused (λ w. cc w) e) in
+      let complete : (told : List ℕ) → left ≡ Some told → (input : Input) → Decodes told input → IsValidInput input
+      → result ≢ status.Refused =
+      λ told told_is input decoded valid e. told_has_no_fault _ _ _ _ told told_is input decoded valid (refuses e) in
+      let not_usage : result ≢ status.Usage =
+      λ e. subst Answered (whole status.Usage (λ w. cc w) e).0 (answered a) in
+      let not_read : result ≢ status.ReadFault =
+      λ e. subst Answered (whole status.ReadFault (λ w. cc w) e).0 (answered a) in
+      let many : result ≡ status.TooLong → GaveTooMuch left left_new × Takes written written_new too_long =
+      λ e. too_long_takes _ _ _ _ _ a answers (whole status.TooLong (λ w. cc w) e) in
+      let wrote_front : result ≡ status.WriteFault
+      → ShowsFault writes writes_new × WroteFront (Some c) left left_new written written_new =
+      λ e. said_front _ _ _ _ _ _ _ said (λ w. subst Answered w (answered a)) (Some c) left left_new
+      (due c left left_new written written_new a answers) e in
       record {
         done = λ d same e.
             subst (λ (x : Command). Tells (IsTextOf x) left left_new written written_new) (cc same) (tells e);
         refused = refuses;
-        completes = λ told told_is input decoded valid e. told_has_no_fault _ _ _ _ told told_is input decoded valid
-            (refuses e);
-        usage = λ e. absurd (subst Answered (whole status.Usage (λ w. cc w) e).0 (answered a));
-        too_long = λ e. too_long_takes _ _ _ _ _ a answers (whole status.TooLong (λ w. cc w) e);
+        completes = complete;
+        succeeds = λ d same told told_is few input decoded valid no_read no_write. done_or_memory result
+            (complete told told_is input decoded valid) not_usage not_read (λ e. no_write (wrote_front e).0)
+            (λ e. gave_few left left_new told told_is few (many e).0);
+        usage = λ e. absurd (not_usage e);
+        too_long = many;
         gave = λ told told_is.
             let g = gave told told_is in (
               g.0,
@@ -174,9 +206,8 @@ module _ (c : Command) (left left_new : Option (List ℕ)) (reads reads_new : �
               λ over. subst (λ (x : Status). (result ≡ x) ⊎ (result ≡ status.WriteFault))
                   (ap status_of (too_long_is r a is (g.3.1 over))) (said_or_fault _ _ _ _ _ _ _ said),
             );
-        read_fault = λ e. absurd (subst Answered (whole status.ReadFault (λ w. cc w) e).0 (answered a));
-        write_fault = λ e. said_front _ _ _ _ _ _ _ said (λ w. subst Answered w (answered a)) (Some c) left left_new
-            (due c left left_new written written_new a answers) e;
+        read_fault = λ e. absurd (not_read e);
+        write_fault = wrote_front;
         memory = λ e. absurd (subst Answered (whole status.NoMemory (λ w. cc w) e).0 (answered a));
         reads_never_fall = reads_fall;
         writes_never_fall = writes_fall;
@@ -191,6 +222,9 @@ module _ (c : Command) (left left_new : Option (List ℕ)) (reads reads_new : �
     done = λ d same e. absurd (subst Silent e quiet);
     refused = λ e. absurd (subst Silent e quiet);
     completes = λ told told_is input decoded valid e. subst Silent e quiet;
+    succeeds = λ d same told told_is few input decoded valid no_read no_write. done_or_memory result
+        (λ e. subst Silent e quiet) (λ e. subst Silent e quiet) (λ e. no_read (shown e)) (λ e. subst Silent e quiet)
+        (λ e. subst Silent e quiet);
     usage = λ e. absurd (subst Silent e quiet);
     too_long = λ e. absurd (subst Silent e quiet);
     gave = λ told told_is. let g = gave told told_is in (g.0, g.1, g.2, λ over. absurd (not_long (g.3.1 over)));
@@ -221,6 +255,7 @@ module _ (left : Option (List ℕ)) (reads : ℕ) (written written_new : Option 
         done = λ d same e. absurd (cc (is, same));
         refused = λ e. absurd (cc (whole status.Refused (λ w. cc w) e).0);
         completes = λ told told_is input decoded valid e. cc (whole status.Refused (λ w. cc w) e).0;
+        succeeds = λ d same told told_is few input decoded valid no_read no_write. absurd (cc (is, same));
         usage = λ e. (is, (whole status.Usage (λ w. cc w) e).1);
         too_long = λ e. absurd (cc (whole status.TooLong (λ w. cc w) e).0);
         gave = λ told told_is. (0, omega arith, told_is, λ over. absurd (omega arith));

@@ -1,7 +1,6 @@
 -- what an answer says of an input and of bytes
 pub mod AnswerLemmas
--- that reasons to be refused exclude a plan
-pub mod CountedLemmas
+-- that a valid input isn't refused
 pub mod RefusalLemmas
 -- that a generated chain has a plan
 pub mod ChainLemmas

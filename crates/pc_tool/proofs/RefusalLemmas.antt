@@ -1,16 +1,15 @@
 -- Bytes that stand for a valid input aren't refused.
-use Rattle.std.proofs.Common.{◌≡◌, ◌≢◌, inl, inr, ℕ, List, Option, Some, None, Result, Ok, Err, ap, subst, refl, sym, ◌∙◌}
+use Rattle.std.proofs.Common.{◌≡◌, ◌≢◌, inl, inr, ℕ, List, Option, Some, None, Result, Ok, Err, ap, subst}
 use Rattle.serde_json.specs.Data.{Data}
 use Rattle.pc_types.specs.declared.error.Error.{Error}
 use Rattle.pc_types.specs.declared.error.Error.TheVariants as error
 use Rattle.pc_input.specs.declared.input.Input.{Input}
 use Rattle.pc_input.specs.Input.{input_of, tree_of}
 use Rattle.pc_input_values.specs.Tree.{◌>>=◌}
-use Rattle.pc_tool.specs.Headline.{Decodes, IsBadForm, IsErrorOf, IsFaultText, IsNotJson, IsValid}
-use Rattle.pc_translate.specs.Causes.{answer_with}
+use Rattle.pc_spec_reading.specs.Reading.{Reading}
 use Rattle.pc_translate.specs.Translation.{IsRefusalOf}
+use Rattle.pc_tool.specs.Headline.{Decodes, IsBadForm, IsErrorOf, IsFaultText, IsNotJson, IsValidInput}
 use Rattle.pc_tool.specs.Run.{Tells}
-use Rattle.pc_tool.proofs.CountedLemmas.{not_both, without_counting}
 
 -- a reading that ends at its first step or at its second has no value
 module _ {I : Type 0} (f : Data → Option I) where
@@ -26,30 +25,18 @@ module _ {I : Type 0} (f : Data → Option I) where
 one_input : (o : Option Input) (i j : Input) → o ≡ Some i → o ≡ Some j → i ≡ j
 one_input o i j a b = cc (a, b)
 
--- its reading is the answer without a total too
-uncounted_answer : (input : Input) (v : IsValid input)
-    → answer_with input.table input.intrinsics input.tunables.max_component_instances None input.payloads
-    ≡ Some (Ok (record v.reading { total = None }))
-uncounted_answer input v = without_counting _ _ _ _ _ v.reading v.answer
+-- one answer is no reading and an error
+pub not_both : (o : Option (Result Reading Error)) (r : Reading) (e : Error) → o ≡ Some (Ok r) → o ≡ Some (Err e) → ⊥
+not_both o r e a b = cc (a, b)
 
 -- a valid input has no error but want of memory
-valid_has_none : (input : Input) → IsValid input → (e : Error) → e ≢ error.NoMemory → IsErrorOf input e → ⊥
+valid_has_none : (input : Input) → IsValidInput input → (e : Error) → e ≢ error.NoMemory → IsErrorOf input e → ⊥
 unfolding IsRefusalOf
-valid_has_none input v error.NoMemory other h = other refl
-valid_has_none input v error.TooMany other h = not_both _ v.reading error.TooMany v.answer h.0
-valid_has_none input v (error.Unsupported u p) other h = not_both _ _ _ (uncounted_answer input v) h.1
-valid_has_none input v (error.Invalid p) other h = not_both _ _ _ (uncounted_answer input v) h.1
-valid_has_none input v (error.BadType p) other h = not_both _ _ _ (uncounted_answer input v) h.1
-valid_has_none input v (error.Malformed p) other h = not_both _ _ _ (uncounted_answer input v) h.1
-valid_has_none input v (error.BadTable p) other h = not_both _ _ _ (uncounted_answer input v) h.1
-valid_has_none input v (error.BadIntrinsics p) other h = not_both _ _ _ (uncounted_answer input v) h.1
-valid_has_none input v (error.UnknownIntrinsic p) other h = not_both _ _ _ (uncounted_answer input v) h.1
-valid_has_none input v (error.DefinedTwice p) other h = not_both _ _ _ (uncounted_answer input v) h.1
-valid_has_none input v (error.BadOptions p) other h = not_both _ _ _ (uncounted_answer input v) h.1
-valid_has_none input v error.TooManyInstances other h = not_both _ _ _ (uncounted_answer input v) h.1
+valid_has_none input v e other (inl memory) = other memory
+valid_has_none input v e other (inr answered) = not_both _ v.reading e v.answer answered
 
 -- no text says of bytes that stand for a valid input why they have no plan
-valid_has_no_fault : (bytes text : List ℕ) (input : Input) → Decodes bytes input → IsValid input
+valid_has_no_fault : (bytes text : List ℕ) (input : Input) → Decodes bytes input → IsValidInput input
     → IsFaultText bytes text → ⊥
 unfolding Decodes IsNotJson IsBadForm
 valid_has_no_fault bytes text input decoded valid (inl json) =
@@ -63,7 +50,8 @@ valid_has_no_fault bytes text input decoded valid (inr (inr at)) =
 
 -- where all bytes of a source were read and they stand for a valid input, no such text was written
 pub told_has_no_fault : (left left_new written written_new : Option (List ℕ)) (told : List ℕ) → left ≡ Some told
-    → (input : Input) → Decodes told input → IsValid input → Tells IsFaultText left left_new written written_new → ⊥
+    → (input : Input) → Decodes told input → IsValidInput input → Tells IsFaultText left left_new written written_new
+    → ⊥
 told_has_no_fault left left_new written written_new told is input decoded valid tells =
     let all : tells.bytes ≡ told = (tells.read.all told is).0 in
     valid_has_no_fault told tells.text input decoded valid

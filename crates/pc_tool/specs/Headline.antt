@@ -1,6 +1,6 @@
 -- What the texts mean that answer bytes: the text of a plan that does what the nested reading says, or of a fault and
 -- its cause.
-use Rattle.std.specs.Prelude.{◌≡◌, ◌≢◌, ◌⊎◌, ℕ, List, Option, Some, None, Ok}
+use Rattle.std.specs.Prelude.{◌≡◌, ◌≢◌, ◌⊎◌, ℕ, List, Some, None}
 use Rattle.serde_json.specs.Data.{Data}
 use Rattle.pc_types.specs.declared.error.Error.{Error}
 use Rattle.pc_types.specs.declared.error.Error.TheVariants as error
@@ -12,11 +12,9 @@ use Rattle.pc_offsets.specs.Context.{context_size}
 use Rattle.pc_spec_facts.specs.Text.{facts_text}
 use Rattle.pc_text.specs.ContextText.{context_text}
 use Rattle.pc_text.specs.FaultText.{fault_text, not_json, bad_form}
-use Rattle.pc_spec_reading.specs.Reading.{Reading}
-use Rattle.pc_spec_reading.specs.Total.{counted}
 use Rattle.pc_input.specs.declared.input.Input.{Input}
 use Rattle.pc_input.specs.Input.{input_in, input_of, tree_of}
-use Rattle.pc_translate.specs.Causes.{answer_with}
+use Rattle.pc_translate.specs.Causes.{IsValid}
 use Rattle.pc_translate.specs.Translation.{IsPlanOf, IsRefusalOf}
 use Rattle.pc_tool.specs.declared.words.Command.{Command}
 use Rattle.pc_tool.specs.declared.words.Command.TheVariants as command

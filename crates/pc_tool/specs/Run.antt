@@ -8,7 +8,7 @@ use Rattle.pc_tool.specs.declared.status.Status.{Status}
 use Rattle.pc_tool.specs.declared.status.Status.TheVariants as status
 use Rattle.pc_tool.specs.declared.words.Command.{Command}
 use Rattle.pc_input.specs.declared.input.Input.{Input}
-use Rattle.pc_tool.specs.Headline.{Decodes, IsFaultText, IsTextOf, IsValid}
+use Rattle.pc_tool.specs.Headline.{Decodes, IsFaultText, IsTextOf, IsValidInput}
 
 -- bytes are all that a source had, at most 64 MiB, and none is left; of a source that tells none this says the length
 -- alone
@@ -55,8 +55,14 @@ pub record Ended (words : Option Command) (left left_new : Option (List ℕ)) (r
       → Tells (IsTextOf c) left left_new written written_new
   -- one that refused wrote why the bytes have no plan, and bytes that stand for a valid input aren't refused
   pub refused : result ≡ status.Refused → Tells IsFaultText left left_new written written_new
-  pub completes : (told : List ℕ) → left ≡ Some told → (input : Input) → Decodes told input → IsValid input
+  pub completes : (told : List ℕ) → left ≡ Some told → (input : Input) → Decodes told input → IsValidInput input
       → result ≢ status.Refused
+  -- where they are at most 64 MiB, and no count of faults rises or stands at its last value, the run is done, or there
+  -- was no memory
+  pub succeeds : (c : Command) → words ≡ Some c → (told : List ℕ) → left ≡ Some told → length told ≤ MAX_INPUT
+      → (input : Input) → Decodes told input → IsValidInput input
+      → ¬ (ShowsFault reads reads_new) → ¬ (ShowsFault writes writes_new)
+      → (result ≡ status.Done) ⊎ (result ≡ status.NoMemory)
   -- the usage is written only for words that name no command
   pub usage : result ≡ status.Usage → (words ≡ None) × Takes written written_new usage_text
   -- where bytes are told, n of them were given, from the front, and above the limit the answer is that there are too

@@ -92,9 +92,10 @@ fn exposed_name(input: &Input) -> Option<&str>
 }
 
 /// The plan of an input, and its core modules. It is `plan_payloads`, for callers that see an input and not its parts.
+/// The input goes before the plan is looked at.
 fn translate_input(
     alloc: Global,
-    input: &Input,
+    input: Input,
 ) -> Result<
     (
         ComponentTranslation,
@@ -102,14 +103,14 @@ fn translate_input(
     ),
     Error,
 >
-    ensures ok { IfOk result (λ r. IsPlanFor input.now r.0 r.1) }
-    ensures err { IfErr result (IsErrorOf input.now) }
+    ensures ok { IfOk result (λ r. IsPlanFor input r.0 r.1) }
+    ensures err { IfErr result (IsErrorOf input) }
 {
     plan_payloads(
         alloc,
         &input.tunables,
         &input.table,
-        exposed_name(input),
+        exposed_name(&input),
         input.payloads.as_slice(),
     )
 }
@@ -128,11 +129,10 @@ fn print_context(alloc: Global, plan: &ComponentTranslation) -> Result<Vec<u8>, 
 fn print(
     alloc: Global,
     command: Command,
-    input: &Input,
     plan: &ComponentTranslation,
     modules: &PrimaryMap<StaticModuleIndex, ModuleTranslation>,
 ) -> Result<Vec<u8>, NoMemory>
-    requires { IsPlanFor input.now plan.now modules.now }
+    requires { (input : Input) × IsPlanFor input plan.now modules.now }
     ensures { IfOk result (λ text. Prints command plan.now modules.now text.items) }
 {
     match command {
@@ -151,31 +151,32 @@ fn explain(alloc: Global, error: &Error) -> Result<Vec<u8>, NoMemory>
 }
 
 /// The answer of a command to an input.
-fn answer_input(alloc: Global, command: Command, input: &Input) -> Result<Answer, NoMemory>
-    ensures { IfOk result (AnswersInput command input.now) }
+fn answer_input(alloc: Global, command: Command, input: Input) -> Result<Answer, NoMemory>
+    ensures { IfOk result (AnswersInput command input) }
 {
     match translate_input(alloc, input) {
-        Ok((plan, modules)) => Ok(Answer::Made(print(alloc, command, input, &plan, &modules)?)),
+        Ok((plan, modules)) => Ok(Answer::Made(print(alloc, command, &plan, &modules)?)),
         Err(Error::NoMemory) => Err(NoMemory),
         Err(error) => Ok(Answer::Fault(explain(alloc, &error)?)),
     }
 }
 
-/// The input that bytes stand for. It is `decode_input`, for callers that don't look into how bytes are read.
-fn decode(alloc: Global, bytes: &[u8]) -> Result<Input, DecodeError>
-    ensures ok { IfOk result (Decodes bytes.now) }
-    ensures not_json { result ≡ Err DecodeError.NotJson → IsNotJson bytes.now }
-    ensures bad_form { result ≡ Err DecodeError.BadForm → IsBadForm bytes.now }
+/// The input that bytes stand for. It is `decode_input`, for callers that don't look into how bytes are read. The bytes
+/// go before the input is looked at.
+fn decode(alloc: Global, bytes: Vec<u8>) -> Result<Input, DecodeError>
+    ensures ok { IfOk result (Decodes bytes.items) }
+    ensures not_json { result ≡ Err DecodeError.NotJson → IsNotJson bytes.items }
+    ensures bad_form { result ≡ Err DecodeError.BadForm → IsBadForm bytes.items }
 {
-    decode_input(alloc, bytes)
+    decode_input(alloc, bytes.as_slice())
 }
 
 /// The answer of a command to bytes.
-fn answer_bytes(alloc: Global, command: Command, bytes: &[u8]) -> Result<Answer, NoMemory>
-    ensures { IfOk result (Answers command bytes.now) }
+fn answer_bytes(alloc: Global, command: Command, bytes: Vec<u8>) -> Result<Answer, NoMemory>
+    ensures { IfOk result (Answers command bytes.items) }
 {
     match decode(alloc, bytes) {
-        Ok(input) => answer_input(alloc, command, &input),
+        Ok(input) => answer_input(alloc, command, input),
         Err(DecodeError::NotJson) => Ok(Answer::NotJson),
         Err(DecodeError::BadForm) => Ok(Answer::BadForm),
         Err(DecodeError::NoMemory) => Err(NoMemory),
@@ -197,7 +198,7 @@ pub(crate) fn answer_source<S: Source>(
     ensures never_falls { S.faults src.old ≤ S.faults src.new }
 {
     match read_all(alloc, src) {
-        Ok(bytes) => Ok(answer_bytes(alloc, command, &bytes)?),
+        Ok(bytes) => Ok(answer_bytes(alloc, command, bytes)?),
         Err(ReadEnd::TooLong) => Ok(Answer::TooLong),
         Err(ReadEnd::Fault) => Err(Unanswered::ReadFault),
         Err(ReadEnd::NoMemory) => Err(Unanswered::NoMemory),

@@ -81,7 +81,7 @@ pub fn run<S: Source, W: Sink>(alloc: Global, words: &[String], src: &mut S, out
         → (src.new ≡ src.old) × ((result ≡ Status.Usage) ⊎ (result ≡ Status.WriteFault)) }
 
     // Each end of a command on an input has its cause, and so has that of words that name no command. Its fields:
-    // `done`, `refused`, `completes`, `usage`, `too_long`, `gave`, `read_fault`, `write_fault`, `memory`,
+    // `done`, `refused`, `completes`, `succeeds`, `usage`, `too_long`, `gave`, `read_fault`, `write_fault`, `memory`,
     // `reads_never_fall`, `writes_never_fall`.
     ensures ended { chain_of (map string_bytes words.now) ≡ None → Ended (command_of (map string_bytes words.now))
         (S.left src.old) (S.left src.new) (S.faults src.old) (S.faults src.new)

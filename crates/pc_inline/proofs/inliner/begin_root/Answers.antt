@@ -7,30 +7,30 @@ pub prepare_all-requires : goal.prepare_all-requires
 prepare_all-requires c = record {
   input = c.requires.input;
   ready = c.requires.ready;
-  here = prepare_point _ _ _ c.args.root.now c.args.state.now c.requires.fresh _ c.begin_instance.ensures.grows _
-      c.in_ok-instance.ensures.begins _ _ c.new-arguments.ensures _ c.new-converted.ensures.converted
-      c.new-frame.ensures c.requires.bodies;
-  undeclared = begun_undeclared _ c.args.context.now.modules _ c.args.state.now c.requires.fresh _ _
+  here = prepare_point _ _ _ c.args.root.now _ c.args.state.now c.requires.fresh _ c.begin_instance.ensures.grows _
+      c.requires.weight _ _ c.in_ok-instance.ensures.begins _ _ c.new-arguments.ensures _
+      c.new-converted.ensures.converted c.new-frame.ensures c.requires.bodies;
+  undeclared = begun_undeclared _ c.args.context.now.modules _ c.args.state.now c.requires.fresh _ _ _ _ _
       c.in_ok-instance.ensures.begins;
   items = root_items _ _ refl c.args.root.now _ c.as_slice.ensures c.requires.stands;
 }
 
 pub returns : goal.returns
 returns c =
-    begins_done _ _ _ c.args.root.now c.args.state.now c.requires.fresh _ c.begin_instance.ensures.grows _
-    c.in_ok-instance.ensures.begins _ _ c.new-arguments.ensures _ c.new-converted.ensures.converted
-    c.new-frame.ensures c.requires.bodies _ c.as_slice.ensures _ _
-    c.prepare_all.ensures.keeps c.prepare_all.ensures.adds _ c.in_ok-prepare_all.ensures.prepared
+    begins_done _ _ _ c.args.root.now _ c.args.state.now c.requires.fresh _ c.begin_instance.ensures.grows _
+    c.requires.weight _ _ c.in_ok-instance.ensures.begins _ _ c.new-arguments.ensures _
+    c.new-converted.ensures.converted c.new-frame.ensures c.requires.bodies _ c.as_slice.ensures _ _
+    c.prepare_all.ensures.keeps c.prepare_all.ensures.adds c.requires.stands _ c.in_ok-prepare_all.ensures.prepared
 
 pub returns-in_err-instance : goal.returns-in_err-instance
 returns-in_err-instance c =
-    begins_not _ _ _ c.args.root.now c.args.state.now c.requires.fresh _ c.begin_instance.ensures.grows _
-    c.in_err-instance.ensures.begins _ c.from_residual.ensures.1
+    begins_not _ _ _ c.args.root.now _ c.args.state.now c.requires.fresh _ c.begin_instance.ensures.grows _
+    c.requires.weight _ _ c.in_err-instance.ensures.begins _ c.from_residual.ensures.1
 
 pub returns-in_err-prepare_all : goal.returns-in_err-prepare_all
 returns-in_err-prepare_all c =
-    begins_undone _ _ _ c.args.root.now c.args.state.now c.requires.fresh _ c.begin_instance.ensures.grows _
-    c.in_ok-instance.ensures.begins _ _ c.new-arguments.ensures _ c.new-converted.ensures.converted
-    c.new-frame.ensures c.requires.bodies _ c.as_slice.ensures _ _
-    c.prepare_all.ensures.keeps c.prepare_all.ensures.adds _ c.in_err-prepare_all.ensures.prepared _
+    begins_undone _ _ _ c.args.root.now _ c.args.state.now c.requires.fresh _ c.begin_instance.ensures.grows _
+    c.requires.weight _ _ c.in_ok-instance.ensures.begins _ _ c.new-arguments.ensures _
+    c.new-converted.ensures.converted c.new-frame.ensures c.requires.bodies _ c.as_slice.ensures _ _
+    c.prepare_all.ensures.keeps c.prepare_all.ensures.adds c.requires.stands _ c.in_err-prepare_all.ensures.prepared _
     c.from_residual-in_err-prepare_all.ensures.1

@@ -16,7 +16,7 @@ returns-in_err-read_item-in-Some c =
 pub returns-in_err-leave-in-Some-pop : goal.returns-in_err-leave-in-Some-pop
 returns-in_err-leave-in-Some-pop c =
     left_off _ _ _ c.args.root.now c.args.state.now c.args.stack.now c.leave.new.state c.leave.new.stack _ _
-    c.pop.ensures.items c.in-Some-pop.caller c.in-Some-pop.is _ refl refl _ _ c.in_err-leave-in-Some-pop.ensures _
+    c.pop.ensures.items c.in-Some-pop.caller c.in-Some-pop.is _ refl refl refl _ _ c.in_err-leave-in-Some-pop.ensures _
     c.from_residual-in_err-leave-in-Some-pop.ensures.1
 
 pub returns-in_ok-read_item-in-Some : goal.returns-in_ok-read_item-in-Some
@@ -27,13 +27,13 @@ returns-in_ok-read_item-in-Some c =
 pub returns-in_ok-leave-in-Some-pop : goal.returns-in_ok-leave-in-Some-pop
 returns-in_ok-leave-in-Some-pop c =
     left_on _ _ _ c.args.root.now c.args.state.now c.args.stack.now c.leave.new.state c.leave.new.stack _ _
-    c.pop.ensures.items c.in-Some-pop.caller c.in-Some-pop.is _ refl refl _ c.in_ok-leave-in-Some-pop.ensures
+    c.pop.ensures.items c.in-Some-pop.caller c.in-Some-pop.is _ refl refl refl _ c.in_ok-leave-in-Some-pop.ensures
     c.requires.waits
 
 pub returns-in-None-pop : goal.returns-in-None-pop
 returns-in-None-pop c =
     turned_last _ _ _ c.args.root.now c.args.state.now c.args.stack.now _ _ c.pop.ensures.items c.in-None-pop.is refl
-    (none_wait _ (sym c.pop.new.self.ok.0 ∙ c.in-None-pop.ensures.cases.1))
+    refl (none_wait _ (sym c.pop.new.self.ok.0 ∙ c.in-None-pop.ensures.cases.1))
     (subst (λ ls. length ls ≤ c.args.stack.now.top.next)
     (c.as_slice.ensures ∙ ap (λ (tr : Translation). tr.initializers) c.body_at-body.ensures)
     c.in-None.ensures.lookup.3) c.requires.waits

@@ -1,4 +1,4 @@
-use Rattle.std.proofs.Common.{◌≡◌, ℕ, List, subst}
+use Rattle.std.proofs.Common.{◌≡◌, subst}
 use Rattle.pc_tool.specs.declared.answer.Answer.{Answer}
 use Rattle.pc_tool.specs.declared.answer.Answer.TheVariants as answer
 use Rattle.pc_tool.specs.Answers.{Answers}
@@ -9,8 +9,7 @@ pub returns-in_ok-answer_bytes-in-Ok-clause-ok : goal.returns-in_ok-answer_bytes
 returns-in_ok-answer_bytes-in-Ok-clause-ok g c =
     source_answers _ _ _ c.in-Ok.bytes.items c.in_ok-answer_bytes-in-Ok.field-0
     (record { fits = c.in-Ok.ensures.fits; all = c.in-Ok.ensures.whole })
-    (subst (λ (b : List ℕ). Answers c.args.command b c.in_ok-answer_bytes-in-Ok.field-0) c.deref.ensures.value
-    c.in_ok-answer_bytes-in-Ok.ensures)
+    c.in_ok-answer_bytes-in-Ok.ensures
 
 pub returns-in_ok-answer_bytes-in-Ok-clause-too_long :
     goal.returns-in_ok-answer_bytes-in-Ok-clause-too_long
@@ -21,8 +20,8 @@ returns-in_ok-answer_bytes-in-Ok-clause-too_long g c told is_told =
       r.2,
       (
         λ e. let same : c.in_ok-answer_bytes-in-Ok.field-0 ≡ answer.TooLong = cc e in
-            absurd (not_too_long _ c.deref.result.now
-            (subst (λ (a : Answer). Answers c.args.command c.deref.result.now a) same
+            absurd (not_too_long _ c.in-Ok.bytes.items
+            (subst (λ (a : Answer). Answers c.args.command c.in-Ok.bytes.items a) same
             c.in_ok-answer_bytes-in-Ok.ensures)),
         λ over. absurd (cc (r.3.1 over, c.in-Ok.is)),
       ),

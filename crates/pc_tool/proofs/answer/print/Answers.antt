@@ -3,7 +3,7 @@ use Rattle.pc_tool.proofs.answer.print.Goals as goal
 
 pub plan_text-requires : goal.plan_text-requires
 plan_text-requires c =
-    record { has_items = has_items_for c.args.input.now c.args.plan.now c.args.modules.now c.requires }
+    record { has_items = has_items_for c.requires.0 c.args.plan.now c.args.modules.now c.requires.1 }
 
 pub returns-in-Translate : goal.returns-in-Translate
 returns-in-Translate c =

@@ -1,5 +1,3 @@
-use Rattle.std.proofs.Common.{ap, ◌∙◌}
-use Rattle.pc_generate.specs.declared.input.Generated.{Generated}
 use Rattle.pc_tool.proofs.ChainLemmas.{input_few, input_refused}
 use Rattle.pc_tool.proofs.chain.translate_chain.Goals as goal
 
