@@ -62,8 +62,8 @@ void *calloc(size_t n, size_t m) { return refuses() ? NULL : __libc_calloc(n, m)
 void *realloc(void *p, size_t n) { return refuses() ? NULL : __libc_realloc(p, n); }
 '''
 
-# An input: its name, the words that it is run with, its bytes, and how many growths it has to have: those are refused, or
-# all where it is 0.
+# An input: its name, the words that it is run with, its bytes, and how many growths it has to have. So many are refused,
+# and all of them where it is 0.
 Case = namedtuple("Case", "name words stdin first")
 
 # `main` takes as many growths as it has words, and so many more.
@@ -179,8 +179,8 @@ def lay_out(args, folder):
 
 
 def with_try(args):
-    """Lets `rt try` build the program and refuse a growth of every input, for each number, up to the first that no input
-    comes to."""
+    """Lets `rt try` build the program and refuse a growth of every input, for each number, up to the first that none of
+    them comes to."""
     is_right = True
     with tempfile.TemporaryDirectory() as folder:
         lay_out(args, folder)
