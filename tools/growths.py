@@ -62,7 +62,7 @@ void *calloc(size_t n, size_t m) { return refuses() ? NULL : __libc_calloc(n, m)
 void *realloc(void *p, size_t n) { return refuses() ? NULL : __libc_realloc(p, n); }
 '''
 
-# An input: its name, the words that it is run with, its bytes, and how many growths it has to have. So many are refused,
+# An input: its name, its words, its bytes, and how many growths it has to have. So many are refused,
 # and all of them where it is 0.
 Case = namedtuple("Case", "name words stdin first")
 
