@@ -62,8 +62,8 @@ void *calloc(size_t n, size_t m) { return refuses() ? NULL : __libc_calloc(n, m)
 void *realloc(void *p, size_t n) { return refuses() ? NULL : __libc_realloc(p, n); }
 '''
 
-# An input: its name, the words that it is run with, its bytes, and how many growths it has to have and are refused, or
-# None for all that it has.
+# An input: its name, its words, its bytes, and how many growths it has to have. So many are refused,
+# and all of them where it is 0.
 Case = namedtuple("Case", "name words stdin first")
 
 # `main` takes as many growths as it has words, and so many more.
@@ -76,7 +76,7 @@ Ran = namedtuple("Ran", "refused status text message")
 def cases(files):
     """The inputs."""
     paths = files or sorted((ROOT / "bench" / "growths").glob("*.json"))
-    made = [Case(path.stem, ["translate"], path.read_bytes(), None) for path in paths]
+    made = [Case(path.stem, ["translate"], path.read_bytes(), 0) for path in paths]
     return made if files else made + [Case("gen-20", ["gen", "20"], b"", 300)]
 
 
@@ -93,23 +93,14 @@ def numbers(text):
 
 def wrong(case, growth, ran, whole):
     """What is wrong with how a run ended, where it ends as `whole` with all its memory; nothing where it is right."""
-    may_go_on = not ran.refused or growth <= len(case.words) + OF_MAIN
+    may_go_on = growth <= len(case.words) + OF_MAIN or (not ran.refused and growth > case.first)
     if may_go_on and ran[1:] == whole[1:]:
         return ""
-    if not ran.refused:
-        return "growth not reached, but status %s" % ran.status
-    found = [] if ran.status == NO_MEMORY else ["status %s" % ran.status]
+    found = [] if ran.refused else ["not refused"]
+    found += [] if ran.status == NO_MEMORY else ["status %s" % ran.status]
     found += ["%d bytes written" % len(ran.text)] if ran.text else []
     found += ["a message"] if ran.message else []
     return ", ".join(found)
-
-
-def has_too_few(case, growths):
-    """Whether an input has fewer growths than it has to have; that is printed."""
-    if growths >= (case.first or 0):
-        return False
-    print("%s: %d growths, and not %d" % (case.name, growths, case.first), flush=True)
-    return True
 
 
 def refusing(cc, folder):
@@ -148,8 +139,6 @@ def refuse_each(args, case, run):
             break
         refused += 1
         without += ran[1:] == whole[1:]
-    if not args.growths and has_too_few(case, refused):
-        faults += 1
     print("%s: %d growths refused, %d of them done without, %d wrong; with all memory status %s and %d bytes"
           % (case.name, refused, without, faults, whole.status, len(whole.text)), flush=True)
     return faults == 0
@@ -166,21 +155,19 @@ def with_program(args):
 
 
 def try_refused(folder, growth):
-    """Runs `rt try` on the inputs in a folder with one growth refused: how each ended, by name."""
+    """Runs `rt try` on the inputs in a folder with one growth refused: how each ended, by name. Whether a growth was
+    refused isn't told, so it is taken from the status."""
     words = ["rt", "try", "--fail-alloc", str(growth), "--cases", str(folder)]
     ran = subprocess.run(words, cwd=ROOT / "crates" / "plan", capture_output=True)
     texts = re.split(r"^== (\S+)\n", ran.stdout.decode(errors="replace"), flags=re.MULTILINE)
     texts = dict(zip(texts[1::2], texts[2::2]))
-    ended, taken = {}, 0
-    for line in ran.stderr.decode(errors="replace").splitlines():
-        count = re.match(r"allocations: (\d+)", line)
-        case = re.match(r"case=(\S+) run=(\S+)(?: status=(\d+))?", line)
-        taken = int(count[1]) if count else taken
-        if case:
-            status = int(case[3]) if case[2] == "ended" and case[3] else case[2]
-            ended[case[1]] = taken, Ran(taken >= growth, status, texts.get(case[1], ""), b"")
+    said = ran.stderr.decode(errors="replace")
+    ended = {}
+    for name, run, status in re.findall(r"^case=(\S+) run=(\S+)(?: status=(\d+))?", said, flags=re.MULTILINE):
+        status = int(status) if status else run
+        ended[name] = Ran(status == NO_MEMORY, status, texts.get(name, ""), b"")
     if not ended:
-        sys.exit("rt try didn't run the program:\n" + ran.stderr.decode(errors="replace")[-2000:])
+        sys.exit("rt try didn't run the program:\n" + said[-2000:])
     return ended
 
 
@@ -192,25 +179,25 @@ def lay_out(args, folder):
 
 
 def with_try(args):
-    """Lets `rt try` build the program and refuse a growth of every input, for each number."""
+    """Lets `rt try` build the program and refuse a growth of every input, for each number, up to the first that none of
+    them comes to."""
     is_right = True
     with tempfile.TemporaryDirectory() as folder:
         lay_out(args, folder)
         whole = try_refused(folder, NEVER)
         for case in args.cases:
-            taken, ran = whole[case.name]
-            print("%s: %d growths; with all memory status %s and %d bytes"
-                  % (case.name, taken, ran.status, len(ran.text)), flush=True)
-            is_right = not has_too_few(case, taken) and is_right
-        most = max(min(whole[case.name][0], case.first or NEVER) for case in args.cases)
-        for growth in args.growths or range(1, most + 1):
+            ran = whole[case.name]
+            print("%s: with all memory status %s and %d bytes" % (case.name, ran.status, len(ran.text)), flush=True)
+        for growth in args.growths or range(1, NEVER):
             ended = try_refused(folder, growth)
-            faults = [(case, wrong(case, growth, ended[case.name][1], whole[case.name][1])) for case in args.cases]
+            faults = [(case, wrong(case, growth, ended[case.name], whole[case.name])) for case in args.cases]
             found = ["%s: %s" % (case.name, fault) for case, fault in faults if fault]
-            refused = sum(ran.refused for _, ran in ended.values())
-            print("growth %d: refused in %d of %d inputs; %s"
-                  % (growth, refused, len(ended), "; ".join(found) or "each ended rightly"), flush=True)
+            refused = sum(ran.refused for ran in ended.values())
+            print("growth %d: %d of %d inputs end for want of memory; %s"
+                  % (growth, refused, len(ended), "; ".join(found) or "each is right"), flush=True)
             is_right = is_right and not found
+            if refused == 0:
+                break
     return is_right
 
 
