@@ -4,7 +4,7 @@
 //! names, and a core module claims some tables, each of which counts 1. So the number of tables says where the bound is
 //! met.
 
-use crate::inputs::{SMALLEST, holds, is_answered};
+use crate::inputs::{SMALLEST, between, holds, is_answered};
 use crate::translator::options_into;
 use pc_input::{Input, decode_input};
 use pc_tool::Status;
@@ -408,6 +408,18 @@ static READ: [(Parts, &str, &str, &str); 11] = [
     (OPTIONS, "3", "149", TOO_MANY),
 ];
 
+/// The type table of these parts.
+fn table_of(alloc: Global, parts: &Parts) -> Result<String, AllocError> {
+    let entries = between(alloc, parts.core, r#"],"types":["#, ENTRIES)?;
+    between(alloc, r#"{"core":["#, &entries, parts.more)
+}
+
+/// Their payloads between the version and the end, where the core module claims so many tables.
+fn payloads_of(alloc: Global, parts: &Parts, tables: &str) -> Result<String, AllocError> {
+    let module = between(alloc, MODULE, tables, EMPTY)?;
+    between(alloc, parts.before, &module, parts.behind)
+}
+
 /// The input of these parts, where the unsafe intrinsics are exposed under a name or null.
 fn exposing(
     alloc: Global,
@@ -416,22 +428,16 @@ fn exposing(
     intrinsics: &str,
     tables: &str,
 ) -> Result<String, AllocError> {
+    let exposed = between(alloc, limit, r#","intrinsics":"#, intrinsics)?;
+    let types = table_of(alloc, parts)?;
+    let payloads = payloads_of(alloc, parts, tables)?;
     let texts = [
         r#"{"limit":"#,
-        limit,
-        r#","intrinsics":"#,
-        intrinsics,
-        r#","types":{"core":["#,
-        parts.core,
-        r#"],"types":["#,
-        ENTRIES,
-        parts.more,
+        exposed.as_str(),
+        r#","types":"#,
+        types.as_str(),
         r#"]},"payloads":["version","#,
-        parts.before,
-        MODULE,
-        tables,
-        EMPTY,
-        parts.behind,
+        payloads.as_str(),
         r#","end"]}"#,
     ];
     texts.join(alloc, "")
