@@ -484,8 +484,9 @@ fn what_comes_first_is_told(rt: HostRuntime) {
     are_answered(&rt, rt.alloc(), Status::Refused, &READ);
 }
 
-/// What stands in front of the module where each item of the root is stuck but the first. 32 entries, 5 items and the
-/// tables; the root, 1 + 4294966214 + 8 + 107. So 927 tables make 4294967294 with nothing behind the module.
+/// What stands in front of the module where the second item of the root is stuck, so that nothing behind it is read. 32
+/// entries, 5 items and the tables; the root, 1 + 4294966214 + 8 + 107. So 927 tables make 4294967294 with nothing
+/// behind the module.
 const STUCK: &str =
     r#"{"imports":[["i",["instance",30]]]},{"aliases":[{"export":["func",9,"f"]}]},"#;
 
