@@ -1291,7 +1291,8 @@ def not_utf8(room):
 FAMILIES = {
     many_lifts: 0, many_exports: 0, many_lifts_of_form_two: 0, many_exports_of_form_two: 0, an_export_twice: 1,
     small_payloads: 0, empty_sections: 0, many_modules: 0,
-    chain_of_modules: 0, chain_of_functions: 0, chain_of_memories: 0, records_of_many_globals: 0, wide_module: 0, wide_imports: 0, many_arguments: 0, long_signature: 0, long_function_type: 0,
+    chain_of_modules: 0, chain_of_functions: 0, chain_of_memories: 0, records_of_many_globals: 0, wide_module: 0,
+    wide_imports: 0, many_arguments: 0, long_signature: 0, long_function_type: 0,
     many_functions: 0, shared_parameters: 0, long_name: 0, long_escapes: 0, names_that_share_a_front: 0, deep_json: 1,
     deepest_json: 1, wide_json: 1, widest_record: 0, many_entries: 0, doubling_tuples: 0, entry_names_itself: 1,
     nested_components: 0, components_in_a_row: 0, open_components: 1, aliases_across_levels: 1, things_across_levels: 1,
@@ -1383,7 +1384,8 @@ def main():
         status, line, seconds, peak = run(os.path.abspath(args.program), word, path, args.seconds)
         wrong = "" if status == FAMILIES[family] else "   <- expected status %d" % FAMILIES[family]
         worse += bool(wrong)
-        print("%-30s %6d %7.1f %8.2f %9.0f %8.3f  %s%s" % (family.__name__, status, size, seconds, peak / 1024, seconds / size, line, wrong), flush=True)
+        figures = (family.__name__, status, size, seconds, peak / 1024, seconds / size, line, wrong)
+        print("%-30s %6d %7.1f %8.2f %9.0f %8.3f  %s%s" % figures, flush=True)
         if not args.keep:
             os.remove(path)
     sys.exit(1 if worse else 0)
