@@ -46,7 +46,8 @@ def main():
     for name in args.families or ORDINARY:
         with tempfile.TemporaryDirectory() as folder:
             path = os.path.join(folder, name + ".json")
-            size = hostile.write(families[name], int(args.mib * (1 << 20)), path) / (1 << 20)
+            most = min(args.mib, hostile.MOST_MIB.get(families[name], args.mib))
+            size = hostile.write(families[name], int(most * (1 << 20)), path) / (1 << 20)
             seconds, peak = used([os.path.abspath(args.program), "translate"], path)
             other_seconds, other_peak = used(shlex.split(args.other), path)
         figures = (size, seconds, peak, other_seconds, other_peak, other_seconds / seconds, other_peak / peak)
