@@ -23,20 +23,17 @@ ORDINARY = ("many_lifts", "many_exports", "wide_module", "many_functions", "name
 
 
 def used(command, path):
-    """The seconds of processor time and the MiB at the peak."""
-    with open(path, "rb") as src:
-        child = subprocess.Popen(command, stdin=src, stdout=subprocess.DEVNULL, stderr=subprocess.DEVNULL)
-        _, code, spent = os.wait4(child.pid, 0)
-        child.returncode = os.waitstatus_to_exitcode(code)
-    if child.returncode != 0:
-        sys.exit("%s ended with status %d" % (shlex.join(command), child.returncode))
-    return spent.ru_utime + spent.ru_stime, spent.ru_maxrss / 1024
+    """The seconds of processor time and the MiB at the peak of a command that has to end well."""
+    status, seconds, peak = hostile.measured(command, path, subprocess.DEVNULL)
+    if status != 0:
+        sys.exit("%s ended with status %d" % (shlex.join(command), status))
+    return seconds, peak
 
 
 def main():
     parser = argparse.ArgumentParser(description="Runs the program beside another reader of JSON.")
     parser.add_argument("program")
-    parser.add_argument("families", nargs="*", metavar="FAMILY", default=ORDINARY)
+    parser.add_argument("families", nargs="*", metavar="FAMILY")
     parser.add_argument("--mib", type=float, default=48)
     parser.add_argument("--other", default="jq -c .")
     args = parser.parse_intermixed_args()
@@ -46,8 +43,7 @@ def main():
     for name in args.families or ORDINARY:
         with tempfile.TemporaryDirectory() as folder:
             path = os.path.join(folder, name + ".json")
-            most = min(args.mib, hostile.MOST_MIB.get(families[name], args.mib))
-            size = hostile.write(families[name], int(most * (1 << 20)), path) / (1 << 20)
+            size = hostile.make(families[name], args.mib, path)
             seconds, peak = used([os.path.abspath(args.program), "translate"], path)
             other_seconds, other_peak = used(shlex.split(args.other), path)
         figures = (size, seconds, peak, other_seconds, other_peak, other_seconds / seconds, other_peak / peak)

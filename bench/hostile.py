@@ -1350,17 +1350,30 @@ def write(family, size, path):
     return length
 
 
-def run(program, word, path, seconds):
-    """The status, the first line, the seconds of processor time and the KiB at the peak."""
-    def limits():
-        resource.setrlimit(resource.RLIMIT_CPU, (seconds, seconds + 1))
-    with open(path, "rb") as src, tempfile.TemporaryFile() as out:
-        child = subprocess.Popen([program, word], stdin=src, stdout=out, stderr=subprocess.DEVNULL, preexec_fn=limits)
+def make(family, mib, path):
+    """Makes an input of a family, of at most so many MiB or of as many as its total lets it have: how many it has."""
+    most = min(mib, MOST_MIB.get(family, mib))
+    return write(family, int(most * (1 << 20)), path) / (1 << 20)
+
+
+def measured(command, path, out, limits=None):
+    """The status of a command that reads a file, the seconds of processor time and the MiB at the peak."""
+    with open(path, "rb") as src:
+        child = subprocess.Popen(command, stdin=src, stdout=out, stderr=subprocess.DEVNULL, preexec_fn=limits)
         _, code, used = os.wait4(child.pid, 0)
         child.returncode = os.waitstatus_to_exitcode(code)
+    return child.returncode, used.ru_utime + used.ru_stime, used.ru_maxrss / 1024
+
+
+def run(program, word, path, seconds):
+    """The status, the first line, the seconds of processor time and the MiB at the peak."""
+    def limits():
+        resource.setrlimit(resource.RLIMIT_CPU, (seconds, seconds + 1))
+    with tempfile.TemporaryFile() as out:
+        status, time, peak = measured([program, word], path, out, limits)
         out.seek(0)
         line = out.readline(60).decode(errors="replace").rstrip("\n")
-        return child.returncode, line, used.ru_utime + used.ru_stime, used.ru_maxrss
+        return status, line, time, peak
 
 
 def main():
@@ -1380,11 +1393,11 @@ def main():
     for family in chosen:
         path = os.path.join(folder, family.__name__ + ".json")
         word = args.word or WORDS.get(family, "translate")
-        size = write(family, int(min(args.mib, MOST_MIB.get(family, args.mib)) * (1 << 20)), path) / (1 << 20)
+        size = make(family, args.mib, path)
         status, line, seconds, peak = run(os.path.abspath(args.program), word, path, args.seconds)
         wrong = "" if status == FAMILIES[family] else "   <- expected status %d" % FAMILIES[family]
         worse += bool(wrong)
-        figures = (family.__name__, status, size, seconds, peak / 1024, seconds / size, line, wrong)
+        figures = (family.__name__, status, size, seconds, peak, seconds / size, line, wrong)
         print("%-30s %6d %7.1f %8.2f %9.0f %8.3f  %s%s" % figures, flush=True)
         if not args.keep:
             os.remove(path)
