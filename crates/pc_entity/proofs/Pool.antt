@@ -12,7 +12,10 @@ use Rattle.std.proofs.lemmas.Slice.Eq.{bytes_eq-Decides}
 use Rattle.pc_entity.specs.Lists.{AreDistinct}
 use Rattle.pc_entity.specs.Exact.{same_texts}
 use Rattle.pc_entity.proofs.Distinct.{are_distinct, behind}
-use Rattle.pc_entity.proofs.Entries.{string_eq-same}
+
+-- strings with the same bytes are equal
+string_eq-same : {Y : Type 0} (x y : String Y) → string_bytes x ≡ string_bytes y → string_eq x y ≡ true
+string_eq-same x y h = (bytes_eq-Decides (string_bytes x) (string_bytes y)).1 h
 
 -- an item of a list stands at a place
 place : {A : Type 0} (xs : List A) (x : A) → Contains xs x → (i : ℕ) × (slice_get xs i ≡ Some x)

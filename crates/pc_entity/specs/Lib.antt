@@ -3,6 +3,5 @@ pub mod Lists
 pub mod PackedOption
 pub mod SecondaryMap
 -- How a map from strings is seen and made from a list, and why `==` is equality of values.
-pub mod Named
 pub mod FirstValues
 pub mod Exact

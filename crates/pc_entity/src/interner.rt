@@ -7,7 +7,7 @@ ghost use Rattle.std.specs.Iterator.Runs.{EveryRun, ItemsMapTo};
 ghost use Rattle.std.specs.Slice.Iter.{iter_rest, iter_steps};
 ghost use Rattle.pc_entity.specs.Lists.{AreDistinct};
 
-use crate::{ExactEq, NoMemory};
+use crate::{ExactEq, NoMemory, Seed};
 use indexmap::IndexSet;
 use std::alloc::Global;
 use std::marker::Model;
@@ -16,7 +16,7 @@ use std::slice::Iter;
 /// A list of distinct values, where a value that is added again keeps its number. A contract sees the list.
 #[derive(Drop)]
 pub struct Interner<V: ExactEq> {
-    values: IndexSet<V>,
+    values: IndexSet<V, Seed>,
 }
 
 impl<V: ExactEq> Model for Interner<V> {
@@ -32,12 +32,17 @@ impl<V: ExactEq> Model for Interner<V> {
 
 impl<V: ExactEq> Interner<V> {
     /// The interner with no values, which takes no memory.
-    pub fn new(alloc: Global) -> Interner<V>
+    pub fn new(alloc: Global, seed: Seed) -> Interner<V>
         ensures { result ≡ [] }
     {
         Interner {
-            values: IndexSet::new(alloc),
+            values: IndexSet::with_hasher(alloc, seed),
         }
+    }
+
+    /// The seed that its places depend on.
+    pub fn seed(&self) -> Seed {
+        *self.values.hasher()
     }
 
     /// The number of values.

@@ -11,6 +11,7 @@ mod interner;
 mod packed_option;
 mod primary_map;
 mod secondary_map;
+mod seed;
 mod seq;
 mod string_pool;
 mod text;
@@ -34,6 +35,7 @@ pub use pc_numbers::{
 };
 pub use primary_map::PrimaryMap;
 pub use secondary_map::SecondaryMap;
+pub use seed::Seed;
 pub use seq::Seq;
 pub use string_pool::{Atom, StringPool};
 pub use text::Text;

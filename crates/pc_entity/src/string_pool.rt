@@ -5,7 +5,7 @@ ghost use Rattle.std.specs.Prelude.{IfOk, OnOk, OnErr};
 ghost use Rattle.std.proofs.Common.{refl, rules};
 ghost use Rattle.pc_entity.specs.Lists.{AreDistinct};
 
-use crate::NoMemory;
+use crate::{NoMemory, Seed};
 use indexmap::IndexSet;
 use pc_numbers::EntityRef;
 use std::alloc::Global;
@@ -38,7 +38,7 @@ impl EntityRef for Atom {
 /// A list of distinct texts, where a text that is added again keeps its number. A contract sees the list.
 #[derive(Drop)]
 pub struct StringPool {
-    texts: IndexSet<String>,
+    texts: IndexSet<String, Seed>,
 }
 
 impl Model for StringPool {
@@ -55,11 +55,11 @@ impl Model for StringPool {
 
 impl StringPool {
     /// The pool with no texts, which takes no memory.
-    pub fn new(alloc: Global) -> StringPool
+    pub fn new(alloc: Global, seed: Seed) -> StringPool
         ensures { result ≡ [] }
     {
         StringPool {
-            texts: IndexSet::new(alloc),
+            texts: IndexSet::with_hasher(alloc, seed),
         }
     }
 

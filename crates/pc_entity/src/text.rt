@@ -1,68 +1,68 @@
-//! A text that contracts see as its bytes.
+//! A text that contracts see as its bytes, and whose copies share them.
 
-ghost use Rattle.std.specs.Prelude.{◌≡◌, ◌++◌, [], Some, length, nat_eq, IfOk, OnOk, OnErr};
+ghost use Rattle.std.specs.Prelude.{◌≡◌, Some, length, nat_eq, IfOk};
 ghost use Rattle.std.specs.Ordering.{nat_cmp};
 ghost use Rattle.std.specs.Hash as fed;
 ghost use Rattle.std.specs.Str.{bytes_eq};
 ghost use Rattle.std.specs.String.{string_bytes};
+ghost use Rattle.std.specs.Rc.{rc_str_bytes};
 ghost use Rattle.std.specs.Cmp.Lexicographic.{slice_cmp, nat_list_eq_equiv, nat_list_cmp_total, texts_po, texts_ties};
 ghost use Rattle.std.specs.Cmp.{partial_equiv_from_equiv};
 ghost use Rattle.std.specs.Cmp.Rules.{hashing};
-ghost use Rattle.std.proofs.Common.{refl, rules};
+ghost use Rattle.std.proofs.Common.{ap, refl, rules};
 ghost use Rattle.pc_entity.specs.Exact.{same_texts};
 
 use crate::{ExactEq, NoMemory};
+use indexmap::Equivalent;
 use std::alloc::Global;
 use std::cmp::Ordering;
 use std::hash::{Hash, Hasher};
 use std::marker::Model;
+use std::rc::RcStr;
 
 /// A text. Two texts are equal exactly where their bytes are.
+///
+/// A text never changes, and its copies share its bytes, so a copy takes neither memory nor time by its length.
 #[derive(Debug, Drop)]
 pub struct Text {
-    text: String,
+    text: RcStr,
 }
 
 impl Model for Text {
     ghost use Rattle.std.specs.Prelude.{ℕ, List};
-    ghost use Rattle.std.specs.String.{string_bytes};
+    ghost use Rattle.std.specs.Rc.{rc_str_bytes};
 
     ghost Value = { List ℕ };
 
-    ghost view = { λ t. string_bytes t.text };
+    ghost view = { λ t. rc_str_bytes t.text };
 }
 
 impl Text {
-    /// The empty text, which takes no memory.
-    pub fn new(alloc: Global) -> Text
-        ensures { result ≡ [] }
-    {
-        Text {
-            text: String::new(alloc),
-        }
-    }
-
-    /// A copy of `text`.
+    /// A text with the bytes of `text`, in memory of its own.
     pub fn copy_of(alloc: Global, text: &str) -> Result<Text, NoMemory>
         ensures { IfOk result (λ copy. copy ≡ text.now) }
     {
         Ok(Text {
-            text: String::from_str(alloc, text)?,
+            text: RcStr::from_str(alloc, text)?,
         })
     }
 
     /// The text of a string, in the same memory.
-    pub fn from_string(text: String) -> Text
-        ensures { result ≡ string_bytes text }
+    pub fn from_string(text: String) -> Result<Text, NoMemory>
+        ensures { IfOk result (λ made. made ≡ string_bytes text) }
     {
-        Text { text }
+        Ok(Text {
+            text: RcStr::from_string(text)?,
+        })
     }
 
-    /// The text as a string, in the same memory.
-    pub fn into_string(self) -> String
-        ensures { string_bytes result ≡ self }
+    /// The same text, with the bytes shared.
+    pub fn share(&self) -> Result<Text, NoMemory>
+        ensures { IfOk result (λ copy. copy ≡ self.now) }
     {
-        self.text
+        Ok(Text {
+            text: self.text.clone()?,
+        })
     }
 
     /// The text itself.
@@ -83,16 +83,7 @@ impl Text {
     pub fn is_empty(&self) -> bool
         ensures { result ≡ nat_eq (length self.now) 0 }
     {
-        self.text.is_empty()
-    }
-
-    /// Appends `more`.
-    pub fn push_str(&mut self, more: &str) -> Result<(), NoMemory>
-        ensures ok { OnOk result (self.new ≡ self.old ++ more.now) }
-        ensures err { OnErr result (self.new ≡ self.old) }
-    {
-        self.text.push_str(more)?;
-        Ok(())
+        self.len() == 0
     }
 }
 
@@ -141,6 +132,19 @@ impl Hash for Text {
 
     fn hash<H: Hasher>(&self, state: &mut H) {
         self.as_str().hash(state);
+    }
+}
+
+// A look-up in a map takes the bytes alone.
+impl Equivalent<Text> for &str {
+    ghost equivalent = { λ q k. bytes_eq q.now k };
+
+    ghost respects_hash = { λ q k h. ap fed.str (same_texts q.now k h) };
+
+    ghost respects_eq = { λ q. nat_list_eq_equiv.congr q.now };
+
+    fn equivalent(&self, key: &Text) -> bool {
+        *self == key.as_str()
     }
 }
 

@@ -5,7 +5,7 @@ ghost use Rattle.std.specs.Option.{option_copied, option_map};
 ghost use Rattle.pc_entity.specs.FirstValues.{with_first};
 ghost use Rattle.pc_entity.specs.Lists.{value_of, with_value, names_of, AreDistinct};
 
-use crate::{NoMemory, Text, TryClone};
+use crate::{NoMemory, Seed, Text};
 use indexmap::IndexMap;
 use std::alloc::Global;
 use std::marker::Model;
@@ -13,30 +13,34 @@ use std::marker::Model;
 /// A map from texts. A contract sees the list of its names with their values, in order.
 #[derive(Drop)]
 pub struct TextMap<V> {
-    entries: IndexMap<String, V>,
+    entries: IndexMap<Text, V, Seed>,
 }
 
 impl<V> Model for TextMap<V> {
     ghost use Rattle.std.specs.Prelude.{List, ℕ};
-    ghost use Rattle.std.specs.String.{string_eq};
+    ghost use Rattle.std.specs.Str.{bytes_eq};
     ghost use Rattle.indexmap.specs.IndexMap.{IsUnique};
-    ghost use Rattle.pc_entity.specs.Named.{named};
 
     ghost Value = { List (List ℕ × V) };
 
-    ghost view = { λ m. named m.entries.entries };
+    ghost view = { λ m. m.entries.entries };
 
-    ghost invariant = { λ m. IsUnique string_eq m.entries };
+    ghost invariant = { λ m. IsUnique bytes_eq m.entries };
 }
 
 impl<V> TextMap<V> {
     /// The map with no names, which takes no memory.
-    pub fn new(alloc: Global) -> TextMap<V>
+    pub fn new(alloc: Global, seed: Seed) -> TextMap<V>
         ensures { result ≡ [] }
     {
         TextMap {
-            entries: IndexMap::new(alloc),
+            entries: IndexMap::with_hasher(alloc, seed),
         }
+    }
+
+    /// The seed that its places depend on.
+    pub fn seed(&self) -> Seed {
+        *self.entries.hasher()
     }
 
     /// The number of names.
@@ -98,15 +102,15 @@ impl<V: Drop> TextMap<V> {
         Ok(())
     }
 
-    /// Adds a copy of `name` at the end, unless it has a value: of a name that stands twice the first counts.
-    pub fn insert_first(&mut self, alloc: Global, name: &Text, value: V) -> Result<(), NoMemory>
+    /// Adds `name` at the end, unless it has a value: of a name that stands twice the first counts.
+    pub fn insert_first(&mut self, name: &Text, value: V) -> Result<(), NoMemory>
         ensures ok { OnOk result (self.new ≡ with_first self.old (name.now, value)) }
         ensures err { OnErr result (self.new ≡ self.old) }
     {
         if self.contains(name.as_str()) {
             return Ok(());
         }
-        self.push(name.try_clone(alloc)?, value)
+        self.push(name.share()?, value)
     }
 
     /// Puts `value` at `name`, and answers the value that stood there. A name that is absent is added at the end, and
@@ -117,6 +121,6 @@ impl<V: Drop> TextMap<V> {
         ensures err { OnErr result (self.new ≡ self.old) }
         ensures absent { OnErr result (value_of name self.old ≡ None) }
     {
-        Ok(self.entries.insert(name.into_string(), value)?)
+        Ok(self.entries.insert(name, value)?)
     }
 }

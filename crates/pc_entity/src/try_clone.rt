@@ -4,8 +4,8 @@ use crate::{NoMemory, Seq, Text, TryClone};
 use std::alloc::Global;
 
 impl TryClone for Text {
-    fn try_clone(&self, alloc: Global) -> Result<Text, NoMemory> {
-        Text::copy_of(alloc, self.as_str())
+    fn try_clone(&self, _alloc: Global) -> Result<Text, NoMemory> {
+        self.share()
     }
 }
 

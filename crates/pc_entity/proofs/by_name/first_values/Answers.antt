@@ -12,6 +12,6 @@ loop-entry-preserved g c =
     let within : i < length es = omega arith in
     let longer : take (i + 1) es ≡ take i es ++ e ∷ [] =
     (take_at_read es i e within).1 ∙ (λ j. take i es ++ sym is_it j ∷ []) in
-    subst (λ ys. FindsAs c.add_first.new.found ys) (sym longer)
-    (subst (λ xs. FindsAs xs (take i es ++ e ∷ [])) (sym c.in_ok-add_first.ensures.ok)
+    subst (λ ys. FindsAs c.insert_first.new.self ys) (sym longer)
+    (subst (λ xs. FindsAs xs (take i es ++ e ∷ [])) (sym c.in_ok-insert_first.ensures.ok)
     (found_next c.loop-entry.found (take i es) e c.loop-entry.invariant))
