@@ -123,7 +123,7 @@ fn named_of(
     ensures { IfOk result (λ all. all ≡ named_in graph.now finish.now args.now) }
 {
     args.names_are_distinct();
-    let mut all = TextMap::new(alloc);
+    let mut all = TextMap::new(alloc, args.seed());
     for place in 0..args.len() {
         let (name, def) = args.entry_at(place);
         let def = def_of(alloc, graph, finish, def)?;
@@ -144,7 +144,7 @@ pub(crate) fn host_of(
     ensures { IfOk result (λ all. all ≡ host_in graph.now finish.now args.now) }
 {
     args.names_are_distinct();
-    let mut all = TextMap::new(alloc);
+    let mut all = TextMap::new(alloc, args.seed());
     for place in 0..args.len() {
         let (name, named) = args.entry_at(place);
         let named = named_of(alloc, graph, finish, named)?;

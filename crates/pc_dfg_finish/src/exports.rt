@@ -59,7 +59,7 @@ fn names_of(
     ensures { IfOk result (λ names. IsNamed map.now names) }
 {
     map.names_are_distinct();
-    let mut names = NameMap::new(alloc);
+    let mut names = NameMap::new(alloc, map.seed());
     for place in 0..map.len() {
         let (name, target) = map.entry_at(place);
         let data = target.1.try_clone(alloc)?;

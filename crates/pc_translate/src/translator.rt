@@ -54,7 +54,7 @@ use pc_weights::counted;
 use std::alloc::Global;
 
 /// The number that a total may not reach.
-const FULL: u32 = 4294967295;
+const FULL: u32 = pc_weights::FULL as u32;
 
 /// A plan and its core modules.
 pub type PlanWithModules = (
