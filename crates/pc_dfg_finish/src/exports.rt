@@ -63,7 +63,7 @@ fn names_of(
     for place in 0..map.len() {
         let (name, target) = map.entry_at(place);
         let data = target.1.try_clone(alloc)?;
-        push_name(alloc, &mut names, name, (target.0, data))?;
+        push_name(alloc, &mut names, name.as_str(), (target.0, data))?;
     }
     Ok(names)
 }
