@@ -1,5 +1,6 @@
 -- Lemmas that the answers cite, and for those who take lists and objects off a reader.
 pub mod Trees
+pub mod Digits
 pub mod Keys
 pub mod Turns
 pub mod Items

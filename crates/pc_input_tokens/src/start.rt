@@ -4,7 +4,7 @@ ghost use Rattle.std.specs.Prelude.{◌≡◌};
 ghost use Rattle.json.specs.Reads.{token_of};
 ghost use Rattle.pc_input_tokens.specs.Takes.{start_of, Starts};
 
-use crate::numbers::number;
+use crate::numbers::is_in_range;
 use json::{Reader, Token};
 
 /// What begins here.
@@ -26,7 +26,7 @@ fn start_of(token: Token<'_>) -> Option<Start>
         Token::BeginArray => Some(Start::Array),
         Token::BeginObject => Some(Start::Object),
         Token::Number(text) => {
-            if number(text).is_some() {
+            if is_in_range(text) {
                 Some(Start::Scalar)
             } else {
                 None

@@ -7,7 +7,7 @@ ghost use Rattle.serde_json.specs.Read.{of_json, of_items};
 ghost use Rattle.pc_input_tokens.specs.Borrowed.{data_in, items_data};
 ghost use Rattle.pc_input_tokens.specs.Values.{EachHasValue};
 
-use crate::numbers::number;
+use crate::numbers::is_in_range;
 use json::Value;
 
 /// Whether each number in a tree has a value.
@@ -17,7 +17,7 @@ pub(crate) fn has_values(value: &Value<'_>) -> bool
         (of_json (value_view value.now) ≡ None) }
 {
     match value {
-        Value::Number(text) => number(text).is_some(),
+        Value::Number(text) => is_in_range(text),
         Value::Array(items) => items_have_values(items),
         Value::Object(members) => members_have_values(members),
         _ => true,

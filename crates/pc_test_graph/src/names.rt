@@ -9,7 +9,7 @@ use std::process::Abort;
 use std::test::*;
 
 /// Inserts names with their items.
-fn inserts<K: Eq + Ord + Hash + TryClone + Drop, I: NameMapIntern<Key = K>>(
+fn inserts<K: Eq + Hash + TryClone + Drop, I: NameMapIntern<Key = K>>(
     rt: &impl Abort,
     map: &mut NameMap<K, u32>,
     cx: &mut I,
@@ -26,7 +26,7 @@ fn inserts<K: Eq + Ord + Hash + TryClone + Drop, I: NameMapIntern<Key = K>>(
 }
 
 /// Looks names up, each of which finds this item, or none.
-fn finds<K: Eq + Ord + Hash + TryClone + Drop, I: NameMapIntern<Key = K>>(
+fn finds<K: Eq + Hash + TryClone + Drop, I: NameMapIntern<Key = K>>(
     rt: &impl Abort,
     map: &NameMap<K, u32>,
     cx: &I,
@@ -42,7 +42,7 @@ fn finds<K: Eq + Ord + Hash + TryClone + Drop, I: NameMapIntern<Key = K>>(
 }
 
 /// Inserts names and looks names up.
-fn maps_to<K: Eq + Ord + Hash + TryClone + Drop, I: NameMapIntern<Key = K>>(
+fn maps_to<K: Eq + Hash + TryClone + Drop, I: NameMapIntern<Key = K>>(
     rt: &impl Abort,
     alloc: Global,
     cx: &mut I,
