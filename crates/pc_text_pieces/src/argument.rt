@@ -8,22 +8,22 @@ ghost use Rattle.pc_text_pieces.specs.Joined.{joined};
 
 use crate::definition::{put_definition, put_separator};
 use crate::piece::{put, put_quoted};
-use pc_entity::{NoMemory, TextMap};
+use pc_entity::{NoMemory, Text, TextMap};
 use pc_info::CoreDef;
 
 /// An argument: its module name, its name, and what it is made of.
 fn put_argument(
     out: &mut Vec<u8>,
-    module_name: &str,
-    name: &str,
+    module_name: &Text,
+    name: &Text,
     def: &CoreDef,
 ) -> Result<(), NoMemory>
     ensures { OnOk result (out.new.items ≡ out.old.items
         ++ (quoted module_name.now ++ codes " " ++ quoted name.now ++ codes " " ++ definition (def_view def.now))) }
 {
-    put_quoted(out, module_name)?;
+    put_quoted(out, module_name.as_str())?;
     put(out, " ")?;
-    put_quoted(out, name)?;
+    put_quoted(out, name.as_str())?;
     put(out, " ")?;
     put_definition(out, def)
 }
@@ -32,7 +32,7 @@ fn put_argument(
 fn put_group(
     out: &mut Vec<u8>,
     are_first: bool,
-    module_name: &str,
+    module_name: &Text,
     args: &TextMap<CoreDef>,
 ) -> Result<(), NoMemory>
     ensures { OnOk result (out.new.items ≡ out.old.items
@@ -42,7 +42,7 @@ fn put_group(
     for place in 0..args.len() {
         let (name, def) = args.entry_at(place);
         put_separator(out, is_first)?;
-        put_argument(out, module_name, name.as_str(), def)?;
+        put_argument(out, module_name, name, def)?;
         is_first = false;
     }
     Ok(())
@@ -63,7 +63,7 @@ pub fn put_arguments(out: &mut Vec<u8>, args: &TextMap<TextMap<CoreDef>>) -> Res
     let mut are_first = true;
     for place in 0..args.len() {
         let (module_name, group) = args.entry_at(place);
-        put_group(out, are_first, module_name.as_str(), group)?;
+        put_group(out, are_first, module_name, group)?;
         are_first = next_are_first(are_first, group);
     }
     Ok(())
