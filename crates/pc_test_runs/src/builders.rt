@@ -2,14 +2,34 @@
 //! resource is known when the next one begins.
 
 use crate::inputs::{Around, between, holds};
-use crate::lowerings::HOST_LOWERING;
-use crate::root::CORE_FUNCTION_MISSING;
 use pc_entity::{ModuleInternedTypeIndex, Seed};
 use pc_input::{Input, decode_input};
 use pc_translate::translate;
 use pc_types::{Error, InterfaceType, Place, TypeFuncIndex, TypeKind};
 use pc_types_builder::ComponentTypesBuilder;
 use std::alloc::{AllocError, Global};
+
+/// A host function that is lowered with a memory and a realloc.
+const HOST_LOWERING: &str =
+    r#"{"limit":100,"intrinsics":null,"types":{"core":[[["i32","i32"],[]],[["i32","i32","i32","i32"],["i32"]]],
+       "types":[{"func":{"params":[["s","string"]],"result":null,"async":false}},{"module":[[],[]]}]},
+       "payloads":["version",{"imports":[["log",["func",0]]]},
+       {"module":{"ty":1,"imports":[],"funcs":[1],"tables":0,"memories":[false],"globals":0,"tags":0,
+       "exports":[["mem","memory",0],["realloc","func",0]]}},
+       {"module":{"ty":1,"imports":[["env","log",["func",0]]],"funcs":[],"tables":0,"memories":[],"globals":0,
+       "tags":0,"exports":[]}},{"instances":[{"instantiate":[0,[]]}]},
+       {"aliases":[{"core-export":["memory",0,"mem"]},{"core-export":["func",0,"realloc"]}]},
+       {"canon":[["lower",0,0,0,[["memory",0],["realloc",0]]]]},
+       {"instances":[{"exports":[["log","func",1]]},{"instantiate":[1,[["env",1]]]}]},"end"]}"#;
+
+/// A lift of a core function that isn't there.
+const CORE_FUNCTION_MISSING: &str =
+    r#"{"limit":100,"intrinsics":null,"types":{"core":[[["i32"],["i32"]]],
+       "types":[{"func":{"params":[["x","u32"]],"result":"u32","async":false}},{"module":[[],[]]}]},
+       "payloads":["version",{"module":{"ty":1,"imports":[],"funcs":[0],"tables":0,"memories":[],"globals":0,
+       "tags":0,"exports":[["f","func",0]]}},{"instances":[{"instantiate":[0,[]]}]},
+       {"aliases":[{"core-export":["func",0,"f"]}]},{"canon":[["lift",1,0,0,[]]]},{"exports":[["f","func",0]]},
+       "end"]}"#;
 
 /// Whether an input has a plan, translated into a builder, and why not.
 fn plans(alloc: Global, types: &mut ComponentTypesBuilder, input: &Input) -> Result<(), Error> {
@@ -76,10 +96,11 @@ fn keeps_the_first(
 /// again.
 fn numbers_stay(alloc: Global) -> bool {
     let mut types = ComponentTypesBuilder::new(alloc, Seed::fixed());
+    let first = HOST_LOWERING;
     let refused = Err(Error::Invalid(AT));
-    keeps_the_first(alloc, &mut types, HOST_LOWERING, Ok(()))
+    keeps_the_first(alloc, &mut types, first, Ok(()))
         && keeps_the_first(alloc, &mut types, CORE_FUNCTION_MISSING, refused)
-        && keeps_the_first(alloc, &mut types, HOST_LOWERING, Ok(()))
+        && keeps_the_first(alloc, &mut types, first, Ok(()))
 }
 
 #[test]

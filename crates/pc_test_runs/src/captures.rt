@@ -1,7 +1,7 @@
 //! What nested components capture: a variable is shared by all that name it, and variables stand in the order in which
 //! they are met.
 
-use crate::inputs::{PAYLOADS, between, holds};
+use crate::inputs::{Around, between, holds};
 use pc_entity::Seed;
 use pc_input::{Input, decode_input};
 use pc_local::{
@@ -10,6 +10,12 @@ use pc_local::{
 };
 use pc_parsed::is_numbered;
 use std::alloc::{AllocError, Global};
+
+/// What stands around payloads. The type table has an empty instance type.
+const PAYLOADS: Around = Around {
+    before: r#"{"limit":100,"intrinsics":null,"types":{"core":[],"types":[{"instance":[]}]},"payloads":["#,
+    after: "]}",
+};
 
 /// Payloads with outer aliases, and what each body gives the components in it: the root first, then the others by
 /// number.
