@@ -4,10 +4,6 @@
 #[cfg(test)]
 mod adapters;
 #[cfg(test)]
-mod builders;
-#[cfg(test)]
-mod captures;
-#[cfg(test)]
 mod inputs;
 #[cfg(test)]
 mod long;
@@ -15,5 +11,3 @@ mod long;
 mod streams;
 #[cfg(test)]
 mod totals;
-#[cfg(test)]
-mod translator;

@@ -1,7 +1,6 @@
-//! Streams that move little a call, or fail at each of their calls in turn; and the other sources and sinks.
+//! Runs on streams that move little a call, or fail at each of their calls in turn; and over memory.
 
 mod faults;
-mod host;
 mod memory;
 
 use crate::inputs::{Ends, Ran, SMALLEST, SMALLEST_PLAN, WHOLE, answer, comes_to, holds};

@@ -1,6 +1,6 @@
 //! Streams over std's readers and writers.
 
-use crate::inputs::holds;
+use crate::asserts::holds;
 use pc_stream::{ReadEnd, StdSink, StdSource, read_all, write_all};
 use std::alloc::Global;
 use std::io;

@@ -1,5 +1,5 @@
 use Rattle.std.proofs.Common.{refl, ap, ◌∙◌, length, arith}
-use Rattle.pc_test_runs.proofs.streams.memory.read_surely.Goals as goal
+use Rattle.pc_test_stream.proofs.memory.read_surely.Goals as goal
 
 pub returns-in-Ok : goal.returns-in-Ok
 returns-in-Ok c = (c.in-Ok.ensures.whole _ refl).0 ∙ c.new-src.ensures

@@ -2,9 +2,9 @@
 //! resource is known when the next one begins.
 
 use crate::inputs::{Around, between, holds};
+use crate::translator::options_into;
 use pc_entity::{ModuleInternedTypeIndex, Seed};
 use pc_input::{Input, decode_input};
-use pc_translate::translate;
 use pc_types::{Error, InterfaceType, Place, TypeFuncIndex, TypeKind};
 use pc_types_builder::ComponentTypesBuilder;
 use std::alloc::{AllocError, Global};
@@ -33,8 +33,7 @@ const CORE_FUNCTION_MISSING: &str =
 
 /// Whether an input has a plan, translated into a builder, and why not.
 fn plans(alloc: Global, types: &mut ComponentTypesBuilder, input: &Input) -> Result<(), Error> {
-    let payloads = input.payloads.as_slice();
-    translate(alloc, &input.tunables, &input.table, types, None, payloads)?;
+    options_into(alloc, types, input)?;
     Ok(())
 }
 
