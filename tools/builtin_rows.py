@@ -1,22 +1,22 @@
 #!/usr/bin/env python3
-"""Writes the tables of crates/pc_test_builtins: each operand of each builtin that fits nothing, with the text that is
-written of it.
+"""Writes rows of crates/pc_test_rows: each operand of each builtin that fits nothing, with the text that is written of
+it.
 
-A row is a canonical function, an export or an alias, between what that crate's `inputs.rt` puts around it. The fault is
-that of the kind of operand, as docs/READING.md and docs/CAUSES.md have it: a type or a core signature is a bad type, an
-index is invalid, a function of another shape is a bad form.
+A row is a canonical function, an export or an alias, between what makes an input of it. The fault is that of the kind
+of operand, as docs/READING.md and docs/CAUSES.md have it: a type or a core signature is a bad type, an index is
+invalid, a function of another shape is a bad form.
 
-    python3 tools/builtin_rows.py            writes the tables
+    python3 tools/builtin_rows.py            writes the rows
     python3 tools/builtin_rows.py --check    ends with 1 where they are out of date
     python3 tools/builtin_rows.py --print    prints inputs and texts in turn, a line each
-    python3 tools/builtin_rows.py --around   prints what stands around the rows
 """
 
 import json
+import re
 import sys
 from pathlib import Path
 
-FOLDER = Path(__file__).resolve().parent.parent / "crates" / "pc_test_builtins" / "src"
+FOLDER = Path(__file__).resolve().parent.parent / "crates" / "pc_test_rows" / "data"
 
 # The component around a row. Known are one resource (0), and one item each of the core functions, memories and tables.
 TYPES = [
@@ -243,7 +243,7 @@ def other_aliases():
     yield {"export": ["func", 1, "u8-native-load"]}
 
 
-# What is written, by the names of the constants.
+# What is written.
 FAULTS = {
     "BAD_TYPE": "fault bad-type at instance 0 item 6",
     "INVALID": "fault invalid at instance 0 item 6",
@@ -269,63 +269,77 @@ def refused():
         yield [name], {"thread-spawn": "SPAWNS", "stream-forward": "FORWARDS_STREAM"}.get(kind, "FORWARDS_FUTURE")
 
 
-# A file: its first line, its name, what stands around a row, and its tables, each with its name and what it is of.
+# A file: its first line, its name, what stands around a row, and its tables, each with what it is of.
 FILES = [
-    ("Builtins with a core signature or a type that fits nothing.", "types", "BUILTIN", [
-        ("SIGNATURES", "A core signature that isn't there.", of("BAD_TYPE", signatures())),
-        ("RESOURCES", "A resource that isn't known, another type, and none.", of("BAD_TYPE", resources())),
-        ("RESULTS", "A result that is no type of values.", of("BAD_TYPE", results())),
+    ("Builtins with a core signature or a type that fits nothing.", "builtin_types", "BUILTIN", [
+        ("A core signature that isn't there.", of("BAD_TYPE", signatures())),
+        ("A resource that isn't known, another type, and none.", of("BAD_TYPE", resources())),
+        ("A result that is no type of values.", of("BAD_TYPE", results())),
     ]),
-    ("Builtins on streams and futures with another type.", "handles", "BUILTIN", [
-        ("STREAMS", "Another type than a stream, and none.", of("BAD_TYPE", streams())),
-        ("FUTURES", "Another type than a future, and none.", of("BAD_TYPE", futures())),
+    ("Builtins on streams and futures with another type.", "builtin_handles", "BUILTIN", [
+        ("Another type than a stream, and none.", of("BAD_TYPE", streams())),
+        ("Another type than a future, and none.", of("BAD_TYPE", futures())),
     ]),
-    ("Builtins with an index that names nothing, and functions that aren't supported.", "indices", "BUILTIN", [
-        ("OPTIONS", "An option that names nothing.", of("INVALID", options())),
-        ("INDICES", "A memory, a table or a context slot that isn't there.", of("INVALID", indices())),
-        ("SLOTS", "A context slot of another type than i32.",
+    ("Builtins with an index that names nothing, and functions that aren't supported.", "builtin_indices", "BUILTIN", [
+        ("An option that names nothing.", of("INVALID", options())),
+        ("A memory, a table or a context slot that isn't there.", of("INVALID", indices())),
+        ("A context slot of another type than i32.",
          of("READS_ANOTHER", slot_types("context.get")) + of("WRITES_ANOTHER", slot_types("context.set"))),
-        ("UNSUPPORTED", "Functions that aren't supported.", list(refused())),
+        ("Functions that aren't supported.", list(refused())),
     ]),
-    ("Builtins without an operand, with one too many, and with another thing in its place.", "forms", "BUILTIN", [
-        ("FORMS", "What has the form of no canonical function.", of("NO_FORM", forms())),
+    ("Builtins without an operand, with one too many, and with another thing in its place.", "builtin_forms", "BUILTIN", [
+        ("What has the form of no canonical function.", of("NO_FORM", forms())),
     ]),
     ("Intrinsics under another name, of another type, and of another kind.", "interface", "INTERFACE", [
-        ("TYPES", "An intrinsic of another type, or as something else.", of("BAD_INTRINSICS", interface())),
-        ("NAMES", "A name that no intrinsic has.", of("NO_NAME", names())),
+        ("An intrinsic of another type, or as something else.", of("BAD_INTRINSICS", interface())),
+        ("A name that no intrinsic has.", of("NO_NAME", names())),
     ]),
     ("Aliases of the members of the intrinsics.", "aliases", "ALIAS", [
-        ("UNKNOWN", "A name that no intrinsic has.", of("UNKNOWN_ALIAS", unknown_aliases())),
-        ("OTHER", "An intrinsic that is taken as something else.", of("OTHER_ALIAS", other_aliases())),
+        ("A name that no intrinsic has.", of("UNKNOWN_ALIAS", unknown_aliases())),
+        ("An intrinsic that is taken as something else.", of("OTHER_ALIAS", other_aliases())),
     ]),
 ]
+
+# What stands around a row.
+PLACES = {
+    "BUILTIN": """A canonical function in the root, as its item 6. There are a core function, a memory and a table; known is the
+resource of entry 0. The stream type is entry 6, the future type entry 7.""",
+    "INTERFACE": "Exports of the instance type that the root imports as the unsafe intrinsics.",
+    "ALIAS": "An alias behind the import of the unsafe intrinsics.",
+}
 
 
 def written(row):
     return json.dumps(row, separators=(",", ":"))
 
 
-def table(name, about, rows):
-    """A static table as it is formatted: a row stands in one line where it fits."""
-    lines = ["", "/// %s" % about, "pub(crate) static %s: [(&str, &str); %d] = [" % (name, len(rows))]
-    for row, fault in rows:
-        text = 'r#"%s"#' % written(row)
-        pair = "%s, %s" % (text, fault)
-        if len(pair) <= 60:
-            lines.append("    (%s)," % pair)
-        else:
-            lines += ["    (", "        %s," % text, "        %s," % fault, "    ),"]
-    return lines + ["];"]
+def comment(text):
+    return "".join("~ %s\n" % line for line in text.splitlines())
 
 
-def contents(about, tables):
-    used = distinct(fault for _, _, rows in tables for _, fault in rows)
-    lines = ["//! %s" % about, "//!", "//! Written by `tools/builtin_rows.py`."]
-    for fault in used:
-        lines += ["", 'const %s: &str = "%s\\n";' % (fault, FAULTS[fault])]
-    for each in tables:
-        lines += table(*each)
-    return "\n".join(lines) + "\n"
+def wrapped(text):
+    """A text in lines that end behind a comma."""
+    lines = [""]
+    for piece in re.split(r"(?<=,)", text):
+        if len(lines[-1] + piece) > 118:
+            lines.append("")
+        lines[-1] += piece
+    return "\n".join(lines)
+
+
+def table(about, rows):
+    """The rows of a table."""
+    each = ["~translate\n%s\n~refused\n%s\n" % (written(row), FAULTS[fault]) for row, fault in rows]
+    return "~\n" + comment(about) + "".join(each)
+
+
+def contents(about, place, tables):
+    """A file of rows."""
+    before, after = around()[place]
+    return "".join([
+        comment(about), "~\n~ Written by `tools/builtin_rows.py`.\n~\n", comment(PLACES[place]),
+        "~before\n%s\n~after\n%s\n" % (wrapped(before), after),
+    ] + [table(*each) for each in tables])
 
 
 def document(types, payloads, exposed):
@@ -335,7 +349,7 @@ def document(types, payloads, exposed):
 
 
 def around():
-    """What `inputs.rt` puts around the rows."""
+    """What stands around the rows."""
     module = {"ty": 5, "imports": [], "funcs": [0], "tables": 1, "memories": [False], "globals": 0, "tags": 0,
               "exports": [["f", "func", 0], ["m", "memory", 0], ["t", "table", 0]]}
     aliases = [{"core-export": [kind, 0, kind[0]]} for kind in ("func", "memory", "table")]
@@ -356,24 +370,20 @@ def main():
     if "--print" in sys.argv:
         for _, _, around_it, tables in FILES:
             before, after = around()[around_it]
-            for row, fault in (pair for each in tables for pair in each[2]):
+            for row, fault in (pair for each in tables for pair in each[1]):
                 print(before + written(row) + after)
                 print(FAULTS[fault])
         return
-    if "--around" in sys.argv:
-        for name, (before, after) in around().items():
-            print(name, before, after, sep="\n")
-        return
     stale = []
-    for about, name, _, tables in FILES:
-        path = FOLDER / (name + ".rt")
-        text = contents(about, tables)
+    for about, name, place, tables in FILES:
+        path = FOLDER / (name + ".txt")
+        text = contents(about, place, tables)
         if "--check" not in sys.argv:
             path.write_text(text)
         elif not path.exists() or path.read_text() != text:
             stale.append(name)
     for name in stale:
-        print("%s.rt is out of date: run python3 tools/builtin_rows.py" % name)
+        print("%s.txt is out of date: run python3 tools/builtin_rows.py" % name)
     sys.exit(1 if stale else 0)
 
 

@@ -3,12 +3,12 @@
 
 An input is docs/examples/NAME.json. Beside it stand its plan (NAME.plan), the sizes of its context (NAME.context) and
 its picture (NAME.svg). The page has a block for each text, between the lines <!--translate NAME--> and <!--end-->,
-where `translate` is a word of the program. Inputs and texts are also a table of the tests
-(crates/pc_test_runs/src/examples.rt), so that a change of a text fails there.
+where `translate` is a word of the program. Inputs and texts are also rows of the tests
+(crates/pc_test_rows/data/examples.txt), so that a change of a text fails there.
 
-    python3 tools/examples.py --write             writes page, table and pictures from the texts that are there
+    python3 tools/examples.py --write             writes page, rows and pictures from the texts that are there
     python3 tools/examples.py --write PROGRAM     runs the program, and writes the texts too
-    python3 tools/examples.py --check             ends with 1 where page, table or pictures are out of date
+    python3 tools/examples.py --check             ends with 1 where page, rows or pictures are out of date
     python3 tools/examples.py --check PROGRAM     and where the program writes another text
 
 Pictures are drawn where Graphviz (`dot`) is installed. Each names the checksum of the text that it was drawn from.
@@ -27,25 +27,14 @@ import draw
 ROOT = Path(__file__).resolve().parent.parent
 EXAMPLES = ROOT / "docs" / "examples"
 PAGE = ROOT / "docs" / "EXAMPLES.md"
-TABLE = ROOT / "crates" / "pc_test_runs" / "src" / "examples.rt"
+TABLE = ROOT / "crates" / "pc_test_rows" / "data" / "examples.txt"
 BLOCK = re.compile(r"(<!--([a-z]+) ([a-z]+)-->\n).*?(<!--end-->)", re.DOTALL)
 ENDINGS = {"translate": "plan"}
 
-TESTS = '''//! The inputs of docs/examples, and what is written of them.
-//!
-//! Written by `tools/examples.py`.
-
-use crate::inputs::{holds, is_answered};
-use pc_tool::Status;
-%s
-#[test]
-fn examples_have_their_texts(rt: HostRuntime) {
-    for (word, input, text) in EXAMPLES.iter() {
-        let is_so = is_answered(rt.alloc(), word, input, Status::Done, text);
-        holds(&rt, input, is_so.unwrap_or(false));
-    }
-}
-'''
+HEAD = """~ The inputs of docs/examples, and what is written of them.
+~
+~ Written by `tools/examples.py`.
+"""
 
 
 def file_of(word, name):
@@ -71,25 +60,15 @@ def page():
     return BLOCK.sub(filled, PAGE.read_text())
 
 
-def literal(text):
-    hashes = "#"
-    while '"' + hashes in text:
-        hashes += "#"
-    return 'r%s"%s"%s' % (hashes, text, hashes)
+def row(word, name):
+    """A row of the tests. The last line of an input has no end there."""
+    text = (EXAMPLES / (name + ".json")).read_text()
+    return "~\n~%s\n%s\n~done\n%s" % (word, text.rstrip("\n"), text_of(word, name))
 
 
 def table():
-    """The tests."""
-    inputs = dict.fromkeys(name for _, name in blocks())
-    lines = []
-    for name in inputs:
-        lines += ["", "const %s: &str = %s;" % (name.upper(), literal((EXAMPLES / (name + ".json")).read_text()))]
-    rows = blocks()
-    lines += ["", "/// A word, an input and the text.", "static EXAMPLES: [(&str, &str, &str); %d] = [" % len(rows)]
-    for word, name in rows:
-        cells = ['"%s"' % word, name.upper(), literal(text_of(word, name))]
-        lines += ["    ("] + ["        %s," % cell for cell in cells] + ["    ),"]
-    return TESTS % "\n".join(lines + ["];", ""])
+    """The rows of the tests."""
+    return HEAD + "".join(row(word, name) for word, name in blocks())
 
 
 def drawing(name):

@@ -141,24 +141,6 @@ pub(crate) struct Around {
     pub(crate) after: &'static str,
 }
 
-/// The text is the input.
-pub(crate) const ALONE: Around = Around {
-    before: "",
-    after: "",
-};
-
-/// Payloads. The type table has an empty instance type.
-pub(crate) const PAYLOADS: Around = Around {
-    before: r#"{"limit":100,"intrinsics":null,"types":{"core":[],"types":[{"instance":[]}]},"payloads":["#,
-    after: "]}",
-};
-
-/// Entries of the type table, before payloads that are at fault.
-pub(crate) const ENTRIES: Around = Around {
-    before: r#"{"limit":100,"intrinsics":null,"types":{"core":[],"types":["#,
-    after: r#"]},"payloads":["custom"]}"#,
-};
-
 /// A text between two others.
 pub(crate) fn between(
     alloc: Global,
@@ -169,58 +151,7 @@ pub(crate) fn between(
     [before, text, after].join(alloc, "")
 }
 
-/// Whether the input that is made of a text is translated with this status, and this text is written.
-fn is_translated(
-    alloc: Global,
-    around: Around,
-    text: &str,
-    status: Status,
-    written: &str,
-) -> Result<bool, AllocError> {
-    let input = between(alloc, around.before, text, around.after)?;
-    is_answered(alloc, "translate", &input, status, written)
-}
-
 /// That something holds. All assertions stand here, since each is proved anew where it stands.
 pub(crate) fn holds(rt: &impl Abort, what: &str, holds: bool) {
     assert!(rt; holds, "{what}");
-}
-
-/// Checks that the inputs that are made of these texts are translated with this status, and that the text beside each
-/// of them is written.
-fn are_translated(
-    rt: &impl Abort,
-    alloc: Global,
-    around: Around,
-    status: Status,
-    rows: &[(&str, &str)],
-) {
-    for (text, written) in rows {
-        let is_so = is_translated(alloc, around, text, status, written);
-        holds(rt, text, is_so.unwrap_or(false));
-    }
-}
-
-/// Checks that the input that is made of each text has the plan beside it.
-pub(crate) fn are_planned(rt: &impl Abort, alloc: Global, around: Around, rows: &[(&str, &str)]) {
-    are_translated(rt, alloc, around, Status::Done, rows);
-}
-
-/// Checks that the input that is made of each text is refused with the text beside it.
-pub(crate) fn are_refused(rt: &impl Abort, alloc: Global, around: Around, rows: &[(&str, &str)]) {
-    are_translated(rt, alloc, around, Status::Refused, rows);
-}
-
-/// Checks that the input that is made of each of these texts is refused with one text.
-pub(crate) fn are_refused_with(
-    rt: &impl Abort,
-    alloc: Global,
-    around: Around,
-    texts: &[&str],
-    written: &str,
-) {
-    for text in texts {
-        let is_so = is_translated(alloc, around, text, Status::Refused, written);
-        holds(rt, text, is_so.unwrap_or(false));
-    }
 }

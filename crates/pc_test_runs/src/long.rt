@@ -1,12 +1,17 @@
 //! Inputs that are deep, and a long one, with their plans.
 
 use crate::inputs::{Around, between, holds, is_answered};
-use crate::root::EMPTY_PLAN;
 use pc_tool::Status;
 use std::alloc::{AllocError, Global};
 
 /// The end of a component, and an instance of it in the component around it.
 const INSTANTIATED: &str = r#""end",{"component-instances":[{"instantiate":[0,[],0]}]},"#;
+
+/// The plan of a root without content.
+const EMPTY_PLAN: &str = "plan 1
+modules 0 0
+counts 0 1 0 0 0 0 0 0 0 0 0 0
+";
 
 /// The plan of 2001 component instances without content.
 const DEEP_PLAN: &str = "plan 1

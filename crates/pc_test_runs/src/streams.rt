@@ -1,7 +1,6 @@
-//! Streams that move little a call, or fail at each of their calls in turn; and the other sources and sinks.
+//! Runs on streams that move little a call, or fail at each of their calls in turn; and over memory.
 
 mod faults;
-mod host;
 mod memory;
 
 use crate::inputs::{Ends, Ran, SMALLEST, SMALLEST_PLAN, WHOLE, answer, comes_to, holds};
@@ -45,6 +44,18 @@ fn one_byte_over(alloc: Global) -> Result<bool, AllocError> {
 fn one_byte_over_the_limit_is_too_long(rt: HostRuntime) {
     let is_so = one_byte_over(rt.alloc());
     holds(&rt, "one byte over", is_so.unwrap_or(false));
+}
+
+/// Whether bytes that are no UTF-8 are no JSON.
+fn is_no_text(alloc: Global) -> Result<bool, AllocError> {
+    let want = answer(Status::Refused, "fault not-json\n");
+    comes_to(alloc, "translate", b"\"\xff\"", &WHOLE, &want)
+}
+
+#[test]
+fn bytes_that_are_no_text_are_no_json(rt: HostRuntime) {
+    let is_so = is_no_text(rt.alloc());
+    holds(&rt, "no text", is_so.unwrap_or(false));
 }
 
 /// Words that name no command.

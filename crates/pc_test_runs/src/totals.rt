@@ -4,13 +4,8 @@
 //! names, and a core module claims some tables, each of which counts 1. So the number of tables says where the bound is
 //! met.
 
-use crate::inputs::{SMALLEST, between, holds, is_answered};
-use crate::translator::options_into;
-use pc_entity::Seed;
-use pc_input::{Input, decode_input};
+use crate::inputs::{between, holds, is_answered};
 use pc_tool::Status;
-use pc_types::Error;
-use pc_types_builder::ComponentTypesBuilder;
 use std::alloc::{AllocError, Global};
 use std::process::Abort;
 
@@ -623,39 +618,4 @@ fn each_kind_of_item_weighs(rt: HostRuntime) {
     }
     let is_so = is_bounded(rt.alloc(), INTRINSICS, r#""j""#, 918);
     holds(&rt, INTRINSICS, is_so.unwrap_or(false));
-}
-
-/// How many options entries the plan of an input has, with a builder that holds the types of another.
-fn options_after(alloc: Global, first: &Input, second: &Input) -> Result<usize, Error> {
-    let mut types = ComponentTypesBuilder::new(alloc, Seed::fixed());
-    options_into(alloc, &mut types, first)?;
-    options_into(alloc, &mut types, second)
-}
-
-/// What a text is answered, with a builder that holds the types of another.
-fn answer_after(alloc: Global, first: &str, second: &str) -> Option<Result<usize, Error>> {
-    let first = decode_input(alloc, first.as_bytes()).ok()?;
-    let second = decode_input(alloc, second.as_bytes()).ok()?;
-    Some(options_after(alloc, &first, &second))
-}
-
-/// Whether the input of so many tables and entities has this answer behind another text, or behind itself.
-fn is_held(alloc: Global, first: Option<&str>, tables: &str, want: Result<usize, Error>) -> bool {
-    match input(alloc, &ENTITIES, "1", tables) {
-        Ok(text) => answer_after(alloc, first.unwrap_or(text.as_str()), text.as_str())
-            == Some(want),
-        Err(_) => false,
-    }
-}
-
-/// The smallest component leaves four types: a function, the tuple of its parameters and of its result, its core
-/// signature, and the type of its module. The input itself leaves 31 instance types and the type of its module.
-#[test]
-fn types_that_were_held_count(rt: HostRuntime) {
-    let alloc = rt.alloc();
-    let full = Err(Error::TooMany);
-    holds(&rt, "932", is_held(alloc, Some(SMALLEST), "932", Ok(0)));
-    holds(&rt, "933", is_held(alloc, Some(SMALLEST), "933", full));
-    holds(&rt, "904", is_held(alloc, None, "904", Ok(0)));
-    holds(&rt, "905", is_held(alloc, None, "905", full));
 }
