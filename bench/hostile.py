@@ -907,8 +907,9 @@ def versions_of_one_name(room):
     return document(PLAIN_TYPES, BASE + ['{"canon":[%s]}' % LIFT, names, '"end"'])
 
 
-# Names of 32 bytes with one hash: the hasher of an `IndexMap` has a fixed seed, and their third eight bytes make a
-# product zero there, those of `ALIKE` in a name that is hashed alone, and those of `ALIKE_IN_LIST` in a list of one.
+# Names of 32 bytes with one hash under the hasher that an `IndexMap` has where it is given none: its seed is fixed, and
+# their third eight bytes make a product zero there, those of `ALIKE` in a name that is hashed alone, and those of
+# `ALIKE_IN_LIST` in a list of one.
 ALIKE = "one-name00270480BevjgZAf%08d"
 ALIKE_IN_LIST = "one-name00054250dsiPK-Gm%08d"
 

@@ -14,7 +14,7 @@ pub fn name_of_adapter(alloc: Global, number: u32) -> Result<Text, NoMemory>
     ensures { IfOk result (λ name. name ≡ adapter_name number) }
 {
     let name = format!(in alloc; "adapter{number}")?;
-    Ok(Text::from_string(name))
+    Text::from_string(name)
 }
 
 /// The name of an import of an adapter: its place among them.
@@ -22,7 +22,7 @@ fn name_of_place(alloc: Global, place: usize) -> Result<Text, NoMemory>
     ensures { IfOk result (λ name. name ≡ decimal place) }
 {
     let name = format!(in alloc; "{place}")?;
-    Ok(Text::from_string(name))
+    Text::from_string(name)
 }
 
 /// Adds what is imported for an adapter, under its name.

@@ -6,7 +6,7 @@ ghost use Rattle.pc_analysis_imports.specs.Followed.{instance_of, instances_afte
 ghost use Rattle.pc_analysis_imports.specs.Known.{IsNumbered};
 
 use crate::source::{Instance, of_defs};
-use pc_entity::{NoMemory, Seq};
+use pc_entity::{NoMemory, Seed, Seq};
 use pc_info::{GlobalInitializer, InstantiateModule, ModuleTranslation};
 use pc_types_record::RecordIndex;
 use std::alloc::Global;
@@ -14,6 +14,7 @@ use std::alloc::Global;
 /// The records of modules, each with an index of its imports.
 pub(crate) fn records<'a>(
     alloc: Global,
+    seed: Seed,
     modules: &'a [ModuleTranslation],
 ) -> Result<Vec<RecordIndex<'a>>, NoMemory>
     requires numbered { All (λ m. IsNumbered (module_view m)) modules.now }
@@ -21,7 +22,7 @@ pub(crate) fn records<'a>(
 {
     let mut found = Vec::with_capacity(alloc, modules.len())?;
     for held in modules {
-        found.push(RecordIndex::new(alloc, &held.module)?)?;
+        found.push(RecordIndex::new(alloc, seed, &held.module)?)?;
     }
     Ok(found)
 }

@@ -15,7 +15,7 @@ use crate::record::{record_imports, record_known_but};
 use crate::source::Instance;
 use crate::ways::ways;
 use pc_dfg::AbstractInstantiations;
-use pc_entity::{NoMemory, PrimaryMap, StaticModuleIndex};
+use pc_entity::{NoMemory, PrimaryMap, Seed, StaticModuleIndex};
 use pc_info::{ComponentTranslation, ModuleTranslation};
 use pc_types_record::RecordIndex;
 use std::alloc::Global;
@@ -58,6 +58,7 @@ fn find_by(
 /// Finds what is known of each module.
 fn find(
     alloc: Global,
+    seed: Seed,
     translation: &ComponentTranslation,
     modules: &[ModuleTranslation],
 ) -> Result<Found, NoMemory>
@@ -66,7 +67,7 @@ fn find(
 {
     let component = &translation.component;
     let steps = component.initializers.as_slice();
-    let indexes = records(alloc, modules)?;
+    let indexes = records(alloc, seed, modules)?;
     let records = indexes.as_slice();
     let made = instances(alloc, records, steps)?;
     let instances = made.as_slice();
@@ -101,6 +102,7 @@ fn record(
 /// Where there is no memory nothing is changed.
 pub fn analyze_imports(
     alloc: Global,
+    seed: Seed,
     translation: &ComponentTranslation,
     modules: &mut PrimaryMap<StaticModuleIndex, ModuleTranslation>,
 ) -> Result<(), NoMemory>
@@ -110,7 +112,7 @@ pub fn analyze_imports(
     ensures kept { map without_imports modules.new ≡ map without_imports modules.old }
     ensures err { OnErr result (modules.new ≡ modules.old) }
 {
-    let found = find(alloc, translation, modules.as_slice())?;
+    let found = find(alloc, seed, translation, modules.as_slice())?;
     record(alloc, modules, found);
     Ok(())
 }

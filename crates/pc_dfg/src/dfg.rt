@@ -12,8 +12,8 @@ use crate::{
 };
 use pc_entity::{
     DefinedResourceIndex, EntityIndex, EntityRef, EntitySet, ExportIndex, ImportIndex, MemoryIndex,
-    ModuleInternedTypeIndex, PackedOption, PrimaryMap, ResourceIndex, RuntimeImportIndex, Seq,
-    StaticModuleIndex, TableIndex, Text, TextMap, TrampolineIndex,
+    ModuleInternedTypeIndex, PackedOption, PrimaryMap, ResourceIndex, RuntimeImportIndex, Seed,
+    Seq, StaticModuleIndex, TableIndex, Text, TextMap, TrampolineIndex,
 };
 use pc_types::{ComponentExtern, ComponentExternData};
 use std::alloc::Global;
@@ -73,23 +73,23 @@ pub struct ComponentDfg {
 impl ComponentDfg {
     ghost use Rattle.pc_dfg.specs.Told.{AreInterned};
 
-    /// A graph with nothing in it. It takes no memory.
-    pub fn new(alloc: Global) -> ComponentDfg
+    /// A graph with nothing in it, whose maps have this seed. It takes no memory.
+    pub fn new(alloc: Global, seed: Seed) -> ComponentDfg
         ensures { result ≡ empty_graph }
     {
         ComponentDfg {
             import_types: PrimaryMap::new(alloc),
             imports: PrimaryMap::new(alloc),
-            exports: TextMap::new(alloc),
+            exports: TextMap::new(alloc, seed),
             export_items: PrimaryMap::new(alloc),
-            trampolines: Intern::new(alloc),
+            trampolines: Intern::new(alloc, seed),
             unsafe_intrinsics: [PackedOption::None; INTRINSICS],
-            reallocs: Intern::new(alloc),
-            callbacks: Intern::new(alloc),
-            post_returns: Intern::new(alloc),
-            memories: Intern::new(alloc),
-            tables: Intern::new(alloc),
-            adapters: Intern::new(alloc),
+            reallocs: Intern::new(alloc, seed),
+            callbacks: Intern::new(alloc, seed),
+            post_returns: Intern::new(alloc, seed),
+            memories: Intern::new(alloc, seed),
+            tables: Intern::new(alloc, seed),
+            adapters: Intern::new(alloc, seed),
             instances: PrimaryMap::new(alloc),
             num_runtime_component_instances: 0,
             adapter_modules: PrimaryMap::new(alloc),
@@ -100,7 +100,7 @@ impl ComponentDfg {
             num_stream_tables: 0,
             num_error_context_tables: 0,
             side_effects: Seq::new(alloc),
-            options: Intern::new(alloc),
+            options: Intern::new(alloc, seed),
             transparent_adapters: EntitySet::new(alloc),
         }
     }

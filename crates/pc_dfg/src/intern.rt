@@ -7,7 +7,7 @@ ghost use Rattle.pc_entity.specs.Lists.{AreDistinct};
 ghost use Rattle.pc_dfg.specs.Numbered.{numbered};
 
 use crate::InternIter;
-use pc_entity::{EntityRef, ExactEq, Interner, NoMemory};
+use pc_entity::{EntityRef, ExactEq, Interner, NoMemory, Seed};
 use std::alloc::Global;
 use std::marker::{Model, PhantomData};
 use std::ops::Index;
@@ -31,11 +31,11 @@ impl<K, V: ExactEq> Model for Intern<K, V> {
 
 impl<K: EntityRef, V: ExactEq> Intern<K, V> {
     /// The list with no values, which takes no memory.
-    pub fn new(alloc: Global) -> Intern<K, V>
+    pub fn new(alloc: Global, seed: Seed) -> Intern<K, V>
         ensures { result ≡ [] }
     {
         Intern {
-            values: Interner::new(alloc),
+            values: Interner::new(alloc, seed),
             key: PhantomData,
         }
     }

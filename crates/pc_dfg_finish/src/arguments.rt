@@ -99,16 +99,11 @@ pub(crate) fn number_host(
 }
 
 /// Adds a value under a copy of a name that is absent.
-fn push_copy<V: Drop>(
-    alloc: Global,
-    all: &mut TextMap<V>,
-    name: &str,
-    value: V,
-) -> Result<(), NoMemory>
+fn push_copy<V: Drop>(all: &mut TextMap<V>, name: &Text, value: V) -> Result<(), NoMemory>
     requires absent { value_of name.now all.old ≡ None }
     ensures { OnOk result (all.new ≡ all.old ++ (name.now, value) ∷ []) }
 {
-    all.push(Text::copy_of(alloc, name)?, value)
+    all.push(name.share()?, value)
 }
 
 /// Arguments of a host module under one module name, as the plan has them.
@@ -123,11 +118,11 @@ fn named_of(
     ensures { IfOk result (λ all. all ≡ named_in graph.now finish.now args.now) }
 {
     args.names_are_distinct();
-    let mut all = TextMap::new(alloc);
+    let mut all = TextMap::new(alloc, args.seed());
     for place in 0..args.len() {
         let (name, def) = args.entry_at(place);
         let def = def_of(alloc, graph, finish, def)?;
-        push_copy(alloc, &mut all, name, def)?;
+        push_copy(&mut all, name, def)?;
     }
     Ok(all)
 }
@@ -144,11 +139,11 @@ pub(crate) fn host_of(
     ensures { IfOk result (λ all. all ≡ host_in graph.now finish.now args.now) }
 {
     args.names_are_distinct();
-    let mut all = TextMap::new(alloc);
+    let mut all = TextMap::new(alloc, args.seed());
     for place in 0..args.len() {
         let (name, named) = args.entry_at(place);
         let named = named_of(alloc, graph, finish, named)?;
-        push_copy(alloc, &mut all, name, named)?;
+        push_copy(&mut all, name, named)?;
     }
     Ok(all)
 }

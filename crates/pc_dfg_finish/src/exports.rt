@@ -59,11 +59,11 @@ fn names_of(
     ensures { IfOk result (λ names. IsNamed map.now names) }
 {
     map.names_are_distinct();
-    let mut names = NameMap::new(alloc);
+    let mut names = NameMap::new(alloc, map.seed());
     for place in 0..map.len() {
         let (name, target) = map.entry_at(place);
         let data = target.1.try_clone(alloc)?;
-        push_name(alloc, &mut names, name, (target.0, data))?;
+        push_name(alloc, &mut names, name.as_str(), (target.0, data))?;
     }
     Ok(names)
 }

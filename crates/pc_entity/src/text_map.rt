@@ -72,22 +72,18 @@ impl<V> TextMap<V> {
     }
 
     /// The name at a place, with its value.
-    pub fn get_index(&self, place: usize) -> Option<(&str, &V)>
+    pub fn get_index(&self, place: usize) -> Option<(&Text, &V)>
         ensures { option_map (λ e. (e.0.now, e.1.now)) result ≡ slice_get self.now place }
     {
-        match self.entries.get_index(place) {
-            Some((name, value)) => Some((name.as_str(), value)),
-            None => None,
-        }
+        self.entries.get_index(place)
     }
 
     /// The name at a place that is held, with its value.
-    pub fn entry_at(&self, place: usize) -> (&str, &V)
+    pub fn entry_at(&self, place: usize) -> (&Text, &V)
         requires held { place < length self.now }
         ensures { slice_get self.now place ≡ Some (result.0.now, result.1.now) }
     {
-        let (name, value) = self.entries.get_index(place).unwrap();
-        (name.as_str(), value)
+        self.entries.get_index(place).unwrap()
     }
 }
 

@@ -4,7 +4,7 @@
 
 mod payloads;
 
-use pc_entity::{FuncIndex, PackedOption, StaticModuleIndex};
+use pc_entity::{FuncIndex, PackedOption, Seed, StaticModuleIndex};
 use pc_info::{ComponentTranslation, KnownFunc, ModuleTranslation};
 use pc_offsets::{PtrWidth, VMComponentOffsets};
 use pc_parsed::Tunables;
@@ -20,7 +20,14 @@ fn plan(alloc: Global) -> Result<PlanWithModules, Error> {
     };
     let table = payloads::types(alloc)?;
     let list = payloads::payloads(alloc)?;
-    plan_payloads(alloc, &tunables, &table, None, list.as_slice())
+    plan_payloads(
+        alloc,
+        Seed::fixed(),
+        &tunables,
+        &table,
+        None,
+        list.as_slice(),
+    )
 }
 
 /// Prints how many instances the plan makes.

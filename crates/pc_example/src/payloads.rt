@@ -4,7 +4,9 @@
 //! each, and the root makes an instance of that component.
 
 use pc_entity::{EntityIndex, FuncIndex, NoMemory, Seq, Text};
-use pc_parsed::{AliasItem, ComponentInstanceItem, Encoding, InstanceItem, OuterKind, Payload};
+use pc_parsed::{
+    AliasItem, ComponentInstanceItem, Encoding, InstanceItem, OuterKind, Payload, SharedRecord,
+};
 use pc_types::{CoreEntity, CoreFuncSig, DeclType, ModuleRecord, TypeTable};
 use std::alloc::Global;
 
@@ -41,7 +43,7 @@ fn functions(
     imports: Seq<(Text, Text, CoreEntity)>,
     funcs: Seq<u32>,
     exports: Seq<(Text, EntityIndex)>,
-) -> Payload {
+) -> Result<Payload, NoMemory> {
     let record_ = ModuleRecord {
         imports,
         funcs,
@@ -51,7 +53,10 @@ fn functions(
         tags: 0,
         exports,
     };
-    Payload::ModuleSection { record_, ty: 0 }
+    Ok(Payload::ModuleSection {
+        record_: SharedRecord::new(alloc, record_)?,
+        ty: 0,
+    })
 }
 
 /// An export of a core module: a function, by its number.
@@ -66,7 +71,7 @@ fn store(alloc: Global) -> Result<Payload, NoMemory> {
     let set = exported(alloc, "set", 1)?;
     let funcs = two(alloc, 0, 0)?;
     let exports = two(alloc, get, set)?;
-    Ok(functions(alloc, Seq::new(alloc), funcs, exports))
+    functions(alloc, Seq::new(alloc), funcs, exports)
 }
 
 /// An import of a core module: a function of what is given under the name `store`.
@@ -80,7 +85,7 @@ fn user(alloc: Global) -> Result<Payload, NoMemory> {
     let get = imported(alloc, "get")?;
     let set = imported(alloc, "set")?;
     let imports = two(alloc, get, set)?;
-    Ok(functions(alloc, imports, Seq::new(alloc), Seq::new(alloc)))
+    functions(alloc, imports, Seq::new(alloc), Seq::new(alloc))
 }
 
 /// A core module that a component finds around it.

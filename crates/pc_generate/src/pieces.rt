@@ -9,7 +9,7 @@ ghost use Rattle.pc_generate.specs.Table.{f};
 use pc_entity::{EntityIndex, FuncIndex, NoMemory, Seq, Text};
 use pc_parsed::{
     AliasItem, CanonItem, ComponentInstanceItem, ExportEntry, ExternName, ImportItem, InstanceItem,
-    ItemKind, Payload,
+    ItemKind, Payload, SharedRecord,
 };
 use pc_types::{CoreEntity, CoreKind, Entity, ModuleRecord};
 use std::alloc::Global;
@@ -49,16 +49,17 @@ pub(crate) fn core_module(
     ensures { IfOk result (λ p. p ≡ core_module imports func) }
 {
     let export = (name(alloc)?, EntityIndex::Function(FuncIndex(func)));
+    let record_ = ModuleRecord {
+        imports,
+        funcs: one(alloc, 0)?,
+        tables: 0,
+        memories: Seq::new(alloc),
+        globals: 0,
+        tags: 0,
+        exports: one(alloc, export)?,
+    };
     Ok(Payload::ModuleSection {
-        record_: ModuleRecord {
-            imports,
-            funcs: one(alloc, 0)?,
-            tables: 0,
-            memories: Seq::new(alloc),
-            globals: 0,
-            tags: 0,
-            exports: one(alloc, export)?,
-        },
+        record_: SharedRecord::new(alloc, record_)?,
         ty: 1,
     })
 }

@@ -10,7 +10,7 @@ use crate::trampoline::Trampoline;
 use pc_entity::{
     DefinedResourceIndex, EntityRef, ExportIndex, ImportIndex, ModuleInternedTypeIndex,
     OptionsIndex, PackedOption, PrimaryMap, ResourceIndex, RuntimeComponentInstanceIndex,
-    RuntimeImportIndex, Seq, Text, TrampolineIndex,
+    RuntimeImportIndex, Seed, Seq, Text, TrampolineIndex,
 };
 use pc_names::NameMap;
 use pc_types::{ComponentExtern, ComponentExternData};
@@ -56,14 +56,14 @@ pub struct Component {
 }
 
 impl Component {
-    /// A plan without imports, steps and exports. It takes no memory.
-    pub fn new(alloc: Global) -> Component
+    /// A plan without imports, steps and exports, whose map of names has this seed. It takes no memory.
+    pub fn new(alloc: Global, seed: Seed) -> Component
         ensures { result ≡ empty_component }
     {
         Component {
             import_types: PrimaryMap::new(alloc),
             imports: PrimaryMap::new(alloc),
-            exports: NameMap::new(alloc),
+            exports: NameMap::new(alloc, seed),
             export_items: PrimaryMap::new(alloc),
             initializers: Seq::new(alloc),
             num_runtime_instances: 0,

@@ -111,7 +111,7 @@ fn begin_root(
 {
     let instance = begin_instance(&mut state.graph, limit, total, weight)?;
     let converted = Converted::new(context.alloc, context.table);
-    let arguments = TextMap::new(context.alloc);
+    let arguments = TextMap::new(context.alloc, context.seed);
     let mut frame = Frame::new(context.alloc, converted, instance, arguments);
     prepare_all(context, state, &mut frame, root.initializers.as_slice())?;
     Ok(frame)
@@ -190,11 +190,13 @@ pub fn inline_run(
     ensures adds { GainsFew table.now counted types.old types.new }
 {
     let weights = Weights::new(alloc, table, program)?;
-    let modules = CoreModules::new(alloc, program.modules.as_slice())?;
+    let seed = types.seed();
+    let modules = CoreModules::new(alloc, seed, program.modules.as_slice())?;
     let leads = Leads::new(alloc, table)?;
-    let names = TableNames::new(alloc, table)?;
+    let names = TableNames::new(alloc, seed, table)?;
     let context = Context {
         alloc,
+        seed,
         table,
         leads,
         names,
@@ -202,8 +204,8 @@ pub fn inline_run(
     };
     let numbers = Numbers::new(alloc, table)?;
     forget_resources(alloc, types);
-    let builder = mem::replace(types, ComponentTypesBuilder::new(alloc));
-    let mut state = State::new(alloc, builder, numbers, &program.components, table);
+    let builder = mem::replace(types, ComponentTypesBuilder::new(alloc, seed));
+    let mut state = State::new(alloc, seed, builder, numbers, &program.components, table);
     let inlined = inline_root(
         &context,
         &mut state,
@@ -212,7 +214,7 @@ pub fn inline_run(
         &weights,
         counted,
     );
-    let graph = state.take_graph(alloc);
+    let graph = state.take_graph(alloc, seed);
     mem::swap(types, &mut state.types);
     types.types_are_distinct();
     inlined.and(Ok(graph))

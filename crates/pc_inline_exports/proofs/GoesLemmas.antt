@@ -2,7 +2,7 @@
 use Rattle.std.proofs.Common.{◌≡◌, inl, inr, ◌<◌, ◌≤◌, ◌+◌, ◌*◌, ◌∙◌, ℕ, Bool, true, false, List, [], ◌∷◌, ◌++◌}
 use Rattle.std.proofs.Common.{Option, None, Some, Result, Ok, Err, Vec, Global, length, refl, reverse, sym, ap, subst}
 use Rattle.std.proofs.Common.{arith}
-use Rattle.std.proofs.Common.{append-nil, if◌then◌else◌}
+use Rattle.std.proofs.Common.{append-nil}
 use Rattle.std.specs.Prelude.{⊤, IfErr, OnOk}
 use Rattle.std.specs.Option.{option_to_list}
 use Rattle.std.specs.Result.{IsErr, IsErrAnd}
@@ -31,7 +31,7 @@ use Rattle.pc_inline_exports.specs.Building.{items_among, items_of, with_item, w
 use Rattle.pc_inline_exports.specs.Exports.{IsUnder}
 use Rattle.pc_inline_exports.specs.Subjects.{reads_on, resume}
 use Rattle.pc_inline_state.specs.Points.{IsSoundState}
-use Rattle.pc_spec_reading.specs.Nodes.{Reached, passed, refused, within_total}
+use Rattle.pc_spec_reading.specs.Nodes.{Reached, refused, within_total}
 use Rattle.pc_spec_reading.specs.World.{grown, has_room}
 use Rattle.std.specs.List.{AllZip}
 use Rattle.pc_inline_exports.specs.Reaching.{IsReachable, NodeEnds, OneEnds, Reaches, ReachesOne}
@@ -43,6 +43,7 @@ use Rattle.pc_inline_exports.proofs.LeaveLemmas as leave
 use Rattle.pc_inline_exports.proofs.TurnLemmas.{climbs, fails_full, fails_leaf, fails_memory, fails_there, goes_in}
 use Rattle.pc_inline_exports.proofs.TurnLemmas.{goes_leaf}
 use Rattle.pc_inline_exports.proofs.TurnLemmas.{k}
+use Rattle.pc_inline_exports.proofs.WithinLemmas.{room_here}
 
 -- An item that is put into an instance, or isn't.
 module _ (o : Open) (name : List ℕ) (meta : ComponentExternData) (made : Result ExportIndex ItemError) (o' : Open) where
@@ -333,17 +334,6 @@ module _ (t : TypeTable) (ms : List ModuleRecord) where
         by (Err x) c same =
             let e = ended_turn b is turned in
             leave.fails_close t ms old d st0 st s k0 e.2 e.3 e.4 new (Err x) c x refl
-
--- no node is too much nowhere
-room_here : {A : Type 0} (o : Option ℕ) (r : Reached A) → has_room o ≡ true → r ≡ within_total (grown o (8 * 0)) r
-room_here None r room = refl
-room_here {A} (Some n) r room =
-    let same : n + 8 * 0 ≡ n = omega arith in
-    subst (λ m. r ≡ within_total (Some m) r) (sym same) (by (has_room (Some n)) room)
-  where
-    by : (b : Bool) → b ≡ true → ◌≡◌ {A = Reached A} r (if b then r else passed)
-    by true is = refl
-    by false is = absurd (let no : ⊥ = cc in no)
 
 module _ (t : TypeTable) (ms : List ModuleRecord) (old : State) (d : Definition) (new : State)
     (reachable : IsReachable t ms old d) where

@@ -38,7 +38,8 @@ use Rattle.pc_inline_state.specs.Adds.{Adds, with_modules}
 use Rattle.pc_inline_state.specs.Faults.{error_of}
 use Rattle.pc_inline_state.specs.Stands.{DefinitionStands}
 use Rattle.pc_inline_state.specs.Tables.{Keeps, Tables, tables_of}
-use Rattle.pc_inline_state.proofs.StateLemmas.{keeps_trans}
+use Rattle.pc_inline_state.proofs.AddsLemmas.{adds_refl}
+use Rattle.pc_inline_state.proofs.StateLemmas.{keeps_refl, keeps_trans}
 use Rattle.pc_inline_state.proofs.ZipLemmas.{zip_length}
 use Rattle.pc_inline_exports.specs.Exporting.{RootStands}
 use Rattle.pc_inline_exports.specs.Exports.{NameStands, node_size}
@@ -49,6 +50,7 @@ use Rattle.pc_inline_exports.specs.Subjects.{a_value}
 use Rattle.pc_inline_exports.proofs.LeafLemmas.{work_total}
 use Rattle.pc_inline_exports.proofs.RootLemmas.{name_keeps, named, numbers_more, root_moved, root_named}
 use Rattle.pc_inline_exports.proofs.RootLemmas.{root_works}
+use Rattle.pc_inline_exports.proofs.WithinLemmas.{room_here}
 
 -- a node is one at least
 some_size : (x : ExportNode Mark) → 1 ≤ node_size x
@@ -85,6 +87,26 @@ adds_named t n a b ys few h = record {
 pub reached_as : (t : TypeTable) (ms : List ModuleRecord) (d e : Definition) (old mid : State)
     (q : Result ExportIndex ItemError) → e ≡ d → Reaches t ms old e mid q → Reaches t ms old d mid q
 reached_as t ms d e old mid q same h = subst (λ x. Reaches t ms old x mid q) same h
+
+-- a refusal for want of memory
+no_memory : (r : Result ⊤ Error) → IsErrAnd r (λ e. e ≡ error.NoMemory) → r ≡ Err error.NoMemory
+no_memory (Ok x) is = absurd is
+no_memory (Err e) is = ap Err is
+
+-- there was no memory for what is reached, and nothing was done
+pub exports_nothing : (t : TypeTable) (ms : List ModuleRecord) (name : ExternName) (number : ℕ) (d : Definition)
+    (st : State) (r : Result ⊤ Error) → IsErrAnd r (λ e. e ≡ error.NoMemory) → ExportsOne t ms name number d st st r
+unfolding OneEnds
+exports_nothing t ms name number d st r is = subst (ExportsOne t ms name number d st st) (sym (no_memory r is)) nothing
+  where
+    nothing : ExportsOne t ms name number d st st (Err error.NoMemory)
+    nothing = record {
+      nodes = 0;
+      keeps = keeps_refl (tables_of st);
+      adds = adds_refl t (4 * 0) (tables_of st);
+      names = tt;
+      reads = λ f s w exported v room root stands. (value_node v w, room_here w.total (value_node v w) room, tt);
+    }
 
 module _ (t : TypeTable) (ms : List ModuleRecord) (name : ExternName) (number : ℕ) (d : Definition) (old mid : State)
     (q : Result ExportIndex ItemError) (reach : Reaches t ms old d mid q) where
@@ -132,10 +154,6 @@ module _ (t : TypeTable) (ms : List ModuleRecord) (name : ExternName) (number : 
               (refused_ends f s w exported x.0 e (subst (NodeEnds t ms old mid w reach.nodes x.0) was x.2)),
         );
   }
-
-  no_memory : (r : Result ⊤ Error) → IsErrAnd r (λ e. e ≡ error.NoMemory) → r ≡ Err error.NoMemory
-  no_memory (Ok x) is = absurd is
-  no_memory (Err e) is = ap Err is
 
   unfed : ExportsOne t ms name number d old mid (Err error.NoMemory)
   unfolding OneEnds

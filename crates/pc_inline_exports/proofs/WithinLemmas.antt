@@ -1,6 +1,6 @@
 -- How the nodes of an instance are read one after the other, and what a total that is past leaves of them.
-use Rattle.std.proofs.Common.{◌≡◌, ◌<◌, ◌+◌, ℕ, zero, suc, Bool, true, false, List, [], ◌∷◌, ◌++◌, Option, None}
-use Rattle.std.proofs.Common.{Some, length, refl, sym, ap, ◌∙◌, arith, if◌then◌else◌, drop}
+use Rattle.std.proofs.Common.{◌≡◌, ◌<◌, ◌+◌, ◌*◌, ℕ, zero, suc, Bool, true, false, List, [], ◌∷◌, ◌++◌, Option, None}
+use Rattle.std.proofs.Common.{Some, length, refl, sym, ap, subst, ◌∙◌, arith, if◌then◌else◌, drop}
 use Rattle.std.specs.Prelude.{nat_lt, slice_get}
 use Rattle.std.proofs.lemmas.Bool.Decides.{Decides-ltb}
 use Rattle.std.proofs.lemmas.List.{length-append}
@@ -38,6 +38,17 @@ within_more {A} (Some t) n k r = by (nat_lt (t + n) full) refl (nat_lt (t + (n +
     by true is b are = refl
     by false is false are = refl
     by false is true are = absurd (let no : false ≡ true = less_room t n k false is are in cc)
+
+-- no node is too much nowhere
+pub room_here : {A : Type 0} (o : Option ℕ) (r : Reached A) → has_room o ≡ true → r ≡ within_total (grown o (8 * 0)) r
+room_here None r room = refl
+room_here {A} (Some n) r room =
+    let same : n + 8 * 0 ≡ n = omega arith in
+    subst (λ m. r ≡ within_total (Some m) r) (sym same) (by (has_room (Some n)) room)
+  where
+    by : (b : Bool) → b ≡ true → ◌≡◌ {A = Reached A} r (if b then r else passed)
+    by true is = refl
+    by false is = absurd (let no : ⊥ = cc in no)
 
 -- what goes on after what a total may leave out
 pub then_within : {A B : Type 0} (o : Option ℕ) (r : Reached A) (go : A → World → Reached B)

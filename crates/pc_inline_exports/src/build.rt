@@ -53,7 +53,7 @@ fn opened(context: &Context<'_>, found: Found) -> Open
         data_: found.data_,
         instance: found.definition,
         next: 0,
-        items: TextMap::new(context.alloc),
+        items: TextMap::new(context.alloc, context.seed),
     }
 }
 

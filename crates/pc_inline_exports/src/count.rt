@@ -16,7 +16,7 @@ use pc_parsed::{ExternName, ItemKind};
 use pc_types::{Error, Place};
 
 /// The number that a total may not reach. Each node counts eight in it.
-const FULL: u64 = 4294967295;
+const FULL: u64 = pc_weights::FULL as u64;
 
 /// A type that is exported is one node, if its number is held.
 fn type_count(context: &Context<'_>, index: u32) -> Option<NodeCount>

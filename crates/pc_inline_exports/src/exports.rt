@@ -17,7 +17,7 @@ ghost use Rattle.pc_inline_exports.specs.Reaching.{IsReachable};
 use crate::build::reach_node;
 use crate::count::count_exports;
 use crate::part::Found;
-use pc_entity::{NoMemory, Text, TryClone};
+use pc_entity::{NoMemory, TryClone};
 use pc_inline_state::{Context, Definition, Frame, ItemError, State, error_at};
 use pc_parsed::{ExternName, ItemKind};
 use pc_types::{ComponentExternData, Error, Place};
@@ -89,18 +89,17 @@ fn exported(
     }
 }
 
-/// What stands under no name yet.
-fn unnamed(context: &Context<'_>, definition: Definition) -> Found
-    ensures { result.definition ≡ definition }
+/// What the root exports under a name, with what the name says of itself.
+fn named(alloc: Global, name: &ExternName, definition: Definition) -> Result<Found, NoMemory>
+    ensures name { IfOk result (λ found. found.name ≡ name.now.name) }
+    ensures said { IfOk result (λ found. found.data_ ≡ extern_data name.now) }
+    ensures definition { IfOk result (λ found. found.definition ≡ definition) }
 {
-    Found {
-        name: Text::new(context.alloc),
-        data_: ComponentExternData {
-            implements: None,
-            external_id: None,
-        },
+    Ok(Found {
+        name: name.name.share()?,
+        data_: extern_data(alloc, name)?,
         definition,
-    }
+    })
 }
 
 /// One export of the root becomes an item of the graph, under its name. A refusal has the number of the export.
@@ -117,12 +116,13 @@ fn export_node(
     ensures { ExportsOne context.now.table.now context.now.modules name.now number definition
         state.old state.new result }
 {
-    let item = match reach_node(context, state, unnamed(context, definition)) {
+    let found = named(context.alloc, name, definition)?;
+    let item = match reach_node(context, state, found) {
         Ok(item) => item,
         Err(error) => return Err(error_at(error, Place::Export(number))),
     };
     let data_ = extern_data(context.alloc, name)?;
-    let name = name.name.try_clone(context.alloc)?;
+    let name = name.name.share()?;
     state.graph.push_export(name, item, data_)?;
     Ok(())
 }

@@ -52,7 +52,7 @@ fn made_part(
         return Ok(None);
     };
     Ok(Some(Found {
-        name: Text::copy_of(context.alloc, name)?,
+        name: name.share()?,
         data_: member.data_.try_clone(context.alloc)?,
         definition: *definition,
     }))

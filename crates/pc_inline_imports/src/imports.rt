@@ -43,7 +43,7 @@ fn give(
         return Err(ItemError::Fault(ItemFault::Unsupported(Unsupported::ComponentImport)));
     }
     let id = push_given(context, state, name, entity, &learnt)?;
-    frame.arguments.insert_first(context.alloc, &name.name, id)?;
+    frame.arguments.insert_first(&name.name, id)?;
     Ok(())
 }
 

@@ -144,7 +144,7 @@ fn add_export(
     let found = value_id(context, state, frame, export.1, export.2)?;
     if let Some(item) = found {
         let data_ = extern_data(context.alloc, &export.0)?;
-        members.insert_first(context.alloc, &export.0.name, Member { item, data_ })?;
+        members.insert_first(&export.0.name, Member { item, data_ })?;
     }
     Ok(())
 }
@@ -167,7 +167,7 @@ pub fn export_members(
         → IfOk result (λ members. MembersStand context.now.modules (tables_of state.new) members
         (pack_values (exports_at context.now.table.now now.scope (map named_item exports.now)))) }
 {
-    let mut members = TextMap::new(context.alloc);
+    let mut members = TextMap::new(context.alloc, context.seed);
     for export in exports {
         add_export(context, state, frame, &mut members, export)?;
     }
@@ -192,7 +192,7 @@ fn add_argument(
 {
     let found = value_id(context, state, frame, arg.1, arg.2)?;
     if let Some(item) = found {
-        values.insert_first(context.alloc, &arg.0, item)?;
+        values.insert_first(&arg.0, item)?;
     }
     Ok(())
 }
@@ -215,7 +215,7 @@ pub fn argument_values(
         → IfOk result (λ values. SameNames (Stands context.now.modules (tables_of state.new)) values
         (filter_map (argument_value context.now.table.now now.scope) (map argument_of args.now))) }
 {
-    let mut values = TextMap::new(context.alloc);
+    let mut values = TextMap::new(context.alloc, context.seed);
     for arg in args {
         add_argument(context, state, frame, &mut values, arg)?;
     }

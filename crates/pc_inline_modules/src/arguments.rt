@@ -95,7 +95,7 @@ pub(crate) fn module_arguments(
     if !knows_instances(frame, args) {
         return Ok(None);
     }
-    let args = first_values(context.alloc, args)?;
+    let args = first_values(context.alloc, context.seed, args)?;
     arguments(context, state, frame, &args, record_.imports.as_slice())
 }
 
@@ -133,9 +133,14 @@ pub(crate) fn host_arguments(
     if !knows_instances(frame, args) {
         return Ok(None);
     }
-    let args = first_values(context.alloc, args)?;
+    let args = first_values(context.alloc, context.seed, args)?;
     let Some(defs) = arguments(context, state, frame, &args, imports.as_slice())? else {
         return Ok(None);
     };
-    Ok(Some(by_module(context.alloc, imports.as_slice(), defs.as_slice())?))
+    Ok(Some(by_module(
+        context.alloc,
+        context.seed,
+        imports.as_slice(),
+        defs.as_slice(),
+    )?))
 }

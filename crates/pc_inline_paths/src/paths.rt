@@ -16,7 +16,7 @@ ghost use Rattle.pc_inline_paths.specs.Steps.{IsBefore, path_at};
 
 use crate::step::Step;
 use crate::{PathError, PathId};
-use pc_entity::{ImportIndex, Interner, NoMemory, Seq, Text, TryClone};
+use pc_entity::{ImportIndex, Interner, NoMemory, Seed, Seq, Text, TryClone};
 use std::alloc::Global;
 use std::marker::Model;
 
@@ -45,11 +45,11 @@ impl Model for Paths {
 
 impl Paths {
     /// No paths, which takes no memory.
-    pub fn new(alloc: Global) -> Paths
+    pub fn new(alloc: Global, seed: Seed) -> Paths
         ensures { result ≡ [] }
     {
         Paths {
-            steps: Interner::new(alloc),
+            steps: Interner::new(alloc, seed),
         }
     }
 

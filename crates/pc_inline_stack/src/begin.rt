@@ -9,7 +9,7 @@ use pc_entity::RuntimeComponentInstanceIndex;
 use pc_types::Error;
 
 /// The number that a total may not reach.
-const FULL: u64 = 4294967295;
+const FULL: u64 = pc_weights::FULL as u64;
 
 /// A component instance begins, whose body has this weight, cut where a total is full. It counts one and its weight in
 /// the total.

@@ -1,6 +1,7 @@
 //! What an instantiation reads and doesn't change.
 
 use crate::core_modules::CoreModules;
+use pc_entity::Seed;
 use pc_types::TypeTable;
 use pc_types_walk::{Leads, TableNames};
 use std::alloc::Global;
@@ -8,6 +9,8 @@ use std::alloc::Global;
 /// The type table, with what was found out of it once, and the core modules that were handed in.
 pub struct Context<'a> {
     pub alloc: Global,
+    /// The seed of the maps from names that it makes.
+    pub seed: Seed,
     pub table: &'a TypeTable,
     /// Through which exports each instance type leads to its resources.
     pub leads: Leads,
@@ -21,6 +24,7 @@ impl<'a> Drop for Context<'a> {
     fn drop(self) {
         let Context {
             alloc: _,
+            seed: _,
             table: _,
             leads,
             names,

@@ -8,7 +8,7 @@ ghost use Rattle.pc_types.specs.declared.module_record.ModuleRecord.{ModuleRecor
 ghost use Rattle.pc_types.specs.Record.{export_of, import_width, memory_widths};
 
 use pc_entity::{
-    EntityIndex, MemoryIndex, NoMemory, Seq, StaticModuleIndex, Text, TextMap, first_values,
+    EntityIndex, MemoryIndex, NoMemory, Seed, Seq, StaticModuleIndex, Text, TextMap, first_values,
 };
 use pc_types::{CoreEntity, ModuleRecord};
 use std::alloc::Global;
@@ -85,13 +85,17 @@ impl<'a> Model for CoreModules<'a> {
 }
 
 impl<'a> CoreModules<'a> {
-    pub fn new(alloc: Global, records: &'a [ModuleRecord]) -> Result<CoreModules<'a>, NoMemory>
+    pub fn new(
+        alloc: Global,
+        seed: Seed,
+        records: &'a [ModuleRecord],
+    ) -> Result<CoreModules<'a>, NoMemory>
         ensures { IfOk result (λ modules. modules ≡ records.now) }
     {
         let mut exports = Vec::with_capacity(alloc, records.len())?;
         let mut memories = Vec::with_capacity(alloc, records.len())?;
         for record_ in records {
-            exports.push(first_values(alloc, record_.exports.as_slice())?)?;
+            exports.push(first_values(alloc, seed, record_.exports.as_slice())?)?;
             memories.push(memory_widths(alloc, record_)?)?;
         }
         Ok(CoreModules {

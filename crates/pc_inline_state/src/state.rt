@@ -33,7 +33,7 @@ use crate::numbers::Numbers;
 use pc_dfg::{ComponentDfg, CoreDef, Trampoline};
 use pc_entity::{
     EntityRef, ImportIndex, ModuleInternedTypeIndex, NoMemory, PrimaryMap, RuntimeImportIndex,
-    StaticComponentIndex, Text, TextMap,
+    Seed, StaticComponentIndex, Text, TextMap,
 };
 use pc_inline_paths::{PathId, Paths};
 use pc_local::Translation;
@@ -91,6 +91,7 @@ impl<'a> State<'a> {
     /// Nothing was read yet.
     pub fn new(
         alloc: Global,
+        seed: Seed,
         types: ComponentTypesBuilder,
         numbers: Numbers,
         bodies: &'a PrimaryMap<StaticComponentIndex, Translation>,
@@ -103,12 +104,12 @@ impl<'a> State<'a> {
     {
         State {
             types,
-            graph: ComponentDfg::new(alloc),
+            graph: ComponentDfg::new(alloc, seed),
             cores: PrimaryMap::new(alloc),
             definitions: PrimaryMap::new(alloc),
             closures: PrimaryMap::new(alloc),
             instances: PrimaryMap::new(alloc),
-            paths: Paths::new(alloc),
+            paths: Paths::new(alloc, seed),
             used: Vec::new(alloc),
             runtime_instances: Vec::new(alloc),
             numbers,
@@ -288,14 +289,14 @@ impl<'a> State<'a> {
     }
 
     /// The graph, which counts the tables that the builder holds.
-    pub fn take_graph(&mut self, alloc: Global) -> ComponentDfg
+    pub fn take_graph(&mut self, alloc: Global, seed: Seed) -> ComponentDfg
         ensures graph { result ≡ counted_tables self.old.graph self.old.types }
         ensures types { self.new.types ≡ self.old.types }
     {
         self.graph.num_future_tables = self.types.held(TypeKind::FutureTable);
         self.graph.num_stream_tables = self.types.held(TypeKind::StreamTable);
         self.graph.num_error_context_tables = self.types.held(TypeKind::ErrorContextTable);
-        mem::replace(&mut self.graph, ComponentDfg::new(alloc))
+        mem::replace(&mut self.graph, ComponentDfg::new(alloc, seed))
     }
 }
 

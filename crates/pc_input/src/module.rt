@@ -5,7 +5,7 @@ ghost use Rattle.pc_input_values.specs.Reads.{Reads};
 
 use pc_input_tokens::Tree;
 use pc_input_values::{DecodeError, Form, field, read};
-use pc_parsed::Payload;
+use pc_parsed::{Payload, SharedRecord};
 use std::alloc::Global;
 
 /// An object of eight members: the type, imports, signatures of functions, a count of tables, a 64-bit flag for each
@@ -22,6 +22,6 @@ pub(crate) fn core_module<F: Form, V: Tree>(
         return Err(DecodeError::BadForm);
     }
     let ty = field(form, alloc, value, "ty")?;
-    let record_ = read(form, alloc, value)?;
+    let record_ = SharedRecord::new(alloc, read(form, alloc, value)?)?;
     Ok(Payload::ModuleSection { record_, ty })
 }

@@ -63,17 +63,17 @@ fn whole<V: Tree>(value: &V) -> Result<u32, DecodeError>
 /// Form 2: a name is the number of a text in a table, and a section has one entry.
 #[derive(Drop)]
 pub struct Tabled {
-    /// The table. A text may stand there twice, or have no use.
+    /// The table, whose texts all names share. A text may stand there twice, or have no use.
     pub names: Seq<Text>,
 }
 
 impl Form for Tabled {
     ghost rules = { λ form. tabled form.names };
 
-    fn name<V: Tree>(&self, alloc: Global, value: &V) -> Result<Text, DecodeError> {
+    fn name<V: Tree>(&self, _alloc: Global, value: &V) -> Result<Text, DecodeError> {
         let n = whole(value)?;
         match self.names.as_slice().get(n as usize) {
-            Some(name) => Ok(Text::copy_of(alloc, name.as_str())?),
+            Some(name) => Ok(name.share()?),
             None => Err(DecodeError::BadForm),
         }
     }

@@ -11,7 +11,7 @@ ghost use Rattle.std.specs.Prelude.{◌≡◌, ◌<◌, ◌+◌, ◌≤◌, ℕ,
 ghost use Rattle.pc_local.specs.Captured.{Captures, Grows, nothing, names_at};
 ghost use Rattle.pc_local.specs.Standing.{Reads};
 
-use pc_entity::{Interner, NoMemory, Seq};
+use pc_entity::{Interner, NoMemory, Seed, Seq};
 use std::alloc::Global;
 
 /// The first number that no captured variable has.
@@ -33,11 +33,11 @@ pub(crate) struct Captured {
 
 impl Captured {
     /// Nothing is captured.
-    pub fn new(alloc: Global) -> Captured
+    pub fn new(alloc: Global, seed: Seed) -> Captured
         ensures { result ≡ nothing }
     {
         Captured {
-            names: Interner::new(alloc),
+            names: Interner::new(alloc, seed),
             variables: Seq::new(alloc),
         }
     }

@@ -11,7 +11,9 @@ use crate::capture::{closed_components, closed_modules, push_aliases};
 use crate::captured::Captured;
 use crate::entry::{push_all, push_exports, push_imports};
 use crate::item::{ClosedOverVars, LocalInitializer, Translation};
-use pc_entity::{NoMemory, PrimaryMap, Seq, StaticComponentIndex, StaticModuleIndex, TryClone};
+use pc_entity::{
+    NoMemory, PrimaryMap, Seed, Seq, StaticComponentIndex, StaticModuleIndex, TryClone,
+};
 use pc_parsed::Payload;
 use pc_types::ModuleRecord;
 use std::alloc::Global;
@@ -45,13 +47,13 @@ impl Translation {
 
 impl Open {
     /// The root has begun.
-    pub fn new(alloc: Global) -> Result<Open, NoMemory>
+    pub fn new(alloc: Global, seed: Seed) -> Result<Open, NoMemory>
         ensures { IfOk result (λ o. state_of o ≡ first_state) }
     {
         let mut modules = Vec::new(alloc);
-        modules.push(Captured::new(alloc))?;
+        modules.push(Captured::new(alloc, seed))?;
         let mut components = Vec::new(alloc);
-        components.push(Captured::new(alloc))?;
+        components.push(Captured::new(alloc, seed))?;
         Ok(Open {
             around: Vec::new(alloc),
             body: Translation::new(alloc),
@@ -63,11 +65,11 @@ impl Open {
     }
 
     /// A nested body begins.
-    fn begin(&mut self, alloc: Global) -> Result<(), NoMemory>
+    fn begin(&mut self, alloc: Global, seed: Seed) -> Result<(), NoMemory>
         ensures { OnOk result (state_of self.new ≡ begun (state_of self.old)) }
     {
-        self.modules.push(Captured::new(alloc))?;
-        self.components.push(Captured::new(alloc))?;
+        self.modules.push(Captured::new(alloc, seed))?;
+        self.components.push(Captured::new(alloc, seed))?;
         let body = mem::replace(&mut self.body, Translation::new(alloc));
         self.around.push(body)?;
         Ok(())
@@ -134,6 +136,7 @@ impl Open {
     pub fn push(
         &mut self,
         alloc: Global,
+        seed: Seed,
         exposed: Option<&str>,
         payload: &Payload,
     ) -> Result<(), NoMemory>
@@ -144,9 +147,9 @@ impl Open {
     {
         let items = &mut self.body.initializers;
         match payload {
-            Payload::ComponentSection => self.begin(alloc),
+            Payload::ComponentSection => self.begin(alloc, seed),
             Payload::End => self.end(alloc),
-            Payload::ModuleSection { record_, ty } => self.push_module(alloc, record_, *ty),
+            Payload::ModuleSection { record_, ty } => self.push_module(alloc, record_.get(), *ty),
             Payload::ComponentExportSection(entries) => {
                 push_exports(alloc, &mut self.body, entries.as_slice())
             }

@@ -10,7 +10,7 @@ ghost use Rattle.pc_local.specs.Program.{ProgramStands};
 
 use crate::item::LocalProgram;
 use crate::open::Open;
-use pc_entity::NoMemory;
+use pc_entity::{NoMemory, Seed};
 use pc_parsed::{Payload, static_fault};
 use pc_types::{Error, TypeTable};
 use std::alloc::Global;
@@ -18,6 +18,7 @@ use std::alloc::Global;
 /// The local program of a list without a static fault.
 fn collect(
     alloc: Global,
+    seed: Seed,
     exposed: Option<&str>,
     payloads: &[Payload],
 ) -> Result<LocalProgram, NoMemory>
@@ -26,9 +27,9 @@ fn collect(
         → payloads_error t (option_map (λ x. x.now) exposed.entry) [] payloads.now ≡ None
         → ProgramStands (option_map (λ x. x.now) exposed.entry) payloads.now p) }
 {
-    let mut open = Open::new(alloc)?;
+    let mut open = Open::new(alloc, seed)?;
     for payload in payloads {
-        open.push(alloc, exposed, payload)?;
+        open.push(alloc, seed, exposed, payload)?;
     }
     Ok(LocalProgram {
         root: open.body,
@@ -41,6 +42,7 @@ fn collect(
 /// item, then of the end of the list. `intrinsics` is the name under which the root may import the unsafe intrinsics.
 pub fn translate_payloads(
     alloc: Global,
+    seed: Seed,
     table: &TypeTable,
     intrinsics: Option<&str>,
     payloads: &[Payload],
@@ -54,8 +56,8 @@ pub fn translate_payloads(
     ensures refused { IfErr result (λ e. (e ≡ Error.NoMemory)
         ⊎ (static_fault table.now (option_map (λ name. name.now) intrinsics.entry) payloads.now ≡ Some e)) }
 {
-    match static_fault(alloc, table, intrinsics, payloads)? {
+    match static_fault(alloc, seed, table, intrinsics, payloads)? {
         Some(error) => Err(error),
-        None => Ok(collect(alloc, intrinsics, payloads)?),
+        None => Ok(collect(alloc, seed, intrinsics, payloads)?),
     }
 }

@@ -1,12 +1,10 @@
 -- What callers of a name map cite: texts as keys, names that are inserted once, and a value that is written.
-use Rattle.std.proofs.Common.{◌≡◌, ℕ, true, List, [], ◌∷◌, ◌++◌, Option, Some, None, refl, ap, ◌∙◌, inl, inr}
+use Rattle.std.proofs.Common.{◌≡◌, ℕ, Bool, true, List, [], ◌∷◌, ◌++◌, Option, Some, None, refl, ap, ◌∙◌, inl, inr}
 use Rattle.std.proofs.lemmas.Bool.{cases_Bool}
 use Rattle.std.proofs.lemmas.Slice.Eq.{bytes_eq-Decides}
-use Rattle.std.specs.BTreeMap.{is_at}
 use Rattle.std.specs.Map.{keys_of, lookup, set_value}
 use Rattle.std.specs.Option.{IsSome, is_some}
 use Rattle.std.specs.Str.{bytes_eq}
-use Rattle.std.specs.declared.cmp.Ordering.{Ordering}
 use Rattle.pc_names.proofs.TextKeyLemmas.{AreKeyed-with_value, KeysAgree, place-keyed}
 use Rattle.pc_names.proofs.LastValueLemmas.{define-at, definitions_of-push, last_value-push, lookup-definitions_of}
 use Rattle.pc_names.proofs.PlaceLemmas.{is_some-lookup, with_value-place}
@@ -72,11 +70,11 @@ module _ {V : Type 0} where
           greatest = λ v n on. has.greatest v n (on_before track v n on);
         }
 
-module _ {K V : Type 0} {has_key : List ℕ → K → Type 0} {cmp : K → K → Ordering} (agree : KeysAgree has_key cmp) where
+module _ {K V : Type 0} {has_key : List ℕ → K → Type 0} {eq : K → K → Bool} (agree : KeysAgree has_key eq) where
   -- a value that is written under a name's key is one insertion more of the name
   pub StandsFor-written : (map : Contents K V) (inserted : Inserted V) (name : List ℕ) (key : K) (value : V)
       → StandsFor has_key map inserted → has_key name key → IsSome (last_value inserted name)
-      → StandsFor has_key (record map { definitions = set_value (is_at (cmp key)) map.definitions value })
+      → StandsFor has_key (record map { definitions = set_value (eq key) map.definitions value })
       (inserted ++ (name, value) ∷ [])
   StandsFor-written map inserted name key value s named present = record {
     definitions = go (place_by (bytes_eq name) (keys_of (definitions_of inserted))) refl
@@ -88,14 +86,14 @@ module _ {K V : Type 0} {has_key : List ℕ → K → Type 0} {cmp : K → K →
         (s.newest track);
   } where
     go : (o : Option ℕ) → place_by (bytes_eq name) (keys_of (definitions_of inserted)) ≡ o → is_some o ≡ true
-        → AreKeyed has_key (set_value (is_at (cmp key)) map.definitions value)
+        → AreKeyed has_key (set_value (eq key) map.definitions value)
         (definitions_of (inserted ++ (name, value) ∷ []))
     go None e h = cc
     go (Some p) e h =
-        let at : place_in cmp map.definitions key ≡ Some p =
+        let at : place_in eq map.definitions key ≡ Some p =
         place-keyed agree name key named map.definitions (definitions_of inserted) s.definitions ∙ e in
         rw (
-          ← with_value-place (is_at (cmp key)) map.definitions p value at,
+          ← with_value-place (eq key) map.definitions p value at,
           definitions_of-push inserted name value,
           define-at (definitions_of inserted) name value,
           e,

@@ -1,7 +1,6 @@
 -- What the functions of this crate rest on. Callers cite `CallerLemmas`.
 pub mod TextLemmas
 pub mod PlaceLemmas
-pub mod OrderLemmas
 pub mod TextKeyLemmas
 pub mod LastValueLemmas
 pub mod VersionLemmas

@@ -1,17 +1,15 @@
 -- Places of keys, after a key more, one fewer, or another value.
-use Rattle.std.proofs.Common.{◌≡◌, ℕ, zero, suc, ◌<◌, Bool, true, false, cond, List, [], ◌∷◌, ◌++◌, length, take, drop}
-use Rattle.std.proofs.Common.{drop-cons, set, get_or, Option, Some, None, refl, sym, ap, ◌∙◌, arith, inl, inr, ◌⊎◌}
+use Rattle.std.proofs.Common.{◌≡◌, ℕ, zero, suc, Bool, true, false, cond, List, [], ◌∷◌, ◌++◌, length}
+use Rattle.std.proofs.Common.{◌+◌, append_assoc, position, Option, Some, None, refl, sym, ap, ◌∙◌, arith, inl, inr, ◌⊎◌}
 use Rattle.std.proofs.lemmas.Bool.{cases_Bool}
-use Rattle.std.proofs.lemmas.List.{take-append-drop}
-use Rattle.std.specs.BTreeMap.{BTreeMap, is_at, Updates}
-use Rattle.std.specs.Cmp.{IsTotalOrder, eq_by_cmp_equiv, tied_itself}
-use Rattle.std.specs.List.{slice_get}
+use Rattle.std.proofs.lemmas.Iterator.Adapters.{position_from-zero}
+use Rattle.std.proofs.lemmas.Option.{same_Some}
+use Rattle.std.specs.Cmp.{IsEquivalence}
+use Rattle.std.specs.List.{AllByRecursion, IsDistinct, position_from, slice_get}
 use Rattle.std.specs.Map.{keys_of, lookup, set_value}
 use Rattle.std.specs.Option.{is_some, option_map, option_or}
-use Rattle.std.proofs.lemmas.Option.{same_Some, slice_get_within}
-use Rattle.std.specs.Ordering.{is_eq, eq_by_cmp}
-use Rattle.std.specs.declared.cmp.Ordering.{Ordering}
-use Rattle.pc_names.specs.Definitions.{HaveOwnPlaces, IsIndexed, place_by, place_in, with_value}
+use Rattle.indexmap.specs.IndexMap.{insert_entry, set_value_at}
+use Rattle.pc_names.specs.Definitions.{HaveOwnPlaces, place_by, place_in, with_value}
 
 -- a place further on
 suc_inside : (o : Option ℕ) (b : Bool) (n : ℕ)
@@ -25,12 +23,37 @@ further : (o : Option ℕ) (p : ℕ) → option_map suc o ≡ Some p → (q : �
 further None p h = cc
 further (Some q) p h = (q, refl, let e : Some (suc q) ≡ Some p = h in grind arith)
 
+-- a place counted from one number on is one counted from the next, one further
+counted_on : (i : ℕ) (o : Option ℕ)
+    → option_map (λ p. i + 1 + p) o ≡ option_map (λ p. i + p) (option_map suc o)
+counted_on i None = refl
+counted_on i (Some p) = ap Some (omega arith)
+
+-- a place counted from the first is the place
+counted_from_first : (o : Option ℕ) → option_map (λ p. 0 + p) o ≡ o
+counted_from_first None = refl
+counted_from_first (Some p) = ap Some (omega arith)
+
 -- nothing is made only of nothing
 pub none_inside_map : {A B : Type 0} (f : A → B) (o : Option A) → option_map f o ≡ None → o ≡ None
 none_inside_map f None e = refl
 none_inside_map f (Some x) e = cc
 
 module _ {K : Type 0} (test : K → Bool) where
+  -- the place, where keys are counted from a number on
+  position_from-place_by : (i : ℕ) (ks : List K)
+      → position_from test i ks ≡ option_map (λ p. i + p) (place_by test ks)
+  position_from-place_by i [] = refl
+  position_from-place_by i (k ∷ ks) = elim (cases_Bool (test k)) [
+    | inl here ↦ rw here (ap Some (omega arith))
+    | inr other ↦ rw (other, position_from-place_by (i + 1) ks) (counted_on i (place_by test ks))
+  ]
+
+  -- the place that a map's look-up finds is the place of the first key that passes
+  pub position-place_by : (ks : List K) → position test ks ≡ place_by test ks
+  position-place_by ks =
+      position_from-zero test ks ∙ position_from-place_by 0 ks ∙ counted_from_first (place_by test ks)
+
   -- one key more is found where none before it passes
   pub place_by-push : (ks : List K) (k : K)
       → place_by test (ks ++ k ∷ []) ≡ option_or (place_by test ks) (cond (test k) (Some (length ks)) None)
@@ -38,17 +61,6 @@ module _ {K : Type 0} (test : K → Bool) where
   place_by-push (x ∷ ks) k = elim (cases_Bool (test x)) [
     | inl here ↦ rw here refl
     | inr other ↦ rw (other, place_by-push ks k) (suc_inside (place_by test ks) (test k) (length ks))
-  ]
-
-  -- a place is within the keys
-  pub place_within : (ks : List K) (p : ℕ) → place_by test ks ≡ Some p → p < length ks
-  place_within [] p h = cc
-  place_within (x ∷ ks) p h = elim (cases_Bool (test x)) [
-    | inl here ↦ let e : Some 0 ≡ Some p = rw here at h in grind arith
-    | inr other ↦
-        let f = further (place_by test ks) p (rw other at h) in
-        let within = place_within ks f.0 f.1 in
-        grind arith
   ]
 
   -- a place among the first keys is their place in the whole
@@ -60,11 +72,6 @@ module _ {K : Type 0} (test : K → Bool) where
         let f = further (place_by test ks) p (rw other at h) in
         rw (other, place_by-front ks rest f.0 f.1) (ap Some (sym f.2))
   ]
-
--- tests that agree find one place
-pub place_by-same : {K : Type 0} (s t : K → Bool) → ((k : K) → s k ≡ t k) → (ks : List K)
-    → place_by s ks ≡ place_by t ks
-place_by-same s t same ks = ap (λ test. place_by test ks) (λ i k. same k i)
 
 module _ {K V : Type 0} (test : K → Bool) where
   -- the value at the place of a key is the one that a look-up finds
@@ -115,12 +122,11 @@ module _ {K V : Type 0} where
   keys_of-with_value (d ∷ ds) zero v = refl
   keys_of-with_value (d ∷ ds) (suc p) v = ap (λ (l : List K). d.0 ∷ l) (keys_of-with_value ds p v)
 
-  -- a write of the entry at a place, with its key
-  pub set-with_value : (ds : List (K × V)) (p : ℕ) (d : K × V) (v : V) → slice_get ds p ≡ Some d
-      → set ds p (d.0, v) ≡ with_value ds p v
-  set-with_value [] p d v h = refl
-  set-with_value (x ∷ ds) zero d v h = let e : x ≡ d = grind arith in rw e refl
-  set-with_value (x ∷ ds) (suc p) d v h = ap (λ (l : List (K × V)). x ∷ l) (set-with_value ds p d v h)
+  -- a write by the place in the map is a write at the place
+  pub set_value_at-with_value : (ds : List (K × V)) (p : ℕ) (v : V) → set_value_at ds p v ≡ with_value ds p v
+  set_value_at-with_value [] p v = refl
+  set_value_at-with_value (d ∷ ds) zero v = refl
+  set_value_at-with_value (d ∷ ds) (suc p) v = ap (λ (l : List (K × V)). d ∷ l) (set_value_at-with_value ds p v)
 
   -- past the end there is nothing to write
   pub with_value-past : (ds : List (K × V)) (p : ℕ) (v : V) → slice_get ds p ≡ None → with_value ds p v ≡ ds
@@ -128,51 +134,17 @@ module _ {K V : Type 0} where
   with_value-past (x ∷ ds) zero v h = cc
   with_value-past (x ∷ ds) (suc p) v h = ap (λ (l : List (K × V)). x ∷ l) (with_value-past ds p v h)
 
-  -- there are as many keys as definitions
-  pub length-keys_of : (ds : List (K × V)) → length (keys_of ds) ≡ length ds
-  length-keys_of [] = refl
-  length-keys_of (d ∷ ds) = ap suc (length-keys_of ds)
-
   -- the keys of one list after another
   pub keys_of-append : (xs ys : List (K × V)) → keys_of (xs ++ ys) ≡ keys_of xs ++ keys_of ys
   keys_of-append [] ys = refl
   keys_of-append (x ∷ xs) ys = ap (λ (l : List K). x.0 ∷ l) (keys_of-append xs ys)
-
--- an option that has no value is none
-none_from_no_place : {A : Type 0} (o : Option A) → ((p : A) → o ≡ Some p → ⊥) → o ≡ None
-none_from_no_place None h = refl
-none_from_no_place (Some p) h = absurd (h p refl)
 
 -- nothing adds nothing
 pub option_or-None : {A : Type 0} (o : Option A) → option_or o None ≡ o
 option_or-None None = refl
 option_or-None (Some x) = refl
 
--- the first of two places, where the second is too far
-first_place : (o : Option ℕ) (b : Bool) (n p : ℕ) → p < n → option_or o (cond b (Some n) None) ≡ Some p → o ≡ Some p
-first_place (Some q) b n p within e = e
-first_place None true n p within e = let same : Some n ≡ Some p = e in absurd
-    (let it : n ≡ p = grind arith in omega arith)
-first_place None false n p within e = cc
-
--- two ways in which a write comes back are one where they agree at each write
-pub same_lend : {N W L : Type 0} {n : N} {f g : W → L} → ((w : W) → f w ≡ g w)
-    → ◌≡◌ {A = (N × (W → L)) ⊎ L} (inl (n, f)) (inl (n, g))
-same_lend {n = n} h = λ i. inl (n, λ w. h w i)
-
 module _ {A : Type 0} where
-  -- the item between two lists
-  pub slice_get-middle : (xs : List A) (x : A) (rest : List A) → slice_get (xs ++ x ∷ rest) (length xs) ≡ Some x
-  slice_get-middle [] x rest = refl
-  slice_get-middle (y ∷ xs) x rest = slice_get-middle xs x rest
-
-  -- an element keeps its place before more
-  pub slice_get-front : (xs rest : List A) (p : ℕ) (x : A) → slice_get xs p ≡ Some x
-      → slice_get (xs ++ rest) p ≡ Some x
-  slice_get-front [] rest p x h = cc
-  slice_get-front (y ∷ xs) rest zero x h = h
-  slice_get-front (y ∷ xs) rest (suc p) x h = slice_get-front xs rest p x h
-
   -- an element after a push is one from before, or the last
   pub slice_get-push : (xs : List A) (y : A) (p : ℕ) (x : A) → slice_get (xs ++ y ∷ []) p ≡ Some x
       → (slice_get xs p ≡ Some x) ⊎ ((p ≡ length xs) × (y ≡ x))
@@ -193,76 +165,35 @@ own_places_push same itself ks k own absent p x at = elim (slice_get-push ks k p
   | inr last ↦ rw (← last.1, place_by-push (same k) ks k, absent, itself k) (ap Some (sym last.0))
 ]
 
-module _ {K : Type 0} {cmp : K → K → Ordering} (o : IsTotalOrder cmp) where
-  -- equal keys have one place
-  place_by-equal : (k q : K) (ks : List K) → is_at (cmp k) q ≡ true
-      → place_by (is_at (cmp q)) ks ≡ place_by (is_at (cmp k)) ks
-  place_by-equal k q ks e = place_by-same (is_at (cmp q)) (is_at (cmp k))
-      (λ x. sym ((eq_by_cmp_equiv o).congr k q x e)) ks
+-- what holds of each key holds of one among them
+all_at : {K V : Type 0} (P : K → Type 0) (ds : List (K × V)) (d : K × V) (rest : List (K × V))
+    → AllByRecursion P (keys_of (ds ++ d ∷ rest)) → P d.0
+all_at P [] d rest h = h.0
+all_at P (x ∷ ds) d rest h = all_at P ds d rest h.1
 
-  -- no key before a place is equal to the one there
-  pub new_key : (ks : List K) (k : K) (rest : List K) (m : BTreeMap K ℕ) → IsIndexed cmp (ks ++ k ∷ rest) m
-      → place_by (is_at (cmp k)) ks ≡ None
-  new_key ks k rest m i = none_from_no_place (place_by (is_at (cmp k)) ks) (λ p e.
-      let whole = place_by-front (is_at (cmp k)) ks (k ∷ rest) p e in
-      let own = i.own (length ks) k (slice_get-middle ks k rest) in
-      let same : Some p ≡ Some (length ks) = sym whole ∙ own in
-      let within = place_within (is_at (cmp k)) ks p e in
-      grind arith)
+module _ {K V : Type 0} (eq : K → K → Bool) where
+  -- a key without a place goes last
+  pub insert_entry-absent : (ds : List (K × V)) (k : K) (v : V) → place_in eq ds k ≡ None
+      → insert_entry eq ds k v ≡ ds ++ (k, v) ∷ []
+  insert_entry-absent [] k v h = refl
+  insert_entry-absent (d ∷ ds) k v h = elim (cases_Bool (eq k d.0)) [
+    | inl here ↦ cc (rw here at h)
+    | inr other ↦
+        rw other (ap (λ (l : List (K × V)). d ∷ l) (insert_entry-absent ds k v
+        (none_inside_map suc (place_by (eq k) (keys_of ds)) (rw other at h))))
+  ]
 
-  -- the map after a new key, whose place is the last
-  pub IsIndexed-push : (ks : List K) (k : K) (m n : BTreeMap K ℕ) → IsIndexed cmp ks m
-      → place_by (is_at (cmp k)) ks ≡ None
-      → Updates cmp m n k (Some (length ks)) → IsIndexed cmp (ks ++ k ∷ []) n
-  IsIndexed-push ks k m n i absent u = record {
-    found = λ q. elim (cases_Bool (is_at (cmp k) q)) [
-      | inl equal ↦
-          let back : is_at (cmp q) k ≡ true = sym ((eq_by_cmp_equiv o).symm k q) ∙ equal in
-          rw (u.0 q, equal, place_by-push (is_at (cmp q)) ks k, place_by-equal k q ks equal, absent, back) refl
-      | inr other ↦
-          let back : is_at (cmp q) k ≡ false = sym ((eq_by_cmp_equiv o).symm k q) ∙ other in
-          rw (u.0 q, other, place_by-push (is_at (cmp q)) ks k, back) (i.found q ∙ sym (option_or-None _))
-    ];
-    own = own_places_push (eq_by_cmp cmp) (λ x. ap is_eq (tied_itself o x)) ks k i.own absent;
-  }
+  -- a key that distinct keys have later has no place among those before it
+  pub no_place_before : IsEquivalence eq → (ds : List (K × V)) (d : K × V) (rest : List (K × V))
+      → IsDistinct eq (keys_of (ds ++ d ∷ rest)) → place_in eq ds d.0 ≡ None
+  unfolding IsDistinct
+  no_place_before laws [] d rest h = refl
+  no_place_before laws (x ∷ ds) d rest h =
+      let apart : eq d.0 x.0 ≡ false = laws.symm d.0 x.0 ∙ all_at (λ k. eq x.0 k ≡ false) ds d rest h.0 in
+      rw (apart, no_place_before laws ds d rest h.1) refl
 
-  -- the map without the last key
-  pub IsIndexed-pop : (ks : List K) (k : K) (m n : BTreeMap K ℕ) → IsIndexed cmp (ks ++ k ∷ []) m
-      → Updates cmp m n k None → IsIndexed cmp ks n
-  IsIndexed-pop ks k m n i u = record {
-    found = λ q. elim (cases_Bool (is_at (cmp k) q)) [
-      | inl equal ↦ rw (u.0 q, equal, place_by-equal k q ks equal) (sym (new_key ks k [] m i))
-      | inr other ↦
-          let back : is_at (cmp q) k ≡ false = sym ((eq_by_cmp_equiv o).symm k q) ∙ other in
-          rw (u.0 q, other) (i.found q ∙ place_by-push (is_at (cmp q)) ks k ∙ rw back (option_or-None _))
-    ];
-    own = λ p x at.
-        first_place (place_by (is_at (cmp x)) ks) (is_at (cmp x) k) (length ks) p (slice_get_within ks p x at)
-        (sym (place_by-push (is_at (cmp x)) ks k) ∙ i.own p x (slice_get-front ks (k ∷ []) p x at));
-  }
-
-  module _ {V : Type 0} where
-    -- definitions with a new one at the end
-    pub IsIndexed-define : (ds : List (K × V)) (k : K) (v : V) (m n : BTreeMap K ℕ) (size : ℕ)
-        → IsIndexed cmp (keys_of ds) m → place_in cmp ds k ≡ None
-        → size ≡ length ds → Updates cmp m n k (Some size) → IsIndexed cmp (keys_of (ds ++ (k, v) ∷ [])) n
-    IsIndexed-define ds k v m n size i absent e u =
-        rw keys_of-append (IsIndexed-push (keys_of ds) k m n i absent (rw (e ∙ sym (length-keys_of ds)) at u))
-
-    -- definitions without the last one
-    pub IsIndexed-undefine : (all ds : List (K × V)) (k : K) (v : V) (m n : BTreeMap K ℕ) → all ≡ ds ++ (k, v) ∷ []
-        → IsIndexed cmp (keys_of all) m
-        → Updates cmp m n k None → IsIndexed cmp (keys_of ds) n
-    IsIndexed-undefine all ds k v m n e i u = IsIndexed-pop (keys_of ds) k m n (rw (e, keys_of-append) at i) u
-
-    -- the definitions before one don't have its key
-    pub new_definition : (ds : List (K × V)) (i : ℕ) (d : K × V) (m : BTreeMap K ℕ) → IsIndexed cmp (keys_of ds) m
-        → i < length ds → d ≡ get_or ds i d
-        → place_in cmp (take i ds) d.0 ≡ None
-    new_definition ds i d m indexed within e =
-        let split : ds ≡ take i ds ++ d ∷ drop (suc i) ds =
-        sym (take-append-drop i ds) ∙ ap (λ (l : List (K × V)). take i ds ++ l)
-        (drop-cons ds i d within ∙ ap (λ (x : K × V). x ∷ drop (suc i) ds) (sym e)) in
-        let keys : keys_of ds ≡ keys_of (take i ds) ++ d.0 ∷ keys_of (drop (suc i) ds) =
-        ap keys_of split ∙ keys_of-append (take i ds) (d ∷ drop (suc i) ds) in
-        new_key (keys_of (take i ds)) d.0 (keys_of (drop (suc i) ds)) m (rw keys at indexed)
+-- a copy of the first entries, with the next one
+pub copied_more : {K V : Type 0} (whole old new rest : List (K × V)) (e : K × V) (k : K) (v : V)
+    → old ++ e ∷ rest ≡ whole
+    → k ≡ e.0 → v ≡ e.1 → new ≡ old ++ (k, v) ∷ [] → new ++ rest ≡ whole
+copied_more whole old new rest e k v split key value put = rw (put, key, value, append_assoc) split

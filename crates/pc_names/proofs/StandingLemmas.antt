@@ -4,7 +4,6 @@ use Rattle.std.proofs.Common.{sym, ap, ◌∙◌, inl, inr, ◌⊎◌}
 use Rattle.std.proofs.lemmas.Bool.{cases_Bool, false≢true}
 use Rattle.std.proofs.lemmas.Option.{same_Some}
 use Rattle.std.proofs.lemmas.Slice.Eq.{bytes_eq-Decides}
-use Rattle.std.specs.BTreeMap.{is_at}
 use Rattle.std.specs.Cmp.{tied_itself, upto}
 use Rattle.std.specs.List.{slice_get}
 use Rattle.std.specs.Map.{keys_of, lookup}
@@ -192,7 +191,7 @@ module _ {K V : Type 0} where
   keyed-defined_at has_key es ns None k n v h p = AreKeyed-push has_key es ns k n v h p
   keyed-defined_at has_key es ns (Some place) k n v h p = AreKeyed-with_value has_key es ns place v h
 
-module _ {K V : Type 0} {has_key : List ℕ → K → Type 0} {cmp : K → K → Ordering} (agree : KeysAgree has_key cmp) where
+module _ {K V : Type 0} {has_key : List ℕ → K → Type 0} {eq : K → K → Bool} (agree : KeysAgree has_key eq) where
   module _ (map : Contents K V) (inserted : Inserted V) (name : List ℕ) (value : V)
       (s : StandsFor has_key map inserted) (place : ℕ)
       (here : place ≡ place_for (definitions_of inserted) name) where
@@ -203,12 +202,12 @@ module _ {K V : Type 0} {has_key : List ℕ → K → Type 0} {cmp : K → K →
 
     -- after a version more on a track
     noted_on : (track : List ℕ) (key : K) (version : Parts) → track_of name ≡ Some (track, version)
-        → has_key track key → Noted (noted cmp map.tracks key (place, version))
+        → has_key track key → Noted (noted eq map.tracks key (place, version))
     noted_on track key version stands named =
         let same =
         ap (λ (o : Option Newest). is_passed o (place, version))
         (lookup-keyed agree track key named map.tracks s.tracks_by_text s.tracks) in
-        elim (cases_Bool (is_passed (lookup (is_at (cmp key)) map.tracks) (place, version))) [
+        elim (cases_Bool (is_passed (lookup (eq key) map.tracks) (place, version))) [
           | inl passed ↦ rw passed (
             s.tracks_by_text,
             s.tracks,
@@ -227,7 +226,7 @@ module _ {K V : Type 0} {has_key : List ℕ → K → Type 0} {cmp : K → K →
 
     -- after a name more, with or without a track
     noted_by : (o : Option (List ℕ × Parts)) → track_of name ≡ o → (track : Option (K × Parts))
-        → IsTrackKey has_key o track → Noted (noted_at cmp map.tracks track place)
+        → IsTrackKey has_key o track → Noted (noted_at eq map.tracks track place)
     noted_by None none None h = (
       s.tracks_by_text,
       s.tracks,
@@ -242,10 +241,10 @@ module _ {K V : Type 0} {has_key : List ℕ → K → Type 0} {cmp : K → K →
   pub StandsFor-with_definition : (map : Contents K V) (inserted : Inserted V) (name : List ℕ) (key : K)
       (track : Option (K × Parts)) (value : V)
       → StandsFor has_key map inserted → has_key name key → IsTrackKey has_key (track_of name) track
-      → StandsFor has_key (with_definition cmp map key track value) (inserted ++ (name, value) ∷ [])
+      → StandsFor has_key (with_definition eq map key track value) (inserted ++ (name, value) ∷ [])
   StandsFor-with_definition map inserted name key track value s named tracked =
-      let place = unwrap_or (place_in cmp map.definitions key) (length map.definitions) in
-      let at : place_in cmp map.definitions key ≡ place_by (bytes_eq name) (keys_of (definitions_of inserted)) =
+      let place = unwrap_or (place_in eq map.definitions key) (length map.definitions) in
+      let at : place_in eq map.definitions key ≡ place_by (bytes_eq name) (keys_of (definitions_of inserted)) =
       place-keyed agree name key named map.definitions (definitions_of inserted) s.definitions in
       let size : length map.definitions ≡ length (definitions_of inserted) =
       AreKeyed-length has_key map.definitions (definitions_of inserted) s.definitions in
@@ -264,7 +263,7 @@ module _ {K V : Type 0} {has_key : List ℕ → K → Type 0} {cmp : K → K →
   -- the value under the key of a name is its last value
   pub exact-known : (map : Contents K V) (inserted : Inserted V) (name : List ℕ) (key : K)
       → StandsFor has_key map inserted → has_key name key
-      → lookup (is_at (cmp key)) map.definitions ≡ last_value inserted name
+      → lookup (eq key) map.definitions ≡ last_value inserted name
   exact-known map inserted name key s named =
       lookup-keyed agree name key named map.definitions (definitions_of inserted) s.definitions
       ∙ lookup-definitions_of inserted name
@@ -272,27 +271,27 @@ module _ {K V : Type 0} {has_key : List ℕ → K → Type 0} {cmp : K → K →
   -- a name's key has a place exactly where the name was inserted
   is_some-place : (map : Contents K V) (inserted : Inserted V) (name : List ℕ) (key : K)
       → StandsFor has_key map inserted → has_key name key
-      → is_some (place_in cmp map.definitions key) ≡ is_some (last_value inserted name)
+      → is_some (place_in eq map.definitions key) ≡ is_some (last_value inserted name)
   is_some-place map inserted name key s named =
-      is_some-lookup (is_at (cmp key)) map.definitions ∙ ap is_some (exact-known map inserted name key s named)
+      is_some-lookup (eq key) map.definitions ∙ ap is_some (exact-known map inserted name key s named)
 
   -- a name's key is held exactly where the name was inserted
   pub IsHeld-IsTwice : (map : Contents K V) (inserted : Inserted V) (name : List ℕ) (key : K) (shadowing : Bool)
-      → StandsFor has_key map inserted → has_key name key → IsHeld cmp map key shadowing
+      → StandsFor has_key map inserted → has_key name key → IsHeld eq map key shadowing
       → IsTwice inserted name shadowing
   IsHeld-IsTwice map inserted name key shadowing s named held =
       (held.0, sym (is_some-place map inserted name key s named) ∙ held.1)
 
   pub IsTwice-IsHeld : (map : Contents K V) (inserted : Inserted V) (name : List ℕ) (key : K) (shadowing : Bool)
       → StandsFor has_key map inserted → has_key name key → IsTwice inserted name shadowing
-      → IsHeld cmp map key shadowing
+      → IsHeld eq map key shadowing
   IsTwice-IsHeld map inserted name key shadowing s named twice =
       (twice.0, is_some-place map inserted name key s named ∙ twice.1)
 
   -- what a track's key leads to is what the track gives
   pub track-known : (map : Contents K V) (inserted : Inserted V) (track : List ℕ × Parts) (key : K)
       → StandsFor has_key map inserted → has_key track.0 key
-      → TrackGives inserted (Some track) (newest_value map (lookup (is_at (cmp key)) map.tracks))
+      → TrackGives inserted (Some track) (newest_value map (lookup (eq key) map.tracks))
   track-known map inserted track key s named =
       rw (lookup-keyed agree track.0 key named map.tracks s.tracks_by_text s.tracks)
       (go (lookup (bytes_eq track.0) s.tracks_by_text) (s.newest track.0)) where

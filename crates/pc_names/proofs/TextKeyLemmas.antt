@@ -1,35 +1,31 @@
 -- Entries under keys do what the entries under the keys' texts do.
-use Rattle.std.proofs.Common.{◌≡◌, ℕ, suc, Bool, false, cond, List, [], ◌∷◌, ◌++◌, length, Some, None, refl, sym, ap}
-use Rattle.std.proofs.Common.{◌∙◌, inl, inr, ◌↔◌, zero}
+use Rattle.std.proofs.Common.{◌≡◌, ℕ, zero, suc, Bool, true, false, cond, if◌then◌else◌, List, [], ◌∷◌, ◌++◌, length}
+use Rattle.std.proofs.Common.{Some, None, refl, sym, ap, ◌∙◌, inl, inr, ◌↔◌}
 use Rattle.std.specs.Str.{bytes_eq}
 use Rattle.std.proofs.lemmas.Bool.{cases_Bool, false≢true}
 use Rattle.std.proofs.lemmas.Slice.Eq.{bytes_eq-Decides}
-use Rattle.std.specs.BTreeMap.{insert_entry, is_at}
 use Rattle.std.specs.Bool.{IsTrue}
 use Rattle.std.specs.Cmp.{both_ways}
 use Rattle.std.specs.List.{slice_get}
 use Rattle.std.specs.Map.{keys_of, lookup}
 use Rattle.std.specs.Option.{option_map}
-use Rattle.std.specs.Ordering.{eq_by_cmp, is_eq, match_ordering}
-use Rattle.std.specs.declared.cmp.Ordering.{Ordering}
-use Rattle.std.specs.declared.cmp.Ordering.TheVariants.{Less, Equal, Greater}
+use Rattle.indexmap.specs.IndexMap.{insert_entry}
 use Rattle.pc_names.proofs.TextLemmas.{cond_same, cond_swap}
 use Rattle.pc_names.specs.Definitions.{place_by, place_in, with_value}
 use Rattle.pc_names.specs.Stands.{AreKeyed}
 
--- keys compare as equal exactly where their texts are
-pub record KeysAgree {K : Type 0} (has_key : List ℕ → K → Type 0) (cmp : K → K → Ordering) : Type 0 where
-  pub at : (t u : List ℕ) (k l : K) → has_key t k → has_key u l → is_at (cmp k) l ≡ bytes_eq t u
+-- keys are equal exactly where their texts are
+pub record KeysAgree {K : Type 0} (has_key : List ℕ → K → Type 0) (eq : K → K → Bool) : Type 0 where
+  pub at : (t u : List ℕ) (k l : K) → has_key t k → has_key u l → eq k l ≡ bytes_eq t u
 
 -- an interner's keys do so
-pub keys_agree : {K : Type 0} (has_key : List ℕ → K → Type 0) (cmp : K → K → Ordering) (E : K → K → Bool)
-    → ((x y : K) → E x y ≡ eq_by_cmp cmp x y)
-    → ((t u : List ℕ) (k l : K) → has_key t k → has_key u l → IsTrue (E k l) ↔ (t ≡ u)) → KeysAgree has_key cmp
-keys_agree has_key cmp E ties same = record {
+pub keys_agree : {K : Type 0} (has_key : List ℕ → K → Type 0) (eq : K → K → Bool)
+    → ((t u : List ℕ) (k l : K) → has_key t k → has_key u l → IsTrue (eq k l) ↔ (t ≡ u)) → KeysAgree has_key eq
+keys_agree has_key eq same = record {
   at = λ t u k l p q.
       let law = same t u k l p q in
       let texts = bytes_eq-Decides t u in
-      sym (ties k l) ∙ both_ways (E k l) (bytes_eq t u) (λ e. texts.1 (law.0 e)) (λ e. law.1 (texts.0 e));
+      both_ways (eq k l) (bytes_eq t u) (λ e. texts.1 (law.0 e)) (λ e. law.1 (texts.0 e));
 }
 
 -- keys that are kept still stand for their texts
@@ -94,11 +90,11 @@ module _ {K : Type 0} (has_key : List ℕ → K → Type 0) where
   value-keyed (e ∷ es) (n ∷ ns) zero h = ap Some h.0.1
   value-keyed (e ∷ es) (n ∷ ns) (suc p) h = value-keyed es ns p h.1
 
-module _ {K : Type 0} {has_key : List ℕ → K → Type 0} {cmp : K → K → Ordering} (agree : KeysAgree has_key cmp) where
+module _ {K : Type 0} {has_key : List ℕ → K → Type 0} {eq : K → K → Bool} (agree : KeysAgree has_key eq) where
   -- a look-up by a key is one by its text
   pub lookup-keyed : {X : Type 0} (t : List ℕ) (k : K) → has_key t k → (es : List (K × X)) (ns : List (List ℕ × X))
       → AreKeyed has_key es ns
-      → lookup (is_at (cmp k)) es ≡ lookup (bytes_eq t) ns
+      → lookup (eq k) es ≡ lookup (bytes_eq t) ns
   lookup-keyed t k p [] [] h = refl
   lookup-keyed t k p [] (n ∷ ns) h = absurd h
   lookup-keyed t k p (e ∷ es) [] h = absurd h
@@ -107,40 +103,39 @@ module _ {K : Type 0} {has_key : List ℕ → K → Type 0} {cmp : K → K → O
   -- the place of a key is that of its text
   pub place-keyed : {X : Type 0} (t : List ℕ) (k : K) → has_key t k → (es : List (K × X)) (ns : List (List ℕ × X))
       → AreKeyed has_key es ns
-      → place_in cmp es k ≡ place_by (bytes_eq t) (keys_of ns)
+      → place_in eq es k ≡ place_by (bytes_eq t) (keys_of ns)
   place-keyed t k p [] [] h = refl
   place-keyed t k p [] (n ∷ ns) h = absurd h
   place-keyed t k p (e ∷ es) [] h = absurd h
   place-keyed t k p (e ∷ es) (n ∷ ns) h = rw (agree.at t n.0 k e.0 p h.0.0, place-keyed t k p es ns h.1) refl
 
-  -- an entry more in an ordered map is one more under its text
+  -- an entry more is one more under its text
   pub insert-keyed : {X : Type 0} (t : List ℕ) (k : K) (x : X) → has_key t k
       → (es : List (K × X)) (ns : List (List ℕ × X)) → AreKeyed has_key es ns
-      → (ms : List (List ℕ × X)) × AreKeyed has_key (insert_entry cmp es k x) ms
+      → (ms : List (List ℕ × X)) × AreKeyed has_key (insert_entry eq es k x) ms
       × ((u : List ℕ) → lookup (bytes_eq u) ms ≡ cond (bytes_eq u t) (Some x) (lookup (bytes_eq u) ns))
   insert-keyed t k x p [] [] h = ((t, x) ∷ [], ((p, refl), tt), λ u. refl)
   insert-keyed t k x p [] (n ∷ ns) h = absurd h
   insert-keyed t k x p (e ∷ es) [] h = absurd h
-  insert-keyed {X} t k x p (e ∷ es) (n ∷ ns) h = go (cmp k e.0) refl (insert-keyed t k x p es ns h.1) where
-    same_text : is_at (cmp k) e.0 ≡ bytes_eq t n.0
+  insert-keyed {X} t k x p (e ∷ es) (n ∷ ns) h = go (eq k e.0) refl (insert-keyed t k x p es ns h.1) where
+    same_text : eq k e.0 ≡ bytes_eq t n.0
     same_text = agree.at t n.0 k e.0 p h.0.0
 
     Inserts : List (K × X) → List (List ℕ × X) → Type 0
     Inserts after before = (ms : List (List ℕ × X)) × AreKeyed has_key after
         ms × ((u : List ℕ) → lookup (bytes_eq u) ms ≡ cond (bytes_eq u t) (Some x) (lookup (bytes_eq u) before))
 
-    go : (r : Ordering) → cmp k e.0 ≡ r → Inserts (insert_entry cmp es k x) ns
-        → Inserts (match_ordering r ((k, x) ∷ e ∷ es) ((e.0, x) ∷ es) (e ∷ insert_entry cmp es k x)) (n ∷ ns)
-    go Less below rest = ((t, x) ∷ n ∷ ns, ((p, refl), h), λ u. refl)
-    go Equal equal rest =
-        let text : t ≡ n.0 = (bytes_eq-Decides t n.0).0 (sym same_text ∙ ap is_eq equal) in (
+    go : (b : Bool) → eq k e.0 ≡ b → Inserts (insert_entry eq es k x) ns
+        → Inserts (if b then (e.0, x) ∷ es else e ∷ insert_entry eq es k x) (n ∷ ns)
+    go true equal rest =
+        let text : t ≡ n.0 = (bytes_eq-Decides t n.0).0 (sym same_text ∙ equal) in (
           (n.0, x) ∷ ns,
           ((h.0.0, refl), h.1),
           λ u. rw text
               (cond_same (bytes_eq u n.0) (Some x) (Some n.1) (lookup (bytes_eq u) ns)),
         )
-    go Greater above rest =
-        let apart : bytes_eq t n.0 ≡ false = sym same_text ∙ ap is_eq above in (
+    go false other rest =
+        let apart : bytes_eq t n.0 ≡ false = sym same_text ∙ other in (
           n ∷ rest.0,
           (h.0, rest.1),
           λ u. rw (rest.2 u) (cond_swap (bytes_eq u n.0) (bytes_eq u t) (Some n.1) (Some x) (lookup (bytes_eq u) ns)

@@ -1,10 +1,7 @@
 -- Definitions under keys, in the order in which the keys came.
 use Rattle.std.specs.Prelude.{◌≡◌, ℕ, zero, suc, Bool, List, [], ◌∷◌, Option, None, Some, slice_get, if◌then◌else◌}
-use Rattle.std.specs.BTreeMap.{BTreeMap, get, is_at}
 use Rattle.std.specs.Map.{keys_of}
 use Rattle.std.specs.Option.{option_map}
-use Rattle.std.specs.Ordering.{eq_by_cmp}
-use Rattle.std.specs.declared.cmp.Ordering.{Ordering}
 
 -- the place of the first key that passes
 abbrev pub place_by : {K : Type 0} → (K → Bool) → List K → Option ℕ
@@ -12,8 +9,8 @@ place_by test [] = None
 place_by test (k ∷ ks) = if test k then Some 0 else option_map suc (place_by test ks)
 
 -- the place of a key among definitions
-abbrev pub place_in : {K V : Type 0} → (K → K → Ordering) → List (K × V) → K → Option ℕ
-place_in cmp definitions k = place_by (is_at (cmp k)) (keys_of definitions)
+abbrev pub place_in : {K V : Type 0} → (K → K → Bool) → List (K × V) → K → Option ℕ
+place_in eq definitions k = place_by (eq k) (keys_of definitions)
 
 -- definitions with another value at a place
 abbrev pub with_value : {K V : Type 0} → List (K × V) → ℕ → V → List (K × V)
@@ -24,8 +21,3 @@ with_value (d ∷ ds) (suc place) v = d ∷ with_value ds place v
 -- each key is found at its own place, so no two keys are the same
 abbrev pub HaveOwnPlaces : {K : Type 0} → (K → K → Bool) → List K → Type 0
 HaveOwnPlaces {K} same keys = (p : ℕ) (k : K) → slice_get keys p ≡ Some k → place_by (same k) keys ≡ Some p
-
--- an ordered map has the place of each key, and a key has one place
-pub record IsIndexed {K : Type 0} (cmp : K → K → Ordering) (keys : List K) (places : BTreeMap K ℕ) : Type 0 where
-  pub found : (k : K) → get cmp places k ≡ place_by (is_at (cmp k)) keys
-  pub own : HaveOwnPlaces (eq_by_cmp cmp) keys

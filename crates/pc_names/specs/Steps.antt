@@ -2,7 +2,6 @@
 use Rattle.std.specs.Prelude.{◌≡◌, ℕ, Bool, false, List, [], ◌∷◌, ◌++◌, Option, None, Some, IsSome, length, slice_get}
 use Rattle.std.specs.Prelude.{unwrap_or}
 use Rattle.std.specs.Option.{option_map}
-use Rattle.std.specs.declared.cmp.Ordering.{Ordering}
 use Rattle.pc_names.specs.Contents.{Contents, Newest}
 use Rattle.pc_names.specs.Definitions.{place_in, with_value}
 use Rattle.pc_names.specs.Tracks.{noted}
@@ -11,8 +10,8 @@ use Rattle.semver.specs.Parse.{Parts}
 use Rattle.semver.specs.declared.Version.{Version}
 
 -- shadowing is off, and the key is among the definitions
-abbrev pub IsHeld : {K V : Type 0} → (K → K → Ordering) → Contents K V → K → Bool → Type 0
-IsHeld cmp map key allow_shadowing = (allow_shadowing ≡ false) × IsSome (place_in cmp map.definitions key)
+abbrev pub IsHeld : {K V : Type 0} → (K → K → Bool) → Contents K V → K → Bool → Type 0
+IsHeld eq map key allow_shadowing = (allow_shadowing ≡ false) × IsSome (place_in eq map.definitions key)
 
 -- the key of a name's track, and the name's version there, where it has a track
 abbrev pub IsTrackKey : {K : Type 0} → (List ℕ → K → Type 0) → Option (List ℕ × Parts) → Option (K × Parts) → Type 0
@@ -32,17 +31,17 @@ defined_at ds None key value = ds ++ (key, value) ∷ []
 defined_at ds (Some place) key value = with_value ds place value
 
 -- tracks with the version at a place, where the name has a track
-abbrev pub noted_at : {K : Type 0} → (K → K → Ordering) → List (K × Newest) → Option (K × Parts) → ℕ
+abbrev pub noted_at : {K : Type 0} → (K → K → Bool) → List (K × Newest) → Option (K × Parts) → ℕ
     → List (K × Newest)
-noted_at cmp tracks None place = tracks
-noted_at cmp tracks (Some t) place = noted cmp tracks t.0 (place, t.1)
+noted_at eq tracks None place = tracks
+noted_at eq tracks (Some t) place = noted eq tracks t.0 (place, t.1)
 
 -- a map with a definition more: a key among its definitions stays where it is
-abbrev pub with_definition : {K V : Type 0} → (K → K → Ordering) → Contents K V → K → Option (K × Parts) → V
+abbrev pub with_definition : {K V : Type 0} → (K → K → Bool) → Contents K V → K → Option (K × Parts) → V
     → Contents K V
-with_definition cmp map key track value = record {
-  definitions = defined_at map.definitions (place_in cmp map.definitions key) key value;
-  tracks = noted_at cmp map.tracks track (unwrap_or (place_in cmp map.definitions key) (length map.definitions));
+with_definition eq map key track value = record {
+  definitions = defined_at map.definitions (place_in eq map.definitions key) key value;
+  tracks = noted_at eq map.tracks track (unwrap_or (place_in eq map.definitions key) (length map.definitions));
 }
 
 -- the value of the definition that a track has as its newest

@@ -11,7 +11,7 @@ use std::hash::Hash;
 /// One map is used with one interner, which may serve several maps.
 pub trait NameMapIntern {
     /// What stands for a text.
-    type Key: Eq + Ord + Hash + TryClone + Drop;
+    type Key: Eq + Hash + TryClone + Drop;
 
     // A text has a key here. A text that was interned has one.
     ghost has_key: { Self → List ℕ → Self.Key → Type 0 };

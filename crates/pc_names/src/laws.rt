@@ -1,7 +1,6 @@
 //! Laws of name maps. Each function does nothing: its contract is the law.
 
 ghost use Rattle.std.specs.Prelude.{◌≡◌, ◌∷◌, ◌++◌, [], ℕ, List, Option, None, Some, IsSome};
-ghost use Rattle.std.specs.BTreeMap.{is_at};
 ghost use Rattle.std.specs.Map.{set_value};
 ghost use Rattle.pc_names.specs.Contents.{Contents, no_names};
 ghost use Rattle.pc_names.specs.Inserted.{Answers, Inserted, definitions_of, last_value};
@@ -34,7 +33,7 @@ pub fn written_value<V, I: NameMapIntern>(cx: &I)
     ensures { (map : Contents I.Key V) (inserted : Inserted V) (name : List ℕ) (key : I.Key) (value : V)
         → StandsFor (I.has_key cx.now) map inserted → I.has_key cx.now name key → IsSome (last_value inserted name)
         → StandsFor (I.has_key cx.now)
-        (record map { definitions = set_value (is_at (I.Key.cmp key)) map.definitions value })
+        (record map { definitions = set_value (I.Key.eq key) map.definitions value })
         (inserted ++ (name, value) ∷ []) }
 {}
 

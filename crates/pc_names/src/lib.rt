@@ -5,7 +5,7 @@
 #![tactic(auto)]
 
 mod alternate;
-mod definitions;
+mod entries;
 mod intern;
 pub mod laws;
 mod name_error;

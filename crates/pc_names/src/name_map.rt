@@ -9,11 +9,10 @@
 //! what they define, and each contract speaks of every list that the map stands for. The interner changes between the
 //! calls, since it is lent; a text keeps its key in it, and so the map goes on standing for its list.
 //!
-//! Names are untrusted input, so they are found in ordered maps and not by a hash whose seed is known.
+//! Names are untrusted input, so the hash by which they are found has a seed, which is made of the whole input.
 
 ghost use Rattle.std.specs.Prelude.{◌≡◌, ◌+◌, ◌≤◌, ◌∷◌, ◌++◌, [], ℕ, List, Some, None, Ok, Err, length, IfOk, IfErr};
 ghost use Rattle.std.specs.Prelude.{OnOk, OnErr};
-ghost use Rattle.std.specs.BTreeMap.{is_at};
 ghost use Rattle.std.specs.Borrow.{LendsIf, sem};
 ghost use Rattle.std.specs.Map.{lookup, set_value};
 ghost use Rattle.std.specs.Option.{option_copied, option_copied_mut};
@@ -27,12 +26,12 @@ ghost use Rattle.semver.specs.Identifiers.{parts_of};
 ghost use Rattle.semver.specs.Parse.{Parts};
 
 use crate::alternate::alternate_lookup_key;
-use crate::definitions::Definitions;
+use crate::entries::Entries;
 use crate::intern::NameMapIntern;
 use crate::name_error::NameError;
 use crate::raw_iter::RawIter;
 use crate::tracks::Tracks;
-use pc_entity::{NoMemory, TryClone};
+use pc_entity::{NoMemory, Seed, TryClone};
 use semver::Version;
 use std::alloc::Global;
 use std::hash::Hash;
@@ -40,13 +39,13 @@ use std::marker::Model;
 
 /// A map from names to items, which finds the greatest compatible version of a name that isn't there.
 #[derive(Drop)]
-pub struct NameMap<K: Ord, V> {
+pub struct NameMap<K: Eq + Hash, V> {
     alloc: Global,
-    definitions: Definitions<K, V>,
+    definitions: Entries<K, V>,
     tracks: Tracks<K>,
 }
 
-impl<K: Ord, V> Model for NameMap<K, V> {
+impl<K: Eq + Hash, V> Model for NameMap<K, V> {
     ghost use Rattle.pc_names.specs.Contents.{Contents};
 
     ghost Value = { Contents K V };
@@ -54,18 +53,23 @@ impl<K: Ord, V> Model for NameMap<K, V> {
     ghost view = { λ m. record { definitions = m.definitions; tracks = m.tracks } };
 }
 
-impl<K: Eq + Ord + Hash + TryClone + Drop, V: Drop> NameMap<K, V> {
+impl<K: Eq + Hash + TryClone + Drop, V: Drop> NameMap<K, V> {
     ghost use Rattle.pc_names.specs.contracts.name_map.NameMap.{the_row};
 
-    /// A map without names.
-    pub fn new(alloc: Global) -> NameMap<K, V>
+    /// A map without names, which finds them by a hash with this seed.
+    pub fn new(alloc: Global, seed: Seed) -> NameMap<K, V>
         ensures { result ≡ no_names }
     {
         NameMap {
             alloc,
-            definitions: Definitions::new(alloc),
-            tracks: Tracks::new(alloc),
+            definitions: Entries::new(alloc, seed),
+            tracks: Tracks::new(alloc, seed),
         }
+    }
+
+    /// The seed that its places depend on.
+    pub fn seed(&self) -> Seed {
+        self.definitions.seed()
     }
 
     /// Inserts a name with its item, and answers the name's key. Where shadowing is allowed, a name among the
@@ -98,16 +102,16 @@ impl<K: Eq + Ord + Hash + TryClone + Drop, V: Drop> NameMap<K, V> {
         let key = cx.intern(name)?;
         let place = self.place_for(&key, allow_shadowing)?;
         let track = track_key(self.alloc, name, cx)?;
-        self.put(place, key.try_clone(self.alloc)?, track, item)?;
+        self.put(place, &key, track, item)?;
         Ok(key)
     }
 
     /// The place of a key among the definitions, where the key may only be if shadowing is allowed.
     fn place_for(&self, key: &K, allow_shadowing: bool) -> Result<Option<usize>, NameError>
-        ensures place { IfOk result (λ place. place ≡ place_in K.cmp self.now.definitions key.now) }
-        ensures once { OnOk result (¬ IsHeld K.cmp self.now key.now allow_shadowing) }
+        ensures place { IfOk result (λ place. place ≡ place_in K.eq self.now.definitions key.now) }
+        ensures once { OnOk result (¬ IsHeld K.eq self.now key.now allow_shadowing) }
         ensures twice { IfErr result
-            (λ e. (e ≡ NameError.DefinedTwice) × IsHeld K.cmp self.now key.now allow_shadowing) }
+            (λ e. (e ≡ NameError.DefinedTwice) × IsHeld K.eq self.now key.now allow_shadowing) }
     {
         let place = self.definitions.place_of(key);
         if place.is_some() && !allow_shadowing {
@@ -131,16 +135,16 @@ impl<K: Eq + Ord + Hash + TryClone + Drop, V: Drop> NameMap<K, V> {
     pub fn raw_iter(&self) -> RawIter<'_, K, V>
         ensures { result ≡ self.now.definitions }
     {
-        RawIter::new(self.definitions.as_slice())
+        RawIter::new(self.definitions.iter())
     }
 
     /// The item under a key, to write.
     pub fn raw_get_mut(&mut self, key: &K) -> Option<&mut V>
-        ensures* writes_back { sem 𝓛 (LendsIf (the_row K.row V.row K.Ord.own K.PartialEq.own K.PartialOrd.own)
+        ensures* writes_back { sem 𝓛 (LendsIf (the_row K.row V.row K.PartialEq.own K.Hash.own)
             V.row self.entry result
-            (λ w. record self.old { definitions = set_value (is_at (K.cmp key.now)) self.old.definitions w })
+            (λ w. record self.old { definitions = set_value (K.eq key.now) self.old.definitions w })
             self.old) }
-        ensures value { option_copied_mut result ≡ lookup (is_at (K.cmp key.now)) self.old.definitions }
+        ensures value { option_copied_mut result ≡ lookup (K.eq key.now) self.old.definitions }
     {
         self.definitions.get_mut(key)
     }
@@ -188,7 +192,7 @@ impl<K: Eq + Ord + Hash + TryClone + Drop, V: Drop> NameMap<K, V> {
 
     /// The item of the greatest version under a track's key.
     fn newest_under(&self, key: &K) -> Option<&V>
-        ensures { option_copied result ≡ newest_value self.now (lookup (is_at (K.cmp key.now)) self.now.tracks) }
+        ensures { option_copied result ≡ newest_value self.now (lookup (K.eq key.now) self.now.tracks) }
     {
         match self.tracks.place_of(key) {
             Some(place) => self.definitions.at(place),
@@ -200,12 +204,12 @@ impl<K: Eq + Ord + Hash + TryClone + Drop, V: Drop> NameMap<K, V> {
     fn put(
         &mut self,
         place: Option<usize>,
-        key: K,
+        key: &K,
         track: Option<(K, Version)>,
         item: V,
     ) -> Result<(), NoMemory>
-        requires { place ≡ place_in K.cmp self.old.definitions key }
-        ensures ok { OnOk result (self.new ≡ with_definition K.cmp self.old key (keyed_version track) item) }
+        requires { place ≡ place_in K.eq self.old.definitions key.now }
+        ensures ok { OnOk result (self.new ≡ with_definition K.eq self.old key.now (keyed_version track) item) }
         ensures err { OnErr result (self.new ≡ self.old) }
     {
         match place {
@@ -223,7 +227,7 @@ impl<K: Eq + Ord + Hash + TryClone + Drop, V: Drop> NameMap<K, V> {
     ) -> Result<(), NoMemory>
         ensures ok { OnOk result (self.new ≡ record {
           definitions = with_value self.old.definitions place item;
-          tracks = noted_at K.cmp self.old.tracks (keyed_version track) place;
+          tracks = noted_at K.eq self.old.tracks (keyed_version track) place;
         }) }
         ensures err { OnErr result (self.new ≡ self.old) }
     {
@@ -233,16 +237,16 @@ impl<K: Eq + Ord + Hash + TryClone + Drop, V: Drop> NameMap<K, V> {
     }
 
     /// Adds a definition, and takes it back where its track finds no memory.
-    fn define(&mut self, key: K, track: Option<(K, Version)>, item: V) -> Result<(), NoMemory>
-        requires { place_in K.cmp self.old.definitions key ≡ None }
+    fn define(&mut self, key: &K, track: Option<(K, Version)>, item: V) -> Result<(), NoMemory>
+        requires { place_in K.eq self.old.definitions key.now ≡ None }
         ensures ok { OnOk result (self.new ≡ record {
-          definitions = self.old.definitions ++ (key, item) ∷ [];
-          tracks = noted_at K.cmp self.old.tracks (keyed_version track) (length self.old.definitions);
+          definitions = self.old.definitions ++ (key.now, item) ∷ [];
+          tracks = noted_at K.eq self.old.tracks (keyed_version track) (length self.old.definitions);
         }) }
         ensures err { OnErr result (self.new ≡ self.old) }
     {
         let place = self.definitions.len();
-        self.definitions.push(self.alloc, key, item)?;
+        self.definitions.push(key.try_clone(self.alloc)?, item)?;
         if let Err(refused) = self.tracks.note(track, place) {
             self.definitions.pop();
             return Err(refused);
@@ -251,7 +255,7 @@ impl<K: Eq + Ord + Hash + TryClone + Drop, V: Drop> NameMap<K, V> {
     }
 }
 
-impl<K: Eq + Ord + Hash + TryClone + Drop, V: TryClone + Drop> TryClone for NameMap<K, V> {
+impl<K: Eq + Hash + TryClone + Drop, V: TryClone + Drop> TryClone for NameMap<K, V> {
     fn try_clone(&self, alloc: Global) -> Result<NameMap<K, V>, NoMemory> {
         Ok(NameMap {
             alloc,

@@ -5,32 +5,29 @@ ghost use Rattle.std.specs.Iterator.{UpTo, at_most};
 ghost use Rattle.std.specs.Iterator.SizeHint.{IsWithinCount};
 ghost use Rattle.std.specs.Map.Iter.{TakesFirst, deref_pair};
 
+use indexmap::map::Iter;
 use std::iter::FusedIterator;
 use std::marker::Model;
-use std::slice;
 
 /// The definitions of a name map in the order in which their names were first inserted, each as its key and its value.
 #[derive(Drop)]
 pub struct RawIter<'a, K, V> {
-    entries: slice::Iter<'a, (K, V)>,
+    entries: Iter<'a, K, V>,
 }
 
 impl<'a, K, V> Model for RawIter<'a, K, V> {
     ghost use Rattle.std.specs.Prelude.{List};
-    ghost use Rattle.std.specs.Slice.Iter.{iter_rest};
 
     ghost Value = { List (K × V) };
 
-    ghost view = { λ it. iter_rest it.entries };
+    ghost view = { λ it. it.entries };
 }
 
 impl<'a, K, V> RawIter<'a, K, V> {
-    pub(crate) fn new(entries: &'a [(K, V)]) -> RawIter<'a, K, V>
-        ensures { result ≡ entries.now }
+    pub(crate) fn new(entries: Iter<'a, K, V>) -> RawIter<'a, K, V>
+        ensures { result ≡ entries.entry }
     {
-        RawIter {
-            entries: entries.iter(),
-        }
+        RawIter { entries }
     }
 }
 
@@ -42,8 +39,7 @@ impl<'a, K, V> Iterator for RawIter<'a, K, V> {
     ghost remaining = { λ it. at_most (length it) };
 
     fn next(&mut self) -> Option<(&'a K, &'a V)> {
-        let entry = self.entries.next()?;
-        Some((&entry.0, &entry.1))
+        self.entries.next()
     }
 
     fn size_hint(&self) -> (usize, Option<usize>)

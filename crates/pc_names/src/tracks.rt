@@ -1,7 +1,6 @@
-//! The newest version of each track: an ordered map from a track's key to a version and the place of its definition.
+//! The newest version of each track, under the track's key, with the place of its definition.
 
 ghost use Rattle.std.specs.Prelude.{◌≡◌, ℕ, [], List, IfOk, OnOk, OnErr};
-ghost use Rattle.std.specs.BTreeMap.{insert_entry, is_at};
 ghost use Rattle.std.specs.Map.{lookup};
 ghost use Rattle.std.specs.Option.{option_map};
 ghost use Rattle.std.specs.Ordering.{is_lt};
@@ -10,10 +9,11 @@ ghost use Rattle.pc_names.specs.Track.{version_cmp};
 ghost use Rattle.pc_names.specs.Tracks.{noted};
 ghost use Rattle.semver.specs.Identifiers.{parts_of};
 
-use pc_entity::{NoMemory, TryClone};
+use crate::entries::Entries;
+use pc_entity::{NoMemory, Seed, TryClone};
 use semver::Version;
 use std::alloc::Global;
-use std::collections::BTreeMap;
+use std::hash::Hash;
 use std::marker::Model;
 
 /// The newest version of a track, and the place of the definition that has it.
@@ -51,31 +51,31 @@ impl TryClone for Newest {
 
 /// The newest version of each track that has one, by the track's key.
 #[derive(Drop)]
-pub(crate) struct Tracks<K: Ord> {
-    newest: BTreeMap<K, Newest>,
+pub(crate) struct Tracks<K: Eq + Hash> {
+    newest: Entries<K, Newest>,
 }
 
-impl<K: Ord> Model for Tracks<K> {
+impl<K: Eq + Hash> Model for Tracks<K> {
     ghost use Rattle.std.specs.Prelude.{List};
     ghost use Rattle.pc_names.specs.Contents.{Newest};
 
     ghost Value = { List (K × Newest) };
 
-    ghost view = { λ t. t.newest.entries };
+    ghost view = { λ t. t.newest };
 }
 
-impl<K: Ord> Tracks<K> {
-    pub(crate) fn new(alloc: Global) -> Tracks<K>
+impl<K: Eq + Hash> Tracks<K> {
+    pub(crate) fn new(alloc: Global, seed: Seed) -> Tracks<K>
         ensures { result ≡ [] }
     {
         Tracks {
-            newest: BTreeMap::new(alloc),
+            newest: Entries::new(alloc, seed),
         }
     }
 
     /// The place of the definition with the newest version of a track.
     pub(crate) fn place_of(&self, track: &K) -> Option<usize>
-        ensures { result ≡ option_map (λ n. n.0) (lookup (is_at (K.cmp track.now)) self.now) }
+        ensures { result ≡ option_map (λ n. n.0) (lookup (K.eq track.now) self.now) }
     {
         match self.newest.get(track) {
             Some(newest) => Some(newest.place),
@@ -87,7 +87,7 @@ impl<K: Ord> Tracks<K> {
     pub(crate) fn note(&mut self, track: Option<(K, Version)>, place: usize) -> Result<(), NoMemory>
     where
         K: Drop,
-        ensures ok { OnOk result (self.new ≡ noted_at K.cmp self.old (keyed_version track) place) }
+        ensures ok { OnOk result (self.new ≡ noted_at K.eq self.old (keyed_version track) place) }
         ensures err { OnErr result (self.new ≡ self.old) }
     {
         match track {
@@ -100,7 +100,7 @@ impl<K: Ord> Tracks<K> {
     fn note_on(&mut self, track: K, newest: Newest) -> Result<(), NoMemory>
     where
         K: Drop,
-        ensures ok { OnOk result (self.new ≡ noted K.cmp self.old track newest) }
+        ensures ok { OnOk result (self.new ≡ noted K.eq self.old track newest) }
         ensures err { OnErr result (self.new ≡ self.old) }
     {
         if let Some(held) = self.newest.get(&track) {
@@ -108,27 +108,14 @@ impl<K: Ord> Tracks<K> {
                 return Ok(());
             }
         }
-        self.put(track, newest)
-    }
-
-    /// Makes a version the newest of a track.
-    fn put(&mut self, track: K, newest: Newest) -> Result<(), NoMemory>
-    where
-        K: Drop,
-        ensures ok { OnOk result (self.new ≡ insert_entry K.cmp self.old track newest) }
-        ensures err { OnErr result (self.new ≡ self.old) }
-    {
-        self.newest.insert(track, newest)?;
-        Ok(())
+        self.newest.insert(track, newest)
     }
 }
 
-impl<K: Ord + TryClone + Drop> TryClone for Tracks<K> {
+impl<K: Eq + Hash + TryClone + Drop> TryClone for Tracks<K> {
     fn try_clone(&self, alloc: Global) -> Result<Tracks<K>, NoMemory> {
-        let mut copy = Tracks::new(alloc);
-        for (track, newest) in &self.newest {
-            copy.put(track.try_clone(alloc)?, newest.try_clone(alloc)?)?;
-        }
-        Ok(copy)
+        Ok(Tracks {
+            newest: self.newest.try_clone(alloc)?,
+        })
     }
 }

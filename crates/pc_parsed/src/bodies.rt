@@ -19,7 +19,7 @@ use crate::fault::StaticFault;
 use crate::named::{exports_fault, imports_fault};
 use crate::payload::Payload;
 use crate::structure::{opens, structure_fault};
-use pc_entity::NoMemory;
+use pc_entity::{NoMemory, Seed};
 use pc_types::{Error, ModuleRecord, NameSet, TypeTable, Unsupported};
 use std::alloc::Global;
 
@@ -31,24 +31,25 @@ pub(crate) struct Names<'a> {
 }
 
 impl<'a> Names<'a> {
-    fn new(alloc: Global) -> Names<'a>
+    fn new(alloc: Global, seed: Seed) -> Names<'a>
         ensures { result ≡ fresh_names }
     {
         Names {
-            imported: NameSet::new(alloc),
-            exported: NameSet::new(alloc),
+            imported: NameSet::new(alloc, seed),
+            exported: NameSet::new(alloc, seed),
         }
     }
 }
 
 fn module_fault(
     alloc: Global,
+    seed: Seed,
     table: &TypeTable,
     record_: &ModuleRecord,
 ) -> Result<Option<(usize, StaticFault)>, NoMemory>
     ensures { IfOk result (λ f. f ≡ fault_or 0 (unless (is_sound table.now record_.now) fault.BadTable) None) }
 {
-    if record_.is_sound(alloc, table)? {
+    if record_.is_sound(alloc, seed, table)? {
         Ok(None)
     } else {
         Ok(Some((0, StaticFault::BadTable)))
@@ -64,6 +65,7 @@ fn exposed_at<'b>(open_count: usize, exposed: Option<&'b str>) -> Option<&'b str
 /// The first fault of a payload's content.
 fn content_fault<'a>(
     alloc: Global,
+    seed: Seed,
     table: &TypeTable,
     exposed: Option<&str>,
     open_count: usize,
@@ -88,22 +90,34 @@ fn content_fault<'a>(
         ),
         Payload::ComponentCanonicalSection(items) => first_item(
             alloc,
+            seed,
             open_count,
             items.as_slice(),
         ),
-        Payload::ModuleSection { record_, .. } => module_fault(alloc, table, record_),
-        Payload::InstanceSection(items) => first_item(alloc, open_count, items.as_slice()),
-        Payload::ComponentInstanceSection(items) => first_item(alloc, open_count, items.as_slice()),
+        Payload::ModuleSection { record_, .. } => module_fault(alloc, seed, table, record_.get()),
+        Payload::InstanceSection(items) => first_item(alloc, seed, open_count, items.as_slice()),
+        Payload::ComponentInstanceSection(items) => first_item(
+            alloc,
+            seed,
+            open_count,
+            items.as_slice(),
+        ),
         Payload::ComponentExportSection(entries) => {
             exports_fault(&mut names.exported, entries.as_slice())
         }
-        Payload::ComponentAliasSection(items) => first_item(alloc, open_count, items.as_slice()),
+        Payload::ComponentAliasSection(items) => first_item(
+            alloc,
+            seed,
+            open_count,
+            items.as_slice(),
+        ),
         _ => Ok(None),
     }
 }
 
 fn payload_fault<'a>(
     alloc: Global,
+    seed: Seed,
     table: &TypeTable,
     exposed: Option<&str>,
     due: bool,
@@ -117,13 +131,14 @@ fn payload_fault<'a>(
 {
     match structure_fault(open_count, due, payload) {
         Some(fault) => Ok(Some((0, fault))),
-        None => content_fault(alloc, table, exposed, open_count, names, payload),
+        None => content_fault(alloc, seed, table, exposed, open_count, names, payload),
     }
 }
 
 /// Goes on behind a payload of the component with these names: a nested one opens, or this one closes.
 fn go_behind<'a>(
     alloc: Global,
+    seed: Seed,
     components: &mut Vec<Names<'a>>,
     names: Names<'a>,
     payload: &Payload,
@@ -133,7 +148,7 @@ fn go_behind<'a>(
     match payload {
         Payload::ComponentSection => {
             components.push(names)?;
-            components.push(Names::new(alloc))?;
+            components.push(Names::new(alloc, seed))?;
         }
         Payload::End => {}
         _ => components.push(names)?,
@@ -145,6 +160,7 @@ fn go_behind<'a>(
 /// none, they go on behind it.
 fn fault_in<'a>(
     alloc: Global,
+    seed: Seed,
     table: &TypeTable,
     exposed: Option<&str>,
     due: bool,
@@ -160,6 +176,7 @@ fn fault_in<'a>(
     let mut names = names;
     let found = payload_fault(
         alloc,
+        seed,
         table,
         exposed,
         due,
@@ -170,7 +187,7 @@ fn fault_in<'a>(
     match found {
         Some(fault) => Ok(Some(fault)),
         None => {
-            go_behind(alloc, components, names, payload)?;
+            go_behind(alloc, seed, components, names, payload)?;
             Ok(None)
         }
     }
@@ -179,6 +196,7 @@ fn fault_in<'a>(
 /// The first fault of a payload, where these components are open; the innermost is the last.
 fn next_fault<'a>(
     alloc: Global,
+    seed: Seed,
     table: &TypeTable,
     exposed: Option<&str>,
     due: bool,
@@ -191,7 +209,7 @@ fn next_fault<'a>(
         → Stands components.new.items (payload.now ∷ before)) }
 {
     match components.pop() {
-        Some(names) => fault_in(alloc, table, exposed, due, components, names, payload),
+        Some(names) => fault_in(alloc, seed, table, exposed, due, components, names, payload),
         None => Ok(Some((0, StaticFault::Malformed))),
     }
 }
@@ -215,6 +233,7 @@ fn end_error(is_closed: bool, payloads: usize) -> Option<Error>
 /// The first fault of payloads, and of the end of their list.
 pub(crate) fn payloads_error(
     alloc: Global,
+    seed: Seed,
     table: &TypeTable,
     exposed: Option<&str>,
     payloads: &[Payload],
@@ -222,10 +241,10 @@ pub(crate) fn payloads_error(
     ensures { IfOk result (λ e. e ≡ payloads_error table.now (option_map (λ x. x.now) exposed.entry) [] payloads.now) }
 {
     let mut components = Vec::new(alloc);
-    components.push(Names::new(alloc))?;
+    components.push(Names::new(alloc, seed))?;
     let mut due = true;
     for (n, payload) in payloads.iter().enumerate() {
-        match next_fault(alloc, table, exposed, due, &mut components, payload)? {
+        match next_fault(alloc, seed, table, exposed, due, &mut components, payload)? {
             Some((item, fault)) => return Ok(Some(fault.at(n, item))),
             None => {}
         }

@@ -14,7 +14,7 @@ use crate::fault::StaticFault;
 use crate::payload::{
     AliasItem, ComponentInstanceItem, ExternName, InstanceItem, ItemKind, OuterKind,
 };
-use pc_entity::{NoMemory, Text};
+use pc_entity::{NoMemory, Seed, Text};
 use pc_types::{NameSet, Unsupported, WasmValType, distinct_keys};
 use std::alloc::Global;
 
@@ -23,20 +23,26 @@ pub(crate) trait Checked {
     // What is wrong with the item.
     ghost fault: { ℕ → Self → Option StaticFault };
 
-    fn fault(&self, alloc: Global, open_count: usize) -> Result<Option<StaticFault>, NoMemory>
+    fn fault(
+        &self,
+        alloc: Global,
+        seed: Seed,
+        open_count: usize,
+    ) -> Result<Option<StaticFault>, NoMemory>
         ensures { IfOk result (λ f. f ≡ fault open_count self.now) };
 }
 
 /// The first item that has a fault, with its number.
 pub(crate) fn first_item<T: Checked>(
     alloc: Global,
+    seed: Seed,
     open_count: usize,
     items: &[T],
 ) -> Result<Option<(usize, StaticFault)>, NoMemory>
     ensures { IfOk result (λ f. f ≡ first_item (T.fault open_count) 0 items.now) }
 {
     for (n, item) in items.iter().enumerate() {
-        if let Some(fault) = item.fault(alloc, open_count)? {
+        if let Some(fault) = item.fault(alloc, seed, open_count)? {
             return Ok(Some((n, fault)));
         }
     }
@@ -79,7 +85,12 @@ fn slot_fault(what: Unsupported, ty: WasmValType) -> Option<StaticFault>
 impl Checked for CanonItem {
     ghost fault = { λ _. canon_fault };
 
-    fn fault(&self, _alloc: Global, _open_count: usize) -> Result<Option<StaticFault>, NoMemory> {
+    fn fault(
+        &self,
+        _alloc: Global,
+        _seed: Seed,
+        _open_count: usize,
+    ) -> Result<Option<StaticFault>, NoMemory> {
         Ok(match self {
             CanonItem::ThreadSpawnRef
             | CanonItem::ThreadSpawnIndirect
@@ -98,10 +109,15 @@ impl Checked for CanonItem {
 impl Checked for InstanceItem {
     ghost fault = { λ _. instance_fault };
 
-    fn fault(&self, alloc: Global, _open_count: usize) -> Result<Option<StaticFault>, NoMemory> {
+    fn fault(
+        &self,
+        alloc: Global,
+        seed: Seed,
+        _open_count: usize,
+    ) -> Result<Option<StaticFault>, NoMemory> {
         let distinct = match self {
-            InstanceItem::Instantiate { args, .. } => distinct_keys(alloc, args.as_slice())?,
-            InstanceItem::FromExports(items) => distinct_keys(alloc, items.as_slice())?,
+            InstanceItem::Instantiate { args, .. } => distinct_keys(alloc, seed, args.as_slice())?,
+            InstanceItem::FromExports(items) => distinct_keys(alloc, seed, items.as_slice())?,
         };
         Ok(unless(distinct, StaticFault::DefinedTwice))
     }
@@ -131,10 +147,10 @@ impl Named for (ExternName, ItemKind, u32) {
     }
 }
 
-fn are_named_apart<T: Named>(alloc: Global, entries: &[T]) -> Result<bool, NoMemory>
+fn are_named_apart<T: Named>(alloc: Global, seed: Seed, entries: &[T]) -> Result<bool, NoMemory>
     ensures { IfOk result (λ apart. apart ≡ distinct_names (map T.name_of entries.now)) }
 {
-    let mut met = NameSet::new(alloc);
+    let mut met = NameSet::new(alloc, seed);
     for entry in entries {
         if !met.insert(entry.name())? {
             return Ok(false);
@@ -143,10 +159,17 @@ fn are_named_apart<T: Named>(alloc: Global, entries: &[T]) -> Result<bool, NoMem
     Ok(true)
 }
 
-fn names_fault<T: Named>(alloc: Global, entries: &[T]) -> Result<Option<StaticFault>, NoMemory>
+fn names_fault<T: Named>(
+    alloc: Global,
+    seed: Seed,
+    entries: &[T],
+) -> Result<Option<StaticFault>, NoMemory>
     ensures { IfOk result (λ f. f ≡ unless (distinct_names (map T.name_of entries.now)) StaticFault.DefinedTwice) }
 {
-    Ok(unless(are_named_apart(alloc, entries)?, StaticFault::DefinedTwice))
+    Ok(unless(
+        are_named_apart(alloc, seed, entries)?,
+        StaticFault::DefinedTwice,
+    ))
 }
 
 fn have_value_argument(args: &[(Text, ItemKind, u32)]) -> bool
@@ -172,34 +195,41 @@ fn first_of(first: Option<StaticFault>, later: Option<StaticFault>) -> Option<St
 
 fn arguments_fault(
     alloc: Global,
+    seed: Seed,
     args: &[(Text, ItemKind, u32)],
 ) -> Result<Option<StaticFault>, NoMemory>
     ensures { IfOk result (λ f. f ≡ arguments_fault args.now) }
 {
-    let twice = names_fault(alloc, args)?;
+    let twice = names_fault(alloc, seed, args)?;
     Ok(first_of(value_fault(have_value_argument(args)), twice))
 }
 
 fn items_fault(
     alloc: Global,
+    seed: Seed,
     items: &[(ExternName, ItemKind, u32)],
 ) -> Result<Option<StaticFault>, NoMemory>
     ensures { IfOk result (λ f. f ≡ items_fault items.now) }
 {
-    let twice = names_fault(alloc, items)?;
+    let twice = names_fault(alloc, seed, items)?;
     Ok(first_of(value_fault(have_value_item(items)), twice))
 }
 
 impl Checked for ComponentInstanceItem {
     ghost fault = { λ _. component_instance_fault };
 
-    fn fault(&self, alloc: Global, _open_count: usize) -> Result<Option<StaticFault>, NoMemory> {
+    fn fault(
+        &self,
+        alloc: Global,
+        seed: Seed,
+        _open_count: usize,
+    ) -> Result<Option<StaticFault>, NoMemory> {
         match self {
             ComponentInstanceItem::Instantiate { args, .. } => {
-                arguments_fault(alloc, args.as_slice())
+                arguments_fault(alloc, seed, args.as_slice())
             }
             ComponentInstanceItem::FromExports { exports, .. } => {
-                items_fault(alloc, exports.as_slice())
+                items_fault(alloc, seed, exports.as_slice())
             }
         }
     }
@@ -219,7 +249,12 @@ fn outer_fault(open_count: usize, kind: OuterKind, count: u32) -> Option<StaticF
 impl Checked for AliasItem {
     ghost fault = { alias_fault };
 
-    fn fault(&self, _alloc: Global, open_count: usize) -> Result<Option<StaticFault>, NoMemory> {
+    fn fault(
+        &self,
+        _alloc: Global,
+        _seed: Seed,
+        open_count: usize,
+    ) -> Result<Option<StaticFault>, NoMemory> {
         Ok(match self {
             AliasItem::InstanceExport { kind, .. } => value_fault(is_value_kind(*kind)),
             AliasItem::Outer { kind, count, .. } => outer_fault(open_count, *kind, *count),

@@ -4,8 +4,9 @@
 //! the same list.
 
 use crate::canon::CanonItem;
+use crate::record::SharedRecord;
 use pc_entity::{EntityIndex, Seq, Text};
-use pc_types::{CoreKind, Entity, ModuleRecord, WasmValType};
+use pc_types::{CoreKind, Entity, WasmValType};
 
 /// What a translation is limited to.
 #[derive(Clone, Copy, Debug, PartialEq, Eq)]
@@ -34,7 +35,7 @@ pub enum Payload {
     ComponentImportSection(Seq<ImportItem>),
     ComponentCanonicalSection(Seq<CanonItem>),
     /// A core module with its type, a number of the type table.
-    ModuleSection { record_: ModuleRecord, ty: u32 },
+    ModuleSection { record_: SharedRecord, ty: u32 },
     InstanceSection(Seq<InstanceItem>),
     ComponentInstanceSection(Seq<ComponentInstanceItem>),
     ComponentExportSection(Seq<ExportEntry>),

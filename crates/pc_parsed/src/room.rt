@@ -54,7 +54,7 @@ fn left_after_payload(left: usize, payload: &Payload) -> usize
     ensures { result ≡ left - entity_total payload.now }
 {
     match payload {
-        Payload::ModuleSection { record_, .. } => left_after(left, record_),
+        Payload::ModuleSection { record_, .. } => left_after(left, record_.get()),
         _ => left,
     }
 }

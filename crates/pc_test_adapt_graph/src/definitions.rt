@@ -8,7 +8,7 @@ use pc_adapt::Import;
 use pc_adapt_define::{define, define_all};
 use pc_dfg::laws::empty_is_ordered;
 use pc_dfg::{ComponentDfg, CoreDef, PushError};
-use pc_entity::{ModuleInternedTypeIndex, NoMemory, Seq, TrampolineIndex};
+use pc_entity::{ModuleInternedTypeIndex, NoMemory, Seed, Seq, TrampolineIndex};
 use pc_trampoline::Trap;
 use std::alloc::Global;
 use std::test::*;
@@ -50,7 +50,7 @@ fn calls(alloc: Global, graph: &mut ComponentDfg) -> Result<[usize; 2], PushErro
 /// Whether equal helpers share a trampoline, and others don't.
 fn are_shared(alloc: Global) -> Result<bool, PushError> {
     empty_is_ordered();
-    let mut graph = ComponentDfg::new(alloc);
+    let mut graph = ComponentDfg::new(alloc, Seed::fixed());
     let is_shared = has_trap(&mut graph);
     let counts = calls(alloc, &mut graph)?;
     Ok(is_shared && counts == [3, 2])

@@ -5,13 +5,14 @@ use crate::support::holds;
 use pc_adapt_groups::adapter_groups;
 use pc_dfg::laws::empty_is_ordered;
 use pc_dfg::{ComponentDfg, PushError};
+use pc_entity::Seed;
 use std::alloc::Global;
 use std::test::*;
 
 /// How many groups the adapters of a graph are in, and how many adapters are in the first one.
 fn groups_of(alloc: Global, shape: Shape) -> Result<(usize, usize), PushError> {
     empty_is_ordered();
-    let mut graph = ComponentDfg::new(alloc);
+    let mut graph = ComponentDfg::new(alloc, Seed::fixed());
     fill(alloc, &mut graph, shape)?;
     let groups = adapter_groups(alloc, &graph)?;
     let first = groups.as_slice().get(0).copied().unwrap_or(0);

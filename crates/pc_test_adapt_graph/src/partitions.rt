@@ -12,7 +12,7 @@ use pc_adapt::AdaptError;
 use pc_adapt_partition::partition_adapter_modules;
 use pc_dfg::laws::empty_is_ordered;
 use pc_dfg::{AdapterId, AdapterModuleId, ComponentDfg};
-use pc_entity::{EntityIndex, FuncIndex, PrimaryMap, StaticModuleIndex};
+use pc_entity::{EntityIndex, FuncIndex, PrimaryMap, Seed, StaticModuleIndex};
 use pc_info::ModuleTranslation;
 use pc_types_builder::ComponentTypesBuilder;
 use std::alloc::Global;
@@ -61,12 +61,12 @@ fn made_of(
 /// What is made of the graph of a shape.
 fn parts_of(alloc: Global, shape: Shape) -> Result<Made, AdaptError> {
     empty_is_ordered();
-    let mut types = ComponentTypesBuilder::new(alloc);
+    let mut types = ComponentTypesBuilder::new(alloc, Seed::fixed());
     let table = two_types(alloc)?;
     if !has_two(alloc, &mut types, &table) {
         return Err(AdaptError::TooMany);
     }
-    let mut graph = ComponentDfg::new(alloc);
+    let mut graph = ComponentDfg::new(alloc, Seed::fixed());
     fill(alloc, &mut graph, shape)?;
     let mut modules = PrimaryMap::new(alloc);
     partition(alloc, &mut graph, &types, &mut modules)?;

@@ -15,8 +15,8 @@ use pc_dfg::{
     Adapter, AdapterId, ComponentDfg, CoreDef, CoreExport, ExportItem, InstanceId, PushError,
 };
 use pc_entity::{
-    EntityIndex, EntityRef, FuncIndex, MemoryIndex, NoMemory, RuntimeComponentInstanceIndex, Seq,
-    Text,
+    EntityIndex, EntityRef, FuncIndex, MemoryIndex, NoMemory, RuntimeComponentInstanceIndex, Seed,
+    Seq, Text,
 };
 use pc_info::AdapterRecord;
 use pc_trampoline::{Transcode, Trap};
@@ -216,10 +216,10 @@ fn are_planned(
 /// Which of the answers on the small graph are those that are wanted.
 fn answers(alloc: Global) -> Result<[bool; 5], PushError> {
     empty_is_ordered();
-    let mut types = ComponentTypesBuilder::new(alloc);
+    let mut types = ComponentTypesBuilder::new(alloc, Seed::fixed());
     let table = two_types(alloc)?;
     let is_converted = has_two(alloc, &mut types, &table);
-    let mut graph = ComponentDfg::new(alloc);
+    let mut graph = ComponentDfg::new(alloc, Seed::fixed());
     fill(alloc, &mut graph, Shape::Small)?;
     let is_asked = third_lacks(&types, &graph);
     let is_planned = are_planned(alloc, &types, &graph, OF_STRINGS.as_slice());

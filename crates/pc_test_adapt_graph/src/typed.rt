@@ -5,7 +5,7 @@ ghost use Rattle.pc_types.specs.Table.{table_fault};
 ghost use Rattle.pc_test_adapt_graph.specs.Two.{AreTwo, HaveTwo, IsTwo};
 
 use pc_dfg::{Adapter, ComponentDfg};
-use pc_entity::EntityRef;
+use pc_entity::{EntityRef, Seed};
 use pc_types::{TypeTable, check_table};
 use pc_types_builder::ComponentTypesBuilder;
 use std::alloc::Global;
@@ -15,7 +15,7 @@ fn is_sound(alloc: Global, table: &TypeTable) -> bool
     ensures { result ≡ true → table_fault table.now ≡ None }
 {
     if table.types.len() < 1_000_000 {
-        check_table(alloc, table).is_ok()
+        check_table(alloc, Seed::fixed(), table).is_ok()
     } else {
         false
     }

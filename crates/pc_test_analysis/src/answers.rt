@@ -9,7 +9,7 @@ use crate::parts::{ASYNC, HANDLE, PLAIN, function, fused, side};
 use crate::support::holds;
 use pc_analysis_transparent::transparent_adapters;
 use pc_dfg::{Adapter, AdapterId, ComponentDfg, PushError};
-use pc_entity::{EntityRef, NoMemory, Seq, Text};
+use pc_entity::{EntityRef, NoMemory, Seed, Seq, Text};
 use pc_types::{DeclType, PrimType, TypeFuncIndex, TypeKind, TypeTable, ValType, check_table};
 use pc_types_builder::ComponentTypesBuilder;
 use std::alloc::Global;
@@ -48,7 +48,7 @@ fn is_sound(alloc: Global, table: &TypeTable) -> bool
     ensures { result ≡ true → table_fault table.now ≡ None }
 {
     if table.types.len() < 1_000_000 {
-        check_table(alloc, table).is_ok()
+        check_table(alloc, Seed::fixed(), table).is_ok()
     } else {
         false
     }
@@ -107,7 +107,7 @@ fn beside(
     types: &ComponentTypesBuilder,
     addition: Addition,
 ) -> Result<bool, PushError> {
-    let mut graph = ComponentDfg::new(alloc);
+    let mut graph = ComponentDfg::new(alloc, Seed::fixed());
     let adapter = fused(
         (PLAIN, PLAIN),
         side(1, None, false),
@@ -126,7 +126,7 @@ fn alone(
     of: (u32, u32),
     are_async: (bool, bool),
 ) -> Result<bool, PushError> {
-    let mut graph = ComponentDfg::new(alloc);
+    let mut graph = ComponentDfg::new(alloc, Seed::fixed());
     let lift = side(1, None, are_async.0);
     let lower = side(2, None, are_async.1);
     graph.push_adapter(fused(of, lift, lower, function(0)))?;
@@ -193,7 +193,7 @@ fn others_are_kept(alloc: Global, types: &ComponentTypesBuilder) -> Result<bool,
 
 /// Which of the answers are those that are wanted.
 fn answers(alloc: Global) -> Result<[bool; 4], PushError> {
-    let mut types = ComponentTypesBuilder::new(alloc);
+    let mut types = ComponentTypesBuilder::new(alloc, Seed::fixed());
     let table = three_types(alloc)?;
     let are_converted = converts(alloc, &mut types, &table);
     let opaque = all_are(alloc, &types, OPAQUE.as_slice(), false)?;

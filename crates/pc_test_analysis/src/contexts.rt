@@ -9,7 +9,7 @@ use crate::support::holds;
 use pc_analysis_contexts::analyze_same_vmctx_imports;
 use pc_dfg::laws::empty_is_ordered;
 use pc_dfg::{ComponentDfg, PushError};
-use pc_entity::{FuncIndex, NoMemory, PrimaryMap, Seq, StaticModuleIndex, Text};
+use pc_entity::{FuncIndex, NoMemory, PrimaryMap, Seed, Seq, StaticModuleIndex, Text};
 use pc_info::ModuleTranslation;
 use pc_types::{CoreEntity, ModuleRecord};
 use std::alloc::Global;
@@ -26,7 +26,8 @@ const REPRESENTED: [(u32, u32, u32); 5] = [(2, 2, 0), (4, 1, 0), (4, 2, 0), (5, 
 fn functions(alloc: Global, imported: u32, defined: u32) -> Result<ModuleTranslation, NoMemory> {
     let mut imports = Seq::new(alloc);
     for _place in 0..imported {
-        imports.push((Text::new(alloc), Text::new(alloc), CoreEntity::Func(0)))?;
+        let module_name = Text::copy_of(alloc, "")?;
+        imports.push((module_name, Text::copy_of(alloc, "")?, CoreEntity::Func(0)))?;
     }
     let mut funcs = Seq::new(alloc);
     for _place in 0..defined {
@@ -127,7 +128,7 @@ fn make_last(alloc: Global, graph: &mut ComponentDfg) -> Result<(), PushError>
 fn graph(alloc: Global) -> Result<ComponentDfg, PushError>
     ensures { IfOk result IsOrdered }
 {
-    let mut graph = ComponentDfg::new(alloc);
+    let mut graph = ComponentDfg::new(alloc, Seed::fixed());
     empty_is_ordered();
     graph.push_component_instance()?;
     make_first(alloc, &mut graph)?;

@@ -9,6 +9,7 @@ mod resources;
 use crate::builder::conversions::converts_each;
 use crate::builder::entries::{Shape, table_of};
 use crate::builder::long_tables::{converts_chain, converts_diamond};
+use pc_entity::Seed;
 use pc_types_builder::ComponentTypesBuilder;
 use std::alloc::Global;
 use std::process::Abort;
@@ -16,7 +17,7 @@ use std::process::Abort;
 /// Converts a table of this shape. All tables are made and let go here, since that is proved anew where it stands.
 fn converts(rt: &impl Abort, alloc: Global, shape: Shape) {
     let table = table_of(rt, alloc, shape);
-    let mut types = ComponentTypesBuilder::new(alloc);
+    let mut types = ComponentTypesBuilder::new(alloc, Seed::fixed());
     match shape {
         Shape::EachKind => converts_each(rt, alloc, &mut types, &table),
         Shape::Chain => converts_chain(rt, alloc, &mut types, &table),

@@ -3,9 +3,11 @@
 use crate::support::{holds, text};
 use pc_entity::{
     Atom, EntityRef, EntitySet, ExactEq, FuncIndex, Interner, MemoryIndex, ModuleIndex,
-    PackedOption, PrimaryMap, SecondaryMap, Seq, StringPool, TableIndex, TagIndex, Text, TextMap,
-    TryClone,
+    PackedOption, PrimaryMap, SecondaryMap, Seed, Seq, StringPool, TableIndex, TagIndex, Text,
+    TextMap, TryClone,
 };
+use std::alloc::Global;
+use std::process::Abort;
 use std::test::*;
 
 /// Whether 5 alone is numbered.
@@ -19,7 +21,7 @@ fn is_five(numbers: &Interner<u32>) -> bool {
 
 #[test]
 fn a_value_has_a_number(rt: HostRuntime) {
-    let mut numbers = Interner::new(rt.alloc());
+    let mut numbers = Interner::new(rt.alloc(), Seed::fixed());
     let is_first = numbers.push(5u32) == Ok(0);
     holds(&rt, "number", is_first && is_five(&numbers));
 }
@@ -31,7 +33,7 @@ fn is_a(pool: &StringPool) -> bool {
 
 #[test]
 fn a_text_has_an_atom(rt: HostRuntime) {
-    let mut pool = StringPool::new(rt.alloc());
+    let mut pool = StringPool::new(rt.alloc(), Seed::fixed());
     let is_first = pool.insert("a") == Ok(Atom(0)) && Atom(0).as_u32() == 0;
     holds(&rt, "atom", is_first && is_a(&pool));
 }
@@ -94,10 +96,10 @@ fn is_placed(map: &TextMap<u32>) -> bool {
 #[test]
 fn a_name_has_a_place(rt: HostRuntime) {
     let alloc = rt.alloc();
-    let mut map = TextMap::new(alloc);
-    let is_new = map.insert(Text::new(alloc), 1u32) == Ok(None);
+    let mut map = TextMap::new(alloc, Seed::fixed());
+    let is_new = map.insert(text(&rt, alloc, ""), 1u32) == Ok(None);
     holds(&rt, "insert", is_new);
-    let is_kept = map.insert_first(alloc, &Text::new(alloc), 2).is_ok();
+    let is_kept = map.insert_first(&text(&rt, alloc, ""), 2).is_ok();
     holds(&rt, "place", is_kept && is_placed(&map));
 }
 
@@ -109,26 +111,48 @@ fn is_named(map: &TextMap<u32>) -> bool {
 
 #[test]
 fn a_name_is_found(rt: HostRuntime) {
-    let mut map = TextMap::new(rt.alloc());
-    let is_pushed = map.push(Text::new(rt.alloc()), 4u32).is_ok();
+    let mut map = TextMap::new(rt.alloc(), Seed::fixed());
+    let is_pushed = map.push(text(&rt, rt.alloc(), ""), 4u32).is_ok();
+    holds(&rt, "name", is_pushed && is_named(&map));
+}
+
+#[test]
+fn a_name_is_found_by_the_seed_of_an_input(rt: HostRuntime) {
+    let numbers: Interner<u32> = Interner::new(rt.alloc(), Seed::of_input("wasm".as_bytes()));
+    let names: TextMap<u32> = TextMap::new(rt.alloc(), numbers.seed());
+    let mut map = TextMap::new(rt.alloc(), names.seed());
+    let is_pushed = map.push(text(&rt, rt.alloc(), ""), 4u32).is_ok();
     holds(&rt, "name", is_pushed && is_named(&map));
 }
 
 #[test]
 fn a_text_is_a_string(rt: HostRuntime) {
-    let string = String::from_str(rt.alloc(), "wasm").expect(&rt, "no memory");
-    let mut text = Text::from_string(string);
-    let is_longer = text.push_str("/p1").is_ok() && !text.is_empty() && text.len() == 7;
-    let is_greater = text > Text::new(rt.alloc());
-    let is_string = text.into_string().as_str() == "wasm/p1";
-    holds(&rt, "string", is_longer && is_greater && is_string);
+    let string = String::from_str(rt.alloc(), "wasm/p1").expect(&rt, "no memory");
+    let made = Text::from_string(string).expect(&rt, "no memory");
+    let is_string = made.as_str() == "wasm/p1" && !made.is_empty() && made.len() == 7;
+    let is_greater = made > text(&rt, rt.alloc(), "");
+    holds(&rt, "string", is_string && is_greater);
+}
+
+/// A text that shares its bytes with one that is gone.
+fn shared(rt: &impl Abort, alloc: Global) -> Text {
+    let source = text(rt, alloc, "wasm");
+    source.share().expect(rt, "no memory")
+}
+
+#[test]
+fn a_text_that_is_shared_equals_one_that_is_copied(rt: HostRuntime) {
+    let is_copy = shared(&rt, rt.alloc()) == text(&rt, rt.alloc(), "wasm");
+    let is_other = shared(&rt, rt.alloc()) == text(&rt, rt.alloc(), "wasn");
+    holds(&rt, "shared", is_copy && !is_other);
 }
 
 #[test]
 fn a_copy_is_its_source(rt: HostRuntime) {
     let alloc = rt.alloc();
     let mut texts = Seq::with_capacity(alloc, 2).expect(&rt, "no memory");
-    let is_pushed = texts.push((Text::new(alloc), Some(FuncIndex(1)))).is_ok();
+    let name = text(&rt, alloc, "");
+    let is_pushed = texts.push((name, Some(FuncIndex(1)))).is_ok();
     let copy = texts.try_clone(alloc).expect(&rt, "no memory");
     let is_same = copy.is_same(&texts) && !copy.is_empty() && copy.len() == 1;
     holds(&rt, "copy", is_pushed && is_same);

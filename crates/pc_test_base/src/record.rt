@@ -2,7 +2,7 @@
 
 use crate::support::holds;
 use crate::types::record;
-use pc_entity::{EntityIndex, FuncIndex, MemoryIndex};
+use pc_entity::{EntityIndex, FuncIndex, MemoryIndex, Seed};
 use pc_types::{CoreKind, ModuleRecord};
 use pc_types_record::RecordIndex;
 use std::alloc::Global;
@@ -31,7 +31,7 @@ fn all_is_found(alloc: Global, record: &ModuleRecord) -> bool {
     if record.imports.len() > 9 {
         return false;
     }
-    match RecordIndex::new(alloc, record) {
+    match RecordIndex::new(alloc, Seed::fixed(), record) {
         Ok(index) => imports_are_found(&index) && the_rest_is_found(&index),
         Err(_) => false,
     }

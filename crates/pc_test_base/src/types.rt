@@ -1,7 +1,7 @@
 //! Tests of `pc_types`.
 
 use crate::support::{holds, is_sound, one, push, text};
-use pc_entity::{EntityIndex, FuncIndex, MemoryIndex, Seq, Text, TryClone};
+use pc_entity::{EntityIndex, FuncIndex, MemoryIndex, Seed, Seq, Text, TryClone};
 use pc_types::{
     CoreEntity, CoreKind, DeclType, ModuleRecord, Place, TypeTable, distinct_keys, distinct_pairs,
     distinct_texts,
@@ -21,16 +21,16 @@ fn entries_that_name_earlier_ones_are_sound(rt: HostRuntime) {
 }
 
 /// An import with no names.
-fn import(alloc: Global, entity: CoreEntity) -> (Text, Text, CoreEntity) {
-    (Text::new(alloc), Text::new(alloc), entity)
+fn import(rt: &impl Abort, alloc: Global, entity: CoreEntity) -> (Text, Text, CoreEntity) {
+    (text(rt, alloc, ""), text(rt, alloc, ""), entity)
 }
 
 /// Functions of signatures 2 and 3 around a memory.
 fn imports(rt: &impl Abort, alloc: Global) -> Seq<(Text, Text, CoreEntity)> {
     let memory = CoreEntity::Memory { memory64: true };
-    let mut list = one(rt, alloc, import(alloc, CoreEntity::Func(2)));
-    push(rt, &mut list, import(alloc, memory));
-    push(rt, &mut list, import(alloc, CoreEntity::Func(3)));
+    let mut list = one(rt, alloc, import(rt, alloc, CoreEntity::Func(2)));
+    push(rt, &mut list, import(rt, alloc, memory));
+    push(rt, &mut list, import(rt, alloc, CoreEntity::Func(3)));
     list
 }
 
@@ -87,11 +87,12 @@ fn a_record_is_looked_up_and_copied(rt: HostRuntime) {
 #[test]
 fn lists_are_searched_for_a_name_that_stands_twice(rt: HostRuntime) {
     let alloc = rt.alloc();
-    let texts = distinct_texts(alloc, &[Text::new(alloc)]);
+    let texts = distinct_texts(alloc, Seed::fixed(), &[text(&rt, alloc, "")]);
     holds(&rt, "texts", texts == Ok(true));
-    let keys = distinct_keys(alloc, &[(Text::new(alloc), 0u32)]);
+    let keys = distinct_keys(alloc, Seed::fixed(), &[(text(&rt, alloc, ""), 0u32)]);
     holds(&rt, "keys", keys == Ok(true));
-    let pairs = distinct_pairs(alloc, &[(Text::new(alloc), Text::new(alloc), 0u32)]);
+    let pair = (text(&rt, alloc, ""), text(&rt, alloc, ""), 0u32);
+    let pairs = distinct_pairs(alloc, Seed::fixed(), &[pair]);
     holds(&rt, "pairs", pairs == Ok(true));
 }
 

@@ -46,7 +46,7 @@ pub(crate) fn item_of(payload: &Payload) -> Option<Item> {
         Payload::Version { encoding } => version(*encoding),
         Payload::ComponentSection => Some(Item::Component),
         Payload::End => Some(Item::End),
-        Payload::ModuleSection { record_, ty } => module(record_, *ty),
+        Payload::ModuleSection { record_, ty } => module(record_.get(), *ty),
         Payload::InstanceSection(list) => core_instance(only(list)?),
         Payload::ComponentAliasSection(list) => alias(only(list)?),
         Payload::ComponentCanonicalSection(list) => canon(only(list)?),

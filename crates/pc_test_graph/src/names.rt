@@ -1,7 +1,7 @@
 //! Name maps, over both interners, and the tracks of names.
 
 use crate::support::holds;
-use pc_entity::{NoMemory, StringPool, Text, TryClone};
+use pc_entity::{NoMemory, Seed, StringPool, Text, TryClone};
 use pc_names::{NameError, NameMap, NameMapIntern, NameMapNoIntern, alternate_lookup_key};
 use std::alloc::Global;
 use std::hash::Hash;
@@ -9,7 +9,7 @@ use std::process::Abort;
 use std::test::*;
 
 /// Inserts names with their items.
-fn inserts<K: Eq + Ord + Hash + TryClone + Drop, I: NameMapIntern<Key = K>>(
+fn inserts<K: Eq + Hash + TryClone + Drop, I: NameMapIntern<Key = K>>(
     rt: &impl Abort,
     map: &mut NameMap<K, u32>,
     cx: &mut I,
@@ -26,7 +26,7 @@ fn inserts<K: Eq + Ord + Hash + TryClone + Drop, I: NameMapIntern<Key = K>>(
 }
 
 /// Looks names up, each of which finds this item, or none.
-fn finds<K: Eq + Ord + Hash + TryClone + Drop, I: NameMapIntern<Key = K>>(
+fn finds<K: Eq + Hash + TryClone + Drop, I: NameMapIntern<Key = K>>(
     rt: &impl Abort,
     map: &NameMap<K, u32>,
     cx: &I,
@@ -42,14 +42,14 @@ fn finds<K: Eq + Ord + Hash + TryClone + Drop, I: NameMapIntern<Key = K>>(
 }
 
 /// Inserts names and looks names up.
-fn maps_to<K: Eq + Ord + Hash + TryClone + Drop, I: NameMapIntern<Key = K>>(
+fn maps_to<K: Eq + Hash + TryClone + Drop, I: NameMapIntern<Key = K>>(
     rt: &impl Abort,
     alloc: Global,
     cx: &mut I,
     names: &[(&str, u32)],
     rows: &[(&str, Option<u32>)],
 ) {
-    let mut map = NameMap::new(alloc);
+    let mut map = NameMap::new(alloc, Seed::fixed());
     inserts(rt, &mut map, cx, names);
     finds(rt, &map, cx, rows);
 }
@@ -112,7 +112,7 @@ fn the_greatest_version_of_a_track_is_found(rt: HostRuntime) {
 
 #[test]
 fn the_greatest_version_is_found_by_numbers_of_texts(rt: HostRuntime) {
-    let mut pool = StringPool::new(rt.alloc());
+    let mut pool = StringPool::new(rt.alloc(), Seed::fixed());
     maps_to(&rt, rt.alloc(), &mut pool, &VERSIONS, &NEWEST);
     // Ten names, and the tracks `a@1`, `a@0.1`, `a@0.2` and `b@1`.
     holds(&rt, "room", pool.room() == 4294967295 - 14);
@@ -189,7 +189,7 @@ static FIRST: [(&str, Option<u32>); 3] = [("a", Some(0)), ("b", Some(1)), ("c", 
 fn a_name_is_defined_once_or_shadowed_in_its_place(rt: HostRuntime) {
     let alloc = rt.alloc();
     let mut cx = NameMapNoIntern::new(alloc);
-    let mut map = NameMap::new(alloc);
+    let mut map = NameMap::new(alloc, Seed::fixed());
     inserts(&rt, &mut map, &mut cx, &TWO);
     holds(&rt, "refused", is_refused(&mut map, &mut cx, "a"));
     finds(&rt, &map, &cx, &FIRST);

@@ -239,7 +239,7 @@ fn values_nest_127_deep(rt: HostRuntime) {
 fn name_at(input: &Input, payload: usize) -> Option<&str> {
     match input.payloads.as_slice().get(payload)? {
         Payload::ModuleSection { record_, .. } => {
-            Some(record_.exports.as_slice().first()?.0.as_str())
+            Some(record_.get().exports.as_slice().first()?.0.as_str())
         }
         Payload::ComponentAliasSection(aliases) => match aliases.as_slice().first()? {
             AliasItem::CoreInstanceExport { name, .. } => Some(name.as_str()),

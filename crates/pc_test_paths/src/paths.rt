@@ -1,7 +1,7 @@
 //! Paths that are taken in, and written out.
 
 use crate::support::{far_member, holds, many_members, member};
-use pc_entity::{ImportIndex, Seq, Text};
+use pc_entity::{ImportIndex, Seed, Seq, Text};
 use pc_inline_paths::{PathId, Paths};
 use std::alloc::Global;
 use std::test::*;
@@ -25,7 +25,7 @@ fn is_named(names: &Seq<Text>, place: usize, name: &str) -> bool {
 /// The path `a` and then `b` behind import 3, which is taken in twice.
 #[test]
 fn a_path_is_written_out(rt: HostRuntime) {
-    let mut paths = Paths::new(rt.alloc());
+    let mut paths = Paths::new(rt.alloc(), Seed::fixed());
     holds(&rt, "empty", paths.is_empty());
     let root = paths.import(ImportIndex(3)).expect(&rt, "no import");
     let a = member(rt.alloc(), &mut paths, root, "a").expect(&rt, "no a");
@@ -46,7 +46,7 @@ fn a_path_is_written_out(rt: HostRuntime) {
 /// The paths have 2 * 10 ^ 10 names together.
 #[test]
 fn members_far_down_are_taken_in(rt: HostRuntime) {
-    let mut paths = Paths::new(rt.alloc());
+    let mut paths = Paths::new(rt.alloc(), Seed::fixed());
     let root = paths.import(ImportIndex(0)).expect(&rt, "no import");
     let far = far_member(rt.alloc(), &mut paths, root, 100_000).expect(&rt, "no chain");
     let many = many_members(rt.alloc(), &mut paths, far, 150_000);

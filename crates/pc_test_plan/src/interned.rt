@@ -2,6 +2,7 @@
 
 use crate::support::holds;
 use pc_dfg::{Intern, InternIter, MemoryId};
+use pc_entity::Seed;
 
 /// Values of which two are equal, with their numbers.
 static VALUES: [(u32, u32); 3] = [(7, 0), (9, 1), (7, 0)];
@@ -41,7 +42,7 @@ fn is_last(memories: &Intern<MemoryId, u32>, value: u32) -> bool {
 
 #[test]
 fn equal_values_share_a_number(rt: HostRuntime) {
-    let mut memories = Intern::new(rt.alloc());
+    let mut memories = Intern::new(rt.alloc(), Seed::fixed());
     for (value, number) in VALUES.iter() {
         holds(&rt, "a number", is_added(&mut memories, *value, *number));
     }

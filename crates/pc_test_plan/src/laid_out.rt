@@ -4,7 +4,7 @@ ghost use Rattle.std.specs.Prelude.{IfSome};
 ghost use Rattle.pc_offsets.specs.Context.{IsLaidOut};
 ghost use Rattle.pc_offsets.specs.PtrWidth.{bytes_of};
 
-use pc_entity::{ModuleInternedTypeIndex, NoMemory, PackedOption, PrimaryMap};
+use pc_entity::{ModuleInternedTypeIndex, NoMemory, PackedOption, PrimaryMap, Seed};
 use pc_info::Component;
 use pc_offsets::{PtrWidth, VMComponentOffsets};
 use std::alloc::Global;
@@ -79,7 +79,7 @@ fn use_intrinsic(signatures: &mut Signatures, number: usize) {
 /// A plan with these counts.
 fn plan_of(alloc: Global, counts: &Counts) -> Result<Component, NoMemory> {
     let trampolines = vec![in alloc; SIGNATURE; counts.trampolines]?;
-    let mut plan = Component::new(alloc);
+    let mut plan = Component::new(alloc, Seed::fixed());
     plan.trampolines = PrimaryMap::from_vec(trampolines);
     use_intrinsic(&mut plan.unsafe_intrinsics, counts.intrinsics.0);
     use_intrinsic(&mut plan.unsafe_intrinsics, counts.intrinsics.1);

@@ -6,8 +6,8 @@ use crate::items::{is_named, items_are_definitions};
 use crate::support::{NO_DATA, holds};
 use pc_entity::{
     DefinedResourceIndex, EntityIndex, ExportIndex, FuncIndex, GlobalIndex, MemoryIndex, NoMemory,
-    PrimaryMap, ResourceIndex, RuntimeImportIndex, RuntimeInstanceIndex, TableIndex, TagIndex,
-    Text,
+    PrimaryMap, ResourceIndex, RuntimeImportIndex, RuntimeInstanceIndex, Seed, TableIndex,
+    TagIndex, Text,
 };
 use pc_info::{Component, CoreDef, CoreExport, Export, ExportItem};
 use pc_names::{NameMap, NameMapNoIntern};
@@ -26,7 +26,7 @@ fn two_imported(alloc: Global) -> Result<PrimaryMap<ResourceIndex, RuntimeImport
 fn come_behind(alloc: Global, imported: PrimaryMap<ResourceIndex, RuntimeImportIndex>) -> bool
     requires { length imported ≡ 2 }
 {
-    let mut plan = Component::new(alloc);
+    let mut plan = Component::new(alloc, Seed::fixed());
     plan.imported_resources = imported;
     let second = plan.defined_resource_index(ResourceIndex(1));
     let sixth = plan.defined_resource_index(ResourceIndex(5));
@@ -84,7 +84,7 @@ const TYPE: Export = Export::Type_(TypeDef::Interface(InterfaceType::Bool));
 
 /// An instance with the item of this number in it.
 fn around(alloc: Global, below: u32) -> Result<Export, NoMemory> {
-    let mut exports = NameMap::new(alloc);
+    let mut exports = NameMap::new(alloc, Seed::fixed());
     let mut texts = NameMapNoIntern::new(alloc);
     match exports.insert("x", &mut texts, false, (ExportIndex(below), NO_DATA)) {
         Ok(_) => Ok(Export::Instance {
@@ -114,7 +114,7 @@ fn nested(alloc: Global, levels: u32) -> Vec<Export> {
 
 /// How many items a plan has that is let go.
 fn let_go(alloc: Global, items: Vec<Export>) -> usize {
-    let mut plan = Component::new(alloc);
+    let mut plan = Component::new(alloc, Seed::fixed());
     plan.export_items = PrimaryMap::from_vec(items);
     plan.export_items.len()
 }

@@ -4,7 +4,7 @@
 use crate::support::{NONE, holds};
 use pc_entity::{
     Interner, LoweredIndex, NoMemory, OptionsIndex, RuntimeComponentInstanceIndex,
-    RuntimeMemoryIndex,
+    RuntimeMemoryIndex, Seed,
 };
 use pc_info::{FixedEncoding, Trampoline, Transcode, Trap};
 use pc_types::{TypeFuncIndex, TypeResourceTableIndex, TypeStreamTableIndex};
@@ -89,7 +89,7 @@ fn is_added(trampolines: &mut Interner<Trampoline>, value: &Trampoline, number: 
 
 #[test]
 fn equal_trampolines_share_a_number(rt: HostRuntime) {
-    let mut trampolines = Interner::new(rt.alloc());
+    let mut trampolines = Interner::new(rt.alloc(), Seed::fixed());
     for (trampoline, number) in THREE.iter() {
         let is_added = is_added(&mut trampolines, trampoline, *number);
         holds(&rt, "a number", is_added);

@@ -4,7 +4,7 @@
 use crate::inputs::{Around, between, holds};
 use crate::lowerings::HOST_LOWERING;
 use crate::root::CORE_FUNCTION_MISSING;
-use pc_entity::ModuleInternedTypeIndex;
+use pc_entity::{ModuleInternedTypeIndex, Seed};
 use pc_input::{Input, decode_input};
 use pc_translate::translate;
 use pc_types::{Error, InterfaceType, Place, TypeFuncIndex, TypeKind};
@@ -75,7 +75,7 @@ fn keeps_the_first(
 /// Whether types keep their numbers while an input is planned, another one is refused, and the first one is planned
 /// again.
 fn numbers_stay(alloc: Global) -> bool {
-    let mut types = ComponentTypesBuilder::new(alloc);
+    let mut types = ComponentTypesBuilder::new(alloc, Seed::fixed());
     let refused = Err(Error::Invalid(AT));
     keeps_the_first(alloc, &mut types, HOST_LOWERING, Ok(()))
         && keeps_the_first(alloc, &mut types, CORE_FUNCTION_MISSING, refused)
@@ -133,7 +133,7 @@ fn is_answer(
 
 /// Whether all of them have their answers.
 fn are_answers(alloc: Global) -> Result<bool, AllocError> {
-    let mut types = ComponentTypesBuilder::new(alloc);
+    let mut types = ComponentTypesBuilder::new(alloc, Seed::fixed());
     for (payloads, want) in IN_A_ROW.iter() {
         if !is_answer(alloc, &mut types, payloads, want)? {
             return Ok(false);

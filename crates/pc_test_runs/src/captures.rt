@@ -2,6 +2,7 @@
 //! they are met.
 
 use crate::inputs::{PAYLOADS, between, holds};
+use pc_entity::Seed;
 use pc_input::{Input, decode_input};
 use pc_local::{
     ClosedOverComponent, ClosedOverModule, ClosedOverVars, LocalInitializer, LocalProgram,
@@ -94,7 +95,7 @@ fn captures(alloc: Global, input: &Input, want: &str) -> bool {
     if !is_numbered(&input.table, payloads) {
         return false;
     }
-    match translate_payloads(alloc, &input.table, None, payloads) {
+    match translate_payloads(alloc, Seed::fixed(), &input.table, None, payloads) {
         Ok(program) => gives(alloc, &program, want),
         Err(_) => false,
     }

@@ -6,6 +6,7 @@
 
 use crate::inputs::{SMALLEST, between, holds, is_answered};
 use crate::translator::options_into;
+use pc_entity::Seed;
 use pc_input::{Input, decode_input};
 use pc_tool::Status;
 use pc_types::Error;
@@ -626,7 +627,7 @@ fn each_kind_of_item_weighs(rt: HostRuntime) {
 
 /// How many options entries the plan of an input has, with a builder that holds the types of another.
 fn options_after(alloc: Global, first: &Input, second: &Input) -> Result<usize, Error> {
-    let mut types = ComponentTypesBuilder::new(alloc);
+    let mut types = ComponentTypesBuilder::new(alloc, Seed::fixed());
     options_into(alloc, &mut types, first)?;
     options_into(alloc, &mut types, second)
 }

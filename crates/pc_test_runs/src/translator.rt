@@ -1,7 +1,7 @@
 //! Translations into a types builder that is handed in: each public call of the translator.
 
 use crate::inputs::{SMALLEST, holds};
-use pc_entity::{ModuleInternedTypeIndex, PackedOption};
+use pc_entity::{ModuleInternedTypeIndex, PackedOption, Seed};
 use pc_input::{Input, decode_input};
 use pc_translate::{Translator, plan_payloads, translate};
 use pc_types::{Error, Place, TypeKind};
@@ -54,7 +54,7 @@ fn three_ways(alloc: Global, types: &mut ComponentTypesBuilder, input: &Input) -
 
 /// Whether an input is read, has these answers, and leaves one type of a function in the builder.
 fn are_answers(alloc: Global, text: &str, want: Answers) -> bool {
-    let mut types = ComponentTypesBuilder::new(alloc);
+    let mut types = ComponentTypesBuilder::new(alloc, Seed::fixed());
     match decode_input(alloc, text.as_bytes()) {
         Ok(input) => {
             three_ways(alloc, &mut types, &input) == want && types.held(TypeKind::Func) == 1
@@ -102,7 +102,14 @@ fn second_signature(
     input: &Input,
 ) -> Result<PackedOption<ModuleInternedTypeIndex>, Error> {
     let payloads = input.payloads.as_slice();
-    let plan = plan_payloads(alloc, &input.tunables, &input.table, Some("i"), payloads)?;
+    let plan = plan_payloads(
+        alloc,
+        Seed::fixed(),
+        &input.tunables,
+        &input.table,
+        Some("i"),
+        payloads,
+    )?;
     Ok(plan.0.component.unsafe_intrinsics[1])
 }
 

@@ -4,7 +4,7 @@ use crate::programs::{Kind, program_of};
 use crate::support::{holds, push};
 use crate::tables::{Shape, module_of, table_of};
 use pc_entity::{NoMemory, Seq};
-use pc_parsed::{Encoding, Payload, TypeItem};
+use pc_parsed::{Encoding, Payload, SharedRecord, TypeItem};
 use pc_weights::{Weights, counted};
 use std::alloc::Global;
 use std::process::Abort;
@@ -25,11 +25,12 @@ fn payloads(rt: &impl Abort, alloc: Global, each: u32) -> Seq<Payload> {
         &mut payloads,
         Payload::ComponentTypeSection(two_types(rt, alloc)),
     );
+    let record_ = SharedRecord::new(alloc, module_of(rt, alloc, each, each, each));
     push(
         rt,
         &mut payloads,
         Payload::ModuleSection {
-            record_: module_of(rt, alloc, each, each, each),
+            record_: record_.expect(rt, "no memory"),
             ty: 4,
         },
     );

@@ -4,7 +4,7 @@ use crate::parts::list;
 use crate::settings::extern_data;
 use pc_entity::{
     EntityIndex, ExportIndex, FuncIndex, OptionsIndex, RuntimeImportIndex, RuntimeInstanceIndex,
-    StaticModuleIndex, Text,
+    Seed, StaticModuleIndex, Text,
 };
 use pc_info::{CoreDef, CoreExport, Export, ExportItem};
 use pc_names::{NameMap, NameMapNoIntern};
@@ -50,7 +50,7 @@ fn add_name(alloc: Global, names: &mut Names, name: Name) {
 
 /// These names.
 pub(crate) fn names_of(alloc: Global, all: &[Name]) -> Names {
-    let mut names = NameMap::new(alloc);
+    let mut names = NameMap::new(alloc, Seed::fixed());
     for name in all.iter() {
         add_name(alloc, &mut names, *name);
     }

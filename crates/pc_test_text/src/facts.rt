@@ -79,10 +79,17 @@ known-memory 1 1
 known-table 1 0
 ";
 
+/// An import of this kind, always under the same names.
+fn import(alloc: Global, entity: CoreEntity) -> Option<(Text, Text, CoreEntity)> {
+    Some((text(alloc, "m")?, text(alloc, "n")?, entity))
+}
+
 fn imports(alloc: Global) -> Seq<(Text, Text, CoreEntity)> {
     let mut all = Vec::new(alloc);
     for entity in IMPORTS.iter() {
-        let _ = all.push((text(alloc, "m"), text(alloc, "n"), *entity));
+        if let Some(import) = import(alloc, *entity) {
+            let _ = all.push(import);
+        }
     }
     Seq::from_vec(all)
 }

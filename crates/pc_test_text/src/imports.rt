@@ -1,6 +1,6 @@
 //! What the plan that is printed imports.
 
-use crate::parts::{list, text};
+use crate::parts::{list, text, there};
 use crate::settings::extern_data;
 use pc_entity::{ImportIndex, PrimaryMap, RuntimeImportIndex, Seq, Text};
 use pc_types::{
@@ -18,9 +18,14 @@ const MODULE: TypeDef = TypeDef::Module(TypeModuleIndex(0));
 const TYPE: TypeDef = TypeDef::Interface(InterfaceType::Bool);
 
 /// An import with its interface and its id, which are none where they are empty.
-fn import(alloc: Global, name: &str, ty: TypeDef, names: [&str; 2]) -> (Text, ComponentExtern) {
+fn import(
+    alloc: Global,
+    name: &str,
+    ty: TypeDef,
+    names: [&str; 2],
+) -> Option<(Text, ComponentExtern)> {
     let data_ = extern_data(alloc, names);
-    (text(alloc, name), ComponentExtern { ty, data_ })
+    Some((text(alloc, name)?, ComponentExtern { ty, data_ }))
 }
 
 /// An import of each kind.
@@ -31,12 +36,12 @@ pub(crate) fn import_types(alloc: Global) -> PrimaryMap<ImportIndex, (Text, Comp
         import(alloc, "m", MODULE, ["", "say \"d\""]),
         import(alloc, "t", TYPE, ["e", "g"]),
     ];
-    PrimaryMap::from_vec(list(alloc, all))
+    PrimaryMap::from_vec(there(alloc, all))
 }
 
 /// A host item within an import, and one that is an import.
 pub(crate) fn imports(alloc: Global) -> PrimaryMap<RuntimeImportIndex, (ImportIndex, Seq<Text>)> {
-    let names = Seq::from_vec(list(alloc, [text(alloc, "x"), text(alloc, "y")]));
+    let names = Seq::from_vec(there(alloc, [text(alloc, "x"), text(alloc, "y")]));
     let all = [(ImportIndex(1), names), (ImportIndex(0), Seq::new(alloc))];
     PrimaryMap::from_vec(list(alloc, all))
 }
@@ -48,7 +53,7 @@ pub(crate) fn one_import_type(
     inner: &str,
 ) -> PrimaryMap<ImportIndex, (Text, ComponentExtern)> {
     let ty = if inner.is_empty() { FUNC } else { INSTANCE };
-    PrimaryMap::from_vec(list(alloc, [import(alloc, name, ty, ["", ""])]))
+    PrimaryMap::from_vec(there(alloc, [import(alloc, name, ty, ["", ""])]))
 }
 
 /// A name, or none where it is empty.
@@ -56,7 +61,7 @@ fn path(alloc: Global, inner: &str) -> Seq<Text> {
     if inner.is_empty() {
         Seq::new(alloc)
     } else {
-        Seq::from_vec(list(alloc, [text(alloc, inner)]))
+        Seq::from_vec(there(alloc, [text(alloc, inner)]))
     }
 }
 

@@ -5,8 +5,8 @@ use pc_entity::{EntityRef, PrimaryMap, Text, TextMap};
 use std::alloc::Global;
 
 /// This text.
-pub(crate) fn text(alloc: Global, text: &str) -> Text {
-    Text::copy_of(alloc, text).unwrap_or(Text::new(alloc))
+pub(crate) fn text(alloc: Global, text: &str) -> Option<Text> {
+    Text::copy_of(alloc, text).ok()
 }
 
 /// These values.
@@ -24,7 +24,20 @@ pub(crate) fn list<T: Drop, const N: usize>(alloc: Global, all: [T; N]) -> Vec<T
     Vec::from_array(alloc, all).unwrap_or(Vec::new(alloc))
 }
 
+/// Those of these values that are there.
+pub(crate) fn there<T: Drop, const N: usize>(alloc: Global, all: [Option<T>; N]) -> Vec<T> {
+    let mut kept = Vec::new(alloc);
+    for value in list(alloc, all) {
+        if let Some(value) = value {
+            let _ = kept.push(value);
+        }
+    }
+    kept
+}
+
 /// Puts a value under a name.
 pub(crate) fn put<T: Drop>(alloc: Global, map: &mut TextMap<T>, name: &str, value: T) {
-    let _ = map.insert(text(alloc, name), value);
+    if let Some(name) = text(alloc, name) {
+        let _ = map.insert(name, value);
+    }
 }

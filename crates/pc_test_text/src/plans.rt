@@ -11,7 +11,7 @@ use crate::settings::{BOTH, SINGLE};
 use crate::steps::{all_steps, one_step};
 use crate::support::holds;
 use crate::trampolines::{INTRINSICS, TRAMPOLINES};
-use pc_entity::{PrimaryMap, StaticModuleIndex};
+use pc_entity::{PrimaryMap, Seed, StaticModuleIndex};
 use pc_info::{Component, ComponentTranslation, Export, ModuleTranslation, Trampoline};
 use pc_text::plan_text;
 use std::alloc::Global;
@@ -92,7 +92,7 @@ export \"e\" \"f\" imported 0
 
 /// The smallest plan that does something.
 fn smallest(alloc: Global) -> Component {
-    let mut plan = Component::new(alloc);
+    let mut plan = Component::new(alloc, Seed::fixed());
     plan.num_runtime_instances = 1;
     plan.num_runtime_component_instances = 1;
     plan.initializers = one_step(alloc);
@@ -110,7 +110,7 @@ fn hosted(
     exports: &[Name],
     items: Vec<Export>,
 ) -> Component {
-    let mut plan = Component::new(alloc);
+    let mut plan = Component::new(alloc, Seed::fixed());
     plan.num_runtime_component_instances = 1;
     plan.import_types = one_import_type(alloc, name, inner);
     plan.imports = one_import(alloc, inner);

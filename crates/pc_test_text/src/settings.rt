@@ -52,7 +52,7 @@ fn some_text(alloc: Global, name: &str) -> Option<Text> {
     if name.is_empty() {
         None
     } else {
-        Some(text(alloc, name))
+        text(alloc, name)
     }
 }
 

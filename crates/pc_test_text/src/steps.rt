@@ -4,7 +4,7 @@ use crate::parts::{list, put, text};
 use pc_entity::{
     DefinedResourceIndex, EntityIndex, FuncIndex, GlobalIndex, LoweredIndex, MemoryIndex,
     RuntimeCallbackIndex, RuntimeComponentInstanceIndex, RuntimeImportIndex, RuntimeInstanceIndex,
-    RuntimeMemoryIndex, RuntimePostReturnIndex, RuntimeReallocIndex, RuntimeTableIndex, Seq,
+    RuntimeMemoryIndex, RuntimePostReturnIndex, RuntimeReallocIndex, RuntimeTableIndex, Seed, Seq,
     StaticModuleIndex, TableIndex, TagIndex, TextMap, TrampolineIndex,
 };
 use pc_info::{
@@ -31,12 +31,22 @@ fn trampoline(number: u32) -> CoreDef {
     CoreDef::Trampoline(TrampolineIndex(number))
 }
 
-/// An item that is known by its name.
-fn by_name<T>(alloc: Global, instance: u32, name: &str) -> CoreExport<T> {
+/// An item that is known by its name, or another one where there is no memory for that.
+fn by_name<T: Copy>(alloc: Global, instance: u32, name: &str, other: T) -> CoreExport<T> {
+    let item = match text(alloc, name) {
+        Some(name) => ExportItem::Name(name),
+        None => ExportItem::Index(other),
+    };
     CoreExport {
         instance: RuntimeInstanceIndex(instance),
-        item: ExportItem::Name(text(alloc, name)),
+        item,
     }
+}
+
+/// The same as a definition.
+fn named(alloc: Global, instance: u32, name: &str) -> CoreDef {
+    let other = EntityIndex::Function(FuncIndex(0));
+    CoreDef::Export(by_name(alloc, instance, name, other))
 }
 
 const INTRINSIC: CoreDef = CoreDef::UnsafeIntrinsic(UnsafeIntrinsic::U8NativeLoad);
@@ -48,7 +58,7 @@ fn arguments(alloc: Global) -> Seq<CoreDef> {
         entity(1, EntityIndex::Memory(MemoryIndex(2))),
         entity(2, EntityIndex::Global(GlobalIndex(3))),
         entity(3, EntityIndex::Tag(TagIndex(4))),
-        CoreDef::Export(by_name(alloc, 4294967295, "a\"b\\c\nd")),
+        named(alloc, 4294967295, "a\"b\\c\nd"),
         flags(5),
         trampoline(6),
         INTRINSIC,
@@ -64,13 +74,13 @@ fn handed_in(alloc: Global) -> GlobalInitializer {
 
 /// Three arguments, two of which have one module name; a third module name has none.
 fn named_arguments(alloc: Global) -> TextMap<TextMap<CoreDef>> {
-    let mut two = TextMap::new(alloc);
+    let mut two = TextMap::new(alloc, Seed::fixed());
     put(alloc, &mut two, "a", trampoline(8));
     put(alloc, &mut two, "b", flags(9));
-    let mut one = TextMap::new(alloc);
+    let mut one = TextMap::new(alloc, Seed::fixed());
     put(alloc, &mut one, "c", trampoline(10));
-    let mut all = TextMap::new(alloc);
-    put(alloc, &mut all, "none", TextMap::new(alloc));
+    let mut all = TextMap::new(alloc, Seed::fixed());
+    put(alloc, &mut all, "none", TextMap::new(alloc, Seed::fixed()));
     put(alloc, &mut all, "m", two);
     put(alloc, &mut all, "n", one);
     all
@@ -93,14 +103,14 @@ fn without_arguments(alloc: Global) -> GlobalInitializer {
 fn post_return(alloc: Global) -> GlobalInitializer {
     GlobalInitializer::ExtractPostReturn(ExtractPostReturn {
         index: RuntimePostReturnIndex(10),
-        def: CoreDef::Export(by_name(alloc, 11, "p")),
+        def: named(alloc, 11, "p"),
     })
 }
 
 fn table(alloc: Global) -> GlobalInitializer {
     GlobalInitializer::ExtractTable(ExtractTable {
         index: RuntimeTableIndex(12),
-        export: by_name(alloc, 13, "t"),
+        export: by_name(alloc, 13, "t", TableIndex(0)),
     })
 }
 

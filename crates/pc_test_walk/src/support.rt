@@ -3,7 +3,7 @@
 ghost use Rattle.std.specs.Prelude.{◌≡◌, true, None};
 ghost use Rattle.pc_types.specs.Table.{table_fault};
 
-use pc_entity::{Seq, Text};
+use pc_entity::{Seed, Seq, Text};
 use pc_types::{Entity, TypeTable, check_table};
 use pc_types_walk::{Leads, Walk};
 use std::alloc::Global;
@@ -21,7 +21,7 @@ pub(crate) fn is_sound(alloc: Global, table: &TypeTable) -> bool
     ensures { result ≡ true → table_fault table.now ≡ None }
 {
     if table.types.len() < 1_000_000 {
-        check_table(alloc, table).is_ok()
+        check_table(alloc, Seed::fixed(), table).is_ok()
     } else {
         false
     }

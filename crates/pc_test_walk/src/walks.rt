@@ -2,6 +2,7 @@
 
 use crate::shapes::{Shape, table_of};
 use crate::support::{found_together, holds, walk_from};
+use pc_entity::Seed;
 use pc_types::TypeTable;
 use pc_types_walk::{Place, TableNames, Walk};
 use std::test::*;
@@ -59,7 +60,7 @@ fn named(table: &TypeTable, walk: &Walk, place: usize, name: &str) -> bool {
 #[test]
 fn each_name_has_its_place(rt: HostRuntime) {
     let table = table_of(&rt, rt.alloc(), Shape::Small);
-    let names = TableNames::new(rt.alloc(), &table).expect(&rt, "no memory");
+    let names = TableNames::new(rt.alloc(), Seed::fixed(), &table).expect(&rt, "no memory");
     holds(&rt, "y", names.place(4, "y") == Some(1));
     holds(&rt, "b", names.place(4, "b") == None);
     holds(&rt, "resource", names.place(0, "y") == None);

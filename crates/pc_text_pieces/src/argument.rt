@@ -42,7 +42,7 @@ fn put_group(
     for place in 0..args.len() {
         let (name, def) = args.entry_at(place);
         put_separator(out, is_first)?;
-        put_argument(out, module_name, name, def)?;
+        put_argument(out, module_name, name.as_str(), def)?;
         is_first = false;
     }
     Ok(())
@@ -63,7 +63,7 @@ pub fn put_arguments(out: &mut Vec<u8>, args: &TextMap<TextMap<CoreDef>>) -> Res
     let mut are_first = true;
     for place in 0..args.len() {
         let (module_name, group) = args.entry_at(place);
-        put_group(out, are_first, module_name, group)?;
+        put_group(out, are_first, module_name.as_str(), group)?;
         are_first = next_are_first(are_first, group);
     }
     Ok(())

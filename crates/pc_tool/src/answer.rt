@@ -12,7 +12,7 @@ ghost use Rattle.pc_tool.specs.declared.answer.Unanswered.TheVariants as unanswe
 
 use crate::Status;
 use crate::words::Command;
-use pc_entity::{NoMemory, PrimaryMap, StaticModuleIndex};
+use pc_entity::{NoMemory, PrimaryMap, Seed, StaticModuleIndex};
 use pc_info::{ComponentTranslation, ModuleTranslation};
 use pc_input::{DecodeError, Input, decode_input};
 use pc_offsets::{PtrWidth, VMComponentOffsets};
@@ -95,6 +95,7 @@ fn exposed_name(input: &Input) -> Option<&str>
 /// The input goes before the plan is looked at.
 fn translate_input(
     alloc: Global,
+    seed: Seed,
     input: Input,
 ) -> Result<
     (
@@ -108,6 +109,7 @@ fn translate_input(
 {
     plan_payloads(
         alloc,
+        seed,
         &input.tunables,
         &input.table,
         exposed_name(&input),
@@ -150,11 +152,16 @@ fn explain(alloc: Global, error: &Error) -> Result<Vec<u8>, NoMemory>
     fault_text(alloc, error)
 }
 
-/// The answer of a command to an input.
-fn answer_input(alloc: Global, command: Command, input: Input) -> Result<Answer, NoMemory>
+/// The answer of a command to an input, by maps that have this seed.
+fn answer_input(
+    alloc: Global,
+    seed: Seed,
+    command: Command,
+    input: Input,
+) -> Result<Answer, NoMemory>
     ensures { IfOk result (AnswersInput command input) }
 {
-    match translate_input(alloc, input) {
+    match translate_input(alloc, seed, input) {
         Ok((plan, modules)) => Ok(Answer::Made(print(alloc, command, &plan, &modules)?)),
         Err(Error::NoMemory) => Err(NoMemory),
         Err(error) => Ok(Answer::Fault(explain(alloc, &error)?)),
@@ -175,8 +182,9 @@ fn decode(alloc: Global, bytes: Vec<u8>) -> Result<Input, DecodeError>
 fn answer_bytes(alloc: Global, command: Command, bytes: Vec<u8>) -> Result<Answer, NoMemory>
     ensures { IfOk result (Answers command bytes.items) }
 {
+    let seed = Seed::of_input(bytes.as_slice());
     match decode(alloc, bytes) {
-        Ok(input) => answer_input(alloc, command, input),
+        Ok(input) => answer_input(alloc, seed, command, input),
         Err(DecodeError::NotJson) => Ok(Answer::NotJson),
         Err(DecodeError::BadForm) => Ok(Answer::BadForm),
         Err(DecodeError::NoMemory) => Err(NoMemory),

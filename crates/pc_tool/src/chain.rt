@@ -4,7 +4,7 @@ ghost use Rattle.std.specs.Prelude.{◌≡◌, ◌<◌, ◌≤◌, IfErr, IfOk, 
 ghost use Rattle.pc_info.specs.Modules.{adapters_view};
 ghost use Rattle.pc_tool.specs.Chain.{IsChainPlan, IsChainText};
 
-use pc_entity::NoMemory;
+use pc_entity::{NoMemory, Seed};
 use pc_generate::generate;
 use pc_text::summary_text;
 use pc_translate::{PlanWithModules, plan_payloads};
@@ -22,6 +22,7 @@ fn translate_chain(alloc: Global, n: u32) -> Result<PlanWithModules, Error>
     let input = generate(alloc, n)?;
     plan_payloads(
         alloc,
+        Seed::fixed(),
         &input.tunables,
         &input.table,
         None,

@@ -43,7 +43,7 @@ use pc_analysis_imports::analyze_imports;
 use pc_analysis_transparent::transparent_adapters;
 use pc_dfg::ComponentDfg;
 use pc_dfg_finish::FinishError;
-use pc_entity::{NoMemory, PrimaryMap, Seq, StaticModuleIndex};
+use pc_entity::{NoMemory, PrimaryMap, Seed, Seq, StaticModuleIndex};
 use pc_info::{ComponentTranslation, ModuleTranslation};
 use pc_inline::inline_run;
 use pc_local::{LocalProgram, translate_payloads};
@@ -54,7 +54,7 @@ use pc_weights::counted;
 use std::alloc::Global;
 
 /// The number that a total may not reach.
-const FULL: u32 = 4294967295;
+const FULL: u32 = pc_weights::FULL as u32;
 
 /// A plan and its core modules.
 pub type PlanWithModules = (
@@ -80,6 +80,7 @@ fn translations(
 /// then.
 fn program_of(
     alloc: Global,
+    seed: Seed,
     table: &TypeTable,
     exposed: Option<&str>,
     payloads: &[Payload],
@@ -96,7 +97,7 @@ fn program_of(
     if counted >= FULL {
         return Err(Error::TooMany);
     }
-    translate_payloads(alloc, table, exposed, payloads)
+    translate_payloads(alloc, seed, table, exposed, payloads)
 }
 
 /// Tells a graph which of its adapters need not keep the state of a thread.
@@ -229,7 +230,7 @@ fn finish_with_facts(
 {
     analyze_same_vmctx_imports(alloc, &graph, modules)?;
     let plan = finish_graph(alloc, table, types, graph)?;
-    analyze_imports(alloc, &plan, modules)?;
+    analyze_imports(alloc, types.seed(), &plan, modules)?;
     Ok(plan)
 }
 
@@ -322,7 +323,7 @@ pub fn translate(
         tunables.now.max_component_instances (types_held types.old) payloads.now types.old types.new) }
 {
     let counted = counted(table, types_held(types), payloads);
-    let program = program_of(alloc, table, exposed, payloads, counted)?;
+    let program = program_of(alloc, types.seed(), table, exposed, payloads, counted)?;
     let translated = plan_of(alloc, tunables, table, types, program, counted)?;
     // No two signatures are equal, so a lowering has the one of its options; and a type has one number, so an adapter has.
     types.types_are_distinct();
@@ -351,9 +352,11 @@ fn plan_with(
     translated
 }
 
-/// The plan that payloads are translated to, and its core modules, with a types builder of its own.
+/// The plan that payloads are translated to, and its core modules, with a types builder of its own, whose maps have this
+/// seed.
 pub fn plan_payloads(
     alloc: Global,
+    seed: Seed,
     tunables: &Tunables,
     table: &TypeTable,
     exposed: Option<&str>,
@@ -368,7 +371,7 @@ pub fn plan_payloads(
         alloc,
         tunables,
         table,
-        &mut ComponentTypesBuilder::new(alloc),
+        &mut ComponentTypesBuilder::new(alloc, seed),
         exposed,
         payloads,
     )

@@ -2,14 +2,8 @@
 use Rattle.std.proofs.Common.{◌≡◌, ◌<◌, ◌+◌, suc, get_or, drop, ℕ, Bool, true, false, ◌||◌, ◌&&◌, not, List, [], ◌∷◌}
 use Rattle.std.proofs.Common.{◌++◌, map, take, length, cond, refl, sym, ap, ◌∙◌, Bor, true≢false}
 use Rattle.std.specs.List.{list_any}
-use Rattle.std.specs.declared.cmp.Ordering.{Ordering}
-use Rattle.std.specs.declared.cmp.Ordering.TheVariants.{Less, Equal, Greater}
-use Rattle.std.specs.Ordering.{nat_cmp, is_eq, ordering_then}
-use Rattle.std.specs.Cmp.Lexicographic.{slice_cmp}
-use Rattle.std.specs.BTreeMap.{is_at}
-use Rattle.std.specs.BTreeSet.{BTreeSet, Updates}
+use Rattle.indexmap.specs.IndexSet.{IndexSet, Updates}
 use Rattle.std.specs.Str.{bytes_eq}
-use Rattle.std.proofs.lemmas.Map.Text.{is_eq-slice_cmp}
 use Rattle.std.proofs.lemmas.Slice.Eq.{bytes_eq-Decides}
 use Rattle.std.proofs.lemmas.Bool.Decides.{same_from_decides}
 use Rattle.std.proofs.lemmas.Grind.{take_at_read}
@@ -45,9 +39,9 @@ same_pair-sym a b = λ i. bytes_eq-sym a.0 b.0 i && bytes_eq-sym a.1 b.1 i
 
 -- a name is among those behind the keys of a set exactly where the set has it
 pub has_name-keys : (keys : List (Bor (List ℕ))) (q : List ℕ)
-    → has_name (map (λ k. k.now) keys) q ≡ list_any (is_at (λ (k : Bor (List ℕ)). slice_cmp nat_cmp q k.now)) keys
+    → has_name (map (λ k. k.now) keys) q ≡ list_any (λ k. bytes_eq q k.now) keys
 has_name-keys [] q = refl
-has_name-keys (k ∷ ks) q = λ i. sym (is_eq-slice_cmp q k.now) i || has_name-keys ks q i
+has_name-keys (k ∷ ks) q = λ i. bytes_eq q k.now || has_name-keys ks q i
 
 -- a choice of true is a disjunction
 cond_or : {a b c d : Bool} → a ≡ b → c ≡ d → cond a true c ≡ (b || d)
@@ -58,41 +52,26 @@ cond_or {a} {b} {c} {d} p e = (λ i. cond (p i) true (e i)) ∙ join b d
     join false y = refl
 
 -- the names after one is added
-pub has_name-added : (s n : BTreeSet (Bor (List ℕ))) (name : Bor (List ℕ))
-    → Updates (λ x y. slice_cmp nat_cmp x.now y.now) s n name true → (q : List ℕ)
+pub has_name-added : {S : Type 0} (s n : IndexSet (Bor (List ℕ)) S) (name : Bor (List ℕ))
+    → Updates (λ x y. bytes_eq x.now y.now) s n name true → (q : List ℕ)
     → has_name (map (λ k. k.now) n.keys) q ≡ (bytes_eq q name.now || has_name (map (λ k. k.now) s.keys) q)
 has_name-added s n name updates q =
     has_name-keys n.keys q
     ∙ updates.0 (record { ref_ptr = name.ref_ptr; now = q })
-    ∙ cond_or (is_eq-slice_cmp name.now q ∙ bytes_eq-sym name.now q) (sym (has_name-keys s.keys q))
+    ∙ cond_or (bytes_eq-sym name.now q) (sym (has_name-keys s.keys q))
 
--- references to two texts, in the order of a set of such pairs
-abbrev compare_pairs : Bor (List ℕ) × Bor (List ℕ) → Bor (List ℕ) × Bor (List ℕ) → Ordering
-compare_pairs x y = ordering_then (slice_cmp nat_cmp x.0.now y.0.now) (slice_cmp nat_cmp x.1.now y.1.now)
-
--- such references compare equal exactly where the texts are the same
-is_eq-pairs : (x y : Bor (List ℕ) × Bor (List ℕ))
-    → is_eq (compare_pairs x y) ≡ same_pair (x.0.now, x.1.now) (y.0.now, y.1.now)
-is_eq-pairs x y =
-    by (slice_cmp nat_cmp x.0.now y.0.now) (is_eq-slice_cmp x.0.now y.0.now) (is_eq-slice_cmp x.1.now y.1.now)
-  where
-    by : (o : Ordering) → is_eq o ≡ bytes_eq x.0.now y.0.now
-        → is_eq (slice_cmp nat_cmp x.1.now y.1.now) ≡ bytes_eq x.1.now y.1.now
-        → is_eq (ordering_then o (slice_cmp nat_cmp x.1.now y.1.now))
-        ≡ (bytes_eq x.0.now y.0.now && bytes_eq x.1.now y.1.now)
-    by Less e f = λ i. e i && bytes_eq x.1.now y.1.now
-    by Equal e f = rw (← e) f
-    by Greater e f = λ i. e i && bytes_eq x.1.now y.1.now
+-- whether references to two texts each are to the same ones
+abbrev compare_pairs : Bor (List ℕ) × Bor (List ℕ) → Bor (List ℕ) × Bor (List ℕ) → Bool
+compare_pairs x y = same_pair (x.0.now, x.1.now) (y.0.now, y.1.now)
 
 -- a pair is among those behind the keys of a set exactly where the set has it
 pub same_pair-keys : (keys : List (Bor (List ℕ) × Bor (List ℕ))) (q : Bor (List ℕ) × Bor (List ℕ))
-    → list_any (same_pair (q.0.now, q.1.now)) (map (λ k. (k.0.now, k.1.now)) keys)
-    ≡ list_any (is_at (compare_pairs q)) keys
+    → list_any (same_pair (q.0.now, q.1.now)) (map (λ k. (k.0.now, k.1.now)) keys) ≡ list_any (compare_pairs q) keys
 same_pair-keys [] q = refl
-same_pair-keys (k ∷ ks) q = λ i. sym (is_eq-pairs q k) i || same_pair-keys ks q i
+same_pair-keys (k ∷ ks) q = λ i. compare_pairs q k || same_pair-keys ks q i
 
 -- the pairs after one is added
-pub same_pair-added : (s n : BTreeSet (Bor (List ℕ) × Bor (List ℕ))) (x : Bor (List ℕ) × Bor (List ℕ))
+pub same_pair-added : {S : Type 0} (s n : IndexSet (Bor (List ℕ) × Bor (List ℕ)) S) (x : Bor (List ℕ) × Bor (List ℕ))
     → Updates compare_pairs s n x true → (q : List ℕ × List ℕ)
     → list_any (same_pair q) (map (λ k. (k.0.now, k.1.now)) n.keys)
     ≡ (same_pair q (x.0.now, x.1.now) || list_any (same_pair q) (map (λ k. (k.0.now, k.1.now)) s.keys))
@@ -100,7 +79,7 @@ same_pair-added s n x updates q =
     let r = referred q in
     same_pair-keys n.keys r
     ∙ updates.0 r
-    ∙ cond_or (is_eq-pairs x r ∙ same_pair-sym (x.0.now, x.1.now) q) (sym (same_pair-keys s.keys r))
+    ∙ cond_or (same_pair-sym (x.0.now, x.1.now) q) (sym (same_pair-keys s.keys r))
   where
     referred : List ℕ × List ℕ → Bor (List ℕ) × Bor (List ℕ)
     referred q = (record { ref_ptr = x.0.ref_ptr; now = q.0 }, record { ref_ptr = x.0.ref_ptr; now = q.1 })

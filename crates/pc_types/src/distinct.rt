@@ -1,18 +1,18 @@
-//! Whether a name stands twice in a list, in nearly linear time.
+//! Whether a name stands twice in a list, in time that is linear in its length.
 
 ghost use Rattle.std.specs.Prelude.{◌≡◌, ℕ, List, IfOk, map};
 ghost use Rattle.pc_entity.specs.Lists.{names_of};
 ghost use Rattle.pc_types.specs.Names.{are_distinct, distinct_names, same_pair};
 
 use crate::{NameSet, PairSet};
-use pc_entity::{NoMemory, Text};
+use pc_entity::{NoMemory, Seed, Text};
 use std::alloc::Global;
 
 /// Whether no name stands twice among these.
-pub fn distinct_texts(alloc: Global, names: &[Text]) -> Result<bool, NoMemory>
+pub fn distinct_texts(alloc: Global, seed: Seed, names: &[Text]) -> Result<bool, NoMemory>
     ensures { IfOk result (λ distinct. distinct ≡ distinct_names names.now) }
 {
-    let mut met = NameSet::new(alloc);
+    let mut met = NameSet::new(alloc, seed);
     for name in names {
         if !met.insert(name)? {
             return Ok(false);
@@ -22,10 +22,10 @@ pub fn distinct_texts(alloc: Global, names: &[Text]) -> Result<bool, NoMemory>
 }
 
 /// Whether no name stands twice among those of these entries.
-pub fn distinct_keys<V>(alloc: Global, entries: &[(Text, V)]) -> Result<bool, NoMemory>
+pub fn distinct_keys<V>(alloc: Global, seed: Seed, entries: &[(Text, V)]) -> Result<bool, NoMemory>
     ensures { IfOk result (λ distinct. distinct ≡ distinct_names (names_of entries.now)) }
 {
-    let mut met = NameSet::new(alloc);
+    let mut met = NameSet::new(alloc, seed);
     for entry in entries {
         if !met.insert(&entry.0)? {
             return Ok(false);
@@ -35,10 +35,14 @@ pub fn distinct_keys<V>(alloc: Global, entries: &[(Text, V)]) -> Result<bool, No
 }
 
 /// Whether no pair of names stands twice among those of these entries.
-pub fn distinct_pairs<V>(alloc: Global, entries: &[(Text, Text, V)]) -> Result<bool, NoMemory>
+pub fn distinct_pairs<V>(
+    alloc: Global,
+    seed: Seed,
+    entries: &[(Text, Text, V)],
+) -> Result<bool, NoMemory>
     ensures { IfOk result (λ distinct. distinct ≡ are_distinct same_pair (map (λ e. (e.0, e.1)) entries.now)) }
 {
-    let mut met = PairSet::new(alloc);
+    let mut met = PairSet::new(alloc, seed);
     for entry in entries {
         if !met.insert(&entry.0, &entry.1)? {
             return Ok(false);

@@ -5,15 +5,15 @@ ghost use Rattle.std.specs.List.{list_any};
 ghost use Rattle.std.specs.Str.{bytes_eq};
 ghost use Rattle.pc_types.specs.Names.{has_name, same_pair};
 
-use pc_entity::{NoMemory, Text};
+use indexmap::IndexSet;
+use pc_entity::{NoMemory, Seed, Text};
 use std::alloc::Global;
-use std::collections::BTreeSet;
 use std::marker::Model;
 
 /// A set of names that lie elsewhere. A contract sees them as a list.
 #[derive(Drop)]
 pub struct NameSet<'a> {
-    names: BTreeSet<&'a str>,
+    names: IndexSet<&'a str, Seed>,
 }
 
 impl<'a> Model for NameSet<'a> {
@@ -26,11 +26,11 @@ impl<'a> Model for NameSet<'a> {
 
 impl<'a> NameSet<'a> {
     /// The set with no names, which takes no memory.
-    pub fn new(alloc: Global) -> NameSet<'a>
+    pub fn new(alloc: Global, seed: Seed) -> NameSet<'a>
         ensures { result ≡ [] }
     {
         NameSet {
-            names: BTreeSet::new(alloc),
+            names: IndexSet::with_hasher(alloc, seed),
         }
     }
 
@@ -48,7 +48,7 @@ impl<'a> NameSet<'a> {
 /// A set of pairs of names that lie elsewhere. A contract sees them as a list.
 #[derive(Drop)]
 pub struct PairSet<'a> {
-    pairs: BTreeSet<(&'a str, &'a str)>,
+    pairs: IndexSet<(&'a str, &'a str), Seed>,
 }
 
 impl<'a> Model for PairSet<'a> {
@@ -61,11 +61,11 @@ impl<'a> Model for PairSet<'a> {
 
 impl<'a> PairSet<'a> {
     /// The set with no pairs, which takes no memory.
-    pub fn new(alloc: Global) -> PairSet<'a>
+    pub fn new(alloc: Global, seed: Seed) -> PairSet<'a>
         ensures { result ≡ [] }
     {
         PairSet {
-            pairs: BTreeSet::new(alloc),
+            pairs: IndexSet::with_hasher(alloc, seed),
         }
     }
 

@@ -10,7 +10,7 @@ ghost use Rattle.pc_types.specs.declared.parsed.CoreKind.TheVariants as kind;
 use crate::core_entity::entity_number;
 use crate::distinct::distinct_keys;
 use crate::{ByKind, CoreEntity, CoreKind, ModuleRecord, TypeTable};
-use pc_entity::{EntityIndex, NoMemory, Text};
+use pc_entity::{EntityIndex, NoMemory, Seed, Text};
 use std::alloc::Global;
 
 /// The most entities of one kind that a module may have.
@@ -45,10 +45,10 @@ impl TypeTable {
 impl ModuleRecord {
     /// Whether the record can be translated with this table: its signatures are held, it has at most a million entities
     /// of a kind, each export is an entity that it has, and no name is exported twice.
-    pub fn is_sound(&self, alloc: Global, table: &TypeTable) -> Result<bool, NoMemory>
+    pub fn is_sound(&self, alloc: Global, seed: Seed, table: &TypeTable) -> Result<bool, NoMemory>
         ensures { IfOk result (λ sound. sound ≡ is_sound table.now self.now) }
     {
-        let distinct = distinct_keys(alloc, self.exports.as_slice())?;
+        let distinct = distinct_keys(alloc, seed, self.exports.as_slice())?;
         Ok(
             table.imports_are_typed(self.imports.as_slice())
                 && self.funcs_are_typed(table)

@@ -14,7 +14,7 @@ ghost use Rattle.pc_types.specs.Record.{is_typed};
 
 use crate::distinct::{distinct_keys, distinct_pairs, distinct_texts};
 use crate::{CoreEntity, DeclType, Entity, Error, Place, TypeTable, Unsupported, ValType};
-use pc_entity::{NoMemory, Text};
+use pc_entity::{NoMemory, Seed, Text};
 use std::alloc::Global;
 
 /// Looks at the entries in order, and refuses the first that is faulty.
@@ -22,14 +22,14 @@ use std::alloc::Global;
 /// `BadTable` comes where a number in an entry isn't that of an earlier entry of the right kind, where a core signature
 /// is missing, or where a list of names has one twice. `Unsupported` comes where an entry imports or exports a
 /// component value and is otherwise sound.
-pub fn check_table(alloc: Global, table: &TypeTable) -> Result<(), Error>
+pub fn check_table(alloc: Global, seed: Seed, table: &TypeTable) -> Result<(), Error>
     requires numbered { length table.now.types < 4294967295 }
     ensures ok { OnOk result (table_fault table.now ≡ None) }
     ensures err { IfErr result (λ e. (e ≡ Error.NoMemory) ⊎ (option_map table_error (table_fault table.now) ≡ Some e)) }
 {
     let types = table.types.as_slice();
     for (n, entry) in types.iter().enumerate() {
-        if !is_sound_entry(alloc, table, &types[..n], entry)? {
+        if !is_sound_entry(alloc, seed, table, &types[..n], entry)? {
             return Err(Error::BadTable(Place::Table(n as u32)));
         }
         if holds_value(entry) {
@@ -42,6 +42,7 @@ pub fn check_table(alloc: Global, table: &TypeTable) -> Result<(), Error>
 /// Whether an entry after these earlier ones names what it may.
 fn is_sound_entry(
     alloc: Global,
+    seed: Seed,
     table: &TypeTable,
     earlier: &[DeclType],
     entry: &DeclType,
@@ -54,23 +55,32 @@ fn is_sound_entry(
             params,
             result,
             async_: _,
-        } => is_sound_func(alloc, earlier, params.as_slice(), *result),
+        } => is_sound_func(alloc, seed, earlier, params.as_slice(), *result),
         DeclType::Val(v) | DeclType::List(v) | DeclType::Option(v) => Ok(is_sound_val(earlier, *v)),
-        DeclType::Record(fields) => are_sound_fields(alloc, earlier, fields.as_slice()),
-        DeclType::Variant(cases) => are_sound_cases(alloc, earlier, cases.as_slice()),
+        DeclType::Record(fields) => are_sound_fields(alloc, seed, earlier, fields.as_slice()),
+        DeclType::Variant(cases) => are_sound_cases(alloc, seed, earlier, cases.as_slice()),
         DeclType::Tuple(vs) => Ok(are_sound_vals(earlier, vs.as_slice())),
-        DeclType::Flags(names) | DeclType::Enum(names) => distinct_texts(alloc, names.as_slice()),
+        DeclType::Flags(names) | DeclType::Enum(names) => distinct_texts(
+            alloc,
+            seed,
+            names.as_slice(),
+        ),
         DeclType::Result { ok, err } => {
             Ok(is_sound_maybe(earlier, *ok) && is_sound_maybe(earlier, *err))
         }
         DeclType::Own(n) | DeclType::Borrow(n) => Ok(names_resource(earlier, *n)),
         DeclType::Stream(v) | DeclType::Future(v) => Ok(is_sound_maybe(earlier, *v)),
-        DeclType::Instance { exports } => are_sound_externs(alloc, earlier, exports.as_slice()),
+        DeclType::Instance { exports } => are_sound_externs(
+            alloc,
+            seed,
+            earlier,
+            exports.as_slice(),
+        ),
         DeclType::Component { imports, exports } => {
-            is_sound_component(alloc, earlier, imports.as_slice(), exports.as_slice())
+            is_sound_component(alloc, seed, earlier, imports.as_slice(), exports.as_slice())
         }
         DeclType::Module { imports, exports } => {
-            is_sound_module(alloc, table, imports.as_slice(), exports.as_slice())
+            is_sound_module(alloc, seed, table, imports.as_slice(), exports.as_slice())
         }
     }
 }
@@ -78,6 +88,7 @@ fn is_sound_entry(
 /// Whether a function type after these earlier entries names what it may.
 fn is_sound_func(
     alloc: Global,
+    seed: Seed,
     earlier: &[DeclType],
     params: &[(Text, ValType)],
     returns: Option<ValType>,
@@ -85,13 +96,14 @@ fn is_sound_func(
     ensures { IfOk result (λ sound. sound
         ≡ (are_sound_fields earlier.now params.now && is_none_or (is_sound_val earlier.now) returns)) }
 {
-    let are_sound = are_sound_fields(alloc, earlier, params)?;
+    let are_sound = are_sound_fields(alloc, seed, earlier, params)?;
     Ok(are_sound && is_sound_maybe(earlier, returns))
 }
 
 /// Whether a component type after these earlier entries names what it may.
 fn is_sound_component(
     alloc: Global,
+    seed: Seed,
     earlier: &[DeclType],
     imports: &[(Text, Entity)],
     exports: &[(Text, Entity)],
@@ -99,22 +111,23 @@ fn is_sound_component(
     ensures { IfOk result (λ sound. sound
         ≡ (are_sound_externs earlier.now imports.now && are_sound_externs earlier.now exports.now)) }
 {
-    let are_sound = are_sound_externs(alloc, earlier, imports)?;
-    let exports_are_sound = are_sound_externs(alloc, earlier, exports)?;
+    let are_sound = are_sound_externs(alloc, seed, earlier, imports)?;
+    let exports_are_sound = are_sound_externs(alloc, seed, earlier, exports)?;
     Ok(are_sound && exports_are_sound)
 }
 
 /// Whether a module type names signatures of the table, and no name stands twice in it.
 fn is_sound_module(
     alloc: Global,
+    seed: Seed,
     table: &TypeTable,
     imports: &[(Text, Text, CoreEntity)],
     exports: &[(Text, CoreEntity)],
 ) -> Result<bool, NoMemory>
     ensures { IfOk result (λ sound. sound ≡ is_sound_entry table.now [] (entry.Module imports.now exports.now)) }
 {
-    let imports_are_distinct = distinct_pairs(alloc, imports)?;
-    let exports_are_distinct = distinct_keys(alloc, exports)?;
+    let imports_are_distinct = distinct_pairs(alloc, seed, imports)?;
+    let exports_are_distinct = distinct_keys(alloc, seed, exports)?;
     Ok(
         table.imports_are_typed(imports)
             && exports_are_typed(table, exports)
@@ -133,12 +146,13 @@ fn exports_are_typed(table: &TypeTable, exports: &[(Text, CoreEntity)]) -> bool
 /// Whether each field names what it may, and no name stands twice.
 fn are_sound_fields(
     alloc: Global,
+    seed: Seed,
     earlier: &[DeclType],
     fields: &[(Text, ValType)],
 ) -> Result<bool, NoMemory>
     ensures { IfOk result (λ sound. sound ≡ are_sound_fields earlier.now fields.now) }
 {
-    let are_distinct = distinct_keys(alloc, fields)?;
+    let are_distinct = distinct_keys(alloc, seed, fields)?;
     Ok(fields_are_typed(earlier, fields) && are_distinct)
 }
 
@@ -152,12 +166,13 @@ fn fields_are_typed(earlier: &[DeclType], fields: &[(Text, ValType)]) -> bool
 /// Whether each case names what it may, and no name stands twice.
 fn are_sound_cases(
     alloc: Global,
+    seed: Seed,
     earlier: &[DeclType],
     cases: &[(Text, Option<ValType>)],
 ) -> Result<bool, NoMemory>
     ensures { IfOk result (λ sound. sound ≡ are_sound_cases earlier.now cases.now) }
 {
-    let are_distinct = distinct_keys(alloc, cases)?;
+    let are_distinct = distinct_keys(alloc, seed, cases)?;
     Ok(cases_are_typed(earlier, cases) && are_distinct)
 }
 
@@ -171,12 +186,13 @@ fn cases_are_typed(earlier: &[DeclType], cases: &[(Text, Option<ValType>)]) -> b
 /// Whether each import or export names what it may, and no name stands twice.
 fn are_sound_externs(
     alloc: Global,
+    seed: Seed,
     earlier: &[DeclType],
     externs: &[(Text, Entity)],
 ) -> Result<bool, NoMemory>
     ensures { IfOk result (λ sound. sound ≡ are_sound_externs earlier.now externs.now) }
 {
-    let are_distinct = distinct_keys(alloc, externs)?;
+    let are_distinct = distinct_keys(alloc, seed, externs)?;
     Ok(externs_are_sound(earlier, externs) && are_distinct)
 }
 

@@ -8,6 +8,7 @@ ghost use Rattle.pc_types_builder.specs.Trees.{AreOneToOne};
 ghost use Rattle.pc_types.specs.TypeTree.{Identity};
 ghost use Rattle.pc_numbers.specs.declared.runtime.ResourceIndex.{ResourceIndex};
 
+use pc_entity::Seed;
 use pc_types::TypeKind;
 use pc_types_lists::{InternedTypes, ResourcesBuilder};
 use std::alloc::Global;
@@ -29,11 +30,11 @@ impl Model for ComponentTypesBuilder {
 
 impl ComponentTypesBuilder {
     /// The builder with no types, which takes no memory.
-    pub fn new(alloc: Global) -> ComponentTypesBuilder
+    pub fn new(alloc: Global, seed: Seed) -> ComponentTypesBuilder
         ensures { result ≡ no_types }
     {
         ComponentTypesBuilder {
-            interned: InternedTypes::new(alloc),
+            interned: InternedTypes::new(alloc, seed),
         }
     }
 
@@ -50,6 +51,11 @@ impl ComponentTypesBuilder {
             → AreOneToOne self.now who }
     {
         self.types_are_distinct();
+    }
+
+    /// The seed that the places in its lists depend on.
+    pub fn seed(&self) -> Seed {
+        self.interned.seed()
     }
 
     /// The registered resources.

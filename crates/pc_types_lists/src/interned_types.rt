@@ -6,7 +6,7 @@ ghost use Rattle.pc_types_lists.specs.Types.{IsBuilder, held, no_types};
 ghost use Rattle.pc_types_lists.specs.Lending.{LendsResources};
 
 use crate::{FactTable, ResourcesBuilder};
-use pc_entity::Interner;
+use pc_entity::{Interner, Seed};
 use pc_types::{
     CoreFuncSig, TypeComponent, TypeComponentInstance, TypeEnum, TypeErrorContextTable, TypeFlags,
     TypeFunc, TypeFutureTable, TypeKind, TypeList, TypeModule, TypeOption, TypeRecord,
@@ -19,6 +19,7 @@ use std::marker::Model;
 /// resources that are known.
 pub struct InternedTypes {
     alloc: Global,
+    seed: Seed,
     pub(crate) funcs: Interner<TypeFunc>,
     pub(crate) tuples: Interner<TypeTuple>,
     pub(crate) records: Interner<TypeRecord>,
@@ -45,6 +46,7 @@ impl Drop for InternedTypes {
     fn drop(self) {
         let InternedTypes {
             alloc: _,
+            seed: _,
             funcs,
             tuples,
             records,
@@ -129,28 +131,29 @@ impl Model for InternedTypes {
 
 impl InternedTypes {
     /// No types, which take no memory.
-    pub fn new(alloc: Global) -> InternedTypes
+    pub fn new(alloc: Global, seed: Seed) -> InternedTypes
         ensures { result ≡ no_types }
     {
         InternedTypes {
             alloc,
-            funcs: Interner::new(alloc),
-            tuples: Interner::new(alloc),
-            records: Interner::new(alloc),
-            variants: Interner::new(alloc),
-            lists: Interner::new(alloc),
-            options: Interner::new(alloc),
-            results: Interner::new(alloc),
-            flags: Interner::new(alloc),
-            enums: Interner::new(alloc),
-            resource_tables: Interner::new(alloc),
-            future_tables: Interner::new(alloc),
-            stream_tables: Interner::new(alloc),
-            error_context_tables: Interner::new(alloc),
-            instances: Interner::new(alloc),
-            components: Interner::new(alloc),
-            modules: Interner::new(alloc),
-            signatures: Interner::new(alloc),
+            seed,
+            funcs: Interner::new(alloc, seed),
+            tuples: Interner::new(alloc, seed),
+            records: Interner::new(alloc, seed),
+            variants: Interner::new(alloc, seed),
+            lists: Interner::new(alloc, seed),
+            options: Interner::new(alloc, seed),
+            results: Interner::new(alloc, seed),
+            flags: Interner::new(alloc, seed),
+            enums: Interner::new(alloc, seed),
+            resource_tables: Interner::new(alloc, seed),
+            future_tables: Interner::new(alloc, seed),
+            stream_tables: Interner::new(alloc, seed),
+            error_context_tables: Interner::new(alloc, seed),
+            instances: Interner::new(alloc, seed),
+            components: Interner::new(alloc, seed),
+            modules: Interner::new(alloc, seed),
+            signatures: Interner::new(alloc, seed),
             facts: FactTable::new(alloc),
             resources: ResourcesBuilder::new(alloc),
         }
@@ -182,6 +185,11 @@ impl InternedTypes {
     /// Where its lists have their memory.
     pub fn alloc(&self) -> Global {
         self.alloc
+    }
+
+    /// The seed that the places in its lists depend on.
+    pub fn seed(&self) -> Seed {
+        self.seed
     }
 
     /// The registered resources.

@@ -5,7 +5,7 @@ ghost use Rattle.pc_types.specs.Record.{imported, index_number, index_kind, impo
 ghost use Rattle.pc_types.specs.Record.{func_signatures, memory_widths};
 
 use crate::import_index::ImportIndex;
-use pc_entity::{EntityIndex, FuncIndex, MemoryIndex, NoMemory, TextMap, first_values};
+use pc_entity::{EntityIndex, FuncIndex, MemoryIndex, NoMemory, Seed, TextMap, first_values};
 use pc_types::{CoreKind, ModuleRecord, entity_number};
 use std::alloc::Global;
 use std::marker::Model;
@@ -35,12 +35,16 @@ impl<'a> Model for RecordIndex<'a> {
 
 impl<'a> RecordIndex<'a> {
     /// The index of a record, made in time linear in the record.
-    pub fn new(alloc: Global, record: &'a ModuleRecord) -> Result<RecordIndex<'a>, NoMemory>
+    pub fn new(
+        alloc: Global,
+        seed: Seed,
+        record: &'a ModuleRecord,
+    ) -> Result<RecordIndex<'a>, NoMemory>
         requires numbered { length record.now.imports < 4294967295 }
         ensures { IfOk result (λ index. index ≡ record.now) }
     {
         let imports = ImportIndex::new(alloc, record.imports.as_slice())?;
-        let exports = first_values(alloc, record.exports.as_slice())?;
+        let exports = first_values(alloc, seed, record.exports.as_slice())?;
         Ok(RecordIndex {
             record,
             imports,

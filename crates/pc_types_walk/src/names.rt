@@ -9,7 +9,7 @@ ghost use Rattle.pc_spec_reading.specs.Member.{place_from};
 ghost use Rattle.pc_types.specs.declared.parsed.TypeTable.{TypeTable};
 ghost use Rattle.pc_types_walk.specs.Names.{AreTableNames, export_names, export_place};
 
-use pc_entity::{NoMemory, Seq, Text, TextMap};
+use pc_entity::{NoMemory, Seed, Seq, Text, TextMap};
 use pc_types::{DeclType, TypeTable};
 use std::alloc::Global;
 use std::marker::Model;
@@ -30,12 +30,12 @@ impl Model for TableNames {
 
 impl TableNames {
     /// Those of a table, in one pass.
-    pub fn new(alloc: Global, table: &TypeTable) -> Result<TableNames, NoMemory>
+    pub fn new(alloc: Global, seed: Seed, table: &TypeTable) -> Result<TableNames, NoMemory>
         ensures { IfOk result (λ names. AreTableNames table.now names) }
     {
         let mut places = Seq::new(alloc);
         for entry in table.types.as_slice() {
-            let found = entry_places(alloc, entry)?;
+            let found = entry_places(alloc, seed, entry)?;
             places.push(found)?;
         }
         Ok(TableNames { places })
@@ -60,28 +60,32 @@ impl TableNames {
 }
 
 /// The places of an entry.
-fn entry_places(alloc: Global, entry: &DeclType) -> Result<TextMap<usize>, NoMemory>
+fn entry_places(alloc: Global, seed: Seed, entry: &DeclType) -> Result<TextMap<usize>, NoMemory>
     ensures { IfOk result (λ places. (name : List ℕ)
         → value_of name places ≡ place_from 0 name (export_names entry.now)) }
 {
     match entry {
-        DeclType::Instance { exports } => places_of(alloc, exports.as_slice()),
+        DeclType::Instance { exports } => places_of(alloc, seed, exports.as_slice()),
         DeclType::Module {
             imports: _,
             exports,
-        } => places_of(alloc, exports.as_slice()),
-        _ => Ok(TextMap::new(alloc)),
+        } => places_of(alloc, seed, exports.as_slice()),
+        _ => Ok(TextMap::new(alloc, seed)),
     }
 }
 
 /// The places of some exports: of a name that stands twice the first.
-fn places_of<T>(alloc: Global, exports: &[(Text, T)]) -> Result<TextMap<usize>, NoMemory>
+fn places_of<T>(
+    alloc: Global,
+    seed: Seed,
+    exports: &[(Text, T)],
+) -> Result<TextMap<usize>, NoMemory>
     ensures { IfOk result (λ places. (name : List ℕ)
         → value_of name places ≡ place_from 0 name (names_of exports.now)) }
 {
-    let mut places = TextMap::new(alloc);
+    let mut places = TextMap::new(alloc, seed);
     for (place, export) in exports.iter().enumerate() {
-        places.insert_first(alloc, &export.0, place)?;
+        places.insert_first(&export.0, place)?;
     }
     Ok(places)
 }

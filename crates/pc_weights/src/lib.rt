@@ -15,4 +15,4 @@ pub use total::counted;
 pub use weights::Weights;
 
 /// The number that a total may not reach.
-const FULL: usize = 4294967295;
+pub const FULL: usize = 4294967295;

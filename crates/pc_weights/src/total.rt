@@ -33,7 +33,9 @@ fn after_payload(room: usize, payload: &Payload) -> usize
         Payload::ComponentInstanceSection(items) => room.saturating_sub(items.len()),
         Payload::ComponentExportSection(items) => room.saturating_sub(items.len()),
         Payload::ComponentAliasSection(items) => room.saturating_sub(items.len()),
-        Payload::ModuleSection { record_, .. } => after_record(room, record_).saturating_sub(1),
+        Payload::ModuleSection { record_, .. } => {
+            after_record(room, record_.get()).saturating_sub(1)
+        }
         _ => room.saturating_sub(1),
     }
 }

@@ -1,7 +1,7 @@
 //! Resources that are registered, and types that are made without a table.
 
 use crate::support::holds;
-use pc_entity::{ResourceIndex, RuntimeComponentInstanceIndex, TryClone};
+use pc_entity::{ResourceIndex, RuntimeComponentInstanceIndex, Seed, TryClone};
 use pc_types::{
     TypeComponentLocalErrorContextTableIndex, TypeKind, TypeResourceTableIndex, TypeTupleIndex,
 };
@@ -28,7 +28,7 @@ fn is_known(resources: &ResourcesBuilder) -> bool {
 
 #[test]
 fn types_without_a_table_are_numbered(rt: HostRuntime) {
-    let mut types = ComponentTypesBuilder::new(rt.alloc());
+    let mut types = ComponentTypesBuilder::new(rt.alloc(), Seed::fixed());
     let contexts = types.error_context_table_type();
     let first = TypeComponentLocalErrorContextTableIndex(0);
     holds(&rt, "error contexts", contexts == Ok(first));
@@ -49,7 +49,7 @@ fn numbers_handles(rt: &impl Abort, types: &mut ComponentTypesBuilder) {
 
 #[test]
 fn a_lent_builder_is_read_and_changed(rt: HostRuntime) {
-    let mut types = ComponentTypesBuilder::new(rt.alloc());
+    let mut types = ComponentTypesBuilder::new(rt.alloc(), Seed::fixed());
     lends(&rt, &mut types);
     types.types_are_distinct();
 }

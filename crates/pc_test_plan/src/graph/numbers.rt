@@ -6,8 +6,8 @@ use pc_dfg::{
     ComponentDfg, CoreExport, Export, ExportItem, Instance, InstanceId, Resource, SideEffect,
 };
 use pc_entity::{
-    DefinedResourceIndex, ExportIndex, MemoryIndex, NoMemory, RuntimeComponentInstanceIndex, Seq,
-    StaticModuleIndex, Text, TextMap,
+    DefinedResourceIndex, ExportIndex, MemoryIndex, NoMemory, RuntimeComponentInstanceIndex, Seed,
+    Seq, StaticModuleIndex, Text, TextMap,
 };
 use pc_types::{ComponentExternData, TypeComponentInstanceIndex, WasmValType};
 use std::alloc::Global;
@@ -71,7 +71,7 @@ fn one_name(
     item: u32,
 ) -> Result<TextMap<(ExportIndex, ComponentExternData)>, NoMemory> {
     let name = Text::copy_of(alloc, "x")?;
-    let mut exports = TextMap::new(alloc);
+    let mut exports = TextMap::new(alloc, Seed::fixed());
     exports.push(name, (ExportIndex(item), NO_DATA))?;
     Ok(exports)
 }
@@ -98,7 +98,7 @@ fn nest(alloc: Global, graph: &mut ComponentDfg, levels: u32) -> usize {
 
 #[test]
 fn entries_come_in_order_and_a_deep_tree_of_exports_is_let_go(rt: HostRuntime) {
-    let mut graph = ComponentDfg::new(rt.alloc());
+    let mut graph = ComponentDfg::new(rt.alloc(), Seed::fixed());
     let numbers = three_memories(&mut graph);
     holds(&rt, "equal memories", numbers == [0, 1, 0]);
     holds(&rt, "two memories", graph.memories.len() == 2);

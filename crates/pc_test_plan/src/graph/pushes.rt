@@ -8,7 +8,8 @@ use pc_dfg::{
 };
 use pc_entity::{
     EntityIndex, ExportIndex, FuncIndex, ImportIndex, ModuleInternedTypeIndex, NoMemory,
-    RuntimeComponentInstanceIndex, RuntimeImportIndex, Seq, StaticModuleIndex, TableIndex, Text,
+    RuntimeComponentInstanceIndex, RuntimeImportIndex, Seed, Seq, StaticModuleIndex, TableIndex,
+    Text,
 };
 use pc_types::{ComponentExtern, InterfaceType, StringEncoding, TypeDef, TypeFuncIndex};
 use std::alloc::Global;
@@ -130,7 +131,7 @@ fn places(alloc: Global, graph: &mut ComponentDfg) -> [u32; 4] {
 
 #[test]
 fn entries_are_numbered(rt: HostRuntime) {
-    let mut graph = ComponentDfg::new(rt.alloc());
+    let mut graph = ComponentDfg::new(rt.alloc(), Seed::fixed());
     holds(&rt, "imports", imports(rt.alloc(), &mut graph) == [0, 0, 0]);
     let numbers = tables_and_reallocs(&mut graph);
     holds(&rt, "tables and reallocs", numbers == [0, 0, 0, 1]);
@@ -146,7 +147,7 @@ fn entries_are_numbered(rt: HostRuntime) {
 
 /// Whether the export of this name is the only one of a graph.
 fn is_exported(alloc: Global, name: Text) -> bool {
-    let mut graph = ComponentDfg::new(alloc);
+    let mut graph = ComponentDfg::new(alloc, Seed::fixed());
     let is_pushed = graph.push_export(name, ExportIndex(0), NO_DATA).is_ok();
     is_pushed & (graph.exports.len() == 1)
 }

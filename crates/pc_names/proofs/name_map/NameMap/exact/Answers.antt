@@ -1,5 +1,4 @@
 use Rattle.std.proofs.Common.{sym, ap, ◌∙◌}
-use Rattle.std.specs.BTreeMap.{is_at}
 use Rattle.std.specs.Map.{lookup}
 use Rattle.pc_names.proofs.TextKeyLemmas.{keys_agree}
 use Rattle.pc_names.proofs.StandingLemmas.{exact-known, exact-unknown}
@@ -8,9 +7,9 @@ use Rattle.pc_names.proofs.name_map.NameMap.exact.Goals as goal
 pub returns-in-Some : goal.returns-in-Some
 returns-in-Some g c inserted stands =
     let agree =
-    keys_agree (g.I.NameMapIntern.has_key c.args.cx.now) g.K.Ord.cmp g.K.PartialEq.eq g.met.K.Ord.matches_eq
+    keys_agree (g.I.NameMapIntern.has_key c.args.cx.now) g.K.PartialEq.eq
     (g.met.I.NameMapIntern.same_key c.args.cx.now) in
-    c.get.ensures ∙ ap (λ m. lookup (is_at (g.K.Ord.cmp c.in-Some.key)) m.definitions) c.self.view_is
+    c.get.ensures ∙ ap (λ m. lookup (g.K.PartialEq.eq c.in-Some.key) m.definitions) c.self.view_is
     ∙ exact-known agree c.args.self.now inserted c.args.name.now c.in-Some.key stands
     (rw c.in-Some.is at c.in_ok-key.ensures.found)
 

@@ -5,7 +5,7 @@ use Rattle.pc_names.proofs.name_map.NameMap.newest.Goals as goal
 pub returns-in-Some : goal.returns-in-Some
 returns-in-Some g c inserted version stands =
     let agree =
-    keys_agree (g.I.NameMapIntern.has_key c.args.cx.now) g.K.Ord.cmp g.K.PartialEq.eq g.met.K.Ord.matches_eq
+    keys_agree (g.I.NameMapIntern.has_key c.args.cx.now) g.K.PartialEq.eq
     (g.met.I.NameMapIntern.same_key c.args.cx.now) in
     rw c.newest_under.ensures (track-known agree c.args.self.now inserted (c.args.track.now, version) c.in-Some.key
     stands (rw c.in-Some.is at c.in_ok-key.ensures.found))

@@ -1,14 +1,13 @@
 use borrow.Follows.Closed.{read_of}
 use Rattle.std.proofs.Common.{refl, sym, ◌∙◌}
-use Rattle.std.specs.BTreeMap.{is_at}
 use Rattle.std.specs.Option.{ghost_name_of}
 use Rattle.pc_names.proofs.PlaceLemmas.{lookup-no_place, value_at_place, with_value-place}
-use Rattle.pc_names.proofs.definitions.Definitions.get_mut.Goals as goal
+use Rattle.pc_names.proofs.entries.Entries.get_mut.Goals as goal
 
 pub returns-in-Some : goal.returns-in-Some
 returns-in-Some g c =
     let place = sym c.in-Some.ensures in
-    let test = is_at (g.K.Ord.cmp c.args.key.now) in (
+    let test = g.K.PartialEq.eq c.args.key.now in (
       (λ i. read_of (ghost_name_of c.at_mut.result) (λ w. with_value-place test c.args.self.now c.in-Some.place w
           place i) c.args.self.now),
       record {
@@ -23,7 +22,7 @@ returns-in-None g c = (
   refl,
   record {
     writes_back = tt;
-    value = sym (lookup-no_place (is_at (g.K.Ord.cmp c.args.key.now))
+    value = sym (lookup-no_place (g.K.PartialEq.eq c.args.key.now)
         c.args.self.now (sym c.in-None.ensures));
   },
 )
