@@ -15,12 +15,15 @@ use pc_input_values::{DecodeError, Form};
 use pc_parsed::{Encoding, Payload};
 use std::alloc::Global;
 
-/// A payload without content.
+/// A payload without content. Those that an input may have many of come first.
 #[tactic(auto, unfolding(crate::specs::Payload::payload_words))]
 pub(crate) fn bare(word: &str) -> Option<Payload>
     ensures { result ≡ value_of word.now payload_words }
 {
     match word {
+        "custom" => Some(Payload::CustomSection),
+        "component" => Some(Payload::ComponentSection),
+        "end" => Some(Payload::End),
         "version" => Some(Payload::Version {
             encoding: Encoding::Component,
         }),
@@ -28,10 +31,7 @@ pub(crate) fn bare(word: &str) -> Option<Payload>
             encoding: Encoding::Module,
         }),
         "core-types" => Some(Payload::CoreTypeSection),
-        "custom" => Some(Payload::CustomSection),
         "start" => Some(Payload::ComponentStartSection),
-        "component" => Some(Payload::ComponentSection),
-        "end" => Some(Payload::End),
         _ => None,
     }
 }
