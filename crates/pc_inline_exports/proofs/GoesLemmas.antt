@@ -31,8 +31,8 @@ use Rattle.pc_inline_exports.specs.Building.{items_among, items_of, with_item, w
 use Rattle.pc_inline_exports.specs.Exports.{IsUnder}
 use Rattle.pc_inline_exports.specs.Subjects.{reads_on, resume}
 use Rattle.pc_inline_state.specs.Points.{IsSoundState}
-use Rattle.pc_spec_reading.specs.Nodes.{Reached, refused, within_total}
-use Rattle.pc_spec_reading.specs.World.{grown, has_room}
+use Rattle.pc_spec_reading.specs.Nodes.{refused, within_total}
+use Rattle.pc_spec_reading.specs.World.{grown}
 use Rattle.std.specs.List.{AllZip}
 use Rattle.pc_inline_exports.specs.Reaching.{IsReachable, NodeEnds, OneEnds, Reaches, ReachesOne}
 use Rattle.pc_spec_reading.specs.Outcome.{unsupported}
