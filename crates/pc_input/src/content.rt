@@ -305,7 +305,7 @@ fn only(found: Found<'_>) -> Result<Payload, DecodeError>
 fn by_word(word: &str) -> Result<Payload, DecodeError>
     ensures { (r : Rules) → Reads result (payload_of r (string word.now)) }
 {
-    bare(word).ok_or(DecodeError::BadForm)
+    bare(word)
 }
 
 /// The next value, read as a payload.

@@ -1,6 +1,5 @@
 //! Payloads: a word, or an object whose key names the section.
 
-ghost use Rattle.std.specs.Prelude.{◌≡◌};
 ghost use Rattle.pc_entity.specs.Lists.{value_of};
 ghost use Rattle.pc_input.specs.Payload.{instance_sections, payload_words, payload_keys, payload_of};
 ghost use Rattle.pc_input_values.specs.Tree.{by_row};
@@ -15,24 +14,24 @@ use pc_input_values::{DecodeError, Form};
 use pc_parsed::{Encoding, Payload};
 use std::alloc::Global;
 
-/// A payload without content.
+/// A payload without content. Words that an input may have many of come first.
 #[tactic(auto, unfolding(crate::specs::Payload::payload_words))]
-pub(crate) fn bare(word: &str) -> Option<Payload>
-    ensures { result ≡ value_of word.now payload_words }
+pub(crate) fn bare(word: &str) -> Result<Payload, DecodeError>
+    ensures { Reads result (value_of word.now payload_words) }
 {
     match word {
-        "version" => Some(Payload::Version {
+        "custom" => Ok(Payload::CustomSection),
+        "component" => Ok(Payload::ComponentSection),
+        "end" => Ok(Payload::End),
+        "version" => Ok(Payload::Version {
             encoding: Encoding::Component,
         }),
-        "version-module" => Some(Payload::Version {
+        "version-module" => Ok(Payload::Version {
             encoding: Encoding::Module,
         }),
-        "core-types" => Some(Payload::CoreTypeSection),
-        "custom" => Some(Payload::CustomSection),
-        "start" => Some(Payload::ComponentStartSection),
-        "component" => Some(Payload::ComponentSection),
-        "end" => Some(Payload::End),
-        _ => None,
+        "core-types" => Ok(Payload::CoreTypeSection),
+        "start" => Ok(Payload::ComponentStartSection),
+        _ => Err(DecodeError::BadForm),
     }
 }
 
@@ -81,7 +80,7 @@ impl ReadEntry for Payload {
     #[tactic(auto, unfolding(crate::specs::Payload::payload_of))]
     fn read<F: Form, V: Tree>(form: &F, alloc: Global, value: &V) -> Result<Payload, DecodeError> {
         if let Some(word) = value.as_str() {
-            return bare(word).ok_or(DecodeError::BadForm);
+            return bare(word);
         }
         match value.tagged() {
             Some((key, body)) => with_content(form, alloc, key, body),
