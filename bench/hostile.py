@@ -1087,6 +1087,14 @@ def over(types, *payloads):
     return document(types, ['"version"', *payloads, '"end"'], MOST)
 
 
+def children_with_a_long_name(room):
+    """Very many instances of a component that exports something under a very long name: the product."""
+    child = '"component","version",{"component-instances":[{"exports":[[],2]}]},{"exports":[["%s","instance",0]]},"end"'
+    count = min(room // 2 // (len(ONE_CHILD) + 1), MOST - 1)
+    begins = fill('{"component-instances":[', lambda n: ONE_CHILD, "]}", count)
+    return nesting(child % ("n" * (room // 2)), begins)
+
+
 def many_resources(room):
     """The root declares very many resources, each of its own."""
     count = room // len('"resource",{"resource":[1000000,"i32",null]},')
@@ -1314,7 +1322,7 @@ FAMILIES = {
     types_that_hash_alike: 0, many_children: 0, children_over_a_long_table: 0, children_with_a_long_type: 0,
     children_in_children: 0, child_of_itself: 1, children_with_arguments: 0, child_with_imports: 0,
     exports_of_a_child: 0, items_of_an_instance: 0, instances_of_instances: 0, aliases_of_one_member: 0,
-    captures_of_a_child: 0, captures_at_each_level: 0, many_resources: 0, resources_with_destructors: 0,
+    captures_of_a_child: 0, captures_at_each_level: 0, children_with_a_long_name: 0, many_resources: 0, resources_with_destructors: 0,
     imported_resources: 0, one_resource_imported_often: 0, children_with_a_resource: 0, children_given_a_resource: 0,
     resources_between_long_types: 0, resources_between_long_handles: 0, doubling_instance_imported: 0,
     deep_doubling_instance_imported: 1,

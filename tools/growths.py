@@ -10,7 +10,8 @@ A growth is a call that takes memory or makes a piece of it longer. Growths are 
 run; those behind it are granted. Such a run has to end with status 5 and to write nothing, neither to standard output
 nor to standard error. A run that ends before its growth has to end as it does with all its memory. So may one whose
 growth is refused while `main` still collects the words: it asks for room for all of them at once, and where that is
-refused for each of them alone.
+refused for each of them alone. And so may one where a list was to give back the room that it doesn't need, a call of
+`realloc` that makes a piece of memory shorter: refused, the list keeps its room.
 
 Inputs are files in an input form, on which the word `translate` is run; without any they are those of bench/growths,
 and the words `gen 20`, of which the first 300 growths are refused: a program with fewer didn't make that plan. It ends
@@ -34,8 +35,12 @@ NO_MEMORY = 5
 # A number of a growth that no run comes to.
 NEVER = 4000000000
 
+# What the library tells of a refused call that would have made a piece of memory no longer than it may be already.
+SHORTER = "s"
+
 REFUSING = r'''
 #include <errno.h>
+#include <malloc.h>
 #include <stdlib.h>
 #include <unistd.h>
 
@@ -50,16 +55,16 @@ __attribute__((constructor)) static void begin(void) {
     left = strtoul(getenv("GROWTHS_REFUSED"), NULL, 10);
 }
 
-static int refuses(void) {
+static int refuses(const char *what) {
     if (left == 0 || --left != 0)
         return 0;
     errno = ENOMEM;
-    return write(told, "r", 1) == 1;
+    return write(told, what, 1) == 1;
 }
 
-void *malloc(size_t n) { return refuses() ? NULL : __libc_malloc(n); }
-void *calloc(size_t n, size_t m) { return refuses() ? NULL : __libc_calloc(n, m); }
-void *realloc(void *p, size_t n) { return refuses() ? NULL : __libc_realloc(p, n); }
+void *malloc(size_t n) { return refuses("r") ? NULL : __libc_malloc(n); }
+void *calloc(size_t n, size_t m) { return refuses("r") ? NULL : __libc_calloc(n, m); }
+void *realloc(void *p, size_t n) { return refuses(n <= malloc_usable_size(p) ? "s" : "r") ? NULL : __libc_realloc(p, n); }
 '''
 
 # An input: its name, its words, its bytes, and how many growths it has to have. So many are refused,
@@ -93,7 +98,8 @@ def numbers(text):
 
 def wrong(case, growth, ran, whole):
     """What is wrong with how a run ended, where it ends as `whole` with all its memory; nothing where it is right."""
-    may_go_on = growth <= len(case.words) + OF_MAIN or (not ran.refused and growth > case.first)
+    may_go_on = growth <= len(case.words) + OF_MAIN or ran.refused == SHORTER
+    may_go_on = may_go_on or (not ran.refused and growth > case.first)
     if may_go_on and ran[1:] == whole[1:]:
         return ""
     found = [] if ran.refused else ["not refused"]
@@ -123,7 +129,7 @@ def run_refused(program, library, case, growth, seconds):
         status, text, message = "none within %d seconds" % seconds, b"", b""
     os.close(write)
     with os.fdopen(read, "rb") as end:
-        return Ran(end.read() == b"r", status, text, message)
+        return Ran(end.read().decode(), status, text, message)
 
 
 def refuse_each(args, case, run):

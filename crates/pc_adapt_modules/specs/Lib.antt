@@ -3,3 +3,4 @@ pub mod Modules
 pub mod Entities
 pub mod Exports
 pub mod Members
+pub mod Names

@@ -12,3 +12,4 @@ pub mod names;
 
 pub use entities::entities_of;
 pub use module::ModuleParts;
+pub use names::ModuleNames;

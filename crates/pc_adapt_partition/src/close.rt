@@ -10,7 +10,8 @@ ghost use Rattle.pc_adapt_partition.specs.Made.{IsPast};
 ghost use Rattle.pc_adapt_partition.specs.Parts.{functions_from, with_functions};
 
 use crate::group::Group;
-use pc_adapt_modules::module::record_of;
+use pc_adapt_modules::ModuleNames;
+use pc_adapt_modules::module::{record_of, without_room};
 use pc_dfg::{AdapterModuleId, ComponentDfg, PushError};
 use pc_entity::{EntityIndex, EntityRef, FuncIndex, NoMemory, PrimaryMap, Seq, StaticModuleIndex};
 use pc_info::{AdapterRecord, ModuleTranslation};
@@ -84,6 +85,7 @@ pub(crate) fn close(
     alloc: Global,
     graph: &mut ComponentDfg,
     modules: &mut PrimaryMap<StaticModuleIndex, ModuleTranslation>,
+    names: &mut ModuleNames,
     group: Group,
     first: u32,
     many: u32,
@@ -100,10 +102,10 @@ pub(crate) fn close(
         records,
         args,
     } = group;
-    let record_ = record_of(alloc, parts, first, many)?;
-    let function = record_.num_imported_funcs() as u32;
+    let record_ = record_of(alloc, names, parts, first, many)?;
+    let function = record_.get().num_imported_funcs() as u32;
     let adapters = with_their_functions(alloc, records, function)?;
     let core_module = push_module(modules, ModuleTranslation::new(alloc, record_, adapters))?;
-    let adapter_module = graph.push_adapter_module(core_module, args)?;
+    let adapter_module = graph.push_adapter_module(core_module, without_room(args))?;
     place_adapters(graph, adapter_module, function, many)
 }

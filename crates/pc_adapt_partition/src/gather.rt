@@ -11,6 +11,7 @@ ghost use Rattle.pc_adapt_partition.specs.Gathered.{Gathers};
 ghost use Rattle.pc_adapt_partition.specs.Parts.{parts_of, slice, total_imports};
 
 use crate::group::{Group, no_group, put};
+use pc_adapt_modules::ModuleNames;
 use pc_dfg::{AdapterId, ComponentDfg, PushError};
 use pc_types_builder::ComponentTypesBuilder;
 use std::alloc::Global;
@@ -20,6 +21,7 @@ pub(crate) fn gather(
     alloc: Global,
     graph: &mut ComponentDfg,
     types: &ComponentTypesBuilder,
+    names: &mut ModuleNames,
     first: u32,
     many: u32,
 ) -> Result<Group, PushError>
@@ -39,7 +41,14 @@ pub(crate) fn gather(
 {
     let mut group = no_group(alloc);
     for place in 0..many {
-        put(alloc, graph, types, &mut group, AdapterId(first + place))?;
+        put(
+            alloc,
+            graph,
+            types,
+            names,
+            &mut group,
+            AdapterId(first + place),
+        )?;
     }
     Ok(group)
 }

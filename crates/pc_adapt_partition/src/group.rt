@@ -18,8 +18,8 @@ use pc_adapt::facts::facts_of_function;
 use pc_adapt::plan::imports_for;
 use pc_adapt::record_of::record_of_adapter;
 use pc_adapt_define::define_all;
-use pc_adapt_modules::ModuleParts;
 use pc_adapt_modules::module::{no_parts, put_adapter};
+use pc_adapt_modules::{ModuleNames, ModuleParts};
 use pc_dfg::{Adapter, AdapterId, ComponentDfg, CoreDef, PushError};
 use pc_entity::{EntityRef, NoMemory, Seq};
 use pc_info::AdapterRecord;
@@ -72,6 +72,7 @@ fn planned(
 /// Notes an adapter, with how many imports it has. Their places begin behind what is there.
 fn note(
     alloc: Global,
+    names: &mut ModuleNames,
     group: &mut Group,
     id: AdapterId,
     adapter: &Adapter,
@@ -82,7 +83,7 @@ fn note(
     ensures { OnOk result (group.new ≡ noted group.old id.0 adapter.now many) }
 {
     let first = group.args.len() as u32;
-    put_adapter(alloc, &mut group.parts, id.as_u32(), adapter, many)?;
+    put_adapter(alloc, names, &mut group.parts, id.as_u32(), adapter, many)?;
     group.records.push(record_of_adapter(first, id, adapter))
 }
 
@@ -91,6 +92,7 @@ pub(crate) fn put(
     alloc: Global,
     graph: &mut ComponentDfg,
     types: &ComponentTypesBuilder,
+    names: &mut ModuleNames,
     group: &mut Group,
     id: AdapterId,
 ) -> Result<(), PushError>
@@ -112,7 +114,7 @@ pub(crate) fn put(
     if imports.len() > MAX_IMPORTS - group.args.len() {
         return Err(PushError::TooMany);
     }
-    note(alloc, group, id, &graph.adapters[id], imports.len())?;
+    note(alloc, names, group, id, &graph.adapters[id], imports.len())?;
     let signature = graph.adapters[id].lower_options.core_type;
     define_all(graph, imports, signature, &mut group.args)
 }

@@ -10,6 +10,7 @@ ghost use Rattle.pc_adapt_partition.specs.Parts.{parts_of, slice, total_imports}
 
 use crate::close::close;
 use crate::gather::gather;
+use pc_adapt_modules::ModuleNames;
 use pc_dfg::{ComponentDfg, PushError};
 use pc_entity::{PrimaryMap, StaticModuleIndex};
 use pc_info::ModuleTranslation;
@@ -22,6 +23,7 @@ fn make_module(
     graph: &mut ComponentDfg,
     types: &ComponentTypesBuilder,
     modules: &mut PrimaryMap<StaticModuleIndex, ModuleTranslation>,
+    names: &mut ModuleNames,
     first: u32,
     many: u32,
 ) -> Result<(), PushError>
@@ -38,8 +40,8 @@ fn make_module(
         → 4294967294 < total_imports
         (parts_of lift lower (is_transparent graph.old) first (slice first many graph.old.adapters))) }
 {
-    let group = gather(alloc, graph, types, first, many)?;
-    close(alloc, graph, modules, group, first, many)
+    let group = gather(alloc, graph, types, names, first, many)?;
+    close(alloc, graph, modules, names, group, first, many)
 }
 
 /// Adds the modules of groups of these lengths, which are all adapters in order.
@@ -62,10 +64,11 @@ pub(crate) fn make_modules(
         ⊎ ((lift lower : ℕ → FunctionFacts) → AreFacts types.now graph.old.adapters lift lower
         → HasLong lift lower (is_transparent graph.old) 0 (cut lengths.now 0 graph.old.adapters)) }
 {
+    let mut names = ModuleNames::new(alloc);
     let mut first: u32 = 0;
     for place in 0..lengths.len() {
         let many = lengths[place] as u32;
-        make_module(alloc, graph, types, modules, first, many)?;
+        make_module(alloc, graph, types, modules, &mut names, first, many)?;
         first += many;
     }
     Ok(())

@@ -123,7 +123,7 @@ pub(crate) fn indexes(
 {
     let mut found = Vec::with_capacity(alloc, modules.len())?;
     for held in modules.as_slice() {
-        found.push(ImportIndex::new(alloc, &held.module)?)?;
+        found.push(ImportIndex::new(alloc, held.module.get())?)?;
     }
     Ok(found)
 }

@@ -51,7 +51,7 @@ fn write_facts(
     ensures kept { OnOk result (IsKept translation.old translation.new) }
     ensures err { OnErr result (translation.new ≡ translation.old) }
 {
-    let count = translation.module.num_imported_funcs();
+    let count = translation.module.get().num_imported_funcs();
     let facts = representatives(alloc, partition, count)?;
     translation.imported_func_vmctx_representative = facts;
     Ok(())

@@ -8,6 +8,7 @@ ghost use Rattle.pc_analysis_imports.specs.Marked.{host_sources, is_hidden, is_h
 ghost use Rattle.pc_analysis_imports.specs.Marked.{none_marked, shown_by, shown_in, shown_in_all, with_hidden};
 ghost use Rattle.pc_analysis_imports.specs.Marked.{with_source, with_sources};
 
+use crate::index::ImportIndex;
 use crate::source::{Instance, Source, of_def};
 use pc_dfg::AbstractInstantiations;
 use pc_entity::{
@@ -16,7 +17,6 @@ use pc_entity::{
 };
 use pc_info::{CoreDef, GlobalInitializer, InstantiateModule};
 use pc_types::CoreKind;
-use pc_types_record::RecordIndex;
 use std::alloc::Global;
 use std::marker::Model;
 
@@ -172,7 +172,7 @@ impl Ambiguous {
 
 /// Adds what these definitions are.
 fn add_defs(
-    records: &[RecordIndex<'_>],
+    records: &[ImportIndex<'_>],
     instances: &[Instance],
     ambiguous: &mut Ambiguous,
     defs: &[CoreDef],
@@ -188,7 +188,7 @@ fn add_defs(
 
 /// Adds what these named definitions are.
 fn add_named(
-    records: &[RecordIndex<'_>],
+    records: &[ImportIndex<'_>],
     instances: &[Instance],
     ambiguous: &mut Ambiguous,
     defs: &TextMap<CoreDef>,
@@ -205,7 +205,7 @@ fn add_named(
 
 /// Adds what the arguments of a host module are.
 fn add_host(
-    records: &[RecordIndex<'_>],
+    records: &[ImportIndex<'_>],
     instances: &[Instance],
     ambiguous: &mut Ambiguous,
     args: &TextMap<TextMap<CoreDef>>,
@@ -236,7 +236,7 @@ fn is_always_given_the_same(
 /// Adds what a module is given, unless it is always given the same.
 #[tactic(auto, unfolding(crate::specs::Marked::with_sources))]
 fn add_given(
-    records: &[RecordIndex<'_>],
+    records: &[ImportIndex<'_>],
     instances: &[Instance],
     ways: &[AbstractInstantiations<'_>],
     ambiguous: &mut Ambiguous,
@@ -259,7 +259,7 @@ fn add_given(
 /// Adds what is given in a step.
 #[tactic(auto, unfolding(crate::specs::Marked::shown_in, crate::specs::Marked::with_sources))]
 fn add_step(
-    records: &[RecordIndex<'_>],
+    records: &[ImportIndex<'_>],
     instances: &[Instance],
     ways: &[AbstractInstantiations<'_>],
     ambiguous: &mut Ambiguous,
@@ -280,7 +280,7 @@ fn add_step(
 #[tactic(auto, unfolding(crate::specs::Marked::shown_in_all, crate::specs::Marked::with_sources))]
 pub(crate) fn all_ambiguous(
     alloc: Global,
-    records: &[RecordIndex<'_>],
+    records: &[ImportIndex<'_>],
     instances: &[Instance],
     ways: &[AbstractInstantiations<'_>],
     steps: &[GlobalInitializer],

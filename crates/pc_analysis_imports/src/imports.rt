@@ -11,6 +11,7 @@ ghost use Rattle.pc_analysis_imports.specs.Imports.{func_of_trampoline, global_f
 ghost use Rattle.pc_analysis_imports.specs.Imports.{memory_from, table_from};
 
 use crate::ambiguous::Ambiguous;
+use crate::index::ImportIndex;
 use crate::source::{Instance, Source, of_defs};
 use pc_dfg::AbstractInstantiations;
 use pc_entity::{
@@ -20,7 +21,6 @@ use pc_entity::{
 };
 use pc_info::{KnownEntity, KnownFunc, KnownGlobal, Trampoline};
 use pc_types::CoreKind;
-use pc_types_record::RecordIndex;
 use std::alloc::Global;
 
 /// What is recorded of the imports of a module.
@@ -132,7 +132,7 @@ fn known_table(ambiguous: &Ambiguous, given: Source) -> Option<KnownEntity<Defin
 }
 
 /// What an import is given.
-fn at(index: &RecordIndex<'_>, given: &[Source], import: EntityIndex) -> Source
+fn at(index: &ImportIndex<'_>, given: &[Source], import: EntityIndex) -> Source
     ensures { result ≡ import_source index.now given.now import }
 {
     match index.import_position(import) {
@@ -164,7 +164,7 @@ fn note<K: EntityRef, V: Copy>(
 fn functions(
     alloc: Global,
     trampolines: &PrimaryMap<TrampolineIndex, Trampoline>,
-    index: &RecordIndex<'_>,
+    index: &ImportIndex<'_>,
     given: &[Source],
 ) -> Result<SecondaryMap<FuncIndex, Option<KnownFunc>>, NoMemory>
     requires numbered { length index.now.imports < 4294967295 }
@@ -184,7 +184,7 @@ fn functions(
 fn globals(
     alloc: Global,
     ambiguous: &Ambiguous,
-    index: &RecordIndex<'_>,
+    index: &ImportIndex<'_>,
     given: &[Source],
 ) -> Result<SecondaryMap<GlobalIndex, Option<KnownGlobal>>, NoMemory>
     requires numbered { length index.now.imports < 4294967295 }
@@ -204,7 +204,7 @@ fn globals(
 fn memories(
     alloc: Global,
     ambiguous: &Ambiguous,
-    index: &RecordIndex<'_>,
+    index: &ImportIndex<'_>,
     given: &[Source],
 ) -> Result<SecondaryMap<MemoryIndex, Option<KnownEntity<DefinedMemoryIndex>>>, NoMemory>
     requires numbered { length index.now.imports < 4294967295 }
@@ -224,7 +224,7 @@ fn memories(
 fn tables(
     alloc: Global,
     ambiguous: &Ambiguous,
-    index: &RecordIndex<'_>,
+    index: &ImportIndex<'_>,
     given: &[Source],
 ) -> Result<SecondaryMap<TableIndex, Option<KnownEntity<DefinedTableIndex>>>, NoMemory>
     requires numbered { length index.now.imports < 4294967295 }
@@ -243,7 +243,7 @@ fn tables(
 /// What a module is always given: nothing, where it isn't always given the same.
 fn given_to(
     alloc: Global,
-    records: &[RecordIndex<'_>],
+    records: &[ImportIndex<'_>],
     instances: &[Instance],
     ways: &[AbstractInstantiations<'_>],
     place: usize,
@@ -261,7 +261,7 @@ fn imports_of(
     alloc: Global,
     trampolines: &PrimaryMap<TrampolineIndex, Trampoline>,
     ambiguous: &Ambiguous,
-    index: &RecordIndex<'_>,
+    index: &ImportIndex<'_>,
     given: &[Source],
 ) -> Result<Imports, NoMemory>
     requires numbered { length index.now.imports < 4294967295 }
@@ -283,7 +283,7 @@ fn imports_of(
 fn imports_at(
     alloc: Global,
     trampolines: &PrimaryMap<TrampolineIndex, Trampoline>,
-    records: &[RecordIndex<'_>],
+    records: &[ImportIndex<'_>],
     instances: &[Instance],
     ways: &[AbstractInstantiations<'_>],
     ambiguous: &Ambiguous,
@@ -305,7 +305,7 @@ fn imports_at(
 pub(crate) fn known_imports(
     alloc: Global,
     trampolines: &PrimaryMap<TrampolineIndex, Trampoline>,
-    records: &[RecordIndex<'_>],
+    records: &[ImportIndex<'_>],
     instances: &[Instance],
     ways: &[AbstractInstantiations<'_>],
     ambiguous: &Ambiguous,

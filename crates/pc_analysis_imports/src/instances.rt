@@ -5,24 +5,23 @@ ghost use Rattle.pc_info.specs.Modules.{module_view};
 ghost use Rattle.pc_analysis_imports.specs.Followed.{instance_of, instances_after, with_step};
 ghost use Rattle.pc_analysis_imports.specs.Known.{IsNumbered};
 
+use crate::index::ImportIndex;
 use crate::source::{Instance, of_defs};
-use pc_entity::{NoMemory, Seed, Seq};
+use pc_entity::{NoMemory, Seq};
 use pc_info::{GlobalInitializer, InstantiateModule, ModuleTranslation};
-use pc_types_record::RecordIndex;
 use std::alloc::Global;
 
 /// The records of modules, each with an index of its imports.
 pub(crate) fn records<'a>(
     alloc: Global,
-    seed: Seed,
     modules: &'a [ModuleTranslation],
-) -> Result<Vec<RecordIndex<'a>>, NoMemory>
+) -> Result<Vec<ImportIndex<'a>>, NoMemory>
     requires numbered { All (λ m. IsNumbered (module_view m)) modules.now }
     ensures { IfOk result (λ found. found.items ≡ map module_view modules.now) }
 {
     let mut found = Vec::with_capacity(alloc, modules.len())?;
     for held in modules {
-        found.push(RecordIndex::new(alloc, seed, &held.module)?)?;
+        found.push(ImportIndex::new(alloc, held.module.get())?)?;
     }
     Ok(found)
 }
@@ -30,7 +29,7 @@ pub(crate) fn records<'a>(
 /// The instance that is made of a module.
 fn made_of(
     alloc: Global,
-    records: &[RecordIndex<'_>],
+    records: &[ImportIndex<'_>],
     instances: &[Instance],
     source: &InstantiateModule,
 ) -> Result<Instance, NoMemory>
@@ -48,7 +47,7 @@ fn made_of(
 /// Adds the instance that a step makes, if it makes one.
 fn add(
     alloc: Global,
-    records: &[RecordIndex<'_>],
+    records: &[ImportIndex<'_>],
     instances: &mut Seq<Instance>,
     step: &GlobalInitializer,
 ) -> Result<(), NoMemory>
@@ -66,7 +65,7 @@ fn add(
 /// The instances that these steps make, in order.
 pub(crate) fn instances(
     alloc: Global,
-    records: &[RecordIndex<'_>],
+    records: &[ImportIndex<'_>],
     steps: &[GlobalInitializer],
 ) -> Result<Seq<Instance>, NoMemory>
     ensures { IfOk result (λ made. made ≡ instances_after records.now [] steps.now) }

@@ -10,14 +10,14 @@ ghost use Rattle.pc_analysis_imports.specs.Known.{CanBeFollowed, IsNumbered, Kno
 
 use crate::ambiguous::{Hidden, all_ambiguous};
 use crate::imports::{Imports, known_imports};
+use crate::index::ImportIndex;
 use crate::instances::{instances, records};
 use crate::record::{record_imports, record_known_but};
 use crate::source::Instance;
 use crate::ways::ways;
 use pc_dfg::AbstractInstantiations;
-use pc_entity::{NoMemory, PrimaryMap, Seed, StaticModuleIndex};
+use pc_entity::{NoMemory, PrimaryMap, StaticModuleIndex};
 use pc_info::{ComponentTranslation, ModuleTranslation};
-use pc_types_record::RecordIndex;
 use std::alloc::Global;
 use std::mem;
 
@@ -32,7 +32,7 @@ struct Found {
 fn find_by(
     alloc: Global,
     translation: &ComponentTranslation,
-    records: &[RecordIndex<'_>],
+    records: &[ImportIndex<'_>],
     instances: &[Instance],
     ways: &[AbstractInstantiations<'_>],
 ) -> Result<Found, NoMemory>
@@ -58,7 +58,6 @@ fn find_by(
 /// Finds what is known of each module.
 fn find(
     alloc: Global,
-    seed: Seed,
     translation: &ComponentTranslation,
     modules: &[ModuleTranslation],
 ) -> Result<Found, NoMemory>
@@ -67,7 +66,7 @@ fn find(
 {
     let component = &translation.component;
     let steps = component.initializers.as_slice();
-    let indexes = records(alloc, seed, modules)?;
+    let indexes = records(alloc, modules)?;
     let records = indexes.as_slice();
     let made = instances(alloc, records, steps)?;
     let instances = made.as_slice();
@@ -102,7 +101,6 @@ fn record(
 /// Where there is no memory nothing is changed.
 pub fn analyze_imports(
     alloc: Global,
-    seed: Seed,
     translation: &ComponentTranslation,
     modules: &mut PrimaryMap<StaticModuleIndex, ModuleTranslation>,
 ) -> Result<(), NoMemory>
@@ -112,7 +110,7 @@ pub fn analyze_imports(
     ensures kept { map without_imports modules.new ≡ map without_imports modules.old }
     ensures err { OnErr result (modules.new ≡ modules.old) }
 {
-    let found = find(alloc, seed, translation, modules.as_slice())?;
+    let found = find(alloc, translation, modules.as_slice())?;
     record(alloc, modules, found);
     Ok(())
 }

@@ -12,6 +12,7 @@
 
 mod ambiguous;
 mod imports;
+mod index;
 mod instances;
 mod known;
 mod record;

@@ -23,15 +23,15 @@ fn put_known_but(core_module: &mut ModuleTranslation, hidden: Hidden)
     ensures { core_module.new ≡ with_known_but core_module.old hidden }
 {
     core_module.globals_known_to_importers = KnownToImporters {
-        defined: core_module.module.globals,
+        defined: core_module.module.get().globals,
         unknown: hidden.globals,
     };
     core_module.memories_known_to_importers = KnownToImporters {
-        defined: core_module.module.memories.len() as u32,
+        defined: core_module.module.get().memories.len() as u32,
         unknown: hidden.memories,
     };
     core_module.tables_known_to_importers = KnownToImporters {
-        defined: core_module.module.tables,
+        defined: core_module.module.get().tables,
         unknown: hidden.tables,
     };
 }

@@ -5,12 +5,12 @@ ghost use Rattle.std.specs.Option.{option_copied};
 ghost use Rattle.pc_analysis_imports.specs.Followed.{defined_source, entity_source, item_source, item_in, source_of};
 ghost use Rattle.pc_analysis_imports.specs.Followed.{seen_through};
 
+use crate::index::ImportIndex;
 use pc_entity::{
     EntityIndex, NoMemory, RuntimeComponentInstanceIndex, Seq, StaticModuleIndex, TrampolineIndex,
 };
 use pc_info::{CoreDef, CoreExport, ExportItem};
 use pc_types::{CoreKind, UnsafeIntrinsic, entity_number};
-use pc_types_record::RecordIndex;
 use std::alloc::Global;
 
 /// What an argument is.
@@ -48,7 +48,7 @@ fn through(given: Option<&Source>) -> Source
 }
 
 /// What an entity is that a module doesn't import.
-fn defined(index: &RecordIndex<'_>, core_module: StaticModuleIndex, entity: EntityIndex) -> Source
+fn defined(index: &ImportIndex<'_>, core_module: StaticModuleIndex, entity: EntityIndex) -> Source
     ensures { result ≡ defined_source core_module index.now entity }
 {
     let kind = CoreKind::of(entity);
@@ -58,7 +58,7 @@ fn defined(index: &RecordIndex<'_>, core_module: StaticModuleIndex, entity: Enti
         return Source::Unknown;
     }
     let place = number - imported;
-    if place < index.record().defined(kind) {
+    if place < index.defined(kind) {
         return Source::Defined(core_module, kind, place as u32);
     }
     Source::Unknown
@@ -66,7 +66,7 @@ fn defined(index: &RecordIndex<'_>, core_module: StaticModuleIndex, entity: Enti
 
 /// What an entity of an instance is that is given these for its imports.
 fn of_entity(
-    index: &RecordIndex<'_>,
+    index: &ImportIndex<'_>,
     core_module: StaticModuleIndex,
     given: &[Source],
     entity: EntityIndex,
@@ -81,7 +81,7 @@ fn of_entity(
 
 /// What an entity of an instance of a module is, if its module is held.
 fn of_module(
-    records: &[RecordIndex<'_>],
+    records: &[ImportIndex<'_>],
     core_module: StaticModuleIndex,
     given: &[Source],
     item: &ExportItem<EntityIndex>,
@@ -99,7 +99,7 @@ fn of_module(
 
 /// What an item of a core instance is.
 fn of_export(
-    records: &[RecordIndex<'_>],
+    records: &[ImportIndex<'_>],
     instances: &[Instance],
     export: &CoreExport<EntityIndex>,
 ) -> Source
@@ -118,7 +118,7 @@ fn of_export(
 
 /// What a definition is, by the instances that were made before it is used.
 #[tactic(auto, unfolding(crate::specs::Followed::source_of))]
-pub(crate) fn of_def(records: &[RecordIndex<'_>], instances: &[Instance], def: &CoreDef) -> Source
+pub(crate) fn of_def(records: &[ImportIndex<'_>], instances: &[Instance], def: &CoreDef) -> Source
     ensures { result ≡ source_of records.now instances.now def.now }
 {
     match def {
@@ -132,7 +132,7 @@ pub(crate) fn of_def(records: &[RecordIndex<'_>], instances: &[Instance], def: &
 /// What each of these definitions is.
 pub(crate) fn of_defs(
     alloc: Global,
-    records: &[RecordIndex<'_>],
+    records: &[ImportIndex<'_>],
     instances: &[Instance],
     defs: &[CoreDef],
 ) -> Result<Seq<Source>, NoMemory>

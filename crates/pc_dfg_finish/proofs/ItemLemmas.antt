@@ -1,12 +1,11 @@
 -- The items that a plan has for the exports of a graph: what they name stands before them.
-use Rattle.std.proofs.Common.{◌≡◌, ◌<◌, ◌+◌, ℕ, suc, true, List, [], ◌∷◌, ◌++◌, length, take, All, Option, Some, ◌&&◌}
+use Rattle.std.proofs.Common.{◌≡◌, ◌<◌, ◌+◌, ℕ, suc, true, List, [], ◌∷◌, ◌++◌, length, All, Option, Some, ◌&&◌}
 use Rattle.std.proofs.Common.{refl, sym, ap, subst, arith, zero-add}
 use Rattle.std.specs.Prelude.{slice_get}
 use Rattle.std.specs.List.{AllZip}
 use Rattle.std.proofs.lemmas.Bool.{lt-ltb}
 use Rattle.std.proofs.lemmas.List.Elements.{All-head, All-tail}
 use Rattle.pc_entity.proofs.Elements.{true_and}
-use Rattle.pc_entity.proofs.Growing.{take-next}
 use Rattle.pc_types.specs.declared.type_index.TypeModuleIndex.{TypeModuleIndex}
 use Rattle.pc_info.specs.declared.export.Export.{Export as PlanItem}
 use Rattle.pc_info.specs.Exports.{are_behind_their_parts, is_behind_its_parts, names_below, number_of}
@@ -23,18 +22,13 @@ use Rattle.pc_dfg_finish.specs.Finishes.{IsItem}
 use Rattle.pc_dfg_finish.proofs.FurtherLemmas.{all_of}
 
 module _ {A B : Type 0} (R : A → B → Type 0) where
-  zip_push : (xs : List A) (ys : List B) (x : A) (y : B) → AllZip R xs ys → R x y
+  -- the items so far, and the next one
+  pub zip_push : (xs : List A) (ys : List B) (x : A) (y : B) → AllZip R xs ys → R x y
       → AllZip R (xs ++ x ∷ []) (ys ++ y ∷ [])
   zip_push [] [] x y zip r = (r, tt)
   zip_push [] (z ∷ ys) x y zip r = absurd zip
   zip_push (w ∷ xs) [] x y zip r = absurd zip
   zip_push (w ∷ xs) (z ∷ ys) x y zip r = (zip.0, zip_push xs ys x y zip.1 r)
-
-  -- the items so far, and the next one
-  pub zip_next : (xs : List A) (i : ℕ) (x : A) → slice_get xs i ≡ Some x → (ys : List B) (y : B)
-      → AllZip R (take i xs) ys → R x y → AllZip R (take (i + 1) xs) (ys ++ y ∷ [])
-  zip_next xs i x at ys y zip r =
-      subst (λ zs. AllZip R zs (ys ++ y ∷ [])) (sym (take-next xs i x at)) (zip_push (take i xs) ys x y zip r)
 
   -- lists that stand in a relation have one length
   pub zip_length : (xs : List A) (ys : List B) → AllZip R xs ys → length xs ≡ length ys

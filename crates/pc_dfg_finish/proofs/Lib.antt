@@ -15,6 +15,7 @@ mod ResourceLemmas
 mod EffectLemmas
 mod ItemLemmas
 mod NodeLemmas
+mod TakenLemmas
 -- numbers are given once
 mod OutgrownLemmas
 mod CopyLemmas

@@ -8,5 +8,6 @@ pub mod Finishes
 pub mod ModuleTypes
 -- How the contracts within the crate say what is made.
 pub mod Exports
+pub mod Taken
 pub mod Instantiated
 pub mod Whole

@@ -1,6 +1,7 @@
 //! The exports of a plan. Each item of the graph becomes the item of the same number, so those within an instance stand
 //! before it. All that the functions among them depend on is made first; then nothing changes any more, and the items
-//! are looked up.
+//! are looked up. The graph's own exports are taken out of it for that, each of which goes once the plan has it: names
+//! are the most of what a component with many exports consists of, and aren't to be there twice.
 
 ghost use Rattle.std.specs.Prelude.{◌≡◌, ◌++◌, ◌∷◌, [], None, Some, All, Err, IfOk, OnOk, length};
 ghost use Rattle.std.specs.List.{AllZip};
@@ -13,9 +14,11 @@ ghost use Rattle.pc_dfg_finish.specs.Exports.{AddsName, CanExport, CanLift, Expo
 ghost use Rattle.pc_dfg_finish.specs.Exports.{IsExportable};
 ghost use Rattle.pc_dfg_finish.specs.Exports.{IsInstance, IsLiftable, IsNamed, Lacks, function_of, lifted_in};
 ghost use Rattle.pc_dfg_finish.specs.Exports.{in_export, in_exports, in_lifted};
+ghost use Rattle.pc_dfg_finish.specs.Taken.{CanConvert, IsReadyItem, without_exports};
 ghost use Rattle.pc_dfg_linearize.specs.Grouped.{IsGrouped};
 ghost use Rattle.pc_dfg_finish.specs.ModuleTypes.{IsTyped};
 ghost use Rattle.pc_dfg_linearize.specs.Outgrown.{Outgrows};
+ghost use Rattle.pc_dfg_linearize.specs.Ready.{IsReadyDef};
 
 use crate::arguments::number_def;
 use crate::module_types::ModuleTypes;
@@ -25,6 +28,7 @@ use pc_entity::{ExportIndex, NoMemory, PrimaryMap, Text, TextMap, TryClone};
 use pc_names::{NameError, NameMap, NameMapNoIntern};
 use pc_types::{ComponentExternData, TypeComponentInstanceIndex, TypeFuncIndex};
 use std::alloc::Global;
+use std::mem;
 
 /// What a plan exports: the names, and the items that they name by number.
 #[derive(Drop)]
@@ -37,7 +41,7 @@ pub(crate) struct Exported {
 fn push_name(
     alloc: Global,
     names: &mut NameMap<Text, (ExportIndex, ComponentExternData)>,
-    name: &str,
+    name: &Text,
     target: (ExportIndex, ComponentExternData),
 ) -> Result<(), NoMemory>
     requires absent { Lacks names.old name.now }
@@ -54,16 +58,16 @@ fn push_name(
 /// The names of a map of the graph, in their order, with what they have.
 fn names_of(
     alloc: Global,
-    map: &TextMap<(ExportIndex, ComponentExternData)>,
+    map: TextMap<(ExportIndex, ComponentExternData)>,
 ) -> Result<NameMap<Text, (ExportIndex, ComponentExternData)>, NoMemory>
-    ensures { IfOk result (λ names. IsNamed map.now names) }
+    ensures { IfOk result (λ names. IsNamed map names) }
 {
     map.names_are_distinct();
     let mut names = NameMap::new(alloc, map.seed());
     for place in 0..map.len() {
         let (name, target) = map.entry_at(place);
         let data = target.1.try_clone(alloc)?;
-        push_name(alloc, &mut names, name.as_str(), (target.0, data))?;
+        push_name(alloc, &mut names, name, (target.0, data))?;
     }
     Ok(names)
 }
@@ -151,8 +155,7 @@ fn lifted(
     func: &CoreDef,
     options: OptionsId,
 ) -> Result<pc_info::Export, NoMemory>
-    requires all_made { length finish.now.instances ≡ length graph.now.instances }
-    requires can { CanLift graph.now (func.now, options) }
+    requires ready { IsReadyDef graph.now (length finish.now.instances) func.now }
     requires numbered { IsLiftable graph.now finish.now (func.now, options) }
     ensures { IfOk result (λ e. e ≡ lifted_in graph.now finish.now ty func.now options) }
 {
@@ -165,9 +168,9 @@ fn lifted(
 fn instance(
     alloc: Global,
     ty: TypeComponentInstanceIndex,
-    exports: &TextMap<(ExportIndex, ComponentExternData)>,
+    exports: TextMap<(ExportIndex, ComponentExternData)>,
 ) -> Result<pc_info::Export, NoMemory>
-    ensures { IfOk result (λ e. IsInstance ty exports.now e) }
+    ensures { IfOk result (λ e. IsInstance ty exports e) }
 {
     Ok(pc_info::Export::Instance {
         ty,
@@ -182,32 +185,27 @@ fn item_of(
     graph: &ComponentDfg,
     finish: &Finish,
     types: &ModuleTypes,
-    item: &Export,
+    item: Export,
 ) -> Result<pc_info::Export, NoMemory>
-    requires all_made { length finish.now.instances ≡ length graph.now.instances }
-    requires can { CanExport graph.now item.now }
-    requires numbered { IsExportable graph.now finish.now item.now }
-    requires typed { IsTyped types.now item.now }
-    ensures { IfOk result (λ e. IsConverted graph.now types.now finish.now item.now e) }
+    requires ready { IsReadyItem graph.now finish.now item }
+    requires numbered { IsExportable graph.now finish.now item }
+    requires typed { IsTyped types.now item }
+    ensures { IfOk result (λ e. IsConverted graph.now types.now finish.now item e) }
 {
     match item {
         Export::LiftedFunction { ty, func, options } => {
-            lifted(alloc, graph, finish, *ty, func, *options)
+            lifted(alloc, graph, finish, ty, &func, options)
         }
-        Export::ImportedFunction { ty, import } => Ok(pc_info::Export::ImportedFunction {
-            ty: *ty,
-            import: *import,
-        }),
+        Export::ImportedFunction { ty, import } => {
+            Ok(pc_info::Export::ImportedFunction { ty, import })
+        }
         Export::ModuleStatic { ty, index } => Ok(pc_info::Export::ModuleStatic {
-            ty: types.at(*ty),
-            index: *index,
+            ty: types.at(ty),
+            index,
         }),
-        Export::ModuleImport { ty, import } => Ok(pc_info::Export::ModuleImport {
-            ty: *ty,
-            import: *import,
-        }),
-        Export::Instance { ty, exports } => instance(alloc, *ty, exports),
-        Export::Type_(ty) => Ok(pc_info::Export::Type_(*ty)),
+        Export::ModuleImport { ty, import } => Ok(pc_info::Export::ModuleImport { ty, import }),
+        Export::Instance { ty, exports } => instance(alloc, ty, exports),
+        Export::Type_(ty) => Ok(pc_info::Export::Type_(ty)),
     }
 }
 
@@ -218,47 +216,68 @@ fn push_item(items: &mut Vec<pc_info::Export>, item: pc_info::Export) -> Result<
     Ok(items.push(item)?)
 }
 
-/// The exports as the plan has them, in their order.
+/// Exports as the plan has them, in their order.
 fn items_of(
     alloc: Global,
     graph: &ComponentDfg,
     finish: &Finish,
     types: &ModuleTypes,
+    exports: Vec<Export>,
 ) -> Result<PrimaryMap<ExportIndex, pc_info::Export>, NoMemory>
-    requires all_made { length finish.now.instances ≡ length graph.now.instances }
-    requires can { All (CanExport graph.now) graph.now.export_items }
-    requires numbered { All (IsExportable graph.now finish.now) graph.now.export_items }
-    requires typed { All (IsTyped types.now) graph.now.export_items }
-    ensures { IfOk result (λ items. AllZip (IsConverted graph.now types.now finish.now) graph.now.export_items items) }
+    requires can { All (CanConvert graph.now types.now finish.now) exports.items }
+    ensures { IfOk result (λ items. AllZip (IsConverted graph.now types.now finish.now) exports.items items) }
 {
-    let mut items = Vec::with_capacity(alloc, graph.export_items.len())?;
-    for item in graph.export_items.as_slice() {
-        let made = item_of(alloc, graph, finish, types, item)?;
-        push_item(&mut items, made)?;
+    let mut items = Vec::with_capacity(alloc, exports.len())?;
+    for export in exports {
+        let item = item_of(alloc, graph, finish, types, export)?;
+        push_item(&mut items, item)?;
     }
     Ok(PrimaryMap::from_vec(items))
 }
 
-/// What the plan exports, made with all that it depends on. Module types of the table have these types.
+/// Takes the names of the exports out of a graph.
+fn take_names(
+    alloc: Global,
+    graph: &mut ComponentDfg,
+) -> TextMap<(ExportIndex, ComponentExternData)>
+    ensures names { result ≡ graph.old.exports }
+    ensures rest { graph.new ≡ record graph.old { exports = [] } }
+{
+    let seed = graph.exports.seed();
+    mem::replace(&mut graph.exports, TextMap::new(alloc, seed))
+}
+
+/// Takes the items of the exports out of a graph.
+fn take_items(alloc: Global, graph: &mut ComponentDfg) -> Vec<Export>
+    ensures items { result.items ≡ graph.old.export_items }
+    ensures rest { graph.new ≡ record graph.old { export_items = [] } }
+{
+    mem::replace(&mut graph.export_items, PrimaryMap::new(alloc)).into_vec()
+}
+
+/// What the plan exports, made with all that it depends on. Module types of the table have these types. The graph has
+/// no exports then.
 pub(crate) fn exports(
     alloc: Global,
-    graph: &ComponentDfg,
+    graph: &mut ComponentDfg,
     finish: &mut Finish,
     types: &ModuleTypes,
 ) -> Result<Exported, FinishError>
-    requires ordered { IsOrdered graph.now }
-    requires grouped { IsGrouped graph.now }
-    requires all_made { length finish.old.instances ≡ length graph.now.instances }
-    requires fits { Fits graph.now finish.old }
-    requires typed { All (IsTyped types.now) graph.now.export_items }
-    ensures further { OnOk result (GoesFurther graph.now finish.old finish.new) }
+    requires ordered { IsOrdered graph.old }
+    requires grouped { IsGrouped graph.old }
+    requires all_made { length finish.old.instances ≡ length graph.old.instances }
+    requires fits { Fits graph.old finish.old }
+    requires typed { All (IsTyped types.now) graph.old.export_items }
+    ensures further { OnOk result (GoesFurther graph.old finish.old finish.new) }
     ensures only { OnOk result
-        (OnlyFromThese graph.now finish.old finish.new (in_exports graph.now graph.now.export_items)) }
-    ensures full { result ≡ Err refusal.TooMany → Outgrows graph.now finish.old }
-    ensures exports { IfOk result (λ e. Exports graph.now types.now finish.new e.names e.items) }
+        (OnlyFromThese graph.old finish.old finish.new (in_exports graph.old graph.old.export_items)) }
+    ensures full { result ≡ Err refusal.TooMany → Outgrows graph.old finish.old }
+    ensures exports { IfOk result (λ e. Exports graph.old types.now finish.new e.names e.items) }
+    ensures rest { OnOk result (graph.new ≡ without_exports graph.old) }
 {
     number_items(alloc, graph, finish)?;
-    let items = items_of(alloc, graph, finish, types)?;
-    let names = names_of(alloc, &graph.exports)?;
+    let names = names_of(alloc, take_names(alloc, graph))?;
+    let exports = take_items(alloc, graph);
+    let items = items_of(alloc, graph, finish, types, exports)?;
     Ok(Exported { names, items })
 }

@@ -9,6 +9,7 @@ ghost use Rattle.pc_dfg_linearize.specs.Full.{HasTooMany};
 ghost use Rattle.pc_dfg_linearize.specs.Grouped.{IsGrouped};
 ghost use Rattle.pc_dfg_finish.specs.Finishes.{Finishes};
 ghost use Rattle.pc_dfg_finish.specs.ModuleTypes.{IsTyped, module_mark};
+ghost use Rattle.pc_dfg_finish.specs.Taken.{without_exports};
 ghost use Rattle.pc_dfg_finish.specs.Whole.{IsMade, empty_plan};
 
 use crate::effects::do_effects;
@@ -113,17 +114,18 @@ fn start(alloc: Global, graph: &ComponentDfg) -> Result<Finish, NoMemory>
     Ok(finish)
 }
 
-/// All that a plan of a graph consists of: its steps and lists, and its exports.
+/// All that a plan of a graph consists of: its steps and lists, and its exports, which the graph has no more then.
 fn make(
     alloc: Global,
-    graph: &ComponentDfg,
+    graph: &mut ComponentDfg,
     types: &ModuleTypes,
 ) -> Result<(Finish, Exported), FinishError>
-    requires ordered { IsOrdered graph.now }
-    requires grouped { IsGrouped graph.now }
-    requires typed { All (IsTyped types.now) graph.now.export_items }
-    ensures full { result ≡ Err refusal.TooMany → HasTooMany graph.now }
-    ensures made { IfOk result (λ m. IsMade graph.now types.now m.0 m.1.names m.1.items) }
+    requires ordered { IsOrdered graph.old }
+    requires grouped { IsGrouped graph.old }
+    requires typed { All (IsTyped types.now) graph.old.export_items }
+    ensures full { result ≡ Err refusal.TooMany → HasTooMany graph.old }
+    ensures made { IfOk result (λ m. IsMade graph.old types.now m.0 m.1.names m.1.items) }
+    ensures rest { OnOk result (graph.new ≡ without_exports graph.old) }
 {
     graph.entries_are_distinct();
     let mut finish = start(alloc, graph)?;
@@ -144,6 +146,7 @@ pub fn finish(
     ensures full { result ≡ Err refusal.TooMany → HasTooMany graph }
     ensures plan { IfOk result (λ p. Finishes graph (module_mark types.now) p) }
 {
-    let (finish, exported) = make(alloc, &graph, types)?;
+    let mut graph = graph;
+    let (finish, exported) = make(alloc, &mut graph, types)?;
     into_translation(finish, alloc, graph, exported)
 }

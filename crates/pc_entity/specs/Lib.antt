@@ -2,6 +2,6 @@
 pub mod Lists
 pub mod PackedOption
 pub mod SecondaryMap
--- How a map from strings is seen and made from a list, and why `==` is equality of values.
+-- How a map from texts is seen and made from a list, and why `==` is equality of values.
 pub mod FirstValues
 pub mod Exact

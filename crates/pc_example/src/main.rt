@@ -20,14 +20,7 @@ fn plan(alloc: Global) -> Result<PlanWithModules, Error> {
     };
     let table = payloads::types(alloc)?;
     let list = payloads::payloads(alloc)?;
-    plan_payloads(
-        alloc,
-        Seed::fixed(),
-        &tunables,
-        &table,
-        None,
-        list.as_slice(),
-    )
+    plan_payloads(alloc, Seed::fixed(), &tunables, &table, None, list)
 }
 
 /// Prints how many instances the plan makes.

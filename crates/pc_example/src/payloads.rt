@@ -4,10 +4,8 @@
 //! each, and the root makes an instance of that component.
 
 use pc_entity::{EntityIndex, FuncIndex, NoMemory, Seq, Text};
-use pc_parsed::{
-    AliasItem, ComponentInstanceItem, Encoding, InstanceItem, OuterKind, Payload, SharedRecord,
-};
-use pc_types::{CoreEntity, CoreFuncSig, DeclType, ModuleRecord, TypeTable};
+use pc_parsed::{AliasItem, ComponentInstanceItem, Encoding, InstanceItem, OuterKind, Payload};
+use pc_types::{CoreEntity, CoreFuncSig, DeclType, ModuleRecord, SharedRecord, TypeTable};
 use std::alloc::Global;
 
 /// A list of one item.

@@ -9,9 +9,9 @@ ghost use Rattle.pc_generate.specs.Table.{f};
 use pc_entity::{EntityIndex, FuncIndex, NoMemory, Seq, Text};
 use pc_parsed::{
     AliasItem, CanonItem, ComponentInstanceItem, ExportEntry, ExternName, ImportItem, InstanceItem,
-    ItemKind, Payload, SharedRecord,
+    ItemKind, Payload,
 };
-use pc_types::{CoreEntity, CoreKind, Entity, ModuleRecord};
+use pc_types::{CoreEntity, CoreKind, Entity, ModuleRecord, SharedRecord};
 use std::alloc::Global;
 
 /// A list of one item.

@@ -9,7 +9,7 @@ use pc_entity::{
     ModuleInternedTypeIndex, PackedOption, RuntimeComponentInstanceIndex, SecondaryMap, Seq,
     TableIndex,
 };
-use pc_types::{ModuleRecord, StringEncoding, TypeFuncIndex};
+use pc_types::{SharedRecord, StringEncoding, TypeFuncIndex};
 use std::alloc::Global;
 
 /// A core module that a plan instantiates: one that was handed in, or one of adapters.
@@ -18,7 +18,7 @@ use std::alloc::Global;
 /// plan means the same without them.
 pub struct ModuleTranslation {
     /// What the module imports, defines and exports.
-    pub module: ModuleRecord,
+    pub module: SharedRecord,
     /// What is said of its adapters. A module that was handed in has none.
     pub adapters: Seq<AdapterRecord>,
     /// The imported functions that are known.
@@ -43,7 +43,7 @@ impl ModuleTranslation {
     /// A module with these adapters, of which no fact is recorded. It takes no memory.
     pub fn new(
         alloc: Global,
-        core_module: ModuleRecord,
+        core_module: SharedRecord,
         adapters: Seq<AdapterRecord>,
     ) -> ModuleTranslation
         ensures { result ≡ without_facts core_module adapters }
@@ -93,7 +93,7 @@ impl Drop for ModuleTranslation {
     }
 }
 
-fn drop_module(_module: ModuleRecord, _adapters: Seq<AdapterRecord>) {}
+fn drop_module(_module: SharedRecord, _adapters: Seq<AdapterRecord>) {}
 
 fn drop_functions(
     _known: SecondaryMap<FuncIndex, Option<KnownFunc>>,

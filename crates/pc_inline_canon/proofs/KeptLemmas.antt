@@ -206,9 +206,9 @@ module _ (ms : List ModuleRecord) (b c : Tables) (keeps : Keeps b c) where
   instance_kept x i (host_stands {i = n} {entry = entry} {tree = tree} host tabled) =
       host_stands (host_made_kept b.graph c.graph keeps.graph n host)
       (table_tree_kept ms b c keeps is_module entry tree tabled)
-  instance_kept x i (bag_stands {xs = xs} {items = items} same) =
-      bag_stands (λ name. both_more (BagItemStands ms b) (BagItemStands ms c) bag_kept (value_of name xs)
-      (value_of name items) (same name))
+  instance_kept x i (bag_stands {xs = xs} {items = items} same numbered) =
+      bag_stands (λ name. both_more (BagItemStands ms b) (BagItemStands ms c) bag_kept (value_of name xs.items)
+      (value_of name items) (same name)) numbered
 
   -- a component instance
   pub frame_kept : (f : Frame) (s : Scope) → FrameStands ms b f s → FrameStands ms c f s

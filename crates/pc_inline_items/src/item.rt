@@ -66,7 +66,7 @@ pub fn step(
             step_core_instance(context, state, frame, *module, args.as_slice())
         }
         LocalInitializer::ModuleSynthetic(items) => {
-            step_core_exports(frame, context.alloc, context.seed, items.as_slice())
+            step_core_exports(context, frame, items.as_slice())
         }
         LocalInitializer::ComponentStatic { index, vars } => {
             step_component(context, state, frame, closure, *index, vars)

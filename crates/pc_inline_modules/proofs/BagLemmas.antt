@@ -1,14 +1,17 @@
 -- Core items under names, of which the first of a name counts, and the core items of a component instance by kind.
 use Rattle.std.proofs.Common.{◌≡◌, ℕ, zero, suc, Bool, true, false, List, [], ◌∷◌, ◌++◌, Option, Some, None}
 use Rattle.std.proofs.Common.{if◌then◌else◌, refl, sym, ap, subst, ◌∙◌, true≢false}
-use Rattle.std.specs.Prelude.{slice_get, is_some, option_and_then, option_map}
+use Rattle.std.specs.Prelude.{⊤, Contains, OnOk, Result, Ok, Err, slice_get, is_some, option_and_then, option_map}
 use Rattle.std.specs.Str.{bytes_eq}
 use Rattle.std.proofs.lemmas.Option.{none-some, same_Some}
 use Rattle.std.proofs.lemmas.Slice.Eq.{bytes_eq-Decides}
+use Rattle.pc_entity.specs.FirstValues.{with_first}
 use Rattle.pc_entity.specs.Lists.{map_all, value_of}
 use Rattle.pc_entity.proofs.MapAll.{map_all-push}
 use Rattle.pc_entity.proofs.Naming.{value_of-append_held, value_of-append_absent}
+use Rattle.pc_entity.specs.declared.string_pool.Atom.{Atom}
 use Rattle.pc_numbers.specs.declared.entity_index.EntityIndex.{EntityIndex}
+use Rattle.pc_numbers.specs.declared.no_memory.NoMemory.{NoMemory}
 use Rattle.pc_types.specs.declared.module_record.ModuleRecord.{ModuleRecord}
 use Rattle.pc_types.specs.declared.parsed.CoreKind.{CoreKind}
 use Rattle.pc_types.specs.declared.parsed.CoreKind.TheVariants as core
@@ -21,8 +24,11 @@ use Rattle.pc_inline_state.specs.declared.definition.CoreId.{CoreId}
 use Rattle.pc_inline_state.specs.declared.frame.Frame.{Frame}
 use Rattle.pc_inline_state.specs.Frames.{BagItemStands, Both, FrameStands, ItemsStand, SameNames, neither, both}
 use Rattle.pc_inline_state.specs.Lists.{core_ids}
+use Rattle.pc_inline_state.specs.Numbers.{HasNumbers, IsNumber, import_names, with_first_number}
 use Rattle.pc_inline_state.specs.Stands.{ItemStands}
 use Rattle.pc_inline_state.specs.Tables.{Tables}
+use Rattle.pc_inline_state.proofs.NameLemmas.{names_distinct}
+use Rattle.pc_inline_state.proofs.NumberedLemmas.{numbered_first, unnumbered_first}
 use Rattle.pc_inline_state.proofs.ZipLemmas.{both_missing, both_there, zip_at}
 
 module _ {A B : Type 0} (R : A → B → Type 0) where
@@ -76,6 +82,26 @@ module _ {A B : Type 0} (R : A → B → Type 0) where
       by (Some a) None p q m = elim m [ ]
       by (Some a) (Some b) p q (both s) = rw (value_of-append_held name ys ((k, y) ∷ []) b q) (both s)
 
+-- in a bag with an item more, numbers have what names have
+module _ {V : Type 0} (ms : List ModuleRecord) (es fs : List (List ℕ × V)) (ns : List (Atom × V)) (name : List ℕ)
+    (v : V) (more : fs ≡ with_first es (name, v)) where
+  -- the name has a number, under which the item goes too
+  pub item_numbered : (r : Result ⊤ NoMemory) (numbered : List (Atom × V)) (n : Atom) → IsNumber (import_names ms) n name
+      → OnOk r (numbered ≡ with_first_number ns n v)
+      → OnOk r (HasNumbers (import_names ms) es ns → HasNumbers (import_names ms) fs numbered)
+  item_numbered (Err e) numbered n is grown = tt
+  item_numbered (Ok done) numbered n is grown = λ has.
+      subst (λ xs. HasNumbers (import_names ms) xs numbered) (sym more)
+      (subst (λ xs. HasNumbers (import_names ms) (with_first es (name, v)) xs) (sym grown)
+      (numbered_first (import_names ms) es ns name v has n (names_distinct ms) is))
+
+  -- the name has none
+  pub item_unnumbered : ¬ Contains (import_names ms) name → HasNumbers (import_names ms) es ns
+      → HasNumbers (import_names ms) fs ns
+  item_unnumbered absent has =
+      subst (λ xs. HasNumbers (import_names ms) xs ns) (sym more)
+      (unnumbered_first (import_names ms) es ns name v has absent)
+
 -- a list one of whose items has no answer has none
 pub map_all_missing : {A B : Type 0} (f : A → Option B) (xs : List A) (i : ℕ) (x : A) → slice_get xs i ≡ Some x
     → f x ≡ None → map_all f xs ≡ None
@@ -90,7 +116,7 @@ map_all_missing {A} {B} f (y ∷ xs) (suc i) x at none = rw (map_all_missing f x
 
 module _ {X A B : Type 0} (R : A → B → Type 0) (f : X → Option (List ℕ × B)) where
   -- a bag with one more item stands for the items with one more
-  pub bag_push : (bag : List (List ℕ × A)) (xs : List X) (x : X) (k : List ℕ) (v : A) (w : B)
+  bag_push : (bag : List (List ℕ × A)) (xs : List X) (x : X) (k : List ℕ) (v : A) (w : B)
       → Both (SameNames R) (Some bag) (map_all f xs) → f x ≡ Some (k, w) → R v w
       → Both (SameNames R) (Some (bag ++ (k, v) ∷ [])) (map_all f (xs ++ x ∷ []))
   bag_push bag xs x k v w so_far is r =
@@ -99,13 +125,24 @@ module _ {X A B : Type 0} (R : A → B → Type 0) (f : X → Option (List ℕ �
       (both (names_push R bag e.0 k v w e.2 r))
 
   -- and so does the bag itself where it has the name
-  pub bag_again : (bag : List (List ℕ × A)) (xs : List X) (x : X) (k : List ℕ) (w : B)
+  bag_again : (bag : List (List ℕ × A)) (xs : List X) (x : X) (k : List ℕ) (w : B)
       → Both (SameNames R) (Some bag) (map_all f xs) → f x ≡ Some (k, w) → is_some (value_of k bag) ≡ true
       → Both (SameNames R) (Some bag) (map_all f (xs ++ x ∷ []))
   bag_again bag xs x k w so_far is there =
       let e = both_there (SameNames R) (Some bag) (map_all f xs) bag so_far refl in
       subst (Both (SameNames R) (Some bag)) (sym (map_all-push f xs e.0 x (k, w) e.1 is))
       (both (names_again R bag e.0 k w e.2 there))
+
+  -- so an item whose first value counts may go into a bag
+  pub bag_first : (bag : List (List ℕ × A)) (xs : List X) (x : X) (k : List ℕ) (v : A) (w : B)
+      → Both (SameNames R) (Some bag) (map_all f xs) → f x ≡ Some (k, w) → R v w
+      → Both (SameNames R) (Some (with_first bag (k, v))) (map_all f (xs ++ x ∷ []))
+  bag_first bag xs x k v w so_far is r = by (is_some (value_of k bag)) refl
+    where
+      by : (there : Bool) → is_some (value_of k bag) ≡ there
+          → Both (SameNames R) (Some (if there then bag else bag ++ (k, v) ∷ [])) (map_all f (xs ++ x ∷ []))
+      by true there = bag_again bag xs x k w so_far is there
+      by false absent = bag_push bag xs x k v w so_far is r
 
 module _ (ms : List ModuleRecord) (b : Tables) (f : Frame) (s : Scope) (stands : FrameStands ms b f s) where
   -- the core items of each kind

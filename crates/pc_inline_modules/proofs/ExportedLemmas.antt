@@ -201,8 +201,8 @@ module _ (t : TypeTable) (ms : List ModuleRecord) (input : IsInput t ms) (b : Ta
         (option_and_then (named_of_kind u n entry k) (export_place u entry name))
         (option_and_then (host_item n.0 k name) (value_of name (module_exports tree)))) table
         (host_export k name n entry tree host tabled)
-    export_stands k name x i (bag_stands {xs = xs} {items = items} same) =
-        by (value_of name xs) (value_of name items) (same name)
+    export_stands k name x i (bag_stands {xs = xs} {items = items} same numbers) =
+        by (value_of name xs.items) (value_of name items) (same name)
       where
         by : (o : Option (CoreKind × CoreId)) (w : Option reading.CoreItem) → Both (BagItemStands ms b) o w
             → Both (ItemFound ms b k) (option_and_then (known_of_kind k) o)

@@ -1,19 +1,54 @@
 -- The arguments of a core module, with those that no import asks for.
-use Rattle.std.proofs.Common.{◌≡◌, ℕ, true, false, List, Result, Ok, Err, Option, Some, None, refl, sym, ap, subst, ◌∙◌}
+use Rattle.std.proofs.Common.{◌≡◌, ◌<◌, ℕ, true, false, List, Result, Ok, Err, Option, Some, None, length, get_or, refl}
+use Rattle.std.proofs.Common.{sym, ap, subst, ◌∙◌, arith}
 use Rattle.std.specs.Prelude.{IfOk, slice_get, option_and_then, nat_lt}
-use Rattle.std.specs.List.{list_all}
+use Rattle.std.specs.List.{AllZip, list_all}
+use Rattle.std.proofs.lemmas.Option.{same_Some, slice_get-get_or}
 use Rattle.pc_numbers.specs.declared.no_memory.NoMemory.{NoMemory}
+use Rattle.pc_entity.specs.declared.string_pool.Atom.{Atom}
 use Rattle.pc_entity.specs.Lists.{map_all}
 use Rattle.pc_types.specs.declared.module_record.ModuleRecord.{ModuleRecord}
 use Rattle.pc_types.specs.declared.parsed.CoreEntity.{CoreEntity}
+use Rattle.pc_types.specs.declared.parsed.TypeTable.{TypeTable}
+use Rattle.pc_types.specs.Record.{kind_of}
 use Rattle.pc_spec_reading.specs.Arguments.{has_instances, static_argument, static_arguments}
 use Rattle.pc_spec_reading.specs.Scope.{Scope}
 use Rattle.pc_dfg.specs.declared.core_def.CoreDef.{CoreDef}
 use Rattle.pc_inline_state.specs.declared.frame.Frame.{Frame}
-use Rattle.pc_inline_state.specs.Found.{ArgumentsStand, SameValues, knows_instances}
+use Rattle.pc_inline_state.specs.Bags.{argument_item, export_item}
+use Rattle.pc_inline_state.specs.Found.{ArgumentsStand, knows_instances}
 use Rattle.pc_inline_state.specs.Frames.{Both, CoreInstanceStands, FrameStands}
+use Rattle.pc_inline_state.specs.Numbers.{AreNumbers, HasNumbers, import_names, numbered_value}
 use Rattle.pc_inline_state.specs.Tables.{Tables}
-use Rattle.pc_inline_state.proofs.ZipLemmas.{zip_length}
+use Rattle.pc_inline_state.proofs.ZipLemmas.{both_there, zip_at, zip_length}
+
+-- what is there on both sides stands so
+pub both_are : {A B : Type 0} (R : A → B → Type 0) (o : Option A) (w : Option B) (x : A) (y : B) → Both R o w
+    → o ≡ Some x → w ≡ Some y → R x y
+both_are R o w x y m at_x at_y =
+    let z = both_there R o w x m at_x in
+    subst (R x) (same_Some z.0 y (sym z.1 ∙ at_y)) z.2
+
+-- so does what is read at a place of both lists
+pub read_both : {A B : Type 0} (R : A → B → Type 0) (xs : List A) (ys : List B) (i : ℕ) (x : A) (y : B) → AllZip R xs ys
+    → i < length xs → x ≡ get_or xs i x → R x (get_or ys i y)
+read_both R xs ys i x y all within is =
+    let each = zip_length R xs ys all in
+    let also : i < length ys = omega (arith, within, each) in
+    both_are R _ _ x (get_or ys i y) (zip_at R xs ys i all) (slice_get-get_or xs i x within ∙ ap Some (sym is))
+    (slice_get-get_or ys i y also)
+
+module _ (t : TypeTable) (ms : List ModuleRecord) (f : Frame) (written : List (List ℕ × ℕ)) (args : List (Atom × ℕ))
+    (i : List ℕ × List ℕ × CoreEntity) (ns : Atom × Atom) (has : HasNumbers (import_names ms) written args)
+    (are : AreNumbers (import_names ms) i ns) where
+  -- an import is given what the core instance has that stands under the number of its module name
+  pub given_by_number : (o : Option ℕ) → numbered_value ns.0 args ≡ o
+      → argument_item t ms f written i.0 i.1 (kind_of i.2)
+      ≡ option_and_then (λ n. option_and_then (export_item t ms (kind_of i.2) i.1) (slice_get f.core_instances n)) o
+  given_by_number o is =
+      ap (option_and_then (λ (n : ℕ).
+      option_and_then (export_item t ms (kind_of i.2) i.1) (slice_get f.core_instances n)))
+      (sym (has ns.0 i.0 are.of_module) ∙ is)
 
 module _ (ms : List ModuleRecord) (b : Tables) (f : Frame) (args : List (List ℕ × ℕ)) where
   -- the code and the reading know the same core instances
@@ -36,16 +71,16 @@ module _ (ms : List ModuleRecord) (b : Tables) (f : Frame) (args : List (List �
   known_given s stands known r = rw (sym (same_known s stands) ∙ known) refl
 
   -- so what is given for all imports is given to the module
-  pub all_given : (r : Result (Option (List CoreDef)) NoMemory) (m : ℕ) (x : ModuleRecord) (firsts : List (List ℕ × ℕ))
+  pub all_given : (r : Result (Option (List CoreDef)) NoMemory) (m : ℕ) (x : ModuleRecord)
       (imports : List (List ℕ × List ℕ × CoreEntity)) → imports ≡ x.imports → slice_get ms m ≡ Some x
-      → knows_instances f args ≡ true → SameValues firsts args
-      → IfOk r (λ defs. (s : Scope) (written : List (List ℕ × ℕ)) → SameValues firsts written → FrameStands ms b f s
-      → Both (ArgumentsStand ms b) defs (map_all (static_argument ms s written) imports))
+      → knows_instances f args ≡ true
+      → IfOk r (λ defs. (s : Scope) → FrameStands ms b f s
+      → Both (ArgumentsStand ms b) defs (map_all (static_argument ms s args) imports))
       → IfOk r (λ defs. (s : Scope) → FrameStands ms b f s
       → Both (ArgumentsStand ms b) defs (option_and_then (static_arguments ms s args) (slice_get ms m)))
-  all_given (Err e) m x firsts imports all held known same given = tt
-  all_given (Ok defs) m x firsts imports all held known same given =
+  all_given (Err e) m x imports all held known given = tt
+  all_given (Ok defs) m x imports all held known given =
       λ s stands. subst (Both (ArgumentsStand ms b) defs)
       (ap (map_all (static_argument ms s args)) all
       ∙ sym (ap (option_and_then (static_arguments ms s args)) held ∙ known_given s stands known x))
-      (given s args same stands)
+      (given s stands)

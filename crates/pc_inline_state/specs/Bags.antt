@@ -17,6 +17,7 @@ use Rattle.pc_inline_state.specs.declared.definition.CoreId.{CoreId}
 use Rattle.pc_inline_state.specs.declared.frame.CoreInstance.{CoreInstance}
 use Rattle.pc_inline_state.specs.declared.frame.CoreInstance.TheVariants as instance
 use Rattle.pc_inline_state.specs.declared.frame.Frame.{Frame}
+use Rattle.pc_inline_state.specs.Numbers.{HasNumbers, import_names}
 
 -- an item, if it is of a kind
 abbrev pub known_of_kind : CoreKind → CoreKind × CoreId → Option CoreItem
@@ -51,10 +52,15 @@ module _ (t : TypeTable) (ms : List ModuleRecord) where
   export_item k name (instance.Made i m) =
       option_and_then (entity_of_kind i k) (option_and_then (λ (r : ModuleRecord). export_of r name) (slice_get ms m.0))
   export_item k name (instance.Host i n) = option_and_then (named_of_kind t i n k) (export_place t n name)
-  export_item k name (instance.Bag xs) = bag_item xs k name
+  export_item k name (instance.Bag b) = bag_item b.items k name
 
   -- what is given for an import: the item of its name and kind in the argument of its module name
   abbrev pub argument_item : Frame → List (List ℕ × ℕ) → (module_name name : List ℕ) → CoreKind → Option CoreItem
   argument_item f args module_name name k =
       option_and_then (λ n. option_and_then (export_item k name) (slice_get f.core_instances n))
       (value_of module_name args)
+
+-- a bag has under numbers what it has under names; another core instance has nothing under numbers
+abbrev pub IsNumbered : List ModuleRecord → CoreInstance → Type 0
+IsNumbered ms (instance.Bag b) = HasNumbers (import_names ms) b.items b.numbered
+IsNumbered ms i = Unit {0}

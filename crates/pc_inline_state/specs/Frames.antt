@@ -20,9 +20,11 @@ use Rattle.pc_dfg.specs.declared.instance.Instance.TheVariants as source
 use Rattle.pc_dfg.specs.Held.{HasBegun}
 use Rattle.pc_inline_state.specs.declared.definition.CoreId.{CoreId}
 use Rattle.pc_inline_state.specs.declared.definition.DefinitionId.{DefinitionId}
+use Rattle.pc_inline_state.specs.declared.frame.Bag.{Bag}
 use Rattle.pc_inline_state.specs.declared.frame.CoreInstance.{CoreInstance}
 use Rattle.pc_inline_state.specs.declared.frame.CoreInstance.TheVariants as instance
 use Rattle.pc_inline_state.specs.declared.frame.Frame.{Frame}
+use Rattle.pc_inline_state.specs.Numbers.{HasNumbers, import_names}
 use Rattle.pc_inline_state.specs.Stands.{IsTableTree, ItemStands, Stands}
 use Rattle.pc_inline_state.specs.Tables.{IsHostInstance, Tables}
 
@@ -52,8 +54,8 @@ module _ (ms : List ModuleRecord) (b : Tables) where
         → CoreInstanceStands (instance.Made i m) (reading.of_module i.0 m.0)
     host_stands : {i : InstanceId} {entry : ℕ} {tree : TypeTree} → IsHostInstance b.graph i
         → IsTableTree ms b is_module entry tree → CoreInstanceStands (instance.Host i entry) (reading.of_host_module i.0 tree)
-    bag_stands : {xs : List (List ℕ × (CoreKind × CoreId))} {items : List (List ℕ × CoreItem)}
-        → SameNames BagItemStands xs items → CoreInstanceStands (instance.Bag xs) (reading.bag items)
+    bag_stands : {xs : Bag} {items : List (List ℕ × CoreItem)} → SameNames BagItemStands xs.items items
+        → HasNumbers (import_names ms) xs.items xs.numbered → CoreInstanceStands (instance.Bag xs) (reading.bag items)
 
   -- a function, by number
   abbrev pub FuncStands : DefinitionId → Function → Type 0

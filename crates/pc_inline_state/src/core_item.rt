@@ -1,6 +1,6 @@
 //! What a core instance has under a name.
 
-ghost use Rattle.std.specs.Prelude.{◌≡◌, ℕ, List, Some, IfErr, IfOk};
+ghost use Rattle.std.specs.Prelude.{◌≡◌, ℕ, List, Some, option_and_then, IfErr, IfOk};
 ghost use Rattle.std.specs.Option.{option_copied};
 ghost use Rattle.pc_types.specs.declared.parsed.CoreEntity.{CoreEntity};
 ghost use Rattle.pc_types.specs.declared.parsed.CoreKind.{CoreKind};
@@ -9,8 +9,10 @@ ghost use Rattle.pc_parsed.specs.Mark.{Mark};
 ghost use Rattle.pc_dfg.specs.declared.core_def.CoreDef.TheVariants as def;
 ghost use Rattle.pc_info.specs.declared.core_def.ExportItem.TheVariants as item;
 ghost use Rattle.pc_inline_state.specs.AddsEach.{AddsEach, nowhere};
-ghost use Rattle.pc_inline_state.specs.Bags.{bag_item, export_item, module_export};
+ghost use Rattle.pc_inline_state.specs.Bags.{IsNumbered, entity_of_kind, export_item, known_of_kind, module_export};
+ghost use Rattle.pc_inline_state.specs.Bags.{named_of_kind};
 ghost use Rattle.pc_inline_state.specs.Found.{ArgumentStands, FoundThere, ItemFound};
+ghost use Rattle.pc_inline_state.specs.Numbers.{IsNumber, import_names};
 ghost use Rattle.pc_inline_state.specs.Prepares.{Prepares};
 ghost use Rattle.pc_inline_state.specs.Ready.{IsReady};
 ghost use Rattle.pc_inline_state.specs.Refused.{LacksRoom};
@@ -23,7 +25,7 @@ use crate::error::ItemError;
 use crate::frame::CoreInstance;
 use crate::state::State;
 use pc_dfg::{CoreDef, CoreExport, ExportItem, InstanceId};
-use pc_entity::{EntityIndex, NoMemory, Text, TextMap, TryClone};
+use pc_entity::{Atom, EntityIndex, NoMemory, Text, TryClone};
 use pc_types::{CoreEntity, CoreKind, DeclType, TypeTable};
 use std::alloc::Global;
 
@@ -85,13 +87,50 @@ pub(crate) fn module_export(
     }
 }
 
-/// What a bag has under a name, if it is of a kind.
-fn bag_item(items: &TextMap<(CoreKind, CoreId)>, kind: CoreKind, name: &str) -> Option<CoreItem>
-    ensures { result ≡ bag_item items.now kind name.now }
+/// An entity of a core instance, if it is there and of a kind.
+fn entity_of_kind(
+    instance: InstanceId,
+    kind: CoreKind,
+    entity: Option<EntityIndex>,
+) -> Option<CoreItem>
+    ensures { result ≡ option_and_then (entity_of_kind instance kind) entity }
 {
-    let &(found, id) = items.get(name)?;
-    if kind.is(found) {
-        Some(CoreItem::Known(id))
+    let entity = entity?;
+    if kind.is(CoreKind::of(entity)) {
+        Some(CoreItem::Entity(instance, entity))
+    } else {
+        None
+    }
+}
+
+/// An export of a host module by its place, if it is of a kind.
+fn named_of_kind(
+    table: &TypeTable,
+    instance: InstanceId,
+    entry: u32,
+    kind: CoreKind,
+    place: usize,
+) -> Option<CoreItem>
+    ensures { result ≡ named_of_kind table.now instance entry kind place }
+{
+    let export = module_export(table, entry, place)?;
+    if kind.is(export.1.kind()) {
+        Some(CoreItem::Named {
+            instance,
+            entry,
+            place,
+        })
+    } else {
+        None
+    }
+}
+
+/// An item of a bag, if it is of a kind.
+fn known_of_kind(kind: CoreKind, item: (CoreKind, CoreId)) -> Option<CoreItem>
+    ensures { result ≡ known_of_kind kind item }
+{
+    if kind.is(item.0) {
+        Some(CoreItem::Known(item.1))
     } else {
         None
     }
@@ -107,28 +146,42 @@ impl<'a> Context<'a> {
             CoreInstance::Made {
                 instance,
                 core_module,
+            } => entity_of_kind(*instance, kind, self.modules.export(*core_module, name)),
+            CoreInstance::Host { instance, entry } => {
+                let place = self.names.place(*entry, name)?;
+                named_of_kind(self.table, *instance, *entry, kind, place)
+            }
+            CoreInstance::Bag(bag) => known_of_kind(kind, *bag.items.get(name)?),
+        }
+    }
+
+    /// What a core instance has under the name of an import, if it is of a kind. Only what a host module exports is
+    /// found by the name itself.
+    pub fn export_numbered(
+        &self,
+        instance: &CoreInstance,
+        kind: CoreKind,
+        number: Atom,
+        name: &str,
+    ) -> Option<CoreItem>
+        requires ready { IsReady self.now }
+        ensures { IsNumber (import_names self.now.modules) number name.now
+            → IsNumbered self.now.modules instance.now
+            → result ≡ export_item self.now.table.now self.now.modules kind name.now instance.now }
+    {
+        match instance {
+            CoreInstance::Made {
+                instance,
+                core_module,
             } => {
-                let entity = self.modules.export(*core_module, name)?;
-                if kind.is(CoreKind::of(entity)) {
-                    Some(CoreItem::Entity(*instance, entity))
-                } else {
-                    None
-                }
+                let entity = self.modules.export_numbered(*core_module, number);
+                entity_of_kind(*instance, kind, entity)
             }
             CoreInstance::Host { instance, entry } => {
                 let place = self.names.place(*entry, name)?;
-                let export = module_export(self.table, *entry, place)?;
-                if kind.is(export.1.kind()) {
-                    Some(CoreItem::Named {
-                        instance: *instance,
-                        entry: *entry,
-                        place,
-                    })
-                } else {
-                    None
-                }
+                named_of_kind(self.table, *instance, *entry, kind, place)
             }
-            CoreInstance::Bag(items) => bag_item(items, kind, name),
+            CoreInstance::Bag(bag) => known_of_kind(kind, *bag.numbered.get(number)?),
         }
     }
 

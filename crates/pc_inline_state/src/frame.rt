@@ -4,6 +4,7 @@ ghost use Rattle.std.specs.Prelude.{◌≡◌, [], slice_get, OnOk, OnErr};
 ghost use Rattle.pc_types.specs.declared.error.Place.TheVariants as place;
 ghost use Rattle.pc_inline_state.specs.Lists.{core_ids, item_ids, with_core_id, with_item_id};
 
+use crate::atom_map::AtomMap;
 use crate::definition::{CoreId, DefinitionId};
 use crate::lookup::at;
 use pc_dfg::InstanceId;
@@ -14,6 +15,13 @@ use pc_parsed::ItemKind;
 use pc_types::{CoreKind, Place};
 use pc_types_builder::Converted;
 use std::alloc::Global;
+
+/// Core items under names. What the names of imports have stands under their numbers too.
+#[derive(Drop)]
+pub struct Bag {
+    pub items: TextMap<(CoreKind, CoreId)>,
+    pub numbered: AtomMap<(CoreKind, CoreId)>,
+}
 
 /// A core instance, as its component instance knows it.
 #[derive(Drop)]
@@ -29,7 +37,7 @@ pub enum CoreInstance {
         entry: u32,
     },
     /// Core items under names.
-    Bag(TextMap<(CoreKind, CoreId)>),
+    Bag(Bag),
 }
 
 /// What a table number of a resource stood for before it was made to stand for another.

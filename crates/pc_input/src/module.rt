@@ -5,7 +5,8 @@ ghost use Rattle.pc_input_values.specs.Reads.{Reads};
 
 use pc_input_tokens::Tree;
 use pc_input_values::{DecodeError, Form, field, read};
-use pc_parsed::{Payload, SharedRecord};
+use pc_parsed::Payload;
+use pc_types::SharedRecord;
 use std::alloc::Global;
 
 /// An object of eight members: the type, imports, signatures of functions, a count of tables, a 64-bit flag for each

@@ -5,7 +5,7 @@ use pc_entity::{
     Seq, StaticComponentIndex, StaticModuleIndex, Text,
 };
 use pc_parsed::{CanonItem, CanonOption, ExternName, ItemKind};
-use pc_types::{CoreKind, Entity, ModuleRecord, ValType, WasmValType};
+use pc_types::{CoreKind, Entity, SharedRecord, ValType, WasmValType};
 
 /// One item of a body. Its place in the list is its number; options stand as they are written.
 #[derive(Drop)]
@@ -141,6 +141,6 @@ pub struct Translation {
 #[derive(Drop)]
 pub struct LocalProgram {
     pub root: Translation,
-    pub modules: PrimaryMap<StaticModuleIndex, ModuleRecord>,
+    pub modules: PrimaryMap<StaticModuleIndex, SharedRecord>,
     pub components: PrimaryMap<StaticComponentIndex, Translation>,
 }

@@ -15,7 +15,7 @@ use pc_entity::{
     NoMemory, PrimaryMap, Seed, Seq, StaticComponentIndex, StaticModuleIndex, TryClone,
 };
 use pc_parsed::Payload;
-use pc_types::ModuleRecord;
+use pc_types::SharedRecord;
 use std::alloc::Global;
 use std::mem;
 
@@ -29,7 +29,7 @@ pub(crate) struct Open {
     /// The modules and components that each open body captures, the root first, which captures none.
     pub modules: Vec<Captured>,
     pub components: Vec<Captured>,
-    pub records: PrimaryMap<StaticModuleIndex, ModuleRecord>,
+    pub records: PrimaryMap<StaticModuleIndex, SharedRecord>,
     pub ended: PrimaryMap<StaticComponentIndex, Translation>,
 }
 
@@ -120,7 +120,7 @@ impl Open {
     fn push_module(
         &mut self,
         alloc: Global,
-        record_: &ModuleRecord,
+        record_: &SharedRecord,
         ty: u32,
     ) -> Result<(), NoMemory>
         requires room { length self.old.records < 4294967295 }
@@ -149,7 +149,7 @@ impl Open {
         match payload {
             Payload::ComponentSection => self.begin(alloc, seed),
             Payload::End => self.end(alloc),
-            Payload::ModuleSection { record_, ty } => self.push_module(alloc, record_.get(), *ty),
+            Payload::ModuleSection { record_, ty } => self.push_module(alloc, record_, *ty),
             Payload::ComponentExportSection(entries) => {
                 push_exports(alloc, &mut self.body, entries.as_slice())
             }

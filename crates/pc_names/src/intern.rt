@@ -24,7 +24,7 @@ pub trait NameMapIntern {
         ensures { result ≡ room self.now };
 
     /// Interns a text.
-    fn intern(&mut self, s: &str) -> Result<Self::Key, NoMemory>
+    fn intern(&mut self, s: &Text) -> Result<Self::Key, NoMemory>
         requires { 1 ≤ room self.old }
         ensures key { IfOk result (λ k. has_key self.new s.now k) }
 
@@ -71,8 +71,8 @@ impl NameMapIntern for NameMapNoIntern {
         usize::MAX
     }
 
-    fn intern(&mut self, s: &str) -> Result<Text, NoMemory> {
-        Text::copy_of(self.alloc, s)
+    fn intern(&mut self, s: &Text) -> Result<Text, NoMemory> {
+        s.share()
     }
 
     fn lookup(&self, s: &str) -> Result<Option<Text>, NoMemory> {
@@ -97,8 +97,8 @@ impl NameMapIntern for StringPool {
         4294967295usize.saturating_sub(self.len())
     }
 
-    fn intern(&mut self, s: &str) -> Result<Atom, NoMemory> {
-        self.insert(s)
+    fn intern(&mut self, s: &Text) -> Result<Atom, NoMemory> {
+        self.insert(s.as_str())
     }
 
     fn lookup(&self, s: &str) -> Result<Option<Atom>, NoMemory> {

@@ -31,7 +31,7 @@ use crate::intern::NameMapIntern;
 use crate::name_error::NameError;
 use crate::raw_iter::RawIter;
 use crate::tracks::Tracks;
-use pc_entity::{NoMemory, Seed, TryClone};
+use pc_entity::{NoMemory, Seed, Text, TryClone};
 use semver::Version;
 use std::alloc::Global;
 use std::hash::Hash;
@@ -67,16 +67,11 @@ impl<K: Eq + Hash + TryClone + Drop, V: Drop> NameMap<K, V> {
         }
     }
 
-    /// The seed that its places depend on.
-    pub fn seed(&self) -> Seed {
-        self.definitions.seed()
-    }
-
     /// Inserts a name with its item, and answers the name's key. Where shadowing is allowed, a name among the
     /// definitions gets the item and stays where it is.
     pub fn insert<I: NameMapIntern<Key = K>>(
         &mut self,
-        name: &str,
+        name: &Text,
         cx: &mut I,
         allow_shadowing: bool,
         item: V,
@@ -268,7 +263,7 @@ impl<K: Eq + Hash + TryClone + Drop, V: TryClone + Drop> TryClone for NameMap<K,
 /// The key of a name's track, and the name's version there.
 fn track_key<I: NameMapIntern>(
     alloc: Global,
-    name: &str,
+    name: &Text,
     cx: &mut I,
 ) -> Result<Option<(I::Key, Version)>, NoMemory>
     requires { 1 ≤ I.room cx.old }
@@ -276,24 +271,24 @@ fn track_key<I: NameMapIntern>(
     ensures kept { (text : List ℕ) (k : I.Key) → I.has_key cx.old text k → I.has_key cx.new text k }
     ensures room { I.room cx.old ≤ I.room cx.new + 1 }
 {
-    match alternate_lookup_key(alloc, name)? {
-        Some((track, version)) => intern_track(track.as_str(), version, cx),
+    match alternate_lookup_key(alloc, name.as_str())? {
+        Some((track, version)) => intern_track(Text::from_string(track)?, version, cx),
         None => Ok(None),
     }
 }
 
 /// The key of a track, with a version on it.
 fn intern_track<I: NameMapIntern>(
-    track: &str,
+    track: Text,
     version: Version,
     cx: &mut I,
 ) -> Result<Option<(I::Key, Version)>, NoMemory>
     requires { 1 ≤ I.room cx.old }
     ensures key { IfOk result (λ found.
-        IsTrackKey (I.has_key cx.new) (Some (track.now, parts_of version)) (keyed_version found)) }
+        IsTrackKey (I.has_key cx.new) (Some (track, parts_of version)) (keyed_version found)) }
     ensures kept { (text : List ℕ) (k : I.Key) → I.has_key cx.old text k → I.has_key cx.new text k }
     ensures room { I.room cx.old ≤ I.room cx.new + 1 }
 {
-    let key = cx.intern(track)?;
+    let key = cx.intern(&track)?;
     Ok(Some((key, version)))
 }

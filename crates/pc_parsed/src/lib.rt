@@ -12,8 +12,7 @@ mod first_fault;
 mod interface;
 mod named;
 pub mod payload;
-pub mod record;
-mod room;
+pub mod room;
 mod structure;
 
 pub use canon::{CanonItem, CanonOption};
@@ -24,5 +23,4 @@ pub use payload::{
     AliasItem, ComponentInstanceItem, Encoding, ExportEntry, ExternName, ImportItem, InstanceItem,
     ItemKind, OuterKind, Payload, Tunables, TypeItem,
 };
-pub use record::SharedRecord;
 pub use room::is_numbered;

@@ -4,9 +4,8 @@
 //! the same list.
 
 use crate::canon::CanonItem;
-use crate::record::SharedRecord;
 use pc_entity::{EntityIndex, Seq, Text};
-use pc_types::{CoreKind, Entity, WasmValType};
+use pc_types::{CoreKind, Entity, SharedRecord, WasmValType};
 
 /// What a translation is limited to.
 #[derive(Clone, Copy, Debug, PartialEq, Eq)]

@@ -2,12 +2,12 @@
 
 use crate::sides::{Kind, adapter_of};
 use crate::support::holds;
-use pc_adapt_modules::entities_of;
 use pc_adapt_modules::module::{ModuleParts, no_parts, put_adapter, record_of};
 use pc_adapt_modules::names::name_of_adapter;
+use pc_adapt_modules::{ModuleNames, entities_of};
 use pc_dfg::InstanceId;
 use pc_entity::NoMemory;
-use pc_types::{CoreEntity, ModuleRecord};
+use pc_types::{CoreEntity, SharedRecord};
 use std::alloc::Global;
 use std::test::*;
 
@@ -41,28 +41,35 @@ fn has_name(alloc: Global) -> Result<bool, NoMemory> {
 }
 
 /// The record of the adapters in a module, from number 7 on, if they are few enough.
-fn record_from_7(alloc: Global, parts: ModuleParts, many: u32) -> Result<ModuleRecord, NoMemory> {
+fn record_from_7(
+    alloc: Global,
+    names: &mut ModuleNames,
+    parts: ModuleParts,
+    many: u32,
+) -> Result<SharedRecord, NoMemory> {
     if parts.imports.len() < 10_000_000 && many < 10_000_000 {
-        record_of(alloc, parts, 7, many)
+        record_of(alloc, names, parts, 7, many)
     } else {
         Err(NoMemory)
     }
 }
 
 /// The parts of a module of so many adapters, each with 11 imports.
-fn parts_of(alloc: Global, many: u32) -> Result<ModuleParts, NoMemory> {
+fn parts_of(alloc: Global, names: &mut ModuleNames, many: u32) -> Result<ModuleParts, NoMemory> {
     let mut parts = no_parts(alloc);
     let adapter = adapter_of(InstanceId(0), Kind::Strings);
     for number in 0..many {
-        put_adapter(alloc, &mut parts, number, &adapter, 11)?;
+        put_adapter(alloc, names, &mut parts, number, &adapter, 11)?;
     }
     Ok(parts)
 }
 
 /// How many imports, own functions and exports a module of so many adapters has.
 fn counts_of(alloc: Global, many: u32) -> Result<[usize; 3], NoMemory> {
-    let parts = parts_of(alloc, many)?;
-    let made = record_from_7(alloc, parts, many)?;
+    let mut names = ModuleNames::new(alloc);
+    let parts = parts_of(alloc, &mut names, many)?;
+    let shared = record_from_7(alloc, &mut names, parts, many)?;
+    let made = shared.get();
     Ok([made.imports.len(), made.funcs.len(), made.exports.len()])
 }
 

@@ -47,7 +47,7 @@ fn made_of(
     modules: &PrimaryMap<StaticModuleIndex, ModuleTranslation>,
 ) -> Made {
     let imports = match modules.get(StaticModuleIndex(0)) {
-        Some(first) => first.module.imports.len(),
+        Some(first) => first.module.get().imports.len(),
         None => 0,
     };
     let args = match graph.adapter_modules.get(AdapterModuleId(0)) {

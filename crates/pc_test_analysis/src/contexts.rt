@@ -11,7 +11,7 @@ use pc_dfg::laws::empty_is_ordered;
 use pc_dfg::{ComponentDfg, PushError};
 use pc_entity::{FuncIndex, NoMemory, PrimaryMap, Seed, Seq, StaticModuleIndex, Text};
 use pc_info::ModuleTranslation;
-use pc_types::{CoreEntity, ModuleRecord};
+use pc_types::{CoreEntity, ModuleRecord, SharedRecord};
 use std::alloc::Global;
 use std::test::*;
 
@@ -33,7 +33,7 @@ fn functions(alloc: Global, imported: u32, defined: u32) -> Result<ModuleTransla
     for _place in 0..defined {
         funcs.push(0)?;
     }
-    let core_module = ModuleRecord {
+    let record_ = ModuleRecord {
         imports,
         funcs,
         tables: 0,
@@ -42,6 +42,7 @@ fn functions(alloc: Global, imported: u32, defined: u32) -> Result<ModuleTransla
         tags: 0,
         exports: Seq::new(alloc),
     };
+    let core_module = SharedRecord::new(alloc, record_)?;
     Ok(ModuleTranslation::new(alloc, core_module, Seq::new(alloc)))
 }
 
@@ -59,7 +60,7 @@ fn have_few(modules: &PrimaryMap<StaticModuleIndex, ModuleTranslation>) -> bool
     ensures { result ≡ true → HaveFewImports (records_of modules.now) }
 {
     for held in modules.as_slice() {
-        if held.module.imports.len() >= 1_000_000 {
+        if held.module.get().imports.len() >= 1_000_000 {
             return false;
         }
     }

@@ -8,20 +8,30 @@ use std::hash::Hash;
 use std::process::Abort;
 use std::test::*;
 
+/// Whether a name is inserted with its item.
+fn is_inserted<K: Eq + Hash + TryClone + Drop, I: NameMapIntern<Key = K>>(
+    alloc: Global,
+    map: &mut NameMap<K, u32>,
+    cx: &mut I,
+    name: &str,
+    item: u32,
+) -> bool {
+    match Text::copy_of(alloc, name) {
+        Ok(name) => cx.room() >= 2 && map.insert(&name, cx, true, item).is_ok(),
+        Err(_) => false,
+    }
+}
+
 /// Inserts names with their items.
 fn inserts<K: Eq + Hash + TryClone + Drop, I: NameMapIntern<Key = K>>(
     rt: &impl Abort,
+    alloc: Global,
     map: &mut NameMap<K, u32>,
     cx: &mut I,
     names: &[(&str, u32)],
 ) {
     for (name, item) in names {
-        let has_room = cx.room() >= 2;
-        holds(
-            rt,
-            name,
-            has_room && map.insert(name, cx, true, *item).is_ok(),
-        );
+        holds(rt, name, is_inserted(alloc, map, cx, name, *item));
     }
 }
 
@@ -50,7 +60,7 @@ fn maps_to<K: Eq + Hash + TryClone + Drop, I: NameMapIntern<Key = K>>(
     rows: &[(&str, Option<u32>)],
 ) {
     let mut map = NameMap::new(alloc, Seed::fixed());
-    inserts(rt, &mut map, cx, names);
+    inserts(rt, alloc, &mut map, cx, names);
     finds(rt, &map, cx, rows);
 }
 
@@ -119,8 +129,16 @@ fn the_greatest_version_is_found_by_numbers_of_texts(rt: HostRuntime) {
 }
 
 /// Whether a name is refused where shadowing is off.
-fn is_refused(map: &mut NameMap<Text, u32>, cx: &mut NameMapNoIntern, name: &str) -> bool {
-    map.insert(name, cx, false, 7).err() == Some(NameError::DefinedTwice)
+fn is_refused(
+    alloc: Global,
+    map: &mut NameMap<Text, u32>,
+    cx: &mut NameMapNoIntern,
+    name: &str,
+) -> bool {
+    match Text::copy_of(alloc, name) {
+        Ok(name) => map.insert(&name, cx, false, 7).err() == Some(NameError::DefinedTwice),
+        Err(_) => false,
+    }
 }
 
 /// Whether an error has this text.
@@ -190,10 +208,10 @@ fn a_name_is_defined_once_or_shadowed_in_its_place(rt: HostRuntime) {
     let alloc = rt.alloc();
     let mut cx = NameMapNoIntern::new(alloc);
     let mut map = NameMap::new(alloc, Seed::fixed());
-    inserts(&rt, &mut map, &mut cx, &TWO);
-    holds(&rt, "refused", is_refused(&mut map, &mut cx, "a"));
+    inserts(&rt, alloc, &mut map, &mut cx, &TWO);
+    holds(&rt, "refused", is_refused(alloc, &mut map, &mut cx, "a"));
     finds(&rt, &map, &cx, &FIRST);
-    inserts(&rt, &mut map, &mut cx, &[("a", 2)]);
+    inserts(&rt, alloc, &mut map, &mut cx, &[("a", 2)]);
     let is_shadowed = lists(&map, 2, 1) && is_overwritten(alloc, &mut map, "a");
     holds(
         &rt,

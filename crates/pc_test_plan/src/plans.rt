@@ -84,9 +84,10 @@ const TYPE: Export = Export::Type_(TypeDef::Interface(InterfaceType::Bool));
 
 /// An instance with the item of this number in it.
 fn around(alloc: Global, below: u32) -> Result<Export, NoMemory> {
+    let name = Text::copy_of(alloc, "x")?;
     let mut exports = NameMap::new(alloc, Seed::fixed());
     let mut texts = NameMapNoIntern::new(alloc);
-    match exports.insert("x", &mut texts, false, (ExportIndex(below), NO_DATA)) {
+    match exports.insert(&name, &mut texts, false, (ExportIndex(below), NO_DATA)) {
         Ok(_) => Ok(Export::Instance {
             ty: TypeComponentInstanceIndex(0),
             exports,

@@ -71,6 +71,16 @@ fn sink(alloc: Global, ends: &Ends) -> Result<MemSink, AllocError> {
     Ok(MemSink::new(room, ends.write_most.max(1), fails))
 }
 
+/// `run` itself. Its clauses are long, and are opened wherever its answer is looked at, so here nothing is.
+fn plain_run(
+    alloc: Global,
+    words: &[String],
+    src: &mut MemSource,
+    out: &mut MemSink,
+) -> Status {
+    run(alloc, words, src, out)
+}
+
 /// Whether a run of these words comes to this.
 fn runs_to(
     alloc: Global,
@@ -79,8 +89,7 @@ fn runs_to(
     out: &mut MemSink,
     want: &Ran<'_>,
 ) -> bool {
-    let status = run(alloc, words, src, out);
-    status == want.status
+    plain_run(alloc, words, src, out) == want.status
         && out.kept() == want.written
         && src.left().len() == want.left
         && (src.faults(), out.faults()) == (want.read_faults, want.write_faults)

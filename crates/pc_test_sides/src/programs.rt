@@ -5,7 +5,7 @@ use crate::tables::module_of;
 use pc_entity::{PrimaryMap, Seq, Text};
 use pc_local::{LocalInitializer, LocalProgram, Translation};
 use pc_parsed::{CanonOption, ExternName, ItemKind};
-use pc_types::Entity;
+use pc_types::{Entity, SharedRecord};
 use std::alloc::Global;
 use std::process::Abort;
 
@@ -126,7 +126,8 @@ pub(crate) fn program_of(
     nested: &[(Kind, u32)],
 ) -> LocalProgram {
     let mut modules = Seq::new(alloc);
-    push(rt, &mut modules, module_of(rt, alloc, 0, 0, 0));
+    let record_ = SharedRecord::new(alloc, module_of(rt, alloc, 0, 0, 0));
+    push(rt, &mut modules, record_.expect(rt, "no memory"));
     let mut bodies = Seq::new(alloc);
     for (kind, times) in nested {
         nest(rt, alloc, &mut bodies, *kind, *times);

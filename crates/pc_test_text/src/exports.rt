@@ -1,6 +1,6 @@
 //! The exports of the plans that are printed.
 
-use crate::parts::list;
+use crate::parts::{list, text};
 use crate::settings::extern_data;
 use pc_entity::{
     EntityIndex, ExportIndex, FuncIndex, OptionsIndex, RuntimeImportIndex, RuntimeInstanceIndex,
@@ -44,8 +44,10 @@ static OUTER: [Name; 2] = [("j", 1, ["", "h"]), ("l", 2, ["", ""])];
 
 /// Adds a name.
 fn add_name(alloc: Global, names: &mut Names, name: Name) {
-    let entry = (ExportIndex(name.1), extern_data(alloc, name.2));
-    let _ = names.insert(name.0, &mut NameMapNoIntern::new(alloc), false, entry);
+    if let Some(key) = text(alloc, name.0) {
+        let entry = (ExportIndex(name.1), extern_data(alloc, name.2));
+        let _ = names.insert(&key, &mut NameMapNoIntern::new(alloc), false, entry);
+    }
 }
 
 /// These names.

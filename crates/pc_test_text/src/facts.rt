@@ -1,6 +1,6 @@
 //! The text of what is recorded of modules.
 
-use crate::parts::{list, text, values};
+use crate::parts::{text, there, values};
 use crate::support::holds;
 use pc_entity::{
     DefinedFuncIndex, DefinedGlobalIndex, DefinedMemoryIndex, DefinedTableIndex, FuncIndex,
@@ -10,7 +10,7 @@ use pc_entity::{
 use pc_info::{KnownEntity, KnownFunc, KnownGlobal, ModuleTranslation};
 use pc_text_facts::facts_text;
 use pc_trampoline::Trap;
-use pc_types::{CoreEntity, ModuleRecord, UnsafeIntrinsic};
+use pc_types::{CoreEntity, ModuleRecord, SharedRecord, UnsafeIntrinsic};
 use std::alloc::Global;
 
 /// Six functions, two globals, a memory and a table.
@@ -95,8 +95,8 @@ fn imports(alloc: Global) -> Seq<(Text, Text, CoreEntity)> {
 }
 
 /// A module that defines two memories, three globals and a table, and of which nothing is recorded.
-fn bare(alloc: Global) -> ModuleTranslation {
-    let module = ModuleRecord {
+fn bare(alloc: Global) -> Option<ModuleTranslation> {
+    let record_ = ModuleRecord {
         imports: imports(alloc),
         funcs: Seq::new(alloc),
         tables: 1,
@@ -105,7 +105,8 @@ fn bare(alloc: Global) -> ModuleTranslation {
         tags: 0,
         exports: Seq::new(alloc),
     };
-    ModuleTranslation::new(alloc, module, Seq::new(alloc))
+    let module = SharedRecord::new(alloc, record_).ok()?;
+    Some(ModuleTranslation::new(alloc, module, Seq::new(alloc)))
 }
 
 fn record_functions(of: &mut ModuleTranslation) {
@@ -149,12 +150,12 @@ fn record_own(of: &mut ModuleTranslation) {
 }
 
 /// A module of which a fact of each kind is recorded.
-fn known(alloc: Global) -> ModuleTranslation {
-    let mut module = bare(alloc);
+fn known(alloc: Global) -> Option<ModuleTranslation> {
+    let mut module = bare(alloc)?;
     record_functions(&mut module);
     record_entities(&mut module);
     record_own(&mut module);
-    module
+    Some(module)
 }
 
 /// Whether what is recorded of modules has this text.
@@ -168,8 +169,8 @@ fn says(alloc: Global, modules: Vec<ModuleTranslation>, want: &str) -> bool {
 #[test]
 fn facts_are_printed(rt: HostRuntime) {
     let alloc = rt.alloc();
-    let modules = list(alloc, [bare(alloc), known(alloc)]);
+    let modules = there(alloc, [bare(alloc), known(alloc)]);
     holds(&rt, "each kind of fact", says(alloc, modules, FACTS));
-    let is_empty = says(alloc, list(alloc, [bare(alloc)]), "");
+    let is_empty = says(alloc, there(alloc, [bare(alloc)]), "");
     holds(&rt, "no fact", is_empty);
 }

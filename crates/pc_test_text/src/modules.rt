@@ -1,9 +1,9 @@
 //! The modules of the plans that are printed.
 
-use crate::parts::{list, values};
+use crate::parts::{there, values};
 use pc_entity::{FuncIndex, ModuleInternedTypeIndex, RuntimeComponentInstanceIndex, Seq};
 use pc_info::{AdapterRecord, ModuleTranslation, SideRecord};
-use pc_types::{ModuleRecord, StringEncoding, TypeFuncIndex};
+use pc_types::{ModuleRecord, SharedRecord, StringEncoding, TypeFuncIndex};
 use std::alloc::Global;
 
 /// Values lie in linear memory.
@@ -62,8 +62,8 @@ static TWO: [AdapterRecord; 2] = [
 static ONE: [AdapterRecord; 1] = [ADAPTER];
 
 /// A module with these adapters.
-fn module(alloc: Global, adapters: &[AdapterRecord]) -> ModuleTranslation {
-    let module = ModuleRecord {
+fn module(alloc: Global, adapters: &[AdapterRecord]) -> Option<ModuleTranslation> {
+    let record_ = ModuleRecord {
         imports: Seq::new(alloc),
         funcs: Seq::new(alloc),
         tables: 0,
@@ -72,16 +72,18 @@ fn module(alloc: Global, adapters: &[AdapterRecord]) -> ModuleTranslation {
         tags: 0,
         exports: Seq::new(alloc),
     };
-    ModuleTranslation::new(alloc, module, Seq::from_vec(values(alloc, adapters)))
+    let module = SharedRecord::new(alloc, record_).ok()?;
+    let adapters = Seq::from_vec(values(alloc, adapters));
+    Some(ModuleTranslation::new(alloc, module, adapters))
 }
 
 /// A module that was handed in.
 pub(crate) fn one_module(alloc: Global) -> Vec<ModuleTranslation> {
-    list(alloc, [module(alloc, &[])])
+    there(alloc, [module(alloc, &[])])
 }
 
 /// A module that was handed in, and two of adapters.
 pub(crate) fn all_modules(alloc: Global) -> Vec<ModuleTranslation> {
     let all = [module(alloc, &[]), module(alloc, &TWO), module(alloc, &ONE)];
-    list(alloc, all)
+    there(alloc, all)
 }

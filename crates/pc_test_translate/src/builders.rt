@@ -1,10 +1,10 @@
 //! Translations into one types builder, one after the other: a type keeps its number, also where one is refused, and no
 //! resource is known when the next one begins.
 
-use crate::inputs::{Around, between, holds};
+use crate::inputs::{Around, between, holds, input_of};
 use crate::translator::options_into;
 use pc_entity::{ModuleInternedTypeIndex, Seed};
-use pc_input::{Input, decode_input};
+use pc_input::Input;
 use pc_types::{Error, InterfaceType, Place, TypeFuncIndex, TypeKind};
 use pc_types_builder::ComponentTypesBuilder;
 use std::alloc::{AllocError, Global};
@@ -39,7 +39,7 @@ fn plans(alloc: Global, types: &mut ComponentTypesBuilder, input: &Input) -> Res
 
 /// The same of the input that a text is. Each text here is one, so it is for memory where it isn't read.
 fn answer(alloc: Global, types: &mut ComponentTypesBuilder, text: &str) -> Result<(), Error> {
-    match decode_input(alloc, text.as_bytes()) {
+    match input_of(alloc, text) {
         Ok(input) => plans(alloc, types, &input),
         Err(_) => Err(Error::NoMemory),
     }

@@ -1,14 +1,15 @@
 //! What nested components capture: a variable is shared by all that name it, and variables stand in the order in which
 //! they are met.
 
-use crate::inputs::{Around, between, holds};
+use crate::inputs::{Around, between, holds, input_of};
 use pc_entity::Seed;
-use pc_input::{Input, decode_input};
+use pc_input::Input;
 use pc_local::{
     ClosedOverComponent, ClosedOverModule, ClosedOverVars, LocalInitializer, LocalProgram,
     Translation, translate_payloads,
 };
 use pc_parsed::is_numbered;
+use pc_types::Error;
 use std::alloc::{AllocError, Global};
 
 /// What stands around payloads. The type table has an empty instance type.
@@ -95,13 +96,18 @@ fn gives(alloc: Global, program: &LocalProgram, want: &str) -> bool {
     show(&mut out, program).is_ok() && out.as_str() == want
 }
 
-/// Whether an input has such a program.
-fn captures(alloc: Global, input: &Input, want: &str) -> bool {
+/// The program of an input, where each thing in it has a number.
+fn program_of(alloc: Global, input: &Input) -> Result<LocalProgram, Error> {
     let payloads = input.payloads.as_slice();
     if !is_numbered(&input.table, payloads) {
-        return false;
+        return Err(Error::TooMany);
     }
-    match translate_payloads(alloc, Seed::fixed(), &input.table, None, payloads) {
+    translate_payloads(alloc, Seed::fixed(), &input.table, None, payloads)
+}
+
+/// Whether an input has such a program.
+fn captures(alloc: Global, input: &Input, want: &str) -> bool {
+    match program_of(alloc, input) {
         Ok(program) => gives(alloc, &program, want),
         Err(_) => false,
     }
@@ -110,7 +116,7 @@ fn captures(alloc: Global, input: &Input, want: &str) -> bool {
 /// Whether payloads are read and have such a program.
 fn is_captured(alloc: Global, payloads: &str, want: &str) -> Result<bool, AllocError> {
     let text = between(alloc, PAYLOADS.before, payloads, PAYLOADS.after)?;
-    match decode_input(alloc, text.as_bytes()) {
+    match input_of(alloc, &text) {
         Ok(input) => Ok(captures(alloc, &input, want)),
         Err(_) => Ok(false),
     }

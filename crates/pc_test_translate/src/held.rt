@@ -1,9 +1,9 @@
 //! Types that a builder held before count in the total.
 
-use crate::inputs::{SMALLEST, holds};
+use crate::inputs::{SMALLEST, holds, input_of};
 use crate::translator::options_into;
 use pc_entity::Seed;
-use pc_input::{Input, decode_input};
+use pc_input::Input;
 use pc_types::Error;
 use pc_types_builder::ComponentTypesBuilder;
 use std::alloc::{AllocError, Global};
@@ -58,8 +58,8 @@ fn options_after(alloc: Global, first: &Input, second: &Input) -> Result<usize, 
 
 /// What a text is answered, with a builder that holds the types of another.
 fn answer_after(alloc: Global, first: &str, second: &str) -> Option<Result<usize, Error>> {
-    let first = decode_input(alloc, first.as_bytes()).ok()?;
-    let second = decode_input(alloc, second.as_bytes()).ok()?;
+    let first = input_of(alloc, first).ok()?;
+    let second = input_of(alloc, second).ok()?;
     Some(options_after(alloc, &first, &second))
 }
 

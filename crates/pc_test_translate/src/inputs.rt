@@ -1,5 +1,6 @@
 //! Inputs, and the one place of assertions.
 
+use pc_input::{DecodeError, Input, decode_input};
 use std::alloc::{AllocError, Global};
 use std::process::Abort;
 
@@ -11,6 +12,11 @@ pub(crate) const SMALLEST: &str =
        "tags":0,"exports":[["f","func",0]]}},{"instances":[{"instantiate":[0,[]]}]},
        {"aliases":[{"core-export":["func",0,"f"]}]},{"canon":[["lift",0,0,0,[]]]},{"exports":[["f","func",0]]},
        "end"]}"#;
+
+/// The input that a text is.
+pub(crate) fn input_of(alloc: Global, text: &str) -> Result<Input, DecodeError> {
+    decode_input(alloc, text.as_bytes())
+}
 
 /// What stands before and behind a text to make an input of it.
 #[derive(Clone, Copy)]

@@ -1,12 +1,52 @@
 //! Translations into a types builder that is handed in: each public call of the translator.
+//!
+//! What these calls promise is long, and is opened wherever a plan of theirs is looked at. So each stands in a function
+//! that hands its plan on.
 
-use crate::inputs::{SMALLEST, holds};
+use crate::inputs::{SMALLEST, holds, input_of};
 use pc_entity::{ModuleInternedTypeIndex, PackedOption, Seed};
-use pc_input::{Input, decode_input};
-use pc_translate::{Translator, plan_payloads, translate};
+use pc_input::Input;
+use pc_translate::{PlanWithModules, Translator, plan_payloads, translate};
 use pc_types::{Error, Place, TypeKind};
 use pc_types_builder::ComponentTypesBuilder;
 use std::alloc::Global;
+
+/// The plan of an input, into a builder.
+fn plan_into(
+    alloc: Global,
+    types: &mut ComponentTypesBuilder,
+    input: &Input,
+) -> Result<PlanWithModules, Error> {
+    let payloads = input.payloads.as_slice();
+    translate(alloc, &input.tunables, &input.table, types, None, payloads)
+}
+
+/// The same by a translator.
+fn plan_by(
+    alloc: Global,
+    types: &mut ComponentTypesBuilder,
+    input: &Input,
+) -> Result<PlanWithModules, Error> {
+    let translator = Translator::new(alloc, &input.tunables, &input.table, types);
+    translator.translate(input.payloads.as_slice())
+}
+
+/// The same by one that exposes the unsafe intrinsics as `unsafe`.
+fn plan_exposing(
+    alloc: Global,
+    types: &mut ComponentTypesBuilder,
+    input: &Input,
+) -> Result<PlanWithModules, Error> {
+    let mut translator = Translator::new(alloc, &input.tunables, &input.table, types);
+    translator.expose_unsafe_intrinsics("unsafe");
+    translator.translate(input.payloads.as_slice())
+}
+
+/// How many options entries a plan has.
+fn options_of(plan: Result<PlanWithModules, Error>) -> Result<usize, Error> {
+    let plan = plan?;
+    Ok(plan.0.component.options.len())
+}
 
 /// How many options entries the plan has that goes into a builder.
 pub(crate) fn options_into(
@@ -14,24 +54,7 @@ pub(crate) fn options_into(
     types: &mut ComponentTypesBuilder,
     input: &Input,
 ) -> Result<usize, Error> {
-    let payloads = input.payloads.as_slice();
-    let plan = translate(alloc, &input.tunables, &input.table, types, None, payloads)?;
-    Ok(plan.0.component.options.len())
-}
-
-/// The same by a translator, which may expose the unsafe intrinsics as `unsafe`.
-fn options_by_translator(
-    alloc: Global,
-    types: &mut ComponentTypesBuilder,
-    input: &Input,
-    exposes: bool,
-) -> Result<usize, Error> {
-    let mut translator = Translator::new(alloc, &input.tunables, &input.table, types);
-    if exposes {
-        translator.expose_unsafe_intrinsics("unsafe");
-    }
-    let plan = translator.translate(input.payloads.as_slice())?;
-    Ok(plan.0.component.options.len())
+    options_of(plan_into(alloc, types, input))
 }
 
 /// What three translations of an input answer: a plain one, one by a translator, and one by a translator that exposes
@@ -44,18 +67,18 @@ type Answers = (
 
 fn three_ways(alloc: Global, types: &mut ComponentTypesBuilder, input: &Input) -> Answers {
     let plain = options_into(alloc, types, input);
-    let by_translator = options_by_translator(alloc, types, input, false);
+    let by_translator = options_of(plan_by(alloc, types, input));
     (
         plain,
         by_translator,
-        options_by_translator(alloc, types, input, true),
+        options_of(plan_exposing(alloc, types, input)),
     )
 }
 
 /// Whether an input is read, has these answers, and leaves one type of a function in the builder.
 fn are_answers(alloc: Global, text: &str, want: Answers) -> bool {
     let mut types = ComponentTypesBuilder::new(alloc, Seed::fixed());
-    match decode_input(alloc, text.as_bytes()) {
+    match input_of(alloc, text) {
         Ok(input) => {
             three_ways(alloc, &mut types, &input) == want && types.held(TypeKind::Func) == 1
         }
@@ -96,28 +119,30 @@ const LOWERED_TWICE: &str =
        {"module":{"ty":2,"imports":[["e","a",["func",0]]],"funcs":[],"tables":0,"memories":[],"globals":0,"tags":0,
        "exports":[]}},{"instances":[{"exports":[["a","func",1]]},{"instantiate":[0,[["e",0]]]}]},"end"]}"#;
 
-/// The core signature that the plan of an input has for the second intrinsic.
-fn second_signature(
-    alloc: Global,
-    input: &Input,
-) -> Result<PackedOption<ModuleInternedTypeIndex>, Error> {
-    let payloads = input.payloads.as_slice();
-    let plan = plan_payloads(
-        alloc,
-        Seed::fixed(),
-        &input.tunables,
-        &input.table,
-        Some("i"),
+/// The plan of an input, where the unsafe intrinsics are exposed as `i`.
+fn plan_of(alloc: Global, input: Input) -> Result<PlanWithModules, Error> {
+    let Input {
+        tunables,
+        table,
         payloads,
-    )?;
+        ..
+    } = input;
+    plan_payloads(alloc, Seed::fixed(), &tunables, &table, Some("i"), payloads)
+}
+
+/// The core signature that a plan has for the second intrinsic.
+fn second_signature(
+    plan: Result<PlanWithModules, Error>,
+) -> Result<PackedOption<ModuleInternedTypeIndex>, Error> {
+    let plan = plan?;
     Ok(plan.0.component.unsafe_intrinsics[1])
 }
 
 /// Whether an input is read, and its plan has this signature.
 fn is_signed(alloc: Global, text: &str, number: u32) -> bool {
     let want = PackedOption::Some(ModuleInternedTypeIndex(number));
-    match decode_input(alloc, text.as_bytes()) {
-        Ok(input) => second_signature(alloc, &input) == Ok(want),
+    match input_of(alloc, text) {
+        Ok(input) => second_signature(plan_of(alloc, input)) == Ok(want),
         Err(_) => false,
     }
 }

@@ -25,7 +25,7 @@ fn put_functions_of(
         ++ same_lines place which.now.module (facts_of which.now)
         ++ function_lines place which.now.module (facts_of which.now)) }
 {
-    let imported = numbers_of(which.module.imported(CoreKind::Func))?;
+    let imported = numbers_of(which.module.get().imported(CoreKind::Func))?;
     put_representatives(
         out,
         place,
@@ -44,7 +44,7 @@ fn put_globals_of(
     ensures { OnOk result (out.new.items
         ≡ out.old.items ++ import_lines place which.now.module (facts_of which.now) kind.Global) }
 {
-    let imported = numbers_of(which.module.imported(CoreKind::Global))?;
+    let imported = numbers_of(which.module.get().imported(CoreKind::Global))?;
     put_globals(out, place, imported, &which.known_imported_globals)
 }
 
@@ -57,7 +57,7 @@ fn put_memories_of(
     ensures { OnOk result (out.new.items
         ≡ out.old.items ++ import_lines place which.now.module (facts_of which.now) kind.Memory) }
 {
-    let imported = numbers_of(which.module.imported(CoreKind::Memory))?;
+    let imported = numbers_of(which.module.get().imported(CoreKind::Memory))?;
     put_entities(
         out,
         "memory",
@@ -72,7 +72,7 @@ fn put_tables_of(out: &mut Vec<u8>, place: usize, which: &ModuleTranslation) -> 
     ensures { OnOk result (out.new.items
         ≡ out.old.items ++ import_lines place which.now.module (facts_of which.now) kind.Table) }
 {
-    let imported = numbers_of(which.module.imported(CoreKind::Table))?;
+    let imported = numbers_of(which.module.get().imported(CoreKind::Table))?;
     put_entities(out, "table", place, imported, &which.known_imported_tables)
 }
 
@@ -83,12 +83,12 @@ fn put_own(out: &mut Vec<u8>, place: usize, which: &ModuleTranslation) -> Result
         ++ known_lines place which.now.module (facts_of which.now) kind.Memory
         ++ known_lines place which.now.module (facts_of which.now) kind.Table) }
 {
-    let memories = numbers_of(which.module.memories.len())?;
+    let memories = numbers_of(which.module.get().memories.len())?;
     put_known(
         out,
         "known-global",
         place,
-        which.module.globals,
+        which.module.get().globals,
         &which.globals_known_to_importers,
     )?;
     put_known(
@@ -102,7 +102,7 @@ fn put_own(out: &mut Vec<u8>, place: usize, which: &ModuleTranslation) -> Result
         out,
         "known-table",
         place,
-        which.module.tables,
+        which.module.get().tables,
         &which.tables_known_to_importers,
     )
 }

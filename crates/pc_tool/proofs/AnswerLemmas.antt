@@ -12,7 +12,6 @@ use Rattle.pc_spec_plan.specs.Text.{plan_text}
 use Rattle.pc_offsets.specs.Context.{context_size}
 use Rattle.pc_spec_facts.specs.Text.{facts_text}
 use Rattle.pc_text.specs.ContextText.{context_text}
-use Rattle.pc_parsed.specs.declared.payload.Payload.{Payload}
 use Rattle.pc_input.specs.declared.input.Input.{Input}
 use Rattle.pc_translate.specs.Translation.{IsPlanOf, IsRefusalOf}
 use Rattle.pc_tool.specs.declared.words.Command.{Command}
@@ -24,28 +23,24 @@ use Rattle.pc_tool.specs.Headline.{Decodes, IsPlanFor, IsErrorOf, IsNotJson, IsB
 use Rattle.pc_tool.specs.Run.{IsWhole, GaveTooMuch}
 
 -- a plan of the parts of an input is one of the input
-pub plans : (input : Input) (exposed : Option (List ℕ)) (ps : List Payload)
-    → exposed ≡ input.intrinsics → ps ≡ input.payloads
+pub plans : (input : Input) (exposed : Option (List ℕ)) → exposed ≡ input.intrinsics
     → (r : Result (ComponentTranslation × List ModuleTranslation) Error)
-    → IfOk r (λ x. IsPlanOf input.table exposed input.tunables.max_component_instances ps x.0 x.1)
+    → IfOk r (λ x. IsPlanOf input.table exposed input.tunables.max_component_instances input.payloads x.0 x.1)
     → IfOk r (λ x. IsPlanFor input x.0 x.1)
-plans input exposed ps same all (Ok x) h =
+plans input exposed same (Ok x) h =
     let limit = input.tunables.max_component_instances in
-    subst (λ (e : Option (List ℕ)). IsPlanOf input.table e limit input.payloads x.0 x.1) same
-    (subst (λ (l : List Payload). IsPlanOf input.table exposed limit l x.0 x.1) all h)
-plans input exposed ps same all (Err e) h = tt
+    subst (λ (e : Option (List ℕ)). IsPlanOf input.table e limit input.payloads x.0 x.1) same h
+plans input exposed same (Err e) h = tt
 
 -- an error of the parts of an input is one of the input
-pub errs : (input : Input) (exposed : Option (List ℕ)) (ps : List Payload)
-    → exposed ≡ input.intrinsics → ps ≡ input.payloads
+pub errs : (input : Input) (exposed : Option (List ℕ)) → exposed ≡ input.intrinsics
     → (r : Result (ComponentTranslation × List ModuleTranslation) Error)
-    → IfErr r (λ e. IsRefusalOf input.table exposed input.tunables.max_component_instances ps e)
+    → IfErr r (λ e. IsRefusalOf input.table exposed input.tunables.max_component_instances input.payloads e)
     → IfErr r (IsErrorOf input)
-errs input exposed ps same all (Ok x) h = tt
-errs input exposed ps same all (Err e) h =
+errs input exposed same (Ok x) h = tt
+errs input exposed same (Err e) h =
     let limit = input.tunables.max_component_instances in
-    subst (λ (n : Option (List ℕ)). IsRefusalOf input.table n limit input.payloads e) same
-    (subst (λ (l : List Payload). IsRefusalOf input.table exposed limit l e) all h)
+    subst (λ (n : Option (List ℕ)). IsRefusalOf input.table n limit input.payloads e) same h
 
 -- each export of a plan has its item
 pub has_items_for : (input : Input) (plan : ComponentTranslation) (modules : List ModuleTranslation)

@@ -20,7 +20,6 @@ use Rattle.pc_trampoline.specs.declared.part.Mark.{Mark}
 use Rattle.pc_info.specs.declared.component.ComponentTranslation.{ComponentTranslation}
 use Rattle.pc_info.specs.declared.module.ModuleTranslation.{ModuleTranslation}
 use Rattle.pc_info.specs.Modules.{adapter_view, adapters_view}
-use Rattle.pc_parsed.specs.declared.payload.Payload.{Payload}
 use Rattle.pc_parsed.specs.Mark as reading
 use Rattle.pc_spec_reading.specs.Reading.{Reading}
 use Rattle.pc_inline_state.specs.Holds.{ReadsAs, number_of}
@@ -192,25 +191,21 @@ chain_few n few plan ms is =
     omega (arith, made_, most, few)
 
 -- a plan of the input that is generated is one of the chain, and has few adapters
-pub input_few : (n : ℕ) → n ≤ 10000 → (input : Generated) → input ≡ generated n → (ps : List Payload)
-    → ps ≡ input.payloads → (r : Result (ComponentTranslation × List ModuleTranslation) Error)
-    → IfOk r (λ x. IsPlanOf input.table None input.tunables.max_component_instances ps x.0 x.1)
+pub input_few : (n : ℕ) → n ≤ 10000 → (input : Generated) → input ≡ generated n
+    → (r : Result (ComponentTranslation × List ModuleTranslation) Error)
+    → IfOk r (λ x. IsPlanOf input.table None input.tunables.max_component_instances input.payloads x.0 x.1)
     → IfOk r (λ x. length (adapters_view 0 x.1) < 18446744073709551616)
-input_few n few input is ps all (Ok x) h =
-    let whole = subst (λ (l : List Payload). IsPlanOf input.table None input.tunables.max_component_instances l x.0 x.1)
-    all h in
+input_few n few input is (Ok x) h =
     chain_few n few x.0 x.1
-    (subst (λ (i : Generated). IsPlanOf i.table None i.tunables.max_component_instances i.payloads x.0 x.1) is whole)
-input_few n few input is ps all (Err e) h = tt
+    (subst (λ (i : Generated). IsPlanOf i.table None i.tunables.max_component_instances i.payloads x.0 x.1) is h)
+input_few n few input is (Err e) h = tt
 
 -- and a refusal of it is want of memory
-pub input_refused : (n : ℕ) → n ≤ 10000 → (input : Generated) → input ≡ generated n → (ps : List Payload)
-    → ps ≡ input.payloads → (r : Result (ComponentTranslation × List ModuleTranslation) Error)
-    → IfErr r (λ e. IsRefusalOf input.table None input.tunables.max_component_instances ps e)
+pub input_refused : (n : ℕ) → n ≤ 10000 → (input : Generated) → input ≡ generated n
+    → (r : Result (ComponentTranslation × List ModuleTranslation) Error)
+    → IfErr r (λ e. IsRefusalOf input.table None input.tunables.max_component_instances input.payloads e)
     → IfErr r (λ e. e ≡ error.NoMemory)
-input_refused n few input is ps all (Ok x) h = tt
-input_refused n few input is ps all (Err e) h =
-    let whole = subst (λ (l : List Payload). IsRefusalOf input.table None input.tunables.max_component_instances l e)
-    all h in
+input_refused n few input is (Ok x) h = tt
+input_refused n few input is (Err e) h =
     chain_refused n few e
-    (subst (λ (i : Generated). IsRefusalOf i.table None i.tunables.max_component_instances i.payloads e) is whole)
+    (subst (λ (i : Generated). IsRefusalOf i.table None i.tunables.max_component_instances i.payloads e) is h)

@@ -12,7 +12,7 @@ ghost use Rattle.pc_tool.specs.declared.answer.Unanswered.TheVariants as unanswe
 
 use crate::Status;
 use crate::words::Command;
-use pc_entity::{NoMemory, PrimaryMap, Seed, StaticModuleIndex};
+use pc_entity::{NoMemory, PrimaryMap, Seed, StaticModuleIndex, Text};
 use pc_info::{ComponentTranslation, ModuleTranslation};
 use pc_input::{DecodeError, Input, decode_input};
 use pc_offsets::{PtrWidth, VMComponentOffsets};
@@ -81,18 +81,18 @@ impl Answer {
     }
 }
 
-/// The import name of the unsafe intrinsics that an input gives.
-fn exposed_name(input: &Input) -> Option<&str>
-    ensures { option_map (λ name. name.now) result ≡ input.now.intrinsics }
+/// The import name of the unsafe intrinsics, if one is given.
+fn exposed_name(intrinsics: &Option<Text>) -> Option<&str>
+    ensures { option_map (λ name. name.now) result ≡ intrinsics.now }
 {
-    match &input.intrinsics {
+    match intrinsics {
         Some(name) => Some(name.as_str()),
         None => None,
     }
 }
 
 /// The plan of an input, and its core modules. It is `plan_payloads`, for callers that see an input and not its parts.
-/// The input goes before the plan is looked at.
+/// The payloads go once they are read, and the rest of the input before the plan is looked at.
 fn translate_input(
     alloc: Global,
     seed: Seed,
@@ -107,13 +107,19 @@ fn translate_input(
     ensures ok { IfOk result (λ r. IsPlanFor input r.0 r.1) }
     ensures err { IfErr result (IsErrorOf input) }
 {
+    let Input {
+        tunables,
+        intrinsics,
+        table,
+        payloads,
+    } = input;
     plan_payloads(
         alloc,
         seed,
-        &input.tunables,
-        &input.table,
-        exposed_name(&input),
-        input.payloads.as_slice(),
+        &tunables,
+        &table,
+        exposed_name(&intrinsics),
+        payloads,
     )
 }
 

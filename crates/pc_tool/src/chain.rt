@@ -5,7 +5,7 @@ ghost use Rattle.pc_info.specs.Modules.{adapters_view};
 ghost use Rattle.pc_tool.specs.Chain.{IsChainPlan, IsChainText};
 
 use pc_entity::{NoMemory, Seed};
-use pc_generate::generate;
+use pc_generate::{Generated, generate};
 use pc_text::summary_text;
 use pc_translate::{PlanWithModules, plan_payloads};
 use pc_types::Error;
@@ -20,14 +20,12 @@ fn translate_chain(alloc: Global, n: u32) -> Result<PlanWithModules, Error>
     ensures valid { IfErr result (λ e. e ≡ Error.NoMemory) }
 {
     let input = generate(alloc, n)?;
-    plan_payloads(
-        alloc,
-        Seed::fixed(),
-        &input.tunables,
-        &input.table,
-        None,
-        input.payloads.as_slice(),
-    )
+    let Generated {
+        tunables,
+        table,
+        payloads,
+    } = input;
+    plan_payloads(alloc, Seed::fixed(), &tunables, &table, None, payloads)
 }
 
 /// The line of text on the plan of a chain of so many links.

@@ -22,7 +22,11 @@ use Rattle.pc_spec_reading.specs.Total.{counted}
 use Rattle.pc_spec_reading.specs.World.{full}
 use Rattle.pc_weights.specs.Capped.{capped}
 use Rattle.pc_translate.specs.Causes.{CanBeRead, answer_in_order, in_the_end}
-use Rattle.pc_translate.specs.Planning.{answer_at}
+
+-- the answer in order, where the total before the first item is this
+unfoldable pub answer_at : TypeTable → (exposed : Option (List ℕ)) → (limit total : ℕ) → List Payload
+    → Option (Result Reading Error)
+answer_at t exposed limit total ps = option_map in_the_end (answer_from t exposed limit (Some total) ps)
 
 -- a payload that is no core module
 module_skipped : (p : Payload) (ps : List Payload) → module_of p ≡ None

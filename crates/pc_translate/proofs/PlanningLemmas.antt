@@ -379,9 +379,13 @@ module _ (t : TypeTable) (ms : List ModuleRecord) (limit counted : ℕ) (body : 
   abbrev answered : StandsForReading t ms limit counted body mid g
   answered = graph.stands
 
-  -- it stands for the reading of the body
-  pub stands_for : (r : Reading) × GraphStands t ms mid g r
-  stands_for = (answered.result, answered.stands)
+  -- it stands for the reading of the body, also where its modules were taken out of the program
+  taken_stands : (taken : List ModuleRecord) → taken ≡ ms → GraphStands t taken mid g answered.result
+  taken_stands taken all =
+      subst (λ (rs : List ModuleRecord). GraphStands t rs mid g answered.result) (sym all) answered.stands
+
+  pub stands_for : (taken : List ModuleRecord) → taken ≡ ms → (r : Reading) × GraphStands t taken mid g r
+  stands_for taken all = (answered.result, taken_stands taken all)
 
   -- the total that bounds its lists is that of the reading
   same_reading : graph.few.is_total.0 ≡ answered.result
@@ -436,13 +440,19 @@ module _ (t : TypeTable) (ms : List ModuleRecord) (limit counted : ℕ) (body : 
   plans begins (Err e) stops = refused_by begins e stops
 
   -- so the body has a plan, or there is a cause for want of one
-  pub still_plans : (new : Types) → new ≡ mid → length ms ≤ counted
+  pub still_plans : (taken : List ModuleRecord) → taken ≡ ms → (new : Types) → new ≡ mid → length ms ≤ counted
       → (res : Result (ComponentTranslation × List ModuleTranslation) Error)
-      → ((r : Reading) → GraphStands t ms mid g r → PlansGraph t ms r mid g res)
+      → ((r : Reading) → GraphStands t taken mid g r → PlansGraph t taken r mid g res)
       → Plans t ms limit counted body old new res
-  still_plans new same begins res of_graph =
+  still_plans taken all new same begins res of_graph =
       subst (λ x. Plans t ms limit counted body old x res) (sym same)
-      (plans begins res (of_graph answered.result answered.stands))
+      (plans begins res (subst (λ (rs : List ModuleRecord). PlansGraph t rs answered.result mid g res) all
+      (of_graph answered.result (taken_stands taken all))))
+
+-- modules that were taken out of a program are sound
+pub taken_sound : (t : TypeTable) (ms taken : List ModuleRecord) → taken ≡ ms → list_all (is_sound t) ms ≡ true
+    → list_all (is_sound t) taken ≡ true
+taken_sound t ms taken all sound = subst (λ (rs : List ModuleRecord). list_all (is_sound t) rs ≡ true) (sym all) sound
 
 -- types keep their numbers
 pub still_keeps : (old mid new : Types) → new ≡ mid → KeepsTypes old mid → KeepsTypes old new

@@ -1,5 +1,5 @@
 -- What comes of a local program: a plan with its modules that stands for the reading of its root, or why there is none.
-use Rattle.std.specs.Prelude.{◌≡◌, ◌<◌, ◌+◌, ◌*◌, ◌⊎◌, ⊤, ℕ, List, Option, Result, Some, Ok, Err, length, map, option_map}
+use Rattle.std.specs.Prelude.{◌≡◌, ◌<◌, ◌+◌, ◌*◌, ◌⊎◌, ⊤, ℕ, List, Option, Result, Some, Ok, Err, length, map}
 use Rattle.pc_types_lists.specs.Types.{Types}
 use Rattle.pc_types.specs.declared.error.Error.{Error}
 use Rattle.pc_types.specs.declared.error.Error.TheVariants as error
@@ -9,9 +9,12 @@ use Rattle.pc_types.specs.declared.parsed.TypeTable.{TypeTable}
 use Rattle.pc_info.specs.declared.component.ComponentTranslation.{ComponentTranslation}
 use Rattle.pc_info.specs.declared.module.ModuleTranslation.{ModuleTranslation}
 use Rattle.pc_parsed.specs.declared.payload.Payload.{Payload}
-use Rattle.pc_spec_reading.specs.Answer.{answer_from, ending}
+use Rattle.pc_spec_reading.specs.Answer.{ending}
 use Rattle.pc_spec_reading.specs.Item.{Items}
 use Rattle.pc_spec_reading.specs.Reading.{Reading, reading_of}
+use Rattle.pc_spec_reading.specs.Total.{counted}
+use Rattle.pc_local.specs.declared.item.LocalProgram.{LocalProgram}
+use Rattle.pc_local.specs.Program.{ProgramStands}
 use Rattle.pc_dfg.specs.declared.dfg.ComponentDfg.{ComponentDfg}
 use Rattle.pc_dfg.specs.Lists.{ListName}
 use Rattle.pc_dfg_linearize.specs.declared.error.FinishError.{FinishError}
@@ -27,23 +30,24 @@ use Rattle.pc_inline_stack.specs.Totals.{IsCounted}
 use Rattle.pc_inline.specs.Inlines.{StandsForReading}
 use Rattle.pc_translate.specs.Adapted.{as_handed_in}
 use Rattle.pc_translate.specs.Adapters.{first_lacking}
-use Rattle.pc_translate.specs.Causes.{in_the_end}
+use Rattle.pc_translate.specs.Causes.{CanBeRead, HasCause, in_the_end}
 use Rattle.pc_translate.specs.Finished.{IsFinished}
 use Rattle.pc_translate.specs.Partitioned.{IsPartitioned}
 use Rattle.pc_translate.specs.Recorded.{HasFacts}
 use Rattle.pc_translate.specs.Translation.{GainsCounted}
 use Rattle.pc_translate.specs.Transparent.{TellsTransparent}
 
--- the answer in order, where the total before the first item is this
-unfoldable pub answer_at : TypeTable → (exposed : Option (List ℕ)) → (limit counted : ℕ) → List Payload
-    → Option (Result Reading Error)
-answer_at t exposed limit counted ps = option_map in_the_end (answer_from t exposed limit (Some counted) ps)
+-- a local program is that of payloads which come to be read, and this is the total before the first item, where so many
+-- types were held before
+pub record IsProgramOf (t : TypeTable) (exposed : Option (List ℕ)) (held : ℕ) (ps : List Payload) (total : ℕ)
+    (program : LocalProgram) : Type 0 where
+  pub stands : ProgramStands exposed ps program
+  pub can : CanBeRead t exposed held ps
+  pub is_total : total ≡ counted t held ps
 
--- why payloads don't come to be read, where that is the total: it is the answer whatever the limit is, or memory was
--- wanting
-unfoldable pub StopsPayloads : TypeTable → (exposed : Option (List ℕ)) → (counted : ℕ) → List Payload → Error → Type 0
-StopsPayloads t exposed counted ps e =
-    (limit : ℕ) → (e ≡ error.NoMemory) ⊎ (answer_at t exposed limit counted ps ≡ Some (Err e))
+-- why payloads don't come to be read, where so many types were held before: it is a cause whatever the limit is
+unfoldable pub StopsPayloads : TypeTable → (exposed : Option (List ℕ)) → (held : ℕ) → List Payload → Error → Type 0
+StopsPayloads t exposed held ps e = (limit : ℕ) → HasCause t exposed limit held ps e
 
 -- why a graph has no plan, as an error of the translation
 abbrev pub error_of_finish : FinishError → Error

@@ -1,7 +1,7 @@
 //! The top call over payloads.
 
 ghost use Rattle.std.specs.Prelude.{◌≡◌, ◌<◌, ◌≤◌, ◌+◌, ℕ, List, All, false, true, length, map, None, is_some, IfErr};
-ghost use Rattle.std.specs.Prelude.{IfOk, OnOk};
+ghost use Rattle.std.specs.Prelude.{IfOk, OnOk, Option};
 ghost use Rattle.std.specs.List.{list_all};
 ghost use Rattle.std.specs.Option.{option_map};
 ghost use Rattle.pc_types.specs.declared.error.Error.TheVariants as error;
@@ -10,14 +10,12 @@ ghost use Rattle.pc_types.specs.declared.parsed.TypeTable.{TypeTable as Table};
 ghost use Rattle.pc_types.specs.Record.{is_sound};
 ghost use Rattle.pc_types.specs.Table.{table_fault};
 ghost use Rattle.pc_types_lists.specs.Types.{KeepsTypes, no_types, types_held};
-ghost use Rattle.pc_parsed.specs.Program.{is_numbered};
-ghost use Rattle.pc_parsed.specs.StaticFault.{static_fault};
+ghost use Rattle.pc_parsed.specs.declared.payload.Payload.{Payload as Payloads};
 ghost use Rattle.pc_spec_reading.specs.Item.{Items};
 ghost use Rattle.pc_spec_reading.specs.Reading.{Reading};
 ghost use Rattle.pc_spec_reading.specs.Total.{counted};
 ghost use Rattle.pc_dfg.specs.Ordered.{IsOrdered};
 ghost use Rattle.pc_dfg_linearize.specs.Grouped.{IsGrouped};
-ghost use Rattle.pc_local.specs.Program.{ProgramStands};
 ghost use Rattle.pc_local.specs.Sound.{AreSoundBodies, IsSoundBody};
 ghost use Rattle.pc_local.specs.Standing.{BodyStands, no_names};
 ghost use Rattle.pc_inline_stack.specs.Totals.{GainsFew};
@@ -28,7 +26,8 @@ ghost use Rattle.pc_translate.specs.Adapted.{as_handed_in};
 ghost use Rattle.pc_translate.specs.Finished.{IsFinished};
 ghost use Rattle.pc_translate.specs.ModuleTypes.{HasModuleType, HoldsModules};
 ghost use Rattle.pc_translate.specs.Partitioned.{IsGroupedGraph};
-ghost use Rattle.pc_translate.specs.Planning.{Groups, HasGraph, Plans, PlansGraph, StopsFinish, StopsPayloads};
+ghost use Rattle.pc_translate.specs.Planning.{Groups, HasGraph, IsProgramOf, Plans, PlansGraph};
+ghost use Rattle.pc_translate.specs.Planning.{StopsFinish, StopsPayloads};
 ghost use Rattle.pc_translate.specs.Planning.{error_of_adapt, error_of_finish};
 ghost use Rattle.pc_translate.specs.Recorded.{HasFacts};
 ghost use Rattle.pc_translate.specs.Transparent.{TellsTransparent};
@@ -48,7 +47,7 @@ use pc_info::{ComponentTranslation, ModuleTranslation};
 use pc_inline::inline_run;
 use pc_local::{LocalProgram, translate_payloads};
 use pc_parsed::{Payload, Tunables};
-use pc_types::{Error, ModuleRecord, Place, TypeTable};
+use pc_types::{Error, Place, SharedRecord, TypeTable};
 use pc_types_builder::ComponentTypesBuilder;
 use pc_weights::counted;
 use std::alloc::Global;
@@ -65,7 +64,7 @@ pub type PlanWithModules = (
 /// The modules of a plan, from their records.
 fn translations(
     alloc: Global,
-    modules: PrimaryMap<StaticModuleIndex, ModuleRecord>,
+    modules: PrimaryMap<StaticModuleIndex, SharedRecord>,
 ) -> Result<PrimaryMap<StaticModuleIndex, ModuleTranslation>, NoMemory>
     ensures { IfOk result (λ ms. ms ≡ map as_handed_in modules) }
 {
@@ -76,28 +75,49 @@ fn translations(
     Ok(PrimaryMap::from_vec(translations))
 }
 
-/// The local program of payloads, where the total before the first item isn't full: each thing in them has a number
-/// then.
+/// The local program of payloads, and the total before the first item. Where that isn't full, each thing in them has a
+/// number.
 fn program_of(
     alloc: Global,
-    seed: Seed,
+    types: &ComponentTypesBuilder,
     table: &TypeTable,
     exposed: Option<&str>,
     payloads: &[Payload],
-    counted: u32,
-) -> Result<LocalProgram, Error>
-    requires numbered { counted < 4294967295 → is_numbered table.now payloads.now ≡ true }
-    ensures program { IfOk result (ProgramStands (option_map (λ name. name.now) exposed.entry) payloads.now) }
-    ensures below { OnOk result (counted < 4294967295) }
-    ensures sound { OnOk result
-        (static_fault table.now (option_map (λ name. name.now) exposed.entry) payloads.now ≡ None) }
-    ensures refused { IfErr result
-        (StopsPayloads table.now (option_map (λ name. name.now) exposed.entry) counted payloads.now) }
+) -> Result<(LocalProgram, u32), Error>
+    ensures program { IfOk result (λ r. IsProgramOf table.now (option_map (λ name. name.now) exposed.entry)
+        (types_held types.now) payloads.now r.1 r.0) }
+    ensures refused { IfErr result (StopsPayloads table.now (option_map (λ name. name.now) exposed.entry)
+        (types_held types.now) payloads.now) }
 {
+    let counted = counted(table, types_held(types), payloads);
     if counted >= FULL {
         return Err(Error::TooMany);
     }
-    translate_payloads(alloc, seed, table, exposed, payloads)
+    let program = translate_payloads(alloc, types.seed(), table, exposed, payloads)?;
+    Ok((program, counted))
+}
+
+/// The same of payloads that are handed over. They go once they are read.
+fn program_from(
+    alloc: Global,
+    types: &ComponentTypesBuilder,
+    table: &TypeTable,
+    exposed: Option<&str>,
+    payloads: Seq<Payload>,
+) -> Result<(LocalProgram, u32), Error>
+    ensures program { IfOk result (λ r. IsProgramOf table.now (option_map (λ name. name.now) exposed.entry)
+        (types_held types.now) payloads r.1 r.0) }
+    ensures refused { IfErr result (StopsPayloads table.now (option_map (λ name. name.now) exposed.entry)
+        (types_held types.now) payloads) }
+{
+    program_of(alloc, types, table, exposed, payloads.as_slice())
+}
+
+/// The core modules of a local program. The rest of it goes.
+fn modules_of(program: LocalProgram) -> PrimaryMap<StaticModuleIndex, SharedRecord>
+    ensures { result ≡ program.modules }
+{
+    program.modules
 }
 
 /// Tells a graph which of its adapters need not keep the state of a thread.
@@ -230,7 +250,7 @@ fn finish_with_facts(
 {
     analyze_same_vmctx_imports(alloc, &graph, modules)?;
     let plan = finish_graph(alloc, table, types, graph)?;
-    analyze_imports(alloc, types.seed(), &plan, modules)?;
+    analyze_imports(alloc, &plan, modules)?;
     Ok(plan)
 }
 
@@ -241,7 +261,7 @@ fn plan_of_graph(
     table: &TypeTable,
     types: &mut ComponentTypesBuilder,
     graph: ComponentDfg,
-    records: PrimaryMap<StaticModuleIndex, ModuleRecord>,
+    records: PrimaryMap<StaticModuleIndex, SharedRecord>,
 ) -> Result<PlanWithModules, Error>
     requires table { table_fault table.now ≡ None }
     requires modules { list_all (is_sound table.now) records ≡ true }
@@ -281,7 +301,41 @@ fn plan_of(
     ensures adds { GainsFew table.now counted types.old types.new }
 {
     let graph = graph_of(alloc, tunables, table, types, &program, counted)?;
-    plan_of_graph(alloc, table, types, graph, program.modules)
+    plan_of_graph(alloc, table, types, graph, modules_of(program))
+}
+
+/// The plan that payloads are translated to, and its core modules, from their local program and the total before the
+/// first item.
+fn translate_program(
+    alloc: Global,
+    tunables: &Tunables,
+    table: &TypeTable,
+    types: &mut ComponentTypesBuilder,
+    program: LocalProgram,
+    counted: u32,
+) -> Result<PlanWithModules, Error>
+    requires program { (exposed : Option (List ℕ)) × (ps : List Payloads)
+        × IsProgramOf table.now exposed (types_held types.old) ps counted program }
+    ensures translated { (exposed : Option (List ℕ)) (ps : List Payloads)
+        → IsProgramOf table.now exposed (types_held types.old) ps counted program
+        → IfOk result (λ r. Translates table.now exposed tunables.now.max_component_instances (types_held types.old) ps
+        types.new r.0 r.1) }
+    ensures refused { (exposed : Option (List ℕ)) (ps : List Payloads)
+        → IsProgramOf table.now exposed (types_held types.old) ps counted program
+        → IfErr result (λ e. HasCause table.now exposed tunables.now.max_component_instances (types_held types.old) ps
+        e) }
+    ensures keeps { KeepsTypes types.old types.new }
+    ensures adds { GainsFew table.now counted types.old types.new }
+    ensures counts { (exposed : Option (List ℕ)) (ps : List Payloads)
+        → IsProgramOf table.now exposed (types_held types.old) ps counted program
+        → IfOk result (λ _. CountsGained table.now exposed tunables.now.max_component_instances (types_held types.old)
+        ps types.old types.new) }
+{
+    let translated = plan_of(alloc, tunables, table, types, program, counted)?;
+    // No two signatures are equal, so a lowering has the one of its options; and a type has one number, so an adapter has.
+    types.types_are_distinct();
+    types.numbers_are_trees();
+    Ok(translated)
 }
 
 /// The plan that payloads are translated to, and its core modules: those of the payloads, in order.
@@ -322,50 +376,47 @@ pub fn translate(
     ensures counts { IfOk result (λ _. CountsGained table.now (option_map (λ name. name.now) exposed.entry)
         tunables.now.max_component_instances (types_held types.old) payloads.now types.old types.new) }
 {
-    let counted = counted(table, types_held(types), payloads);
-    let program = program_of(alloc, types.seed(), table, exposed, payloads, counted)?;
-    let translated = plan_of(alloc, tunables, table, types, program, counted)?;
-    // No two signatures are equal, so a lowering has the one of its options; and a type has one number, so an adapter has.
-    types.types_are_distinct();
-    types.numbers_are_trees();
-    Ok(translated)
+    let (program, counted) = program_of(alloc, types, table, exposed, payloads)?;
+    translate_program(alloc, tunables, table, types, program, counted)
 }
 
-/// What `translate` answers with a builder that holds no types, for callers that don't ask for those of the plan.
+/// What `translate` answers with a builder that holds no types, for callers that hand their payloads over and don't ask
+/// for the types of the plan.
 fn plan_with(
     alloc: Global,
     tunables: &Tunables,
     table: &TypeTable,
     types: &mut ComponentTypesBuilder,
     exposed: Option<&str>,
-    payloads: &[Payload],
+    payloads: Seq<Payload>,
 ) -> Result<PlanWithModules, Error>
     requires fresh { types.old ≡ no_types }
     ensures translated { IfOk result (λ r. IsPlanOf table.now (option_map (λ name. name.now) exposed.entry)
-        tunables.now.max_component_instances payloads.now r.0 r.1) }
+        tunables.now.max_component_instances payloads r.0 r.1) }
     ensures refused { IfErr result (λ e. IsRefusalOf table.now (option_map (λ name. name.now) exposed.entry)
-        tunables.now.max_component_instances payloads.now e) }
+        tunables.now.max_component_instances payloads e) }
 {
-    let translated = translate(alloc, tunables, table, types, exposed, payloads);
+    let (program, counted) = program_from(alloc, types, table, exposed, payloads)?;
+    let translated = translate_program(alloc, tunables, table, types, program, counted);
     // No list is past its bound and no two types are equal.
     types.types_are_distinct();
     translated
 }
 
-/// The plan that payloads are translated to, and its core modules, with a types builder of its own, whose maps have this
-/// seed.
+/// The plan that payloads are translated to, and its core modules, with a types builder of its own, whose maps have
+/// this seed. The payloads go once they are read; `translate` is for callers that keep theirs.
 pub fn plan_payloads(
     alloc: Global,
     seed: Seed,
     tunables: &Tunables,
     table: &TypeTable,
     exposed: Option<&str>,
-    payloads: &[Payload],
+    payloads: Seq<Payload>,
 ) -> Result<PlanWithModules, Error>
     ensures translated { IfOk result (λ r. IsPlanOf table.now (option_map (λ name. name.now) exposed.entry)
-        tunables.now.max_component_instances payloads.now r.0 r.1) }
+        tunables.now.max_component_instances payloads r.0 r.1) }
     ensures refused { IfErr result (λ e. IsRefusalOf table.now (option_map (λ name. name.now) exposed.entry)
-        tunables.now.max_component_instances payloads.now e) }
+        tunables.now.max_component_instances payloads e) }
 {
     plan_with(
         alloc,

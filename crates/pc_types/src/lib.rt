@@ -1,7 +1,8 @@
 //! The types that the crates above speak of: the type table of an input, the records of core modules, the converted
 //! types and their numbers, and the errors.
 //!
-//! It stands on `pc_entity` and `pc_numbers`, and on `thiserror` for the texts of errors.
+//! It stands on `pc_entity` and `pc_numbers`, on `indexmap` for sets of names, and on `thiserror` for the texts of
+//! errors.
 #![tactic(auto)]
 
 mod by_kind;
@@ -16,6 +17,7 @@ pub mod intrinsic;
 pub mod module_record;
 pub mod name_set;
 pub mod parsed;
+mod shared_record;
 mod sound_record;
 mod sound_table;
 pub mod trampoline;
@@ -35,6 +37,7 @@ pub use parsed::{
     CoreEntity, CoreFuncSig, CoreKind, DeclType, Entity, PrimType, TypeTable, ValType, WasmValType,
 };
 pub use pc_entity::ModuleInternedTypeIndex;
+pub use shared_record::SharedRecord;
 pub use sound_record::MAX_ENTITIES;
 pub use sound_table::check_table;
 pub use trampoline::TrampolineKind;

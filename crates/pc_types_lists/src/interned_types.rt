@@ -19,7 +19,6 @@ use std::marker::Model;
 /// resources that are known.
 pub struct InternedTypes {
     alloc: Global,
-    seed: Seed,
     pub(crate) funcs: Interner<TypeFunc>,
     pub(crate) tuples: Interner<TypeTuple>,
     pub(crate) records: Interner<TypeRecord>,
@@ -46,7 +45,6 @@ impl Drop for InternedTypes {
     fn drop(self) {
         let InternedTypes {
             alloc: _,
-            seed: _,
             funcs,
             tuples,
             records,
@@ -136,7 +134,6 @@ impl InternedTypes {
     {
         InternedTypes {
             alloc,
-            seed,
             funcs: Interner::new(alloc, seed),
             tuples: Interner::new(alloc, seed),
             records: Interner::new(alloc, seed),
@@ -189,7 +186,7 @@ impl InternedTypes {
 
     /// The seed that the places in its lists depend on.
     pub fn seed(&self) -> Seed {
-        self.seed
+        self.funcs.seed()
     }
 
     /// The registered resources.

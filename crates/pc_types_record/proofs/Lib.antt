@@ -1,2 +1,3 @@
 -- What the functions of this crate rest on.
 mod Lists
+mod PlacesLemmas

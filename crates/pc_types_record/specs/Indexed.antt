@@ -3,15 +3,9 @@ use Rattle.std.specs.Prelude.{◌≡◌, ℕ, List, [], ◌∷◌, ◌++◌, cou
 use Rattle.std.specs.List.{filter_map}
 use Rattle.pc_numbers.specs.declared.entity_index.EntityIndex.{EntityIndex}
 use Rattle.pc_types.specs.declared.parsed.CoreEntity.{CoreEntity}
-use Rattle.pc_types.specs.declared.parsed.CoreKind.{CoreKind}
-use Rattle.pc_types.specs.declared.by_kind.ByKind.{ByKind}
-use Rattle.pc_types.specs.ByKind.{of_kind}
-use Rattle.pc_types.specs.Record.{entity_at, imports_kind, kind_of, places_from, import_signature, import_width}
+use Rattle.pc_types.specs.Record.{entity_at, imports_kind, kind_of, import_signature, import_width}
+use Rattle.pc_types_record.specs.Places.{ArePlacesOf}
 use Rattle.pc_types_record.specs.declared.import_index.ImportIndex.{ImportIndex}
-
--- they are the places of these imports, by kind
-abbrev pub ArePlacesOf : List (List ℕ × List ℕ × CoreEntity) → ByKind (List ℕ) → Type 0
-ArePlacesOf imports places = (k : CoreKind) → of_kind places k ≡ places_from k 0 imports
 
 -- the entity that each import is, where these others stand before them all
 abbrev pub entities_after : (before imports : List (List ℕ × List ℕ × CoreEntity)) → List EntityIndex

@@ -3,17 +3,18 @@
 ghost use Rattle.std.specs.Prelude.{◌<◌, length, IfOk};
 ghost use Rattle.pc_types_record.specs.Indexed.{IsImportIndex};
 
+use crate::details::{signatures, widths};
 use crate::entities::entities;
-use crate::positions::{positions, signatures, widths};
+use crate::import_places::ImportPlaces;
 use pc_entity::{EntityIndex, NoMemory, Seq, Text};
-use pc_types::{ByKind, CoreEntity};
+use pc_types::CoreEntity;
 use std::alloc::Global;
 
 /// What is kept of a list of imports.
 #[derive(Drop)]
 pub(crate) struct ImportIndex {
     /// Where the imports of each kind stand.
-    pub(crate) positions: ByKind<Seq<usize>>,
+    pub(crate) positions: ImportPlaces,
     /// The entity that each import is.
     pub(crate) entities: Seq<EntityIndex>,
     /// The signature numbers of the imported functions.
@@ -31,7 +32,7 @@ impl ImportIndex {
         requires numbered { length imports.now < 4294967295 }
         ensures { IfOk result (λ index. IsImportIndex imports.now index) }
     {
-        let positions = positions(alloc, imports)?;
+        let positions = ImportPlaces::new(alloc, imports)?;
         let entities = entities(alloc, imports)?;
         let signatures = signatures(alloc, imports)?;
         let widths = widths(alloc, imports)?;

@@ -3,9 +3,11 @@
 //! It stands on `pc_types`.
 #![tactic(auto)]
 
+mod details;
 mod entities;
 mod import_index;
-mod positions;
+pub mod import_places;
 pub mod record_index;
 
+pub use import_places::ImportPlaces;
 pub use record_index::RecordIndex;

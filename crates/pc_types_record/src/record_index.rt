@@ -63,7 +63,7 @@ impl<'a> RecordIndex<'a> {
     pub fn imported(&self, kind: CoreKind) -> usize
         ensures { result ≡ imported self.now kind }
     {
-        self.imports.positions.of(kind).len()
+        self.imports.positions.count(kind)
     }
 
     /// Whether an entity is imported.
@@ -77,8 +77,7 @@ impl<'a> RecordIndex<'a> {
     pub fn import_position(&self, entity: EntityIndex) -> Option<usize>
         ensures { result ≡ import_place self.now entity }
     {
-        let places = self.imports.positions.of(CoreKind::of(entity));
-        item(places.as_slice(), entity_number(entity) as usize)
+        self.imports.positions.place(entity)
     }
 
     /// What the nth import is, as an entity of the module.

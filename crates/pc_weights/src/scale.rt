@@ -9,14 +9,14 @@ ghost use Rattle.pc_weights.specs.Scale.{IsScale};
 use crate::names::{count_names, entity_names};
 use pc_entity::{NoMemory, Text};
 use pc_parsed::{ExternName, ItemKind};
-use pc_types::{DeclType, Entity, ModuleRecord, TypeTable, ValType};
+use pc_types::{DeclType, Entity, SharedRecord, TypeTable, ValType};
 use std::alloc::Global;
 
 /// A type table and its core modules, with what would take a look through them for each item.
 #[derive(Drop)]
 pub(crate) struct Scale<'a> {
     pub table: &'a TypeTable,
-    pub modules: &'a [ModuleRecord],
+    pub modules: &'a [SharedRecord],
     /// How many names stand in the tree of each entry of the table.
     pub names: Vec<u32>,
     /// How many imports a core module has at the most.
@@ -24,12 +24,12 @@ pub(crate) struct Scale<'a> {
 }
 
 /// How many imports a module record has at the most.
-fn most_of_records(modules: &[ModuleRecord]) -> usize
+fn most_of_records(modules: &[SharedRecord]) -> usize
     ensures { result ≡ greatest record_imports modules.now }
 {
     let mut most: usize = 0;
     for record_ in modules {
-        most = most.max(record_.imports.len());
+        most = most.max(record_.get().imports.len());
     }
     most
 }
@@ -56,7 +56,7 @@ fn most_of_types(types: &[DeclType]) -> usize
 }
 
 /// How many imports a core module of the list or of the table has at the most.
-fn most_imports(table: &TypeTable, modules: &[ModuleRecord]) -> usize
+fn most_imports(table: &TypeTable, modules: &[SharedRecord]) -> usize
     ensures { result ≡ most_imports table.now modules.now }
 {
     most_of_records(modules).max(most_of_types(table.types.as_slice()))
@@ -67,7 +67,7 @@ impl<'a> Scale<'a> {
     pub fn new(
         alloc: Global,
         table: &'a TypeTable,
-        modules: &'a [ModuleRecord],
+        modules: &'a [SharedRecord],
     ) -> Result<Scale<'a>, NoMemory>
         ensures scale { IfOk result (λ scale. IsScale scale) }
         ensures table { IfOk result (λ scale. scale.table.now ≡ table.now) }

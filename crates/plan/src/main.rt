@@ -1,7 +1,8 @@
 //! The program `plan`: it runs its words over standard input and standard output, and ends with the code of the status.
 #![tactic(auto)]
 
-use pc_tool::{Status, StdSink, StdSource, run};
+use pc_tool::{Sink, Source, Status, StdSink, StdSource, run};
+use std::alloc::Global;
 use std::io::ErrorKind;
 use std::process::ExitCode;
 use std::{env, io};
@@ -11,6 +12,16 @@ fn words(rt: &HostRuntime) -> io::Result<Vec<String>> {
     let mut args = env::args(rt)?;
     args.next();
     Ok(args.collect(rt.alloc())?)
+}
+
+/// `run` itself. Its clauses are long, and are opened wherever its answer is looked at, so here nothing is.
+fn plain_run<S: Source, W: Sink>(
+    alloc: Global,
+    words: &[String],
+    src: &mut S,
+    out: &mut W,
+) -> Status {
+    run(alloc, words, src, out)
 }
 
 fn main(rt: HostRuntime) -> ExitCode {
@@ -24,5 +35,5 @@ fn main(rt: HostRuntime) -> ExitCode {
     };
     let mut src = StdSource::new(rt.stdin());
     let mut out = StdSink::new(rt.stdout());
-    ExitCode::from(run(rt.alloc(), &words, &mut src, &mut out).code())
+    ExitCode::from(plain_run(rt.alloc(), &words, &mut src, &mut out).code())
 }

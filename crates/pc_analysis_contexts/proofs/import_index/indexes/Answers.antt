@@ -3,7 +3,7 @@ use Rattle.std.specs.Prelude.{Some, slice_get}
 use Rattle.std.proofs.lemmas.List.{length-map, take_all}
 use Rattle.std.proofs.lemmas.Option.{slice_get_read}
 use Rattle.pc_info.specs.Modules.{module_view}
-use Rattle.pc_analysis_contexts.specs.Indexed.{AreIndexes}
+use Rattle.pc_analysis_contexts.specs.Indexed.{AreIndexes, IsIndex}
 use Rattle.pc_analysis_contexts.specs.Recorded.{records_of}
 use Rattle.pc_analysis_contexts.proofs.IndexLemmas.{few_functions, indexes_more, record_at}
 use Rattle.pc_analysis_contexts.proofs.import_index.indexes.Goals as goal
@@ -19,7 +19,7 @@ loop-held-preserved c =
     ∙ slice_get_read xs (length xs) k x refl c.loop-held-test.true c.held-item.is in
     subst (AreIndexes (take (k + 1) (records_of ms))) (sym c.in_ok-push.ensures.items)
     (indexes_more (records_of ms) k x.«module» c.in_ok-new.field-0 c.loop-held.found.items (record_at ms k x at)
-    c.in_ok-new.ensures c.loop-held.invariant)
+    (subst (λ r. IsIndex r c.in_ok-new.field-0) c.get.ensures c.in_ok-new.ensures) c.loop-held.invariant)
 
 pub returns-clause-few : goal.returns-clause-few
 returns-clause-few c =

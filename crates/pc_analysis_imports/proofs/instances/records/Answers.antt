@@ -1,4 +1,4 @@
-use Rattle.std.proofs.Common.{refl}
+use Rattle.std.proofs.Common.{refl, ◌∙◌}
 use Rattle.std.specs.Prelude.{length}
 use Rattle.std.proofs.lemmas.Option.{slice_get_read}
 use Rattle.pc_info.specs.Modules.{module_view}
@@ -12,4 +12,4 @@ loop-held-preserved c =
     let x = c.held-item.result in
     pushed_next module_view xs k x _ _ _
     (slice_get_read xs (length xs) k x refl c.loop-held-test.true c.held-item.is) c.loop-held.invariant
-    c.in_ok-new.ensures c.in_ok-push.ensures.items
+    (c.in_ok-new.ensures ∙ c.get.ensures) c.in_ok-push.ensures.items

@@ -3,4 +3,4 @@ use Rattle.pc_dfg_finish.specs.Exports.{IsNamed}
 use Rattle.pc_dfg_finish.proofs.exports.names_of.Given as goal
 
 abbrev pub invariant-loop-place : goal.invariant-loop-place
-invariant-loop-place l = IsNamed (take l.place l.map) l.names
+invariant-loop-place l = IsNamed (take l.place l.fn.map) l.names

@@ -50,7 +50,7 @@ returns-in-ModuleInstantiate c =
 pub returns-in-ModuleSynthetic : goal.returns-in-ModuleSynthetic
 returns-in-ModuleSynthetic c =
     still c.step_core_exports.ensures
-    (λ h. core_exports_local _ _ _ _ _ _ _ _ c.in-ModuleSynthetic.is c.as_slice-in-ModuleSynthetic.ensures (h _ _ _))
+    (λ h. core_exports_local _ _ _ _ _ _ _ _ c.in-ModuleSynthetic.is c.as_slice-in-ModuleSynthetic.ensures (h _))
 
 pub returns-in-ComponentStatic : goal.returns-in-ComponentStatic
 returns-in-ComponentStatic c =

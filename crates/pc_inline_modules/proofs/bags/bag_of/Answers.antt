@@ -1,17 +1,20 @@
-use Rattle.std.proofs.Common.{◌≡◌, ◌<◌, ◌++◌, ◌∷◌, [], Some, None, take, length, refl, ap, sym, subst, ◌∙◌, arith}
-use Rattle.std.specs.Prelude.{is_some}
+use Rattle.std.proofs.Common.{◌<◌, ◌++◌, ◌∷◌, [], Some, None, take, length, refl, ap, sym, subst, ◌∙◌, arith}
+use Rattle.std.specs.Prelude.{slice_get}
 use Rattle.std.proofs.lemmas.Option.{slice_get-get_or, slice_get_past, slice_get_read}
 use Rattle.std.proofs.lemmas.List.{take_all}
-use Rattle.pc_entity.specs.Lists.{map_all, value_of}
+use Rattle.pc_entity.specs.FirstValues.{with_first}
+use Rattle.pc_entity.specs.Lists.{map_all}
 use Rattle.pc_entity.proofs.LookupLemmas.{done_here}
 use Rattle.pc_spec_reading.specs.Modules.{bag_entry}
 use Rattle.pc_inline_state.specs.Frames.{BagItemStands, Both, SameNames, both, neither}
-use Rattle.pc_inline_modules.proofs.BagLemmas.{bag_again, bag_push, entry_missing, entry_there, map_all_missing}
+use Rattle.pc_inline_state.specs.Numbers.{HasNumbers, import_names}
+use Rattle.pc_inline_state.proofs.NumberedLemmas.{no_numbers}
+use Rattle.pc_inline_modules.proofs.BagLemmas.{bag_first, entry_missing, entry_there, map_all_missing}
 use Rattle.pc_inline_modules.proofs.bags.bag_of.Goals as goal
-use Rattle.pc_inline_modules.proofs.bags.bag_of.Goals.{then-not-contains+in_ok-try_clone+in_ok-push, else-not-contains}
 
-pub returns-in_default : goal.returns-in_default
-returns-in_default c ms b s stands =
+pub returns-in_default-clause-items : goal.returns-in_default-clause-items
+returns-in_default-clause-items c b s stands =
+    let ms = c.args.context.now.modules in
     let within : c.loop-item.item-index < length c.args.items.now = omega (arith, c.loop-item-test.true) in
     let at = slice_get-get_or c.args.items.now c.loop-item.item-index _ within ∙ ap Some (sym c.item-item.is) in
     let missing = entry_missing ms b c.args.frame.now s stands c.item-item.result _ _ _ c.of-kind.ensures
@@ -20,36 +23,38 @@ returns-in_default c ms b s stands =
     neither
 
 pub loop-item-init : goal.loop-item-init
-loop-item-init c ms b s stands =
-    subst (λ bag. Both (SameNames (BagItemStands ms b)) (Some bag) (Some [])) (sym c.new-bag.ensures)
-    (both (λ name. neither))
+loop-item-init c =
+    let ms = c.args.context.now.modules in (
+      λ b s stands. subst (λ items. Both (SameNames (BagItemStands ms b)) (Some items) (Some [])) (sym c.new.ensures)
+          (both (λ name. neither)),
+      subst (λ items. HasNumbers (import_names ms) items c.new-2.result) (sym c.new.ensures)
+          (subst (HasNumbers (import_names ms) []) (sym c.new-2.ensures) (no_numbers (import_names ms))),
+    )
 
 pub loop-item-preserved : goal.loop-item-preserved
-loop-item-preserved c ms b s stands =
+loop-item-preserved c =
+    let ms = c.args.context.now.modules in
     let within : c.loop-item.item-index < length c.args.items.now = omega (arith, c.loop-item-test.true) in
     let x = c.item-item.result in
     let longer = done_here c.args.items.now c.loop-item.item-index x within c.item-item.is in
-    let y = entry_there ms b c.args.frame.now s stands x _ _ _ c.in-Some.id c.of-kind.ensures c.core_ids.ensures
-    c.entity_number.ensures (slice_get_read c.core_ids.result.now _ _ _ refl c.in-Some.ensures.lookup.3.0
-    c.in-Some.ensures.lookup.1 ∙ ap Some c.in-Some.id-is) in
-    let before = c.loop-item.invariant ms b s stands in
-    let more = take c.loop-item.item-index c.args.items.now ++ x ∷ [] in
-    subst (λ xs. Both (SameNames (BagItemStands ms b)) (Some c.if-not-contains.bag) (map_all (bag_entry s) xs))
-    (sym longer) (elim c.if-not-contains.branch [
-      | then-not-contains+in_ok-try_clone+in_ok-push w ↦
-          let same : c.if-not-contains.bag ≡ c.loop-item.bag ++ (x.0, (c.of-kind.result, c.in-Some.id)) ∷ [] =
-          w.bag-is ∙ w.in_ok-push.ensures.ok
-          ∙ (λ i. c.loop-item.bag ++ (w.in_ok-try_clone.ensures i, (c.of-kind.result, c.in-Some.id-is i)) ∷ []) in
-          subst (λ bag. Both (SameNames (BagItemStands ms b)) (Some bag) (map_all (bag_entry s) more)) (sym same)
-          (bag_push (BagItemStands ms b) (bag_entry s) c.loop-item.bag _ x x.0
-          (c.of-kind.result, c.in-Some.id) y.0 before y.1 y.2)
-      | else-not-contains w ↦
-          subst (λ bag. Both (SameNames (BagItemStands ms b)) (Some bag) (map_all (bag_entry s) more)) (sym w.bag-is)
-          (bag_again (BagItemStands ms b) (bag_entry s) c.loop-item.bag _ x x.0 y.0 before y.1
-          (ap (λ k. is_some (value_of k c.loop-item.bag)) (sym c.as_str.ensures) ∙ sym w.if-not-contains.ensures))
-    ])
+    let at = slice_get_read c.core_ids.result.now _ _ _ refl c.in-Some.ensures.lookup.3.0 c.in-Some.ensures.lookup.1
+    ∙ ap Some c.in-Some.id-is in (
+      λ b s stands.
+          let y = entry_there ms b c.args.frame.now s stands x _ _ _ c.in-Some.id c.of-kind.ensures c.core_ids.ensures
+          c.entity_number.ensures at in
+          let more = take c.loop-item.item-index c.args.items.now ++ x ∷ [] in
+          subst (λ xs. Both (SameNames (BagItemStands ms b)) (Some c.add_item.new.bag.items) (map_all (bag_entry s) xs))
+          (sym longer)
+          (subst (λ items. Both (SameNames (BagItemStands ms b)) (Some items) (map_all (bag_entry s) more))
+          (sym (c.in_ok-add_item.ensures.items
+          ∙ (λ i. with_first c.loop-item.bag.items (x.0, (c.of-kind.result, c.in-Some.id-is i)))))
+          (bag_first (BagItemStands ms b) (bag_entry s) c.loop-item.bag.items _ x x.0 (c.of-kind.result, c.in-Some.id)
+          y.0 (c.loop-item.invariant.0 b s stands) y.1 y.2)),
+      c.in_ok-add_item.ensures.numbers c.loop-item.invariant.1,
+    )
 
-pub returns : goal.returns
-returns c ms b s stands =
-    subst (λ xs. Both (SameNames (BagItemStands ms b)) (Some c.loop-item.bag) (map_all (bag_entry s) xs))
-    (take_all c.loop-item.item-index c.args.items.now c.loop-item-test.false) (c.loop-item.invariant ms b s stands)
+pub returns-clause-items : goal.returns-clause-items
+returns-clause-items c b s stands =
+    subst (λ xs. Both (SameNames (BagItemStands c.args.context.now.modules b)) (Some c.loop-item.bag.items)
+    (map_all (bag_entry s) xs))
+    (take_all c.loop-item.item-index c.args.items.now c.loop-item-test.false) (c.loop-item.invariant.0 b s stands)

@@ -8,7 +8,8 @@ pub loop-record_-preserved : goal.loop-record_-preserved
 loop-record_-preserved c =
     greatest_further record_imports c.args.modules.now c.loop-record_.record_-index c.record_-item.result
     c.loop-record_.most _ (omega arith) c.record_-item.is
-    (c.max-most.ensures ∙ ap (λ n. max c.loop-record_.most n) c.len.ensures) c.loop-record_.invariant
+    (c.max-most.ensures ∙ ap (max c.loop-record_.most) (c.len.ensures ∙ ap record_imports c.get.ensures))
+    c.loop-record_.invariant
 
 pub returns : goal.returns
 returns c =

@@ -1,6 +1,5 @@
 use Rattle.std.proofs.Common.{subst, ap}
 use Rattle.std.specs.Str.{bytes_eq}
-use Rattle.std.proofs.lemmas.Slice.Eq.{bytes_eq-Decides}
 use Rattle.indexmap.specs.IndexMap.{keys}
 use Rattle.pc_entity.specs.Lists.{names_of, AreDistinct}
 use Rattle.pc_entity.proofs.Distinct.{are_distinct_items}

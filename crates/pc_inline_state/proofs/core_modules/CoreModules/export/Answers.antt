@@ -10,7 +10,7 @@ pub returns-in-None : goal.returns-in-None
 returns-in-None c =
     let n = c.args.core_module.0 in
     let name = c.args.name.now in
-    let at = sym (ap option_copied c.in-None.is) ∙ c.map_at.ensures
+    let at = sym (ap option_copied c.in-None.is) ∙ c.at_module.ensures
     ∙ ap (λ maps. slice_get maps n) c.as_slice.ensures.value in
     ap (option_and_then (value_of name)) at
     ∙ found_export c.self.inside.records.now c.self.inside.exports.items n name c.self.invariant.0
@@ -20,7 +20,7 @@ pub returns-in-Some : goal.returns-in-Some
 returns-in-Some c =
     let n = c.args.core_module.0 in
     let name = c.args.name.now in
-    let at = sym (ap option_copied c.in-Some.is) ∙ c.map_at.ensures
+    let at = sym (ap option_copied c.in-Some.is) ∙ c.at_module.ensures
     ∙ ap (λ maps. slice_get maps n) c.as_slice.ensures.value in
     c.copied.ensures ∙ c.get.ensures
     ∙ ap (option_and_then (value_of name)) at

@@ -10,7 +10,7 @@ pub returns-in-None : goal.returns-in-None
 returns-in-None c =
     let n = c.args.core_module.0 in
     let i = c.args.memory.0 in
-    let at = sym (ap option_copied c.in-None.is) ∙ c.widths_at.ensures
+    let at = sym (ap option_copied c.in-None.is) ∙ c.at_module.ensures
     ∙ ap (λ widths. slice_get widths n) c.as_slice.ensures.value in
     ap (option_and_then (λ (ws : List Bool). slice_get ws i)) at
     ∙ found_memory c.self.inside.records.now c.self.inside.memories.items n i c.self.invariant.1
@@ -20,7 +20,7 @@ pub returns-in-Some : goal.returns-in-Some
 returns-in-Some c =
     let n = c.args.core_module.0 in
     let i = c.args.memory.0 in
-    let at = sym (ap option_copied c.in-Some.is) ∙ c.widths_at.ensures
+    let at = sym (ap option_copied c.in-Some.is) ∙ c.at_module.ensures
     ∙ ap (λ widths. slice_get widths n) c.as_slice.ensures.value in
     c.width_at.ensures
     ∙ ap (option_and_then (λ (ws : List Bool). slice_get ws i)) at

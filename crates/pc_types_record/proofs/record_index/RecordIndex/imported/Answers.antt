@@ -6,7 +6,7 @@ use Rattle.pc_types_record.proofs.record_index.RecordIndex.imported.Goals as goa
 pub returns : goal.returns
 returns c =
     let kind = c.args.kind in
-    c.len.ensures
-    ∙ ap length (c.of.ensures ∙ c.self.invariant.imports.positions kind)
+    c.count.ensures
+    ∙ ap length (c.self.invariant.imports.positions kind)
     ∙ places_count kind 0 c.self.inside.record.now.imports
     ∙ ap (λ r. imported r kind) c.self.view_is

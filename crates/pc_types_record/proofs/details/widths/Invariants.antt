@@ -1,7 +1,7 @@
 use Rattle.std.proofs.Common.{◌≡◌, ◌++◌, drop}
 use Rattle.std.specs.List.{filter_map}
 use Rattle.pc_types.specs.Record.{import_width}
-use Rattle.pc_types_record.proofs.positions.widths.Given as goal
+use Rattle.pc_types_record.proofs.details.widths.Given as goal
 
 abbrev pub invariant-loop-import : goal.invariant-loop-import
 invariant-loop-import l =

@@ -1,10 +1,10 @@
 //! A core module behind one pointer, so that a list of payloads takes no more room for a core module than for another
-//! payload, and a copy shares it.
+//! payload, and a plan shares the record with the payload that it was in.
 
 ghost use Rattle.std.specs.Prelude.{◌≡◌, IfOk};
 
+use crate::module_record::ModuleRecord;
 use pc_entity::{NoMemory, TryClone};
-use pc_types::ModuleRecord;
 use std::alloc::Global;
 use std::marker::Model;
 use std::rc::Rc;
