@@ -32,6 +32,7 @@ abbrev pub placed_key : ImportIndex → List (Option ContextKey) → InstanceId 
 placed_key s keys i e (Some place) = key_at keys place
 placed_key s keys i e None = if defines s e then Some (key.CoreInstance i) else None
 
+-- the key of an entity of an instance, whose place among the arguments is looked up
 abbrev pub entity_key : ImportIndex → List (Option ContextKey) → InstanceId → EntityIndex → Option ContextKey
 entity_key s keys i e = placed_key s keys i e (place_in s e)
 

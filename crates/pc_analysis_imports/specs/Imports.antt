@@ -59,9 +59,11 @@ entity_from a k s = None
 abbrev pub global_entity : StaticModuleIndex × ℕ → KnownGlobal
 global_entity e = global.Defined (record { «module» = e.0; index = record { 0 = e.1 } })
 
+-- the same as a known memory
 abbrev pub memory_entity : StaticModuleIndex × ℕ → KnownEntity DefinedMemoryIndex
 memory_entity e = record { «module» = e.0; index = record { 0 = e.1 } }
 
+-- the same as a known table
 abbrev pub table_entity : StaticModuleIndex × ℕ → KnownEntity DefinedTableIndex
 table_entity e = record { «module» = e.0; index = record { 0 = e.1 } }
 

@@ -23,7 +23,7 @@ use Rattle.pc_types_walk.specs.Names.{export_names, export_place}
 use Rattle.pc_spec_plan.specs.CoreValue.{CoreValue, by_index, by_name, exported}
 use Rattle.pc_parsed.specs.Mark.{Mark}
 use Rattle.pc_spec_reading.specs.Arguments as reading_of
-use Rattle.pc_spec_reading.specs.Arguments.{core_export, host_item, record_item, tree_kind}
+use Rattle.pc_spec_reading.specs.Arguments.{core_export, host_item, record_item}
 use Rattle.pc_spec_reading.specs.Member.{place_from}
 use Rattle.pc_spec_reading.specs.Scope as reading
 use Rattle.pc_spec_reading.specs.Scope.{Scope}

@@ -31,7 +31,7 @@ pub(crate) fn number_of(names: &Interner<Text>, name: &Text) -> Option<Atom>
     Some(Atom(names.find(name)?))
 }
 
-/// The number of a name, which is added unless it is held.
+/// The number of a name, which is added unless it is held. Where all numbers are taken, memory for more is wanting.
 fn add_name(names: &mut Interner<Text>, name: &Text) -> Result<Atom, NoMemory>
     ensures held { IfOk result (λ n. IsNumber names.new n name.now) }
     ensures grows { OnOk result (names.new ≡ with_name names.old name.now) }
