@@ -1095,6 +1095,103 @@ def children_with_a_long_name(room):
     return nesting(child % ("n" * (room // 2)), begins)
 
 
+def name_of(room, parts=3):
+    """A name that takes one of so many parts of the room."""
+    return "n" * (room // parts)
+
+
+def children_of(room, child, types=NEST_TYPES, root=(), begins=ONE_CHILD, most=MOST - 1):
+    """Instances of a component behind these pieces of the root, for what is left of the room."""
+    left = room - len(types) - len(child) - sum(len(piece) for piece in root)
+    count = min(left // (len(begins) + 1), most)
+    return over(types, *root, child, fill('{"component-instances":[', lambda n: begins, "]}", count))
+
+
+# an import that the root has too, and an instance of a child that is given it
+GIVEN = '{"imports":[["i",["instance",%d]]]}'
+GIVEN_CHILD = '{"instantiate":[0,[["i","instance",0]],2]}'
+
+
+def children_with_a_long_argument(room):
+    """Instances of a component that gives another one an argument under a very long name: the product."""
+    name = name_of(room)
+    inner = '"component","version",{"imports":[["%s",["instance",2]]]},"end"' % name
+    made = '{"component-instances":[{"exports":[[],2]},{"instantiate":[0,[["%s","instance",0]],2]}]}' % name
+    return children_of(room, '"component","version",%s,%s,"end"' % (inner, made), most=(MOST - 1) // 2)
+
+
+def children_with_a_long_alias(room):
+    """Instances of a component that takes something of a very long name out of an instance: the product."""
+    name = name_of(room)
+    made = '{"component-instances":[{"exports":[[],2]},{"exports":[[["%s","instance",0]],2]}]}' % name
+    taken = '{"aliases":[{"export":["instance",1,"%s"]}]}' % name
+    return children_of(room, '"component","version",%s,%s,"end"' % (made, taken))
+
+
+def children_with_a_long_bag(room):
+    """Instances of a component that gives a core module what it imports under a very long name: the product."""
+    name = name_of(room, 6)
+    takes = core_module('["%s","%s",["func",0]]' % (name, name), 0, "")
+    taken = '{"aliases":[{"outer":["core-module",1,0]},{"outer":["core-module",1,1]}]}'
+    made = '{"instances":[{"exports":[["%s","func",0]]},{"instantiate":[1,[["%s",1]]]}]}' % (name, name)
+    found = '{"aliases":[{"core-export":["func",1,"%s"]}]}' % name
+    child = ",".join(['"component","version"', taken, INSTANCE, ALIAS, made, found, '"end"'])
+    return children_of(room, child, root=[ONE_FUNC, takes])
+
+
+def children_with_a_long_core_export(room):
+    """Instances of a component that takes a function of a very long name out of a core instance: the product."""
+    name = name_of(room)
+    captured, taken = '{"aliases":[{"outer":["core-module",1,0]}]}', '{"aliases":[{"core-export":["func",0,"%s"]}]}' % name
+    child = ",".join(['"component","version"', captured, INSTANCE, taken, '"end"'])
+    return children_of(room, child, root=[core_module("", 1, '["%s","func",0]' % name)])
+
+
+def children_with_a_long_host_name(room):
+    """Instances of a component that takes a function of a very long name out of an imported instance: the product."""
+    name = name_of(room)
+    types = NEST_TYPES[:-2] + ',{"instance":[["%s",["func",1]]]}]}' % name
+    child = '"component","version",%s,{"aliases":[{"export":["func",0,"%s"]}]},"end"' % (GIVEN % 4, name)
+    return children_of(room, child, types, [GIVEN % 4], GIVEN_CHILD)
+
+
+def children_with_a_long_resource(room):
+    """Instances of a component that are given a resource under a very long name: the product."""
+    types = NEST_TYPES[:-2] + ',"resource",{"instance":[["%s",["type",4]]]}]}' % name_of(room)
+    return children_of(room, '"component","version",%s,"end"' % (GIVEN % 5), types, [GIVEN % 5], GIVEN_CHILD)
+
+
+def children_with_a_long_label(room):
+    """Instances of a component that lifts a function of a stream, whose parameter has a very long name: the product."""
+    entries = ',{"stream":"u8"},{"func":{"params":[["%s",4]],"result":null,"async":false}}]}' % name_of(room)
+    return children_of(room, LIFTING_CHILD % 5, NEST_TYPES[:-2] + entries, [ONE_FUNC])
+
+
+def long_host_item(room, entity):
+    """The types and the root's first pieces: what an imported module exports under a very long name is aliased."""
+    name = name_of(room)
+    kind = entity[2:entity.index('"', 2)]
+    types = NEST_TYPES[:-2] + ',{"module":[[],[["%s",%s]]]}]}' % (name, entity)
+    taken = '{"aliases":[{"core-export":["%s",0,"%s"]}]}' % (kind, name)
+    return types, ['{"imports":[["m",["module",4]],["i",["func",1]]]}', INSTANCE, taken]
+
+
+def then_lowered(room, types, root, lower):
+    """The same, with one lowering over and over for what is left of the room."""
+    return over(types, *root, canon(lambda n: lower, room - len(types) - sum(len(piece) for piece in root)))
+
+
+def lowerings_over_a_long_host_memory(room):
+    """One function is lowered over and over with an imported module's memory of a very long name: the product."""
+    return then_lowered(room, *long_host_item(room, '["memory",false]'), '["lower",0,1,0,[["memory",0]]]')
+
+
+def equal_adapters_of_a_long_host_function(room):
+    """An imported module's function of a very long name is lifted, and that is lowered over and over: the product."""
+    types, root = long_host_item(room, '["func",0]')
+    return then_lowered(room, types, root + [LIFTS], '["lower",1,1,0,[]]')
+
+
 def many_resources(room):
     """The root declares very many resources, each of its own."""
     count = room // len('"resource",{"resource":[1000000,"i32",null]},')
@@ -1322,7 +1419,11 @@ FAMILIES = {
     types_that_hash_alike: 0, many_children: 0, children_over_a_long_table: 0, children_with_a_long_type: 0,
     children_in_children: 0, child_of_itself: 1, children_with_arguments: 0, child_with_imports: 0,
     exports_of_a_child: 0, items_of_an_instance: 0, instances_of_instances: 0, aliases_of_one_member: 0,
-    captures_of_a_child: 0, captures_at_each_level: 0, children_with_a_long_name: 0, many_resources: 0, resources_with_destructors: 0,
+    captures_of_a_child: 0, captures_at_each_level: 0, children_with_a_long_name: 0, children_with_a_long_argument: 0,
+    children_with_a_long_alias: 0, children_with_a_long_bag: 0, children_with_a_long_core_export: 0,
+    children_with_a_long_host_name: 0, children_with_a_long_resource: 0, children_with_a_long_label: 0,
+    lowerings_over_a_long_host_memory: 0, equal_adapters_of_a_long_host_function: 0,
+    many_resources: 0, resources_with_destructors: 0,
     imported_resources: 0, one_resource_imported_often: 0, children_with_a_resource: 0, children_given_a_resource: 0,
     resources_between_long_types: 0, resources_between_long_handles: 0, doubling_instance_imported: 0,
     deep_doubling_instance_imported: 1,
@@ -1398,7 +1499,7 @@ def main():
     folder = args.keep or tempfile.mkdtemp()
     os.makedirs(folder, exist_ok=True)
     worse = 0
-    print("%-30s %6s %7s %8s %9s %8s  %s" % ("family", "status", "MiB", "seconds", "peak MiB", "s/MiB", "first line"))
+    print("%-38s %6s %7s %8s %9s %8s  %s" % ("family", "status", "MiB", "seconds", "peak MiB", "s/MiB", "first line"))
     for family in chosen:
         path = os.path.join(folder, family.__name__ + ".json")
         word = args.word or WORDS.get(family, "translate")
@@ -1407,7 +1508,7 @@ def main():
         wrong = "" if status == FAMILIES[family] else "   <- expected status %d" % FAMILIES[family]
         worse += bool(wrong)
         figures = (family.__name__, status, size, seconds, peak, seconds / size, line, wrong)
-        print("%-30s %6d %7.1f %8.2f %9.0f %8.3f  %s%s" % figures, flush=True)
+        print("%-38s %6d %7.1f %8.2f %9.0f %8.3f  %s%s" % figures, flush=True)
         if not args.keep:
             os.remove(path)
     sys.exit(1 if worse else 0)
