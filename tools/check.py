@@ -9,7 +9,8 @@ import sys
 from pathlib import Path
 
 TOOLS = Path(__file__).resolve().parent
-CHECKS = [("believed.py", "--check"), ("builtin_rows.py", "--check"), ("draw.py", "--test"), ("manpage.py", "--check")]
+CHECKS = [("believed.py", "--check"), ("builtin_rows.py", "--check"), ("calls.py", "--check"), ("draw.py", "--test"),
+          ("manpage.py", "--check")]
 
 
 def main():
