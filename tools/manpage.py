@@ -1,19 +1,22 @@
 #!/usr/bin/env python3
-"""Writes docs/plan.1, the manual page of the program `plan`.
+"""Writes docs/plan.1, the manual page of the program `plan`, and what README.md says of exit codes and of the version.
 
 The usage, the exit codes and the lines of faults are those of docs/FORMATS.md, and the version is the first one of
 CHANGELOG.md. A command that the usage names and that has no row in `COMMANDS` is said to be not built.
 
-    python3 tools/manpage.py --write    writes the page
-    python3 tools/manpage.py --check    ends with 1 where it is out of date
-    man -l docs/plan.1                  shows it
+    python3 tools/manpage.py --write    writes both
+    python3 tools/manpage.py --check    ends with 1 where one is out of date
+    man -l docs/plan.1                  shows the page
 """
+import itertools
 import re
 import sys
 from pathlib import Path
 
 ROOT = Path(__file__).resolve().parent.parent
 PAGE = ROOT / "docs" / "plan.1"
+README = ROOT / "README.md"
+EXIT_CODES = ("Words, usage and exit codes", "| exit code |")
 
 # The commands that are built.
 COMMANDS = [
@@ -92,16 +95,26 @@ def entry(term, text):
     return ".TP\n%s\n%s\n" % (roff(term), roff(text))
 
 
-def rows(text, heading, header):
-    """The rows of the table under a heading, below this header."""
-    part = text[text.index("\n## %s\n" % heading):]
-    lines = part[part.index(header):].splitlines()[2:]
-    found = []
-    for line in lines:
-        if not line.startswith("|"):
-            break
-        found.append([cell.strip() for cell in line.strip("|").split("|")])
-    return found
+def formats():
+    return (ROOT / "docs" / "FORMATS.md").read_text()
+
+
+def version():
+    """The version, and its day."""
+    return re.search(r"(?m)^## (\S+), (\S+)$", (ROOT / "CHANGELOG.md").read_text()).groups()
+
+
+def table(heading, header):
+    """The lines of the table under a heading of docs/FORMATS.md that begins so."""
+    part = formats()
+    part = part[part.index("\n## %s\n" % heading):]
+    lines = part[part.index(header):].splitlines()
+    return list(itertools.takewhile(lambda line: line.startswith("|"), lines))
+
+
+def rows(heading, header):
+    """The rows of such a table."""
+    return [[cell.strip() for cell in line.strip("|").split("|")] for line in table(heading, header)[2:]]
 
 
 def commands(usage):
@@ -120,30 +133,38 @@ def called(words):
 
 
 def page():
-    formats = (ROOT / "docs" / "FORMATS.md").read_text()
-    version, date = re.search(r"(?m)^## (\S+), (\S+)$", (ROOT / "CHANGELOG.md").read_text()).groups()
-    usage = re.search(r"(?m)^usage: plan .*$", formats).group()
+    usage = re.search(r"(?m)^usage: plan .*$", formats()).group()
     synopsis = "\n.br\n".join(called(word) for word, _ in COMMANDS) + "\n"
     codes = "".join(entry("`%s`" % code, "%s. Written: %s." % (what[0].upper() + what[1:], written))
-                    for code, what, written in rows(formats, "Words, usage and exit codes", "| exit code |"))
+                    for code, what, written in rows(*EXIT_CODES))
     faults = paragraphs(FAULTS) + "".join(
         entry(line.replace("` PLACE", " PLACE`"), what[0].upper() + what[1:] + ".")
-        for line, what in rows(formats, "The texts of faults", "| line |"))
+        for line, what in rows("The texts of faults", "| line |"))
     examples = "".join(".PP\n%s\n.PP\n.nf\n.RS\n%s\n.RE\n.fi\n" % (roff(text), line) for text, line in EXAMPLES)
-    return HEAD % (date, version) + "".join([
+    return HEAD % version()[::-1] + "".join([
         section("SYNOPSIS", synopsis), section("DESCRIPTION", paragraphs(DESCRIPTION)),
         section("COMMANDS", commands(usage)), section("EXIT STATUS", codes), section("FAULTS", faults),
         section("NOTES", paragraphs(NOTES)), section("EXAMPLES", examples),
         section("SEE ALSO", roff(SEE_ALSO) + "\n")])
 
 
+def readme():
+    """README.md with the table of exit codes and the version."""
+    codes = "\n".join(table(*EXIT_CODES))
+    text = re.sub(r"(?s)(<!--exit codes-->\n).*?(<!--end-->)", lambda found: found[1] + codes + "\n" + found[2],
+                  README.read_text())
+    return re.sub(r"This is version [0-9.]+[0-9]", "This is version " + version()[0], text)
+
+
 def main():
-    text = page()
+    texts = {PAGE: page(), README: readme()}
     if "--write" in sys.argv[1:]:
-        PAGE.write_text(text)
+        for path, text in texts.items():
+            path.write_text(text)
     elif "--check" in sys.argv[1:]:
-        if not PAGE.exists() or PAGE.read_text() != text:
-            sys.exit("docs/plan.1 is out of date: run python3 tools/manpage.py --write")
+        stale = [path.name for path, text in texts.items() if not path.exists() or path.read_text() != text]
+        if stale:
+            sys.exit("%s is out of date: run python3 tools/manpage.py --write" % " and ".join(stale))
     else:
         sys.exit(__doc__)
 
