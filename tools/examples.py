@@ -1,10 +1,10 @@
 #!/usr/bin/env python3
 """Keeps docs/EXAMPLES.md true: the inputs of docs/examples, with what the program writes of them.
 
-An input is docs/examples/NAME.json. Beside it stand its plan (NAME.plan), the sizes of its context (NAME.context) and
-its picture (NAME.svg). The page has a block for each text, between the lines <!--translate NAME--> and <!--end-->,
-where `translate` is a word of the program. Inputs and texts are also rows of the tests
-(crates/pc_test_rows/data/examples.txt), so that a change of a text fails there.
+An input is docs/examples/NAME.json. Beside it stand its plan (NAME.plan), the sizes of its context (NAME.context), the
+facts of its core modules (NAME.facts) and its picture (NAME.svg). The page has a block for each text, between the lines
+<!--translate NAME--> and <!--end-->, where `translate` is a word of the program. Inputs and texts are also rows of the
+tests (crates/pc_test_rows/data/examples.txt), so that a change of a text fails there.
 
     python3 tools/examples.py --write             writes page, rows and pictures from the texts that are there
     python3 tools/examples.py --write PROGRAM     runs the program, and writes the texts too
@@ -23,11 +23,13 @@ from pathlib import Path
 
 sys.dont_write_bytecode = True
 import draw
+import needs
 
 ROOT = Path(__file__).resolve().parent.parent
 EXAMPLES = ROOT / "docs" / "examples"
 PAGE = ROOT / "docs" / "EXAMPLES.md"
 TABLE = ROOT / "crates" / "pc_test_rows" / "data" / "examples.txt"
+COUNTS = ROOT / "crates" / "pc_test_rows" / "stdout"
 BLOCK = re.compile(r"(<!--([a-z]+) ([a-z]+)-->\n).*?(<!--end-->)", re.DOTALL)
 ENDINGS = {"translate": "plan"}
 
@@ -71,6 +73,11 @@ def table():
     return HEAD + "".join(row(word, name) for word, name in blocks())
 
 
+def counts():
+    """What the tests print, with how many rows there are."""
+    return re.sub(r"(?m)^examples\.txt: \d+ rows$", "examples.txt: %d rows" % len(blocks()), COUNTS.read_text())
+
+
 def drawing(name):
     """Graphviz text of an input's plan, and its checksum."""
     text = draw.drawn(text_of("translate", name).encode())
@@ -104,10 +111,9 @@ def stale(program):
     for word, name in blocks():
         if program and run(program, word, name) != text_of(word, name).encode():
             yield "%s, as %s writes it," % (file_of(word, name).relative_to(ROOT), program)
-    if PAGE.read_text() != page():
-        yield PAGE.relative_to(ROOT)
-    if not TABLE.exists() or TABLE.read_text() != table():
-        yield TABLE.relative_to(ROOT)
+    for path, text in ((PAGE, page()), (TABLE, table()), (COUNTS, counts())):
+        if not path.exists() or path.read_text() != text:
+            yield path.relative_to(ROOT)
     for name in pictured():
         path = EXAMPLES / (name + ".svg")
         if not path.exists() or drawing(name)[1] not in path.read_text():
@@ -116,6 +122,8 @@ def stale(program):
     for line in text_of("translate", "twice").splitlines():
         if not re.search(r"(?m) %s$" % re.escape(line), shown):
             yield "README.md, which lacks the line '%s'" % line
+    if not re.search(r"(?m)^%s$" % re.escape(needs.lines(ROOT)["pc_example"]), shown):
+        yield "README.md, which lacks the line of pc_example in crates.txt"
 
 
 def main():
@@ -129,6 +137,7 @@ def main():
             file_of(word, name).write_bytes(run(args.write, word, name))
         PAGE.write_text(page())
         TABLE.write_text(table())
+        COUNTS.write_text(counts())
         draw_pictures()
         return
     found = list(stale(args.check))
