@@ -10,7 +10,7 @@ from pathlib import Path
 
 TOOLS = Path(__file__).resolve().parent
 CHECKS = [("believed.py", "--check"), ("builtin_rows.py", "--check"), ("calls.py", "--check"), ("draw.py", "--test"),
-          ("manpage.py", "--check")]
+          ("links.py", "--check"), ("manpage.py", "--check")]
 
 
 def main():
