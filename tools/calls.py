@@ -22,8 +22,9 @@ Each public call of the library crates, with its conditions (`requires`) and its
 call whatever its clauses, what tells a caller that a condition holds, and what a refusal leaves;
 [CAUSES.md](CAUSES.md) says when each answer comes. What a clause says stands beside the call's name in the file.
 
-A call of a trait is listed with the trait, and with an impl where that has clauses of its own. `tools/calls.py` writes
-this page: %d calls of %d crates, of which %d have a condition.
+A call of a trait is listed with the trait, and with an impl where that has clauses of its own. A call without a clause
+returns what no contract looks into: a seed, an allocator, a store of names. `tools/calls.py` writes this page: %d calls
+of %d crates, of which %d have a condition.
 """
 
 
