@@ -4,12 +4,7 @@ use pc_tool::{Status, SureSink, SureSource, run};
 use std::alloc::{AllocError, Global};
 
 /// `run` itself. Its clauses are long, and are opened wherever its answer is looked at, so here nothing is.
-fn plain_run(
-    alloc: Global,
-    words: &[String],
-    src: &mut SureSource,
-    out: &mut SureSink,
-) -> Status {
+fn plain_run(alloc: Global, words: &[String], src: &mut SureSource, out: &mut SureSink) -> Status {
     run(alloc, words, src, out)
 }
 

@@ -72,12 +72,7 @@ fn sink(alloc: Global, ends: &Ends) -> Result<MemSink, AllocError> {
 }
 
 /// `run` itself. Its clauses are long, and are opened wherever its answer is looked at, so here nothing is.
-fn plain_run(
-    alloc: Global,
-    words: &[String],
-    src: &mut MemSource,
-    out: &mut MemSink,
-) -> Status {
+fn plain_run(alloc: Global, words: &[String], src: &mut MemSource, out: &mut MemSink) -> Status {
     run(alloc, words, src, out)
 }
 
