@@ -1,8 +1,8 @@
 -- Over streams whose counts of faults stay 0 no run ends with a fault of a stream.
 use Rattle.std.proofs.Common.{◌≡◌, ◌≢◌, ◌⊎◌, inl, inr, ℕ, List, Option, Some, None, refl, arith}
 use Rattle.pc_stream.specs.Stream.{ShowsFault}
-use Rattle.pc_tool.specs.declared.status.Status.{Status}
-use Rattle.pc_tool.specs.declared.status.Status.TheVariants as status
+use Rattle.pc_serve.specs.declared.status.Status.{Status}
+use Rattle.pc_serve.specs.declared.status.Status.TheVariants as status
 use Rattle.pc_tool.specs.Chain.{ChainEnded}
 use Rattle.pc_tool.specs.Run.{Ended}
 use Rattle.pc_tool.specs.Words.{chain_of, command_of}

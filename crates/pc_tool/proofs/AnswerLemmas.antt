@@ -1,5 +1,5 @@
 -- From the answers of the crates below to what an answer says of an input and of bytes.
-use Rattle.std.proofs.Common.{◌≡◌, ◌≢◌, inl, inr, ℕ, true, List, Option, Result, Ok, Err, IfOk, IfErr, subst, refl}
+use Rattle.std.proofs.Common.{◌≡◌, ◌≢◌, inl, inr, ℕ, true, List, Option, Result, Ok, Err, IfOk, IfErr, subst}
 use Rattle.std.specs.declared.vec.Vec.{Vec}
 use Rattle.std.specs.declared.alloc.Global.{Global}
 use Rattle.pc_types.specs.declared.error.Error.{Error}
@@ -12,15 +12,17 @@ use Rattle.pc_spec_plan.specs.Text.{plan_text}
 use Rattle.pc_offsets.specs.Context.{context_size}
 use Rattle.pc_spec_facts.specs.Text.{facts_text}
 use Rattle.pc_text.specs.ContextText.{context_text}
+use Rattle.pc_text.specs.FaultText.{bad_form, not_json}
 use Rattle.pc_input.specs.declared.input.Input.{Input}
 use Rattle.pc_translate.specs.Translation.{IsPlanOf, IsRefusalOf}
 use Rattle.pc_tool.specs.declared.words.Command.{Command}
 use Rattle.pc_tool.specs.declared.words.Command.TheVariants as command
-use Rattle.pc_tool.specs.declared.answer.Answer.{Answer}
-use Rattle.pc_tool.specs.declared.answer.Answer.TheVariants as answer
-use Rattle.pc_tool.specs.Answers.{Answers, AnswersInput, AnswersSource}
-use Rattle.pc_tool.specs.Headline.{Decodes, IsPlanFor, IsErrorOf, IsNotJson, IsBadForm, Prints, Explains}
-use Rattle.pc_tool.specs.Run.{IsWhole, GaveTooMuch}
+use Rattle.pc_serve.specs.declared.answers.Answer.{Answer}
+use Rattle.pc_serve.specs.declared.answers.Answer.TheVariants as answer
+use Rattle.pc_serve.specs.Answer.{IsAnswer}
+use Rattle.pc_tool.specs.Answers.{AnswersInput}
+use Rattle.pc_tool.specs.Headline.{Decodes, IsPlanFor, IsErrorOf, IsNotJson, IsBadForm, IsFaultText, IsTextOf}
+use Rattle.pc_tool.specs.Headline.{Prints, Explains}
 
 -- a plan of the parts of an input is one of the input
 pub plans : (input : Input) (exposed : Option (List ℕ)) → exposed ≡ input.intrinsics
@@ -89,12 +91,13 @@ module _ (c : Command) (input : Input) where
   made_answers plan modules text is printed = (plan, modules, is, printed)
 
   pub fault_answers : (e : Error) (text : Vec ℕ Global) → e ≢ error.NoMemory → IsErrorOf input e → Explains e text.items
-      → AnswersInput c input (answer.Fault text)
+      → AnswersInput c input (answer.Refused text)
   unfolding AnswersInput
   fault_answers e text has_text is printed = (e, has_text, is, printed)
 
-  pub bytes_told : (bytes : List ℕ) → Decodes bytes input → (a : Answer) → AnswersInput c input a → Answers c bytes a
-  unfolding AnswersInput Answers
+  pub bytes_told : (bytes : List ℕ) → Decodes bytes input → (a : Answer) → AnswersInput c input a
+      → IsAnswer (IsTextOf c) IsFaultText bytes a
+  unfolding AnswersInput IsAnswer
   bytes_told bytes decoded (answer.Made text) is = record {
     input = input;
     decoded = decoded;
@@ -103,38 +106,23 @@ module _ (c : Command) (input : Input) where
     does = is.2;
     printed = is.3;
   }
-  bytes_told bytes decoded (answer.Fault text) is = record {
+  bytes_told bytes decoded (answer.Refused text) is = inr (inr (record {
     input = input;
     decoded = decoded;
     refusal = is.0;
     has_text = is.1;
     cause = is.2;
     printed = is.3;
-  }
-  bytes_told bytes decoded answer.NotJson is = absurd is
-  bytes_told bytes decoded answer.BadForm is = absurd is
-  bytes_told bytes decoded answer.TooLong is = absurd is
+  }))
 
--- the answers of a command to bytes that stand for no input, and to a source
-module _ (c : Command) where
-  pub not_json_answers : (bytes : List ℕ) → IsNotJson bytes → Answers c bytes answer.NotJson
-  unfolding Answers
-  not_json_answers bytes is = is
+-- the answers of a command to bytes that stand for no input
+module _ (c : Command) (bytes : List ℕ) (text : Vec ℕ Global) where
+  pub not_json_answers : IsNotJson bytes → text.items ≡ not_json
+      → IsAnswer (IsTextOf c) IsFaultText bytes (answer.Refused text)
+  unfolding IsAnswer
+  not_json_answers is same = inl (is, same)
 
-  pub bad_form_answers : (bytes : List ℕ) → IsBadForm bytes → Answers c bytes answer.BadForm
-  unfolding Answers
-  bad_form_answers bytes is = is
-
-  pub not_too_long : (bytes : List ℕ) → Answers c bytes answer.TooLong → ⊥
-  unfolding Answers
-  not_too_long bytes is = is
-
-  pub source_answers : (left left_new : Option (List ℕ)) (bytes : List ℕ) (a : Answer) → IsWhole left left_new bytes
-      → Answers c bytes a → AnswersSource c left left_new a
-  unfolding AnswersSource
-  source_answers left left_new bytes a read is = inr (bytes, read, is)
-
-  pub source_too_long : (left left_new : Option (List ℕ)) → GaveTooMuch left left_new
-      → AnswersSource c left left_new answer.TooLong
-  unfolding AnswersSource
-  source_too_long left left_new gave = inl (refl, gave)
+  pub bad_form_answers : IsBadForm bytes → text.items ≡ bad_form
+      → IsAnswer (IsTextOf c) IsFaultText bytes (answer.Refused text)
+  unfolding IsAnswer
+  bad_form_answers is same = inr (inl (is, same))

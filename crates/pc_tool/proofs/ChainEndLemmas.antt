@@ -1,15 +1,16 @@
--- How a run on a generated chain has ended, and which words ask for one.
-use Rattle.std.proofs.Common.{◌≡◌, ◌≤◌, inl, inr, ℕ, Bool, true, false, List, [], ◌∷◌, Option, Some, None, subst, sym}
+-- How a run has ended, also on a generated chain, and which words ask for one.
+use Rattle.std.proofs.Common.{◌≡◌, ◌≤◌, inl, inr, ℕ, Bool, true, false, List, [], ◌∷◌, Option, Some, None, subst, sym, ◌∙◌}
 use Rattle.std.proofs.Common.{if◌then◌else◌}
 use Rattle.std.specs.Prelude.{⊤, codes}
 use Rattle.std.specs.Str.{bytes_eq}
 use Rattle.pc_generate.specs.Count.{count_in}
 use Rattle.pc_generate.proofs.WordLemmas.{found_count}
-use Rattle.pc_tool.specs.declared.status.Status.{Status}
-use Rattle.pc_tool.specs.declared.status.Status.TheVariants as status
+use Rattle.pc_serve.specs.declared.status.Status.{Status}
+use Rattle.pc_serve.specs.declared.status.Status.TheVariants as status
+use Rattle.pc_serve.specs.Said.{Said}
 use Rattle.pc_tool.specs.declared.words.Command.{Command}
-use Rattle.pc_tool.specs.Answers.{Said}
 use Rattle.pc_tool.specs.Chain.{ChainEnded, IsChainText}
+use Rattle.pc_tool.specs.Run.{Ended}
 use Rattle.pc_tool.specs.Words.{chain_of, command_of}
 
 -- its text was written, or a front of it
@@ -21,7 +22,7 @@ unfolding Said
 chain_said n written written_new writes writes_new Kept text shown result is same (inl said) falls = record {
   unread = tt;
   ends = inl said.0;
-  done = λ e. record { text = shown; said = subst (IsChainText n) (sym same) is; wrote = said.1 };
+  done = λ e. (shown, subst (IsChainText n) (sym same) is, said.1);
   write_fault = λ e. absurd (let no : ⊥ = cc (said.0, e) in no);
   memory = λ e. absurd (let no : ⊥ = cc (said.0, e) in no);
   writes_never_fall = falls;
@@ -31,13 +32,13 @@ chain_said n written written_new writes writes_new Kept text shown result is sam
   ends = inr (inl cut.0);
   done = λ e. absurd (let no : ⊥ = cc (cut.0, e) in no);
   write_fault = λ e. (
-    cut.1.shown,
+    cut.1,
     record {
-      text = shown;
-      due = subst (IsChainText n) (sym same) is;
-      front = cut.1.n;
-      within = cut.1.within;
-      wrote = cut.1.wrote;
+      text = cut.2.text;
+      due = subst (IsChainText n) (sym (cut.2.due ∙ same)) is;
+      n = cut.2.n;
+      within = cut.2.within;
+      wrote = cut.2.wrote;
     },
   );
   memory = λ e. absurd (let no : ⊥ = cc (cut.0, e) in no);
@@ -58,6 +59,16 @@ chain_unread n m Unread written written_new writes writes_new Kept result same u
       memory = ended.memory;
       writes_never_fall = ended.writes_never_fall;
     })
+
+-- a run on words is one on the command that they name
+pub ended_on : (asked words : Option Command) (left left_new : Option (List ℕ)) (reads reads_new : ℕ)
+    (written written_new : Option (List ℕ)) (writes writes_new : ℕ) (Kept : Type 0) (result : Status) → asked ≡ words
+    → Ended asked left left_new reads reads_new written written_new writes writes_new Kept result
+    → Ended words left left_new reads reads_new written written_new writes writes_new Kept result
+ended_on asked words left left_new reads reads_new written written_new writes writes_new Kept result same ended =
+    subst
+    (λ (w : Option Command). Ended w left left_new reads reads_new written written_new writes writes_new Kept result)
+    same ended
 
 -- words that name a command on an input ask for no chain
 pub words_apart : (ws : List (List ℕ)) (c : Command) (n : ℕ) → command_of ws ≡ Some c → chain_of ws ≡ Some n → ⊥

@@ -36,7 +36,7 @@ use Rattle.pc_translate.specs.Adapters.{first_lacking, is_complete, lacking_from
 use Rattle.pc_translate.specs.Causes.{answer_in_order, in_the_end, or_lacking}
 use Rattle.pc_translate.specs.Translation.{IsPlanOf, IsRefusalOf}
 use Rattle.pc_tool.specs.Chain.{IsChainPlan}
-use Rattle.pc_tool.proofs.RefusalLemmas.{not_both}
+use Rattle.pc_tool.specs.Refusal.{not_both}
 
 -- the adapters of a log are those that its entries make
 made_are : (log : List (Entry reading.Mark)) → filter_map adapter_of log ≡ adapters_of log

@@ -1,9 +1,6 @@
 -- what an answer says of an input and of bytes
 pub mod AnswerLemmas
--- that a valid input isn't refused
-pub mod RefusalLemmas
 -- that a generated chain has a plan
 pub mod ChainLemmas
 -- how a run has ended
-pub mod EndLemmas
 pub mod ChainEndLemmas

@@ -1,5 +1,5 @@
 -- What a run on a generated chain writes, and why it ends so. It reads nothing.
-use Rattle.std.specs.Prelude.{◌≡◌, ◌⊎◌, ℕ, ◌+◌, ◌≤◌, List, length, take, Option, None}
+use Rattle.std.specs.Prelude.{◌≡◌, ◌⊎◌, ℕ, ◌+◌, ◌≤◌, List, Option, None}
 use Rattle.pc_info.specs.declared.component.ComponentTranslation.{ComponentTranslation}
 use Rattle.pc_info.specs.declared.module.ModuleTranslation.{ModuleTranslation}
 use Rattle.pc_info.specs.View.{view}
@@ -8,8 +8,9 @@ use Rattle.pc_text.specs.SummaryText.{summary_text}
 use Rattle.pc_generate.specs.Generated.{payloads}
 use Rattle.pc_generate.specs.Table.{table}
 use Rattle.pc_translate.specs.Translation.{IsPlanOf}
-use Rattle.pc_tool.specs.declared.status.Status.{Status}
-use Rattle.pc_tool.specs.declared.status.Status.TheVariants as status
+use Rattle.pc_serve.specs.declared.status.Status.{Status}
+use Rattle.pc_serve.specs.declared.status.Status.TheVariants as status
+use Rattle.pc_serve.specs.Ended.{WroteFront}
 
 -- a plan and its modules do what the nested reading of a chain of so many links says
 abbrev pub IsChainPlan : (n : ℕ) → ComponentTranslation → List ModuleTranslation → Type 0
@@ -22,27 +23,14 @@ pub record IsChainText (n : ℕ) (text : List ℕ) : Type 0 where
   pub does : IsChainPlan n plan modules
   pub printed : text ≡ summary_text n (view plan modules)
 
--- such a text was written
-pub record TellsChain (n : ℕ) (written written_new : Option (List ℕ)) : Type 0 where
-  pub text : List ℕ
-  pub said : IsChainText n text
-  pub wrote : Takes written written_new text
-
--- a front of such a text is all that was written
-pub record WroteChainFront (n : ℕ) (written written_new : Option (List ℕ)) : Type 0 where
-  pub text : List ℕ
-  pub due : IsChainText n text
-  pub front : ℕ
-  pub within : front ≤ length text
-  pub wrote : Takes written written_new (take front text)
-
 -- a run on a chain of so many links has ended. `Unread` says that the source is as it was, `Kept` that the sink is
 pub record ChainEnded (n : ℕ) (Unread : Type 0) (written written_new : Option (List ℕ)) (writes writes_new : ℕ)
     (Kept : Type 0) (result : Status) : Type 0 where
   pub unread : Unread
   -- such an input is valid, so that there are only these ends
   pub ends : (result ≡ status.Done) ⊎ ((result ≡ status.WriteFault) ⊎ (result ≡ status.NoMemory))
-  pub done : result ≡ status.Done → TellsChain n written written_new
-  pub write_fault : result ≡ status.WriteFault → ShowsFault writes writes_new × WroteChainFront n written written_new
+  pub done : result ≡ status.Done → (text : List ℕ) × IsChainText n text × Takes written written_new text
+  pub write_fault : result ≡ status.WriteFault
+      → ShowsFault writes writes_new × WroteFront (IsChainText n) written written_new
   pub memory : result ≡ status.NoMemory → Kept
   pub writes_never_fall : writes ≤ writes_new

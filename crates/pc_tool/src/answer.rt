@@ -1,85 +1,29 @@
 //! From bytes to the text that answers them.
 
-ghost use Rattle.std.specs.Prelude.{ℕ, ◌≡◌, ◌↔◌, ◌≤◌, ◌<◌, List, Some, length, drop, IfErr, IfOk, ◌≢◌};
-ghost use Rattle.pc_stream.specs.declared.whole.TheConstants.{MAX_INPUT};
+ghost use Rattle.std.specs.Prelude.{◌≡◌, IfErr, IfOk, ◌≢◌};
 ghost use Rattle.std.specs.Option.{option_map};
-ghost use Rattle.pc_stream.specs.Stream.{ShowsFault};
 ghost use Rattle.pc_offsets.specs.Context.{context_size};
 ghost use Rattle.pc_text.specs.ContextText.{context_text};
-ghost use Rattle.pc_tool.specs.Answers.{Answers, AnswersInput, AnswersSource, status_of, text_of};
-ghost use Rattle.pc_tool.specs.Headline.{Decodes, Explains, IsBadForm, IsErrorOf, IsNotJson, IsPlanFor, Prints};
-ghost use Rattle.pc_tool.specs.declared.answer.Unanswered.TheVariants as unanswered;
+ghost use Rattle.pc_text.specs.FaultText.{too_long as too_long_line};
+ghost use Rattle.pc_text.specs.UsageText.{usage as usage_line};
+ghost use Rattle.pc_tool.specs.Answers.{AnswersInput};
+ghost use Rattle.pc_tool.specs.Headline.{Decodes, Explains, IsBadForm, IsErrorOf, IsFaultText, IsNotJson};
+ghost use Rattle.pc_tool.specs.Headline.{IsPlanFor, IsTextOf, IsValidInput, Prints};
+ghost use Rattle.pc_tool.specs.Refusal.{valid_has_no_fault};
 
-use crate::Status;
 use crate::words::Command;
 use pc_entity::{NoMemory, PrimaryMap, Seed, StaticModuleIndex, Text};
 use pc_info::{ComponentTranslation, ModuleTranslation};
 use pc_input::{DecodeError, Input, decode_input};
 use pc_offsets::{PtrWidth, VMComponentOffsets};
-use pc_stream::{ReadEnd, Source, read_all};
-use pc_text::{bad_form_text, context_text, fault_text, not_json_text, plan_text, too_long_text};
+use pc_serve::{Answer, Answers};
+use pc_text::{
+    bad_form_text, context_text, fault_text, not_json_text, plan_text, too_long_text, usage_text,
+};
 use pc_text_facts::facts_text;
 use pc_translate::plan_payloads;
 use pc_types::Error;
 use std::alloc::Global;
-
-/// What a run has to say of its source.
-#[derive(Drop)]
-pub(crate) enum Answer {
-    /// The text that the command makes of the plan.
-    Made(Vec<u8>),
-    /// The text of the error with which the translation was refused.
-    Fault(Vec<u8>),
-    /// The bytes aren't JSON.
-    NotJson,
-    /// The bytes are JSON of another form.
-    BadForm,
-    /// There are more bytes than an input may have.
-    TooLong,
-}
-
-/// Why a run has nothing to say.
-#[derive(Clone, Copy, Debug, PartialEq, Eq)]
-pub(crate) enum Unanswered {
-    /// A read failed.
-    ReadFault,
-    /// There was no memory.
-    NoMemory,
-}
-
-impl From<NoMemory> for Unanswered {
-    ghost from_gives = { λ _ e. e ≡ unanswered.NoMemory };
-
-    fn from(_: NoMemory) -> Self {
-        Unanswered::NoMemory
-    }
-}
-
-impl Answer {
-    /// How a run ends that has written this answer.
-    pub(crate) fn status(&self) -> Status
-        ensures { result ≡ status_of self.now }
-    {
-        match self {
-            Answer::Made(_) => Status::Done,
-            Answer::Fault(_) | Answer::NotJson | Answer::BadForm => Status::Refused,
-            Answer::TooLong => Status::TooLong,
-        }
-    }
-
-    /// The text of this answer.
-    pub(crate) fn text(&self) -> &[u8]
-        ensures { result.now ≡ text_of self.now }
-    {
-        match self {
-            Answer::Made(text) => text.as_slice(),
-            Answer::Fault(text) => text.as_slice(),
-            Answer::NotJson => not_json_text().as_bytes(),
-            Answer::BadForm => bad_form_text().as_bytes(),
-            Answer::TooLong => too_long_text().as_bytes(),
-        }
-    }
-}
 
 /// The import name of the unsafe intrinsics, if one is given.
 fn exposed_name(intrinsics: &Option<Text>) -> Option<&str>
@@ -170,7 +114,7 @@ fn answer_input(
     match translate_input(alloc, seed, input) {
         Ok((plan, modules)) => Ok(Answer::Made(print(alloc, command, &plan, &modules)?)),
         Err(Error::NoMemory) => Err(NoMemory),
-        Err(error) => Ok(Answer::Fault(explain(alloc, &error)?)),
+        Err(error) => Ok(Answer::Refused(explain(alloc, &error)?)),
     }
 }
 
@@ -184,37 +128,47 @@ fn decode(alloc: Global, bytes: Vec<u8>) -> Result<Input, DecodeError>
     decode_input(alloc, bytes.as_slice())
 }
 
-/// The answer of a command to bytes.
-fn answer_bytes(alloc: Global, command: Command, bytes: Vec<u8>) -> Result<Answer, NoMemory>
-    ensures { IfOk result (Answers command bytes.items) }
+/// A text that is always the same.
+fn fixed(alloc: Global, text: &str) -> Result<Vec<u8>, NoMemory>
+    ensures { IfOk result (λ made. made.items ≡ text.now) }
 {
-    let seed = Seed::of_input(bytes.as_slice());
-    match decode(alloc, bytes) {
-        Ok(input) => answer_input(alloc, seed, command, input),
-        Err(DecodeError::NotJson) => Ok(Answer::NotJson),
-        Err(DecodeError::BadForm) => Ok(Answer::BadForm),
-        Err(DecodeError::NoMemory) => Err(NoMemory),
-    }
+    Ok(text.as_bytes().to_vec(alloc)?)
 }
 
-/// The answer of a command to all the bytes that a source has.
-pub(crate) fn answer_source<S: Source>(
-    alloc: Global,
-    command: Command,
-    src: &mut S,
-) -> Result<Answer, Unanswered>
-    ensures ok { IfOk result (AnswersSource command (S.left src.old) (S.left src.new)) }
-    // Where bytes are told, n of them were given, from the front; too long is exactly an n above the limit.
-    ensures too_long { (told : List ℕ) → S.left src.old ≡ Some told → (n : ℕ) × (n ≤ length told)
-        × (S.left src.new ≡ Some (drop n told)) × ((result ≡ Ok Answer.TooLong) ↔ (MAX_INPUT < n)) }
+impl Answers for Command {
+    ghost use Rattle.pc_input.specs.declared.input.Input.{Input};
 
-    ensures fault { result ≡ Err Unanswered.ReadFault → ShowsFault (S.faults src.old) (S.faults src.new) }
-    ensures never_falls { S.faults src.old ≤ S.faults src.new }
-{
-    match read_all(alloc, src) {
-        Ok(bytes) => Ok(answer_bytes(alloc, command, bytes)?),
-        Err(ReadEnd::TooLong) => Ok(Answer::TooLong),
-        Err(ReadEnd::Fault) => Err(Unanswered::ReadFault),
-        Err(ReadEnd::NoMemory) => Err(Unanswered::NoMemory),
+    ghost Meaning = { Input };
+
+    ghost StandsFor = { Decodes };
+
+    ghost IsValid = { IsValidInput };
+
+    ghost Says = { IsTextOf };
+
+    ghost Refuses = { IsFaultText };
+
+    ghost usage = { usage_line };
+
+    ghost too_long = { too_long_line };
+
+    ghost completes = { valid_has_no_fault };
+
+    fn answer(&self, alloc: Global, bytes: Vec<u8>) -> Result<Answer, NoMemory> {
+        let seed = Seed::of_input(bytes.as_slice());
+        match decode(alloc, bytes) {
+            Ok(input) => answer_input(alloc, seed, *self, input),
+            Err(DecodeError::NotJson) => Ok(Answer::Refused(fixed(alloc, not_json_text())?)),
+            Err(DecodeError::BadForm) => Ok(Answer::Refused(fixed(alloc, bad_form_text())?)),
+            Err(DecodeError::NoMemory) => Err(NoMemory),
+        }
+    }
+
+    fn usage_text() -> &'static str {
+        usage_text()
+    }
+
+    fn too_long_text() -> &'static str {
+        too_long_text()
     }
 }

@@ -2,45 +2,19 @@
 
 ghost use Rattle.std.specs.Prelude.{◌≡◌, ◌≤◌, ◌⊎◌, ⊤, ℕ, None, Some, map};
 ghost use Rattle.std.specs.String.{string_bytes};
-ghost use Rattle.pc_tool.specs.Answers.{Said};
+ghost use Rattle.pc_serve.specs.Ended.{Tells};
 ghost use Rattle.pc_tool.specs.Chain.{ChainEnded};
 ghost use Rattle.pc_tool.specs.Headline.{IsContextText, IsFactsText, IsPlanText};
-ghost use Rattle.pc_tool.specs.Run.{Ended, Tells};
+ghost use Rattle.pc_tool.specs.Run.{Ended};
 ghost use Rattle.pc_tool.specs.Words.{chain_of, command_of};
 ghost use Rattle.pc_tool.specs.declared.words.Command.TheVariants as command;
 
-use crate::answer::{Unanswered, answer_source};
 use crate::chain::chain_text;
-use crate::words::{Command, chain_of, command_of};
+use crate::words::{chain_of, command_of};
 use crate::{Sink, Source, Status};
 use pc_entity::NoMemory;
-use pc_stream::{Failed, write_all};
-use pc_text::usage_text;
+use pc_serve::{say, serve};
 use std::alloc::Global;
-
-/// Writes a text, and answers the status that it has, or that a write failed.
-fn say<W: Sink>(out: &mut W, status: Status, text: &[u8]) -> Status
-    ensures said { Said (W.written out.old) (W.written out.new) (W.faults out.old) (W.faults out.new)
-        status text.now result }
-    ensures never_falls { W.faults out.old ≤ W.faults out.new }
-{
-    match write_all(out, text) {
-        Ok(()) => status,
-        Err(Failed) => Status::WriteFault,
-    }
-}
-
-/// Does a command on all that a source has: writes the text that it makes of the plan, or the refusal.
-fn execute<S: Source, W: Sink>(alloc: Global, asked: Command, src: &mut S, out: &mut W) -> Status
-    ensures { Ended (Some asked) (S.left src.old) (S.left src.new) (S.faults src.old) (S.faults src.new)
-        (W.written out.old) (W.written out.new) (W.faults out.old) (W.faults out.new) (out.new ≡ out.old) result }
-{
-    match answer_source(alloc, asked, src) {
-        Ok(answer) => say(out, answer.status(), answer.text()),
-        Err(Unanswered::ReadFault) => Status::ReadFault,
-        Err(Unanswered::NoMemory) => Status::NoMemory,
-    }
-}
 
 /// Writes what the plan of a generated chain of so many links has.
 fn write_chain<W: Sink>(alloc: Global, n: u32, out: &mut W) -> Status
@@ -87,11 +61,8 @@ pub fn run<S: Source, W: Sink>(alloc: Global, words: &[String], src: &mut S, out
         (S.left src.old) (S.left src.new) (S.faults src.old) (S.faults src.new)
         (W.written out.old) (W.written out.new) (W.faults out.old) (W.faults out.new) (out.new ≡ out.old) result }
 {
-    match command_of(words) {
-        Some(asked) => execute(alloc, asked, src, out),
-        None => match chain_of(words) {
-            Some(n) => write_chain(alloc, n, out),
-            None => say(out, Status::Usage, usage_text().as_bytes()),
-        },
+    match chain_of(words) {
+        Some(n) => write_chain(alloc, n, out),
+        None => serve(alloc, command_of(words), src, out),
     }
 }

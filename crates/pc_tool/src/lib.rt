@@ -8,16 +8,15 @@
 mod answer;
 mod chain;
 mod command;
-mod status;
 mod words;
 
 pub use command::run;
 pub use pc_generate::{Generated, generate};
 pub use pc_input::{DecodeError, Input, decode_input, decode_tree};
+pub use pc_serve::Status;
 pub use pc_stream::{
     Failed, MemSink, MemSource, ReadEnd, Sink, Source, StdSink, StdSource, SureSink, SureSource,
     read_all, write_all as write_text,
 };
 pub use pc_text::{fault_text, plan_text, summary_text};
 pub use pc_text_facts::facts_text;
-pub use status::Status;

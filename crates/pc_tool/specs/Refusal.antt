@@ -9,7 +9,6 @@ use Rattle.pc_input_values.specs.Tree.{◌>>=◌}
 use Rattle.pc_spec_reading.specs.Reading.{Reading}
 use Rattle.pc_translate.specs.Translation.{IsRefusalOf}
 use Rattle.pc_tool.specs.Headline.{Decodes, IsBadForm, IsErrorOf, IsFaultText, IsNotJson, IsValidInput}
-use Rattle.pc_tool.specs.Run.{Tells}
 
 -- a reading that ends at its first step or at its second has no value
 module _ {I : Type 0} (f : Data → Option I) where
@@ -36,7 +35,7 @@ valid_has_none input v e other (inl memory) = other memory
 valid_has_none input v e other (inr answered) = not_both _ v.reading e v.answer answered
 
 -- no text says of bytes that stand for a valid input why they have no plan
-valid_has_no_fault : (bytes text : List ℕ) (input : Input) → Decodes bytes input → IsValidInput input
+pub valid_has_no_fault : (bytes text : List ℕ) (input : Input) → Decodes bytes input → IsValidInput input
     → IsFaultText bytes text → ⊥
 unfolding Decodes IsNotJson IsBadForm
 valid_has_no_fault bytes text input decoded valid (inl json) =
@@ -47,12 +46,3 @@ valid_has_no_fault bytes text input decoded valid (inr (inr at)) =
     let same : at.input ≡ input = one_input _ at.input input at.decoded decoded in
     valid_has_none input valid at.refusal at.has_text
     (subst (λ (i : Input). IsErrorOf i at.refusal) same at.cause)
-
--- where all bytes of a source were read and they stand for a valid input, no such text was written
-pub told_has_no_fault : (left left_new written written_new : Option (List ℕ)) (told : List ℕ) → left ≡ Some told
-    → (input : Input) → Decodes told input → IsValidInput input → Tells IsFaultText left left_new written written_new
-    → ⊥
-told_has_no_fault left left_new written written_new told is input decoded valid tells =
-    let all : tells.bytes ≡ told = (tells.read.all told is).0 in
-    valid_has_no_fault told tells.text input decoded valid
-    (subst (λ (b : List ℕ). IsFaultText b tells.text) all tells.said)

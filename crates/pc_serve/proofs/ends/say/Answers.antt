@@ -1,6 +1,6 @@
 use Rattle.std.proofs.Common.{inl, inr, refl}
-use Rattle.pc_tool.specs.Answers.{Said}
-use Rattle.pc_tool.proofs.command.say.Goals as goal
+use Rattle.pc_serve.specs.Said.{Said}
+use Rattle.pc_serve.proofs.ends.say.Goals as goal
 
 pub returns-in-Ok-clause-said : goal.returns-in-Ok-clause-said
 unfolding Said
@@ -10,8 +10,10 @@ pub returns-in-Err-clause-said : goal.returns-in-Err-clause-said
 unfolding Said
 returns-in-Err-clause-said g c = inr (
   refl,
+  c.in-Err.ensures.cause,
   record {
-    shown = c.in-Err.ensures.cause;
+    text = c.args.text.now;
+    due = refl;
     n = c.in-Err.ensures.err.0;
     within = c.in-Err.ensures.err.1;
     wrote = c.in-Err.ensures.err.2;

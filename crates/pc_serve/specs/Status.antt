@@ -1,7 +1,7 @@
 -- The exit codes.
 use Rattle.std.specs.Prelude.{ℕ}
-use Rattle.pc_tool.specs.declared.status.Status.{Status}
-use Rattle.pc_tool.specs.declared.status.Status.TheVariants as status
+use Rattle.pc_serve.specs.declared.status.Status.{Status}
+use Rattle.pc_serve.specs.declared.status.Status.TheVariants as status
 
 -- the exit code of each end of a run
 abbrev pub code_of : Status → ℕ
