@@ -1,13 +1,14 @@
 #!/usr/bin/env python3
 """Large and hostile inputs for the program `plan`.
 
-    hostile.py PROGRAM [--mib N] [--seconds N] [--word WORD] [--keep FOLDER] [FAMILY ..]
+    hostile.py PROGRAM [--mib N] [--seconds N] [--gib N] [--word WORD] [--keep FOLDER] [FAMILY ..]
 
 Makes one input of at most N MiB (64) for each family, and no more than the total of its inputs lets it have
 (`MOST_MIB`), runs PROGRAM on it with one word, which is `translate`, or `facts` for a family that is made for it, and
 prints the exit status, the first line written, the time of the processor, the peak memory, and the time for each MiB of
 input. A time that grows with the square of the input shows when two sizes are compared. It ends with status 1 where a
 run passed the time limit (60 seconds of a processor), was killed, or ended with another status than its family names.
+A run finds at most N GiB of memory (8), so one that wants more ends with status 5.
 """
 import argparse
 import os
@@ -851,9 +852,9 @@ def long_result_in_children(room):
 
 
 def long_result_of_handles_in_children(room):
-    """The same over types that each component instance has anew, since a stream stands in them."""
-    count = min(100, MOST - 1)
-    entries = room // 2 // count // len('{"tuple":[1000000]},')
+    """The same over types that each component instance has anew, since a stream stands in them: the product."""
+    entries = room // 2 // len('{"tuple":[1000000]},')
+    count = min(room // 2 // (len(ONE_CHILD) + 1), MOST - 1)
     types = fill(NEST_TYPES[:-2] + ",", lambda n: '{"tuple":[%d]}' % (n + 3) if n else '{"stream":"u8"}', "]}", entries)
     child = '"component","version",{"canon":[["task.return",0,%d,[]]]},"end"' % (entries + 3)
     return over(types, child, fill('{"component-instances":[', lambda n: ONE_CHILD, "]}", count))
@@ -1093,6 +1094,30 @@ def children_with_a_long_name(room):
     count = min(room // 2 // (len(ONE_CHILD) + 1), MOST - 1)
     begins = fill('{"component-instances":[', lambda n: ONE_CHILD, "]}", count)
     return nesting(child % ("n" * (room // 2)), begins)
+
+
+def children_of_items(room, begin, piece):
+    """Instances of a component, for half of the room, whose body has very many items."""
+    body = "".join(listed(begin, lambda n: piece, "]}", room // 2))
+    return children_of(room, '"component","version",%s,"end"' % body)
+
+
+def children_of_many_instances(room):
+    """Instances of a component that makes very many instances of no items: the product, in memory too."""
+    return children_of_items(room, '{"component-instances":[', '{"exports":[[],2]}')
+
+
+def children_of_many_builtins(room):
+    """Instances of a component that asks for one builtin over and over: the product."""
+    return children_of_items(room, '{"canon":[', '["backpressure.inc",0]')
+
+
+def captures_in_children(room):
+    """Instances of a component in which another one captures very many that stand around both: the product in memory."""
+    count = room // 2 // len(CHILD + ',{"outer":["component",2,1000000]},')
+    captured = "".join(fill('{"aliases":[', lambda n: '{"outer":["component",2,%d]}' % n, "]}", count))
+    child = '"component","version","component","version",%s,"end","end"' % captured
+    return children_of(room, child, root=[",".join([CHILD] * count)], begins='{"instantiate":[%d,[],2]}' % count)
 
 
 def name_of(room, parts=3):
@@ -1423,6 +1448,7 @@ FAMILIES = {
     children_with_a_long_alias: 0, children_with_a_long_bag: 0, children_with_a_long_core_export: 0,
     children_with_a_long_host_name: 0, children_with_a_long_resource: 0, children_with_a_long_label: 0,
     lowerings_over_a_long_host_memory: 0, equal_adapters_of_a_long_host_function: 0,
+    children_of_many_instances: 0, children_of_many_builtins: 0, captures_in_children: 0,
     many_resources: 0, resources_with_destructors: 0,
     imported_resources: 0, one_resource_imported_often: 0, children_with_a_resource: 0, children_given_a_resource: 0,
     resources_between_long_types: 0, resources_between_long_handles: 0, doubling_instance_imported: 0,
@@ -1434,12 +1460,14 @@ FAMILIES = {
 
 
 # The most MiB of the families whose total grows with the square of the input: a larger input of these comes to
-# 4294967295, so it is refused before anything is read. A type number weighs three times the entries of the table, and an
-# instance of a core module weighs the most imports of one.
+# 4294967295, so it is refused: before anything is read, or, with very many instances of a component, once so many have
+# begun. A type number weighs three times the entries of the table, and an instance of a core module weighs the most
+# imports of one.
 MOST_MIB = {
     many_functions: 3, shared_parameters: 4, imports_of_many_homes: 7, imports_of_shared_homes: 10,
     adapters_of_many_types: 2.5, results_of_tasks: 1.5, builtins_of_many_resources: 1.5, reads_of_many_streams: 1.5,
     reads_of_a_long_type: 1.5, used_waits: 11, long_result_in_children: 1, types_that_hash_alike: 4,
+    long_result_of_handles_in_children: 1.5, children_of_many_instances: 0.6, children_of_many_builtins: 1.1,
     children_over_a_long_table: 1, children_with_a_long_type: 1, many_resources: 1.5, imported_resources: 1,
     resources_between_long_types: 1.5, resources_between_long_handles: 1.5,
 }
@@ -1475,10 +1503,11 @@ def measured(command, path, out, limits=None):
     return child.returncode, used.ru_utime + used.ru_stime, used.ru_maxrss / 1024
 
 
-def run(program, word, path, seconds):
+def run(program, word, path, seconds, gib):
     """The status, the first line, the seconds of processor time and the MiB at the peak."""
     def limits():
         resource.setrlimit(resource.RLIMIT_CPU, (seconds, seconds + 1))
+        resource.setrlimit(resource.RLIMIT_AS, (gib << 30, gib << 30))
     with tempfile.TemporaryFile() as out:
         status, time, peak = measured([program, word], path, out, limits)
         out.seek(0)
@@ -1492,6 +1521,7 @@ def main():
     parser.add_argument("families", nargs="*", metavar="FAMILY")
     parser.add_argument("--mib", type=float, default=64)
     parser.add_argument("--seconds", type=int, default=60)
+    parser.add_argument("--gib", type=int, default=8)
     parser.add_argument("--word", help="the word for all families")
     parser.add_argument("--keep", metavar="FOLDER", help="keep the inputs there")
     args = parser.parse_intermixed_args()
@@ -1504,7 +1534,7 @@ def main():
         path = os.path.join(folder, family.__name__ + ".json")
         word = args.word or WORDS.get(family, "translate")
         size = make(family, args.mib, path)
-        status, line, seconds, peak = run(os.path.abspath(args.program), word, path, args.seconds)
+        status, line, seconds, peak = run(os.path.abspath(args.program), word, path, args.seconds, args.gib)
         wrong = "" if status == FAMILIES[family] else "   <- expected status %d" % FAMILIES[family]
         worse += bool(wrong)
         figures = (family.__name__, status, size, seconds, peak, seconds / size, line, wrong)

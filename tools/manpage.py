@@ -57,6 +57,8 @@ NOTES = [
     "plan. Nothing is written to standard error.",
     "A plan may be as long as the square of its input: a module with many imports, instantiated many times, has all"
     " its arguments each time.",
+    "Neither time nor memory is bounded. Where inputs aren't trusted, both should be limited from outside, as `ulimit -t "
+    "60 -v 4194304` does: a run that finds no memory ends with exit code 5, and has written nothing.",
     "The only environment that the program uses are its words, standard input and standard output. It reads no file"
     " and starts no process.",
 ]
