@@ -1,6 +1,7 @@
 -- What the loop over the imports of the root takes from a call.
-use Rattle.std.proofs.Common.{◌≡◌, ◌≤◌, ◌+◌, ℕ, List, [], length, Some, Result, Ok, Err, ap, sym, subst, ◌∙◌}
+use Rattle.std.proofs.Common.{◌≡◌, ◌≤◌, ◌+◌, ℕ, List, [], ◌∷◌, length, Some, Result, Ok, Err, ap, sym, subst, ◌∙◌}
 use Rattle.std.specs.Prelude.{⊤, slice_get}
+use Rattle.pc_entity.specs.declared.string_pool.Atom.{Atom}
 use Rattle.pc_types.specs.declared.error.Error.{Error}
 use Rattle.pc_types.specs.declared.error.Place.{Place}
 use Rattle.pc_types.specs.declared.error.Place.TheVariants as place
@@ -13,6 +14,8 @@ use Rattle.pc_local.specs.declared.item.LocalInitializer.{LocalInitializer}
 use Rattle.pc_local.specs.declared.item.LocalInitializer.TheVariants as local
 use Rattle.pc_local.specs.Plain.{plain_item}
 use Rattle.pc_local.specs.Standing.{ItemStands, no_names}
+use Rattle.pc_inline_names.specs.Named.{Named, item_names}
+use Rattle.pc_inline_names.specs.Numbers.{AreNumbersOf}
 use Rattle.pc_inline_state.specs.declared.error.ItemError.{ItemError}
 use Rattle.pc_inline_state.specs.declared.frame.Frame.{Frame}
 use Rattle.pc_inline_state.specs.declared.state.State.{State}
@@ -21,7 +24,7 @@ use Rattle.pc_inline_state.specs.Faults.{error_of}
 use Rattle.pc_inline_state.specs.Points.{Follows, IsPoint, Steps}
 use Rattle.pc_inline_stack.specs.Reads.{AreItems, Prepared, SoFar}
 use Rattle.pc_inline_items.specs.StepsLocal.{PreparesLocal, prepare_row}
-use Rattle.pc_inline_state.specs.Tables.{Keeps, tables_of}
+use Rattle.pc_inline_state.specs.Tables.{Keeps, Tables, tables_of}
 use Rattle.pc_inline_items.proofs.LocalLemmas.{plain_is}
 use Rattle.pc_inline_stack.proofs.LoopAddsLemmas.{AddedSoFar}
 use Rattle.pc_inline.proofs.PrepareAllLemmas.{prepare_first, prepares_end}
@@ -30,6 +33,22 @@ use Rattle.pc_inline_stack.proofs.ReadLemmas.{read_all, read_fails, read_more, r
 use Rattle.pc_inline.proofs.SkipLemmas.{skips_other}
 use Rattle.pc_spec_reading.specs.Imports.{prepare}
 use Rattle.pc_spec_reading.specs.Reading.{prepare_all}
+
+-- what is found for an item of the root are the numbers of its names
+pub root_numbered : (old now : Tables) → Keeps old now → (ls : List LocalInitializer)
+    → old.names.root.initializers ≡ ls → (n : ℕ) (l : LocalInitializer) → slice_get ls n ≡ Some l → (ns : List Atom)
+    → ((k : LocalInitializer) → slice_get now.names.root.initializers n ≡ Some k
+    → AreNumbersOf now.names.texts (item_names k) ns) → AreNumbersOf now.names.texts (item_names l) ns
+root_numbered old now keeps ls is n l at ns found =
+    found l (subst (λ ks. slice_get ks n ≡ Some l)
+    (sym (ap (λ (x : Named). x.root.initializers) keeps.names ∙ is)) at)
+
+-- the name in an import is that of the import
+pub import_numbered : (names : List (List ℕ)) (l : LocalInitializer) (name : ExternName) (e : Entity)
+    → l ≡ local.Import name e → (ns : List Atom) → AreNumbersOf names (item_names l) ns
+    → AreNumbersOf names (name.name ∷ []) ns
+unfolding item_names
+import_numbered names l name e is ns are = subst (λ k. AreNumbersOf names (item_names k) ns) is are
 
 -- the error of an item at its place
 pub error_there : (e : ItemError) (there p : Place) (at : Error) → there ≡ p → at ≡ error_of e there → at ≡ error_of e p

@@ -25,7 +25,7 @@ use Rattle.pc_inline_state.specs.Fresh.{IsFresh}
 use Rattle.pc_inline_state.specs.Instances.{HaveWidths, InstancesStand}
 use Rattle.pc_inline_state.specs.KnowsSame.{KnowsSame}
 use Rattle.pc_inline_state.specs.Members.{AreEarlier}
-use Rattle.pc_inline_state.specs.Points.{IsSoundState, PointStands}
+use Rattle.pc_inline_state.specs.Points.{AreItsNames, IsSoundState, PointStands}
 use Rattle.pc_inline_state.specs.Tables.{Tables, tables_of}
 use Rattle.pc_inline_state.specs.Typed.{no_resources}
 use Rattle.pc_inline_state.specs.Worlds.{AreUsed, HasItems, HoldsTypes, IsPlain, WorldStands}
@@ -140,18 +140,19 @@ first_knows g k total none = subst (λ j. KnowsSame g j (first_moment total).sco
 
 -- a state in which the root has begun and nothing was read is sound
 first_sound : (t : TypeTable) (ms : List ModuleRecord) (old : State) → IsFresh t old
-    → AreSoundBodies (length ms) old.bodies.now → (g : ComponentDfg) → g ≡ first_graph → IsOrdered g
-    → IsSoundState t ms (record old { graph = g })
-first_sound t ms old fresh bodies g graph ordered = record {
+    → AreSoundBodies (length ms) old.bodies.now → AreItsNames t ms old.names.now old.bodies.now old.paths.names
+    → (g : ComponentDfg) → g ≡ first_graph → IsOrdered g → IsSoundState t ms (record old { graph = g })
+first_sound t ms old fresh bodies names g graph ordered = record {
   ordered = ordered;
   items = subst (HasItems ms) (sym graph) (first_items ms);
   plain = subst IsPlain (sym graph) first_plain;
-  used = subst (λ us. AreUsed g old.paths us) (sym fresh.used)
+  used = subst (λ us. AreUsed g old.paths.held us) (sym fresh.used)
       (subst (λ ps. AreUsed g ps []) (sym fresh.paths) (subst (λ h. AreUsed h [] []) (sym graph) first_used));
   numbers = fresh.numbers;
   held = subst (HoldsTypes old.types t) (sym graph) (first_holds old.types t);
   table = fresh.table;
   bodies = bodies;
+  names = names;
   members = subst (λ ds. AreEarlier ds old.instances) (sym fresh.definitions)
       (subst (AreEarlier []) (sym fresh.instances) none_earlier);
   instances = subst (InstancesStand ms (tables_of (record old { graph = g }))) (sym fresh.runtime_instances)
@@ -162,11 +163,12 @@ first_sound t ms old fresh bodies g graph ordered = record {
 
 -- and is where the reading begins
 pub first_point : (t : TypeTable) (ms : List ModuleRecord) (old : State) → IsFresh t old
-    → AreSoundBodies (length ms) old.bodies.now → (g : ComponentDfg) → g ≡ first_graph → IsOrdered g
-    → (c : RuntimeComponentInstanceIndex) → c.0 ≡ 0 → (done : Layers) → AreConverted old.types t done → (total : ℕ)
+    → AreSoundBodies (length ms) old.bodies.now → AreItsNames t ms old.names.now old.bodies.now old.paths.names
+    → (g : ComponentDfg) → g ≡ first_graph → IsOrdered g → (c : RuntimeComponentInstanceIndex) → c.0 ≡ 0
+    → (done : Layers) → AreConverted old.types t done → (total : ℕ)
     → PointStands t ms (record old { graph = g }) (first_frame c done) (first_moment total)
-first_point t ms old fresh bodies g graph ordered c zero done none total = record {
-  sound = first_sound t ms old fresh bodies g graph ordered;
+first_point t ms old fresh bodies names g graph ordered c zero done none total = record {
+  sound = first_sound t ms old fresh bodies names g graph ordered;
   here = first_knows g old.types.resources total fresh.resources;
   converted = none;
   frame = record {
@@ -180,7 +182,7 @@ first_point t ms old fresh bodies g graph ordered c zero done none total = recor
     core_instances = tt;
     instances = tt;
     components = tt;
-    arguments = λ name. neither;
+    arguments = λ n name is. neither;
     component_instance = sym zero;
     begun = subst (λ h. HasBegun h c.0) (sym graph) (omega (arith, zero));
   };

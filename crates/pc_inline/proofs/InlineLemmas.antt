@@ -6,6 +6,7 @@ use Rattle.std.proofs.lemmas.Option.{none-some}
 use Rattle.std.specs.Prelude.{⊤}
 use Rattle.std.specs.Result.{IsErrAnd}
 use Rattle.pc_numbers.specs.declared.runtime.RuntimeComponentInstanceIndex.{RuntimeComponentInstanceIndex}
+use Rattle.pc_entity.specs.declared.string_pool.Atom.{Atom}
 use Rattle.pc_types.specs.declared.error.Error.{Error}
 use Rattle.pc_types.specs.declared.error.Error.TheVariants as error
 use Rattle.pc_types.specs.declared.module_record.ModuleRecord.{ModuleRecord}
@@ -44,7 +45,7 @@ use Rattle.pc_inline_state.specs.Fits.{Fits, FitsBefore}
 use Rattle.pc_inline_state.specs.Fresh.{IsFresh}
 use Rattle.pc_inline_stack.specs.Driving.{EndsRun, Runs, reading_from}
 use Rattle.pc_inline_exports.specs.Exporting.{ExportsAll, ExportsEnd, RootStands, if_room}
-use Rattle.pc_inline_state.specs.Points.{IsPoint, PointStands}
+use Rattle.pc_inline_state.specs.Points.{AreItsNames, IsPoint, PointStands}
 use Rattle.pc_inline_stack.specs.Reads.{AreItems, Ends, Passes, Prepared}
 use Rattle.pc_inline_state.specs.Tables.{Keeps, tables_of}
 use Rattle.pc_inline_state.specs.Worlds.{HasNoExports}
@@ -77,16 +78,17 @@ module _ (t : TypeTable) (ms : List ModuleRecord) (limit : ℕ) where
         (omega (arith, weighs, is, below), below)
 
     -- and nothing was read
-    pub begun_point : AreSoundBodies (length ms) old.bodies.now → (c : RuntimeComponentInstanceIndex)
+    pub begun_point : AreSoundBodies (length ms) old.bodies.now
+        → AreItsNames t ms old.names.now old.bodies.now old.paths.names → (c : RuntimeComponentInstanceIndex)
         → Begins limit weight old.graph g counted total (Ok c) → (f : Frame)
-        → (args : List (List ℕ × DefinitionId)) → args ≡ [] → (converted : Layers)
+        → (args : List (Atom × DefinitionId)) → args ≡ [] → (converted : Layers)
         → ((b : Types) → AreConverted b t converted) → f ≡ record (first_frame c converted) { arguments = args }
         → PointStands t ms (record old { graph = g }) f (first_moment total)
     unfolding Begins
-    begun_point bodies c begins f args none converted unconverted is =
+    begun_point bodies names c begins f args none converted unconverted is =
         subst (λ x. PointStands t ms (record old { graph = g }) x (first_moment total))
         (sym (is ∙ ap (λ xs. record (first_frame c converted) { arguments = xs }) none))
-        (first_point t ms old fresh bodies g (begins.2 ∙ ap with_component_instance fresh.graph)
+        (first_point t ms old fresh bodies names g (begins.2 ∙ ap with_component_instance fresh.graph)
         (begins.3 (subst IsOrdered (sym fresh.graph) empty_ordered)) c
         (begins.1 ∙ ap (λ (x : ComponentDfg). x.num_runtime_component_instances) fresh.graph) converted
         (unconverted old.types) total)

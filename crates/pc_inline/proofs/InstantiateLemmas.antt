@@ -4,6 +4,7 @@ use Rattle.std.proofs.Common.{subst}
 use Rattle.std.specs.Prelude.{⊤}
 use Rattle.std.specs.Result.{IsErrAnd}
 use Rattle.pc_numbers.specs.declared.runtime.RuntimeComponentInstanceIndex.{RuntimeComponentInstanceIndex}
+use Rattle.pc_entity.specs.declared.string_pool.Atom.{Atom}
 use Rattle.pc_types.specs.declared.error.Error.{Error}
 use Rattle.pc_types.specs.declared.module_record.ModuleRecord.{ModuleRecord}
 use Rattle.pc_types.specs.declared.parsed.TypeTable.{TypeTable}
@@ -32,7 +33,7 @@ use Rattle.pc_inline.specs.Roots.{BeginsBody, BeginsRoot, EndsRoot, HasAtMost, H
 use Rattle.pc_inline_state.specs.Fresh.{IsFresh}
 use Rattle.pc_inline_stack.specs.Driving.{AddsCounted, Runs}
 use Rattle.pc_inline_exports.specs.Exporting.{ExportsAll, RootStands}
-use Rattle.pc_inline_state.specs.Points.{IsPoint, PointStands}
+use Rattle.pc_inline_state.specs.Points.{AreItsNames, IsPoint, PointStands}
 use Rattle.pc_inline_stack.specs.Reads.{AreItems, Prepared}
 use Rattle.pc_inline_state.specs.Tables.{Keeps, tables_of}
 use Rattle.pc_inline_state.specs.Worlds.{HasNoExports}
@@ -73,11 +74,13 @@ module _ (t : TypeTable) (ms : List ModuleRecord) (limit : ℕ) (root : Translat
         }
 
     module _ (c : RuntimeComponentInstanceIndex) (begins : Begins limit weight old.graph g counted total (Ok c))
-        (f : Frame) (args : List (List ℕ × DefinitionId)) (none : args ≡ []) (done : Layers)
+        (f : Frame) (args : List (Atom × DefinitionId)) (none : args ≡ []) (done : Layers)
         (unconverted : (b : Types) → AreConverted b t done) (is : f ≡ record (first_frame c done) { arguments = args })
-        (bodies : AreSoundBodies (length ms) old.bodies.now) where
+        (bodies : AreSoundBodies (length ms) old.bodies.now)
+        (names : AreItsNames t ms old.names.now old.bodies.now old.paths.names) where
       at : PointStands t ms there f (first_moment total)
-      at = begun_point t ms limit old fresh g weight counted total bodies c begins f args none done unconverted is
+      at =
+          begun_point t ms limit old fresh g weight counted total bodies names c begins f args none done unconverted is
 
       within : 0 < limit
       within = begun_below t ms limit old fresh g weight counted total c begins

@@ -4,6 +4,7 @@ use Rattle.std.proofs.Common.{◌∙◌, ap, arith, subst}
 use Rattle.std.specs.Prelude.{⊤, IfOk}
 use Rattle.std.specs.List.{AllZip}
 use Rattle.std.specs.Result.{IsErrAnd, result_and}
+use Rattle.pc_entity.specs.Lists.{AreDistinct}
 use Rattle.pc_types_lists.specs.Adds.{AddsTypes}
 use Rattle.pc_types_lists.specs.Types.{IsBuilder, KeepsTypes, Types, types_held}
 use Rattle.pc_types_lists.proofs.FewLemmas.{few_none}
@@ -17,11 +18,13 @@ use Rattle.pc_local.specs.declared.item.Translation.{Translation}
 use Rattle.pc_local.specs.Standing.{BodyStands, no_names}
 use Rattle.pc_weights.specs.Weighs.{HasRootWeight, HasWeight}
 use Rattle.pc_dfg.specs.declared.dfg.ComponentDfg.{ComponentDfg}
+use Rattle.pc_inline_names.specs.Named.{Named}
 use Rattle.pc_inline_state.specs.declared.state.State.{State}
 use Rattle.pc_inline.specs.Roots.{HasAtMost, InlinesBody, InlinesRoot, IsFew, IsRootEnd, RootRead}
 use Rattle.pc_inline_state.specs.Fresh.{counted_tables}
 use Rattle.pc_inline_state.specs.Adds.{with_modules}
 use Rattle.pc_inline_state.specs.Gained.{AddsTables}
+use Rattle.pc_inline_state.specs.Points.{AreItsNames}
 use Rattle.pc_inline_state.specs.Tables.{Keeps, tables_of}
 use Rattle.pc_inline_stack.specs.Stacks.{AreWeights}
 use Rattle.pc_inline_stack.specs.Totals.{GainsFew, IsCounted}
@@ -46,6 +49,18 @@ pub stands_among : (bodies' bodies : List Translation) → bodies' ≡ bodies �
     → BodyStands bodies no_names root body → BodyStands bodies' no_names root body
 stands_among bodies' bodies among root body stands =
     subst (λ bs. BodyStands bs no_names root body) (sym among) stands
+
+-- the names are those of what is read
+pub run_names : (t : TypeTable) (given ms : List ModuleRecord) → given ≡ ms → (n : Named) (bodies : List Translation)
+    → AreItsNames t ms n bodies n.texts → (n' : Named) → n' ≡ n → (bodies' : List Translation) → bodies' ≡ bodies
+    → (path_names : List (List ℕ)) → path_names ≡ n'.texts → AreItsNames t given n' bodies' path_names
+run_names t given ms same n bodies are n' is bodies' among path_names paths = record {
+  modules = ap (λ (x : Named). x.modules) is ∙ are.modules ∙ sym same;
+  table = ap (λ (x : Named). x.table) is ∙ are.table;
+  bodies = ap (λ (x : Named). x.bodies) is ∙ are.bodies ∙ sym among;
+  distinct = subst (λ (x : Named). AreDistinct x.texts) (sym is) are.distinct;
+  paths = paths;
+}
 
 -- weights are the same among modules and bodies that are the same
 pub root_weighs : (t : TypeTable) (given ms : List ModuleRecord) → given ≡ ms → (root : Translation) (weight : ℕ)

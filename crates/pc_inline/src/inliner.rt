@@ -10,12 +10,14 @@ ghost use Rattle.pc_weights.specs.Weighs.{HasRootWeight};
 ghost use Rattle.pc_spec_reading.specs.Item.{Items};
 ghost use Rattle.pc_local.specs.Sound.{AreSoundBodies, IsSoundBody};
 ghost use Rattle.pc_local.specs.Standing.{BodyStands, no_names};
+ghost use Rattle.pc_inline_names.specs.Named.{item_names};
+ghost use Rattle.pc_inline_names.specs.Numbers.{AreNumbersOf};
 ghost use Rattle.pc_inline_state.specs.Adds.{Adds, most_prepared, most_prepared_of};
 ghost use Rattle.pc_inline_state.specs.Gained.{AddsTables};
 ghost use Rattle.pc_inline.specs.Roots.{BeginsRoot, EndsRoot};
 ghost use Rattle.pc_inline_state.specs.Fresh.{IsFresh};
 ghost use Rattle.pc_inline.specs.Inlines.{Inlines};
-ghost use Rattle.pc_inline_state.specs.Points.{IsInput, IsPoint};
+ghost use Rattle.pc_inline_state.specs.Points.{AreItsNames, IsInput, IsPoint};
 ghost use Rattle.pc_inline_state.specs.Ready.{IsReady};
 ghost use Rattle.pc_inline_stack.specs.Reads.{AreItems, Prepared};
 ghost use Rattle.pc_inline_items.specs.StepsLocal.{PreparesLocal};
@@ -25,15 +27,16 @@ ghost use Rattle.pc_inline_stack.specs.Totals.{GainsFew, IsCounted};
 ghost use Rattle.pc_inline_state.specs.Typed.{no_resources};
 
 use pc_dfg::ComponentDfg;
-use pc_entity::TextMap;
+use pc_entity::Atom;
 use pc_inline_exports::export_all;
 use pc_inline_imports::prepare;
+use pc_inline_names::{AtomMap, ProgramNames};
 use pc_inline_stack::{begin_instance, run};
 use pc_inline_state::{Context, CoreModules, Frame, ItemError, Numbers, State, error_at};
 use pc_local::{LocalInitializer, LocalProgram, Translation};
 use pc_types::{Error, TypeTable};
 use pc_types_builder::{ComponentTypesBuilder, Converted, ResourcesBuilder};
-use pc_types_walk::{Leads, TableNames};
+use pc_types_walk::Leads;
 use pc_weights::Weights;
 use std::alloc::Global;
 use std::mem;
@@ -44,11 +47,13 @@ fn prepare_item(
     state: &mut State<'_>,
     frame: &mut Frame,
     item: &LocalInitializer,
+    numbers: &[Atom],
 ) -> Result<(), ItemError>
     requires input { IsInput context.now.table.now context.now.modules }
     requires ready { IsReady context.now }
     requires here { IsPoint context.now.table.now context.now.modules state.old frame.old }
     requires undeclared { state.old.graph.resources ≡ [] }
+    requires numbered { AreNumbersOf state.old.names.now.texts (item_names item.now) numbers.now }
     ensures keeps { Keeps (tables_of state.old) (tables_of state.new) }
     ensures same { frame.new.component_instance ≡ frame.old.component_instance }
     ensures adds { Adds context.now.table.now (most_prepared context.now.table.now item.now)
@@ -58,7 +63,9 @@ fn prepare_item(
         state.old frame.old state.new frame.new result }
 {
     match item {
-        LocalInitializer::Import { name, ty } => prepare(context, state, frame, name, *ty),
+        LocalInitializer::Import { name, ty } => {
+            prepare(context, state, frame, name, *ty, numbers[0])
+        }
         _ => Ok(()),
     }
 }
@@ -75,6 +82,7 @@ pub(crate) fn prepare_all(
     requires here { IsPoint context.now.table.now context.now.modules state.old frame.old }
     requires undeclared { state.old.graph.resources ≡ [] }
     requires items { AreItems state.old.bodies.now items.now }
+    requires rooted { state.old.names.now.root.initializers ≡ items.now }
     ensures keeps { Keeps (tables_of state.old) (tables_of state.new) }
     ensures same { frame.new.component_instance ≡ frame.old.component_instance }
     ensures adds { Adds context.now.table.now (most_prepared_of context.now.table.now items.now)
@@ -83,7 +91,8 @@ pub(crate) fn prepare_all(
         state.old frame.old state.new frame.new result }
 {
     for (n, item) in items.iter().enumerate() {
-        if let Err(error) = prepare_item(context, state, frame, item) {
+        let numbers = state.names.item(None, n);
+        if let Err(error) = prepare_item(context, state, frame, item, numbers) {
             return Err(error_at(error, frame.place_of(n)));
         }
     }
@@ -104,6 +113,9 @@ fn begin_root(
     requires fresh { IsFresh context.now.table.now state.old }
     requires stands { (body : Items) × BodyStands state.old.bodies.now no_names root.now body }
     requires bodies { AreSoundBodies (length context.now.modules) state.old.bodies.now }
+    requires names { AreItsNames context.now.table.now context.now.modules
+        state.old.names.now state.old.bodies.now state.old.paths.names }
+    requires rooted { state.old.names.now.root ≡ root.now }
     requires weight { HasRootWeight context.now.table.now context.now.modules root.now weight }
     requires below { total.old < 4294967295 }
     ensures { BeginsRoot context.now.table.now context.now.modules limit root.now total.old total.new
@@ -111,7 +123,7 @@ fn begin_root(
 {
     let instance = begin_instance(&mut state.graph, limit, total, weight)?;
     let converted = Converted::new(context.alloc, context.table);
-    let arguments = TextMap::new(context.alloc, context.seed);
+    let arguments = AtomMap::new(context.alloc, context.seed);
     let mut frame = Frame::new(context.alloc, converted, instance, arguments);
     prepare_all(context, state, &mut frame, root.initializers.as_slice())?;
     Ok(frame)
@@ -132,6 +144,9 @@ pub(crate) fn inline_root(
     requires stands { (body : Items) × BodyStands state.old.bodies.now no_names root.now body }
     requires sound { IsSoundBody (length context.now.modules) root.now }
     requires bodies { AreSoundBodies (length context.now.modules) state.old.bodies.now }
+    requires names { AreItsNames context.now.table.now context.now.modules
+        state.old.names.now state.old.bodies.now state.old.paths.names }
+    requires rooted { state.old.names.now.root ≡ root.now }
     requires root_weight { HasRootWeight context.now.table.now context.now.modules root.now weights.now.root }
     requires weights { AreWeights context.now.table.now context.now.modules state.old.bodies.now weights.now.bodies }
     requires below { counted < 4294967295 }
@@ -158,6 +173,71 @@ fn forget_resources(alloc: Global, types: &mut ComponentTypesBuilder)
     *types.resources_mut() = ResourcesBuilder::new(alloc);
 }
 
+/// The graph of a program, whose names have these numbers.
+fn inline_named<'a>(
+    alloc: Global,
+    types: &mut ComponentTypesBuilder,
+    table: &'a TypeTable,
+    program: &'a LocalProgram,
+    names: &'a ProgramNames<'a>,
+    limit: u32,
+    counted: u32,
+) -> Result<ComponentDfg, Error>
+    requires table { table_fault table.now ≡ None }
+    requires modules { list_all (is_sound table.now) program.now.modules ≡ true }
+    requires stands { (body : Items) × BodyStands program.now.components no_names program.now.root body }
+    requires root { IsSoundBody (length program.now.modules) program.now.root }
+    requires components { AreSoundBodies (length program.now.modules) program.now.components }
+    requires below { counted < 4294967295 }
+    requires held { length table.now.core_funcs + types_held types.old ≤ counted }
+    requires named { AreItsNames table.now program.now.modules names.now program.now.components names.now.texts }
+    requires rooted { names.now.root ≡ program.now.root }
+    ensures inlines { (body : Items) → BodyStands program.now.components no_names program.now.root body
+        → Inlines table.now program.now.modules limit counted body types.new result }
+    ensures few { (body : Items) → BodyStands program.now.components no_names program.now.root body
+        → IfOk result (IsCounted table.now program.now.modules limit counted body types.old types.new) }
+    ensures keeps { KeepsTypes types.old types.new }
+    ensures tables { IfOk result
+        (λ g. AddsTables table.now g.num_runtime_component_instances types.old types.new) }
+    ensures adds { GainsFew table.now counted types.old types.new }
+{
+    let weights = Weights::new(alloc, table, program)?;
+    let seed = types.seed();
+    let modules = CoreModules::new(alloc, program.modules.as_slice())?;
+    let leads = Leads::new(alloc, table)?;
+    let context = Context {
+        alloc,
+        seed,
+        table,
+        leads,
+        modules,
+    };
+    let numbers = Numbers::new(alloc, table)?;
+    forget_resources(alloc, types);
+    let builder = mem::replace(types, ComponentTypesBuilder::new(alloc, seed));
+    let mut state = State::new(
+        alloc,
+        seed,
+        builder,
+        numbers,
+        &program.components,
+        table,
+        names,
+    );
+    let inlined = inline_root(
+        &context,
+        &mut state,
+        &program.root,
+        limit,
+        &weights,
+        counted,
+    );
+    let graph = state.take_graph(alloc, seed);
+    mem::swap(types, &mut state.types);
+    types.types_are_distinct();
+    inlined.and(Ok(graph))
+}
+
 /// The graph of a program: its root is instantiated symbolically.
 ///
 /// `counted` is the total before the first item: each component instance that begins adds one and the weight of its
@@ -165,11 +245,11 @@ fn forget_resources(alloc: Global, types: &mut ComponentTypesBuilder)
 /// core signatures of the table, and the types that the builder holds.
 ///
 /// The builder gains the types that the graph names, also on a refusal; the types that it held keep their numbers.
-pub fn inline_run(
+pub fn inline_run<'a>(
     alloc: Global,
     types: &mut ComponentTypesBuilder,
-    table: &TypeTable,
-    program: &LocalProgram,
+    table: &'a TypeTable,
+    program: &'a LocalProgram,
     limit: u32,
     counted: u32,
 ) -> Result<ComponentDfg, Error>
@@ -189,33 +269,8 @@ pub fn inline_run(
         (λ g. AddsTables table.now g.num_runtime_component_instances types.old types.new) }
     ensures adds { GainsFew table.now counted types.old types.new }
 {
-    let weights = Weights::new(alloc, table, program)?;
     let seed = types.seed();
-    let modules = CoreModules::new(alloc, seed, program.modules.as_slice())?;
-    let leads = Leads::new(alloc, table)?;
-    let names = TableNames::new(alloc, seed, table)?;
-    let context = Context {
-        alloc,
-        seed,
-        table,
-        leads,
-        names,
-        modules,
-    };
-    let numbers = Numbers::new(alloc, table)?;
-    forget_resources(alloc, types);
-    let builder = mem::replace(types, ComponentTypesBuilder::new(alloc, seed));
-    let mut state = State::new(alloc, seed, builder, numbers, &program.components, table);
-    let inlined = inline_root(
-        &context,
-        &mut state,
-        &program.root,
-        limit,
-        &weights,
-        counted,
-    );
-    let graph = state.take_graph(alloc, seed);
-    mem::swap(types, &mut state.types);
-    types.types_are_distinct();
-    inlined.and(Ok(graph))
+    let names = ProgramNames::new(alloc, seed, table, program)?;
+    names.are_distinct();
+    inline_named(alloc, types, table, program, &names, limit, counted)
 }

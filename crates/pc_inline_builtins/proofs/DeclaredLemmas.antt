@@ -137,11 +137,12 @@ module _ (t : TypeTable) (ms : List ModuleRecord) (st : State) (ts : List Signed
           adapter_partitionings = point.sound.plain.adapter_partitionings;
           unsafe_intrinsics = point.sound.plain.unsafe_intrinsics;
         };
-        used = used_kept st.graph with_it keeps.graph refl st.paths st.used.items point.sound.used;
+        used = used_kept st.graph with_it keeps.graph refl st.paths.held st.used.items point.sound.used;
         numbers = point.sound.numbers;
         held = types_held st.types t st.graph with_it keeps.fits refl refl point.sound.held;
         table = point.sound.table;
         bodies = point.sound.bodies;
+        names = point.sound.names;
         members = point.sound.members;
         instances = instances_kept ms (tables_of st) (tables_of next) keeps refl st.runtime_instances.items
             point.sound.instances;

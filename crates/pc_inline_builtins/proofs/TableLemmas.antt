@@ -99,11 +99,12 @@ module _ (t : TypeTable) (ms : List ModuleRecord) (st : State) (h : ComponentDfg
             adapter_partitionings = s.plain.adapter_partitionings;
             unsafe_intrinsics = s.plain.unsafe_intrinsics;
           };
-          used = used_kept st.graph tabled tabled_grows refl st.paths st.used.items s.used;
+          used = used_kept st.graph tabled tabled_grows refl st.paths.held st.used.items s.used;
           numbers = s.numbers;
           held = types_held st.types t st.graph tabled fits refl refl s.held;
           table = s.table;
           bodies = s.bodies;
+          names = s.names;
           members = s.members;
           instances = instances_kept ms (tables_of st) (tables_of (record st { graph = tabled }))
               (graph_grown (tables_of st) tabled tabled_grows fits) refl st.runtime_instances.items s.instances;

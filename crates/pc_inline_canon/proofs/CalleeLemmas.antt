@@ -40,7 +40,7 @@ module _ (ms : List ModuleRecord) (b : Tables) (c : Callee) where
 
 module _ (t : TypeTable) (ms : List ModuleRecord) (old new : State) (ty : TypeFuncIndex) (o : Options) where
   host_done : (p : PathId) (r : Result CoreId ItemError)
-      → IfOk r (λ id. (path : Path) → slice_get old.paths p.0 ≡ Some path → Lowers t ms old new path ty o id)
+      → IfOk r (λ id. (path : Path) → slice_get old.paths.held p.0 ≡ Some path → Lowers t ms old new path ty o id)
       → IfOk r (LowersTo t ms old new (callee.Host p) ty o)
   unfolding LowersTo IsCallee Lowers lower_to
   host_done p (Err e) h = tt
@@ -62,7 +62,7 @@ module _ (t : TypeTable) (ms : List ModuleRecord) (old new : State) (ty : TypeFu
   module _ (c : Callee) (r : Result CoreId ItemError) where
     -- a function of the host
     pub host_lowers : (p : PathId) → c ≡ callee.Host p
-        → IfOk r (λ id. (path : Path) → slice_get old.paths p.0 ≡ Some path → Lowers t ms old new path ty o id)
+        → IfOk r (λ id. (path : Path) → slice_get old.paths.held p.0 ≡ Some path → Lowers t ms old new path ty o id)
         → IfOk r (LowersTo t ms old new c ty o)
     host_lowers p is lowers =
         subst (λ (k : Callee). IfOk r (LowersTo t ms old new k ty o)) (sym is) (host_done p r lowers)

@@ -85,11 +85,12 @@ module _ (st : State) (i : UnsafeIntrinsic) (s : ModuleInternedTypeIndex) (cores
           adapter_partitionings = at.sound.plain.adapter_partitionings;
           unsafe_intrinsics = places;
         };
-        used = used_kept st.graph signing keeps.graph refl st.paths st.used.items at.sound.used;
+        used = used_kept st.graph signing keeps.graph refl st.paths.held st.used.items at.sound.used;
         numbers = at.sound.numbers;
         held = types_held st.types t st.graph signing keeps.fits refl refl at.sound.held;
         table = at.sound.table;
         bodies = at.sound.bodies;
+        names = at.sound.names;
         members = at.sound.members;
         instances = instances_kept ms (tables_of st) (tables_of signed_to) keeps refl st.runtime_instances.items
             at.sound.instances;

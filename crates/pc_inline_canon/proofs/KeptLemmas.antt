@@ -1,6 +1,7 @@
 -- What numbers stand for they stand for when the tables have grown.
 use Rattle.std.proofs.Common.{◌≡◌, ℕ, List, Option, Some, sym, subst, ◌∙◌, arith}
 use Rattle.std.specs.Prelude.{slice_get}
+use Rattle.pc_entity.specs.declared.string_pool.Atom.{Atom}
 use Rattle.pc_entity.specs.Lists.{value_of}
 use Rattle.pc_types.specs.declared.module_record.ModuleRecord.{ModuleRecord}
 use Rattle.pc_types.specs.declared.parsed.CoreKind.{CoreKind}
@@ -31,6 +32,8 @@ use Rattle.pc_dfg.proofs.GrowLemmas.{kept, within}
 use Rattle.pc_dfg.proofs.KeptLemmas.{means_kept}
 use Rattle.pc_dfg.proofs.KeptLemmas.{options_kept as options_means_kept}
 use Rattle.pc_dfg.specs.Held.{HasBegun}
+use Rattle.pc_inline_names.specs.Named.{Named}
+use Rattle.pc_inline_names.specs.Numbers.{IsNumber, SameNamed, numbered_value}
 use Rattle.pc_inline_state.specs.declared.definition.CoreId.{CoreId}
 use Rattle.pc_inline_state.specs.declared.definition.DataModel.{DataModel}
 use Rattle.pc_inline_state.specs.declared.definition.Definition.{Definition}
@@ -190,11 +193,20 @@ module _ (ms : List ModuleRecord) (b c : Tables) (keeps : Keeps b c) where
         captures_more lent (stands_kept id v x) (captured_kept k rest others chain more)
 
     -- what an instance exports
-    pub members_kept : (es : List (List ℕ × Member)) (vs : NamedValues) → MembersStand ms b es vs
+    pub members_kept : (es : List (Atom × Member)) (vs : NamedValues) → MembersStand ms b es vs
         → MembersStand ms c es vs
     members_kept es vs no_members = no_members
-    members_kept es vs (and_member {name = name} {m = m} {v = v} {es = rest} {vs = others} says x more) =
-        and_member says (stands_kept m.item v x) (members_kept rest others more)
+    members_kept es vs (and_member {name = name} {n = n} {m = m} {v = v} {es = rest} {vs = others} numbered says x
+        more) =
+        and_member (subst (λ (names : Named). IsNumber names.texts n name.name) (sym keeps.names) numbered) says
+        (stands_kept m.item v x) (members_kept rest others more)
+
+  -- what stands under the numbers of names goes on to stand there
+  named_kept : {A B : Type 0} (R S : A → B → Type 0) → ((x : A) (y : B) → R x y → S x y) → (xs : List (Atom × A))
+      (ys : List (List ℕ × B)) → SameNamed b.names.texts R xs ys → SameNamed c.names.texts S xs ys
+  named_kept R S on xs ys same n name is =
+      both_more R S on (numbered_value n xs) (value_of name ys)
+      (same n name (subst (λ (names : Named). IsNumber names.texts n name) keeps.names is))
 
   bag_kept : (x : CoreKind × CoreId) (i : CoreItem) → BagItemStands ms b x i → BagItemStands ms c x i
   bag_kept x i h = record { kind = h.kind; item = item_kept x.0 x.1 i.value h.item }
@@ -206,9 +218,8 @@ module _ (ms : List ModuleRecord) (b c : Tables) (keeps : Keeps b c) where
   instance_kept x i (host_stands {i = n} {entry = entry} {tree = tree} host tabled) =
       host_stands (host_made_kept b.graph c.graph keeps.graph n host)
       (table_tree_kept ms b c keeps is_module entry tree tabled)
-  instance_kept x i (bag_stands {xs = xs} {items = items} same numbered) =
-      bag_stands (λ name. both_more (BagItemStands ms b) (BagItemStands ms c) bag_kept (value_of name xs.items)
-      (value_of name items) (same name)) numbered
+  instance_kept x i (bag_stands {xs = xs} {items = items} same) =
+      bag_stands (named_kept (BagItemStands ms b) (BagItemStands ms c) bag_kept xs items same)
 
   -- a component instance
   pub frame_kept : (f : Frame) (s : Scope) → FrameStands ms b f s → FrameStands ms c f s
@@ -232,8 +243,7 @@ module _ (ms : List ModuleRecord) (b c : Tables) (keeps : Keeps b c) where
         s.instances h.instances;
     components = zip_more (ComponentStands ms b) (ComponentStands ms c) (λ n x. stands_kept n (component_value x))
         f.components s.components h.components;
-    arguments = λ name. both_more (Stands ms b) (Stands ms c) stands_kept (value_of name f.arguments)
-        (value_of name s.arguments) (h.arguments name);
+    arguments = named_kept (Stands ms b) (Stands ms c) stands_kept f.arguments s.arguments h.arguments;
     component_instance = h.component_instance;
     begun = begun_kept b.graph c.graph keeps.graph f.component_instance.0 h.begun;
   }

@@ -220,11 +220,12 @@ module _ (t : TypeTable) (ms : List ModuleRecord) (st : State) (ts : List Signed
           adapter_partitionings = point.sound.plain.adapter_partitionings;
           unsafe_intrinsics = point.sound.plain.unsafe_intrinsics;
         };
-        used = used_kept st.graph lowered_in grows refl st.paths st.used.items point.sound.used;
+        used = used_kept st.graph lowered_in grows refl st.paths.held st.used.items point.sound.used;
         numbers = point.sound.numbers;
         held = types_held st.types t st.graph lowered_in fits refl refl point.sound.held;
         table = point.sound.table;
         bodies = point.sound.bodies;
+        names = point.sound.names;
         members = point.sound.members;
         instances = instances_kept ms (tables_of st) (tables_of lowered_to) lowered_keeps refl
             st.runtime_instances.items point.sound.instances;
@@ -326,7 +327,7 @@ module _ (t : TypeTable) (ms : List ModuleRecord) (a b c : State) (h : Component
   -- the answer is a core function that the host function is lowered to
   pub lowers_all : (s : ModuleInternedTypeIndex) → s ≡ options.core_type → (d : State)
       → (result : Result CoreId ItemError) → Keeps (tables_of a) (tables_of b) → (at : ℕ)
-      → ((p : Path) → slice_get a.paths at ≡ Some p → Uses t ms a b p r) → Prepares t ms b c
+      → ((p : Path) → slice_get a.paths.held at ≡ Some p → Uses t ms a b p r) → Prepares t ms b c
       → ((v : Options Mark) → OptionsStand ms (tables_of b) options v → EntryStands (tables_of c) o.0 v)
       → o.0 < length c.graph.options → graph.Grows c.graph h → h ≡ record c.graph { trampolines = h.trampolines }
       → (HeldTrampoline c.graph (trampoline_entry (s, trampoline.LowerImport r ty o)) → IsOrdered c.graph → IsOrdered h)
@@ -334,7 +335,7 @@ module _ (t : TypeTable) (ms : List ModuleRecord) (a b c : State) (h : Component
       → slice_get h.trampolines n.0 ≡ Some (s, trampoline.LowerImport r ty o)
       → IfOk result (λ id. id.0 ≡ length c.cores)
       → OnOk result (d ≡ record c { graph = h; cores = c.cores ++ def.Trampoline n ∷ [] })
-      → IfOk result (λ id. (p : Path) → slice_get a.paths at ≡ Some p → Lowers t ms a d p ty options id)
+      → IfOk result (λ id. (p : Path) → slice_get a.paths.held at ≡ Some p → Lowers t ms a d p ty options id)
   unfolding Lowers
   lowers_all s of_options d (Err e) keeps at uses prepares entry held grows rest ordered put there number is = tt
   lowers_all s of_options d (Ok id) keeps at uses prepares entry held grows rest ordered put there number is =

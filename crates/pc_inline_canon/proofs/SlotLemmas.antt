@@ -111,7 +111,7 @@ module _ (t : TypeTable) (ms : List ModuleRecord) (st : State) (memories : List 
         adapter_partitionings = s.plain.adapter_partitionings;
         unsafe_intrinsics = s.plain.unsafe_intrinsics;
       };
-      used = used_kept st.graph slotted grows refl st.paths st.used.items s.used;
+      used = used_kept st.graph slotted grows refl st.paths.held st.used.items s.used;
       numbers = s.numbers;
       held = record {
         options = held s.held;
@@ -119,6 +119,7 @@ module _ (t : TypeTable) (ms : List ModuleRecord) (st : State) (memories : List 
       };
       table = s.table;
       bodies = s.bodies;
+      names = s.names;
       members = s.members;
       instances = instances_kept ms (tables_of st) (tables_of (record st { graph = slotted }))
           (graph_grown (tables_of st) slotted grows (fits_grown st.graph slotted grows refl refl)) refl

@@ -44,7 +44,7 @@ imported_slots g is plan.post_return = refl
 module _ (t : TypeTable) (ms : List ModuleRecord) (st : State) (n : ℕ) (r : RuntimeImportIndex) where
   -- a host item that was used before
   pub used_again : IsSoundState t ms st → slice_get st.used.items n ≡ Some (Some r) → (p : Path)
-      → slice_get st.paths n ≡ Some p → Uses t ms st st p r
+      → slice_get st.paths.held n ≡ Some p → Uses t ms st st p r
   used_again sound at p held =
       let there = sound.used.numbers n p r held at in
       let world : (w : World) → WorldStands st.types st.graph w → WorldStands st.types st.graph (logging w (needed p)) =
@@ -82,7 +82,7 @@ module _ (t : TypeTable) (ms : List ModuleRecord) (st : State) (n : ℕ) (r : Ru
       -- a host item that is used for the first time
       used_first : (IsOrdered st.graph → IsOrdered imported) → r.0 ≡ length st.graph.imports
           → u.items ≡ slice_set st.used.items n (Some r) → length u.items ≡ length st.used.items
-          → IsSoundState t ms st → slice_get st.paths n ≡ Some (path_of i)
+          → IsSoundState t ms st → slice_get st.paths.held n ≡ Some (path_of i)
           → slice_get st.used.items n ≡ Some None → n < length st.used.items
           → Uses t ms st using_it (path_of i) r
       used_first ordered number set same sound held unused below =
@@ -99,12 +99,13 @@ module _ (t : TypeTable) (ms : List ModuleRecord) (st : State) (n : ℕ) (r : Ru
               adapter_partitionings = s.plain.adapter_partitionings;
               unsafe_intrinsics = s.plain.unsafe_intrinsics;
             };
-            used = used_more st.graph imported st.paths st.used.items u.items n i r held refl refl set same number below
-                s.used;
+            used = used_more st.graph imported st.paths.held st.used.items u.items n i r held refl refl set same number
+                below s.used;
             numbers = s.numbers;
             held = types_held st.types t st.graph imported fits refl refl s.held;
             table = s.table;
             bodies = s.bodies;
+            names = s.names;
             members = s.members;
             instances = instances_kept ms (tables_of st) (tables_of using_it)
                 (graph_grown (tables_of st) imported grows fits) refl st.runtime_instances.items s.instances;
@@ -133,8 +134,9 @@ module _ (t : TypeTable) (ms : List ModuleRecord) (st : State) (n : ℕ) (r : Ru
       → (i.0 < length st.graph.import_types → IsOrdered st.graph → IsOrdered h)
       → r.0 ≡ length st.graph.imports → u.items ≡ slice_set st.used.items n (Some r)
       → length u.items ≡ length st.used.items → IsSoundState t ms st
-      → slice_get st.paths n ≡ Some (record { import = i.0; names = names })
-      → slice_get st.used.items n ≡ Some None → n < length st.used.items → (p : Path) → slice_get st.paths n ≡ Some p
+      → slice_get st.paths.held n ≡ Some (record { import = i.0; names = names })
+      → slice_get st.used.items n ≡ Some None → n < length st.used.items → (p : Path)
+      → slice_get st.paths.held n ≡ Some p
       → Uses t ms st (record st { graph = h; used = u }) p r
   used_new i names u h grows rest more ordered number set same sound held unused below p there =
       let made : h ≡ imported (i, names) u = rest ∙ (λ j. record st.graph { imports = more j }) in

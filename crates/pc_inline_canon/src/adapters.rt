@@ -4,7 +4,6 @@ ghost use Rattle.std.specs.Prelude.{◌≡◌, ◌≤◌, IfErr, IfOk};
 ghost use Rattle.pc_types.specs.declared.parsed.CoreKind.TheVariants as core;
 ghost use Rattle.pc_inline_state.specs.Adds.{Adds};
 ghost use Rattle.pc_inline_state.specs.Points.{IsSoundState};
-ghost use Rattle.pc_inline_state.specs.Ready.{IsReady};
 ghost use Rattle.pc_inline_state.specs.Refused.{LacksRoom};
 ghost use Rattle.pc_inline_state.specs.Slots.{IsThere, MaybeThere, ModelThere, OptionsThere};
 ghost use Rattle.pc_inline_state.specs.Tables.{Keeps, tables_of};
@@ -40,7 +39,6 @@ fn side_memory(
     memory: Option<CoreId>,
 ) -> Result<Option<(CoreExport<MemoryIndex>, bool)>, NoMemory>
     requires sound { IsSoundState context.now.table.now context.now.modules state.now }
-    requires ready { IsReady context.now }
     requires there { MaybeThere context.now.modules (tables_of state.now) core.Memory memory }
     ensures { IfOk result (IsMemory context.now.table.now context.now.modules state.now memory) }
 {
@@ -48,7 +46,7 @@ fn side_memory(
         Some(id) => {
             let memory = memory_of(context.alloc, &state.cores[id])?;
             let instance_module = state.runtime_instances[memory.instance.0 as usize];
-            let is_wide = context.is_wide(instance_module, &memory.item);
+            let is_wide = context.is_wide(state.names, instance_module, &memory.item);
             Ok(Some((memory, is_wide)))
         }
         None => Ok(None),
@@ -62,7 +60,6 @@ fn side_model(
     model: DataModel,
 ) -> Result<SideModel, NoMemory>
     requires sound { IsSoundState context.now.table.now context.now.modules state.now }
-    requires ready { IsReady context.now }
     requires there { ModelThere context.now.modules (tables_of state.now) model }
     ensures { IfOk result (IsModel context.now.table.now context.now.modules state.now model) }
 {
@@ -82,7 +79,6 @@ fn side_options(
     options: Options,
 ) -> Result<AdapterOptions, NoMemory>
     requires sound { IsSoundState context.now.table.now context.now.modules state.now }
-    requires ready { IsReady context.now }
     requires there { OptionsThere context.now.modules (tables_of state.now) options }
     ensures { IfOk result (IsSide context.now.table.now context.now.modules state.now options) }
 {
@@ -107,7 +103,6 @@ pub(crate) fn lower_lifted(
     options: Options,
 ) -> Result<CoreId, ItemError>
     requires sound { IsSoundState context.now.table.now context.now.modules state.old }
-    requires ready { IsReady context.now }
     requires there { IsThere context.now.modules (tables_of state.old) core.Func lifted.1 }
     requires lift { OptionsThere context.now.modules (tables_of state.old) lifted.2 }
     requires lower { OptionsThere context.now.modules (tables_of state.old) options }

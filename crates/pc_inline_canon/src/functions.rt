@@ -4,7 +4,6 @@ ghost use Rattle.std.specs.Prelude.{◌≡◌};
 ghost use Rattle.pc_spec_reading.specs.Item.{lift_item, lower_item};
 ghost use Rattle.pc_inline_state.specs.Adds.{Adds, most_converted, most_lowered};
 ghost use Rattle.pc_inline_state.specs.Points.{IsInput, IsPoint, StepsItem};
-ghost use Rattle.pc_inline_state.specs.Ready.{IsReady};
 ghost use Rattle.pc_inline_state.specs.Tables.{Keeps, tables_of};
 ghost use Rattle.pc_inline_state.specs.Trails.{Trails};
 
@@ -59,7 +58,6 @@ pub fn step_lower(
     opts: &[CanonOption],
 ) -> Result<(), ItemError>
     requires input { IsInput context.now.table.now context.now.modules }
-    requires ready { IsReady context.now }
     requires here { IsPoint context.now.table.now context.now.modules state.old frame.old }
     ensures keeps { Keeps (tables_of state.old) (tables_of state.new) }
     ensures adds { Adds context.now.table.now (most_lowered context.now.table.now)

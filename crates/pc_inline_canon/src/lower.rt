@@ -7,7 +7,6 @@ ghost use Rattle.pc_inline_state.specs.AddsEach.{AddsEach, in_imports};
 ghost use Rattle.pc_inline_canon.specs.Callees.{HeldCallee, LowersTo};
 ghost use Rattle.pc_inline_canon.specs.Hosts.{Lowers, Uses};
 ghost use Rattle.pc_inline_state.specs.Points.{IsSoundState};
-ghost use Rattle.pc_inline_state.specs.Ready.{IsReady};
 ghost use Rattle.pc_inline_state.specs.Refused.{LacksRoom};
 ghost use Rattle.pc_inline_state.specs.Slots.{OptionsThere};
 ghost use Rattle.pc_inline_state.specs.Tables.{Keeps, tables_of};
@@ -29,10 +28,10 @@ pub fn use_host(
     path: PathId,
 ) -> Result<RuntimeImportIndex, ItemError>
     requires sound { IsSoundState context.now.table.now context.now.modules state.old }
-    requires there { path.0 < length state.old.paths }
+    requires there { path.0 < length state.old.paths.held }
     ensures keeps { Keeps (tables_of state.old) (tables_of state.new) }
     ensures adds { AddsEach in_imports 0 0 (tables_of state.old) (tables_of state.new) }
-    ensures uses { IfOk result (λ r. (p : Path) → slice_get state.old.paths path.0 ≡ Some p
+    ensures uses { IfOk result (λ r. (p : Path) → slice_get state.old.paths.held path.0 ≡ Some p
         → Uses context.now.table.now context.now.modules state.old state.new p r) }
     ensures rest { state.new ≡ record state.old {
       graph = record state.old.graph { imports = state.new.graph.imports };
@@ -58,12 +57,12 @@ fn lower_host(
     options: Options,
 ) -> Result<CoreId, ItemError>
     requires sound { IsSoundState context.now.table.now context.now.modules state.old }
-    requires there { path.0 < length state.old.paths }
+    requires there { path.0 < length state.old.paths.held }
     requires options { OptionsThere context.now.modules (tables_of state.old) options }
     ensures keeps { Keeps (tables_of state.old) (tables_of state.new) }
     ensures adds { Adds context.now.table.now 4 (tables_of state.old) (tables_of state.new) }
     ensures resources { state.new.types.resources ≡ state.old.types.resources }
-    ensures lowers { IfOk result (λ id. (p : Path) → slice_get state.old.paths path.0 ≡ Some p
+    ensures lowers { IfOk result (λ id. (p : Path) → slice_get state.old.paths.held path.0 ≡ Some p
         → Lowers context.now.table.now context.now.modules state.old state.new p ty options id) }
     ensures err { IfErr result (LacksRoom state.new) }
 {
@@ -87,7 +86,6 @@ pub(crate) fn lower(
     options: Options,
 ) -> Result<CoreId, ItemError>
     requires sound { IsSoundState context.now.table.now context.now.modules state.old }
-    requires ready { IsReady context.now }
     requires there { HeldCallee context.now.modules (tables_of state.old) callee }
     requires options { OptionsThere context.now.modules (tables_of state.old) options }
     ensures keeps { Keeps (tables_of state.old) (tables_of state.new) }

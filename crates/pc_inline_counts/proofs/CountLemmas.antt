@@ -4,6 +4,7 @@ use Rattle.std.proofs.Common.{Option, None, Some}
 use Rattle.std.proofs.Common.{refl, sym, ap, subst, ◌∙◌, arith}
 use Rattle.std.specs.Prelude.{slice_get, option_and_then}
 use Rattle.std.proofs.lemmas.Option.{none-some, same_Some, slice_get_within}
+use Rattle.pc_entity.specs.declared.string_pool.Atom.{Atom}
 use Rattle.pc_entity.specs.Lists.{Kept}
 use Rattle.pc_entity.proofs.Growing.{kept_refl, kept_trans}
 use Rattle.pc_types.specs.declared.error.Unsupported.TheVariants.{ExportedComponent, ReexportedIntrinsic}
@@ -64,7 +65,7 @@ module _ (ms : List ModuleRecord) (b : Tables) (sound : table_fault b.table ≡ 
   -- so many nodes are counted of an instance with these members
   abbrev ListFollows : NodeCount → (n : ℕ) → Type 0
   ListFollows count n =
-      (es : List (List ℕ × Member)) (vs : NamedValues) (tree : TypeTree) → slice_get b.instances n ≡ Some es
+      (es : List (Atom × Member)) (vs : NamedValues) (tree : TypeTree) → slice_get b.instances n ≡ Some es
       → MembersStand ms b es vs → (w : World) → HasHostTypes ms b w.imports
       → Follows count w (value_node (instance_value (made_instance vs tree)) w)
 
@@ -95,20 +96,20 @@ module _ (ms : List ModuleRecord) (b : Tables) (sound : table_fault b.table ≡ 
       refused_follows _ ReexportedIntrinsics w room
   definition_follows instances d v (stands_type typed) lists w room types = leaf_follows _ w
 
-  module _ (ds : List Definition) (lists : List (List (List ℕ × Member))) (kept : Kept ds b.definitions)
+  module _ (ds : List Definition) (lists : List (List (Atom × Member))) (kept : Kept ds b.definitions)
       (same_lists : Kept lists b.instances) (are : AreEarlier ds lists) where
     -- the counts of all instances
     abbrev all : List NodeCount
     all = instance_counts (entry_counts b.table) ds lists
 
     -- a member, whose instance is before this many
-    abbrev IsEarlier : ℕ → List ℕ × Member → Type 0
+    abbrev IsEarlier : ℕ → Atom × Member → Type 0
     IsEarlier n e = (e.1.item.0 < length ds) × ((j : ExportsId) → IsInstanceOf ds e.1.item.0 j → j.0 < n)
 
     module _ (n : ℕ) (before : List NodeCount) (same : (m : ℕ) → m < n → count_at before m ≡ count_at all m)
         (earlier : (m : ℕ) → m < n → ListFollows (count_at all m) m) where
       -- a member
-      member_follows : (e : List ℕ × Member) → IsEarlier n e → (v : Value) → Stands ms b e.1.item v
+      member_follows : (e : Atom × Member) → IsEarlier n e → (v : Value) → Stands ms b e.1.item v
           → (w : World) → has_room w.total ≡ true → HasHostTypes ms b w.imports
           → Follows (maybe_count (entry_counts b.table) before (slice_get ds e.1.item.0)) w (value_node v w)
       member_follows e is v (stands {d = d} held value) w room types =
@@ -119,36 +120,36 @@ module _ (ms : List ModuleRecord) (b : Tables) (sound : table_fault b.table ≡ 
           subst (λ (k : NodeCount). ListFollows k j.0) (sym (same j.0 below)) (earlier j.0 below)) w room types)
 
       -- the members after some
-      members_follow : (es : List (List ℕ × Member)) (vs : NamedValues) → MembersStand ms b es vs
-          → ((e : List ℕ × Member) → Contains es e → IsEarlier n e) → (count : NodeCount) (w v : World)
+      members_follow : (es : List (Atom × Member)) (vs : NamedValues) → MembersStand ms b es vs
+          → ((e : Atom × Member) → Contains es e → IsEarlier n e) → (count : NodeCount) (w v : World)
           → Grew w v count → HasHostTypes ms b w.imports
           → Follows (fold (with_member (entry_counts b.table) ds before) count es) w (value_nodes vs v)
       unfolding value_nodes Follows
       members_follow es vs no_members is count w v g types = g
-      members_follow es vs (and_member {name = name} {m = m} {v = x} {es = rest} {vs = xs} said here others) is count w v
-          g types =
-          let e : List ℕ × Member = (name.name, m) in
+      members_follow es vs (and_member {name = name} {n = number} {m = m} {v = x} {es = rest} {vs = xs} numbered said here
+          others) is count w v g types =
+          let e : Atom × Member = (number, m) in
           let d = maybe_count (entry_counts b.table) before (slice_get ds m.item.0) in
           let whole = fold (with_member (entry_counts b.table) ds before) (after_nodes count d) rest in
           next_follows count d whole w v g (value_node x v)
           (member_follows e (is e (first_of e rest)) x here v g.room (still_typed ms b w v count g types))
           (fold_goes_on
-          (λ (y : List ℕ × Member). maybe_count (entry_counts b.table) before (slice_get ds y.1.item.0))
+          (λ (y : Atom × Member). maybe_count (entry_counts b.table) before (slice_get ds y.1.item.0))
           (after_nodes count d) rest)
           (λ y u. then_reach (value_nodes xs u) (more name.name (extern_data name) y))
           (λ y u grew. put_follows (and_node name.name (extern_data name) y) whole w (value_nodes xs u)
           (members_follow rest xs others (λ k among. is k (further e rest k among)) (after_nodes count d) w u grew types))
 
       -- an instance with its members
-      made_follows : (es : List (List ℕ × Member)) (vs : NamedValues) (tree : TypeTree) → MembersStand ms b es vs
-          → ((e : List ℕ × Member) → Contains es e → IsEarlier n e) → (w : World) → HasHostTypes ms b w.imports
+      made_follows : (es : List (Atom × Member)) (vs : NamedValues) (tree : TypeTree) → MembersStand ms b es vs
+          → ((e : Atom × Member) → Contains es e → IsEarlier n e) → (w : World) → HasHostTypes ms b w.imports
           → Follows (members_count (entry_counts b.table) ds before es) w
           (value_node (instance_value (made_instance vs tree)) w)
       unfolding value_node instance_value_node
       made_follows es vs tree stand is w types =
           counting_follows (members_count (entry_counts b.table) ds before es) w
           (fold_goes_on
-          (λ (y : List ℕ × Member). maybe_count (entry_counts b.table) before (slice_get ds y.1.item.0)) one_node es) _
+          (λ (y : Atom × Member). maybe_count (entry_counts b.table) before (slice_get ds y.1.item.0)) one_node es) _
           (λ v g. put_follows (node.instance (of_type tree)) (members_count (entry_counts b.table) ds before es) w
           (value_nodes vs v) (members_follow es vs stand is one_node w v g types))
 
@@ -237,7 +238,7 @@ pub counted_since : (ms : List ModuleRecord) (old b : Tables) (counts : NodeCoun
     → b.instances ≡ old.instances → (d : Definition) (v : Value) → DefinitionStands ms b d v → IsCounted counts d
 counted_since ms old b counts made same d v is j exported =
     let many = counts_many old counts made in
-    let as_many = ap (λ (xs : List (List (List ℕ × Member))). length xs) same in
+    let as_many = ap (λ (xs : List (List (Atom × Member))). length xs) same in
     let below = by d v is j exported in
     omega (arith, below, many, as_many)
   where

@@ -1,6 +1,7 @@
 -- How many nodes are counted of what is exported, and what is refused behind them. Each count is made of those before
 -- it.
 use Rattle.std.specs.Prelude.{◌≡◌, ◌+◌, ℕ, List, [], ◌∷◌, ◌++◌, Option, None, Some, fold, min, slice_get}
+use Rattle.pc_entity.specs.declared.string_pool.Atom.{Atom}
 use Rattle.pc_types.specs.declared.error.Unsupported.{Unsupported}
 use Rattle.pc_types.specs.declared.error.Unsupported.TheVariants.{ComponentImport, ExportedComponent}
 use Rattle.pc_types.specs.declared.error.Unsupported.TheVariants.{ReexportedIntrinsic, ReexportedIntrinsics}
@@ -93,16 +94,16 @@ maybe_count entries instances (Some d) = definition_count entries instances d
 
 module _ (entries : List NodeCount) (definitions : List Definition) where
   -- some nodes and those of a member
-  abbrev pub with_member : (instances : List NodeCount) → NodeCount → List ℕ × Member → NodeCount
+  abbrev pub with_member : (instances : List NodeCount) → NodeCount → Atom × Member → NodeCount
   with_member instances count e =
       after_nodes count (maybe_count entries instances (slice_get definitions e.1.item.0))
 
   -- how many nodes are reached of an instance that exports this: one and those of its members
-  abbrev pub members_count : (instances : List NodeCount) → List (List ℕ × Member) → NodeCount
+  abbrev pub members_count : (instances : List NodeCount) → List (Atom × Member) → NodeCount
   members_count instances es = fold (with_member instances) one_node es
 
   -- the same of each list of members
-  abbrev pub instance_counts : List (List (List ℕ × Member)) → List NodeCount
+  abbrev pub instance_counts : List (List (Atom × Member)) → List NodeCount
   instance_counts lists = counts_from members_count [] lists
 
 -- these are the counts of what stands in the tables

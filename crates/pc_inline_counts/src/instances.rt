@@ -8,7 +8,8 @@ ghost use Rattle.pc_inline_counts.specs.Follows.{CountsNodes};
 
 use crate::count::{NodeCount, count_at};
 use crate::entries::entry_counts;
-use pc_entity::{NoMemory, PrimaryMap, Seq, TextMap};
+use pc_entity::{NoMemory, PrimaryMap, Seq};
+use pc_inline_names::AtomMap;
 use pc_inline_state::{Definition, DefinitionId, Member, State};
 use pc_types::Unsupported;
 use std::alloc::Global;
@@ -55,7 +56,7 @@ fn members_count(
     entries: &[NodeCount],
     instances: &[NodeCount],
     definitions: &PrimaryMap<DefinitionId, Definition>,
-    members: &TextMap<Member>,
+    members: &AtomMap<Member>,
 ) -> NodeCount
     ensures { result ≡ fold (with_member entries.now definitions.now instances.now) one_node members.now }
 {
@@ -72,7 +73,7 @@ fn instance_counts(
     alloc: Global,
     entries: &[NodeCount],
     definitions: &PrimaryMap<DefinitionId, Definition>,
-    lists: &[TextMap<Member>],
+    lists: &[AtomMap<Member>],
 ) -> Result<Seq<NodeCount>, NoMemory>
     ensures { IfOk result (λ counts. counts ≡ instance_counts entries.now definitions.now lists.now) }
 {

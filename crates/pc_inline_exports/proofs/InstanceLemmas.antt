@@ -85,7 +85,7 @@ module _ (ms : List ModuleRecord) (st : State) where
       λ i. counting w (λ v. then_reach (fields_are path fields v i) (instance_node (instance_of fields)))
 
   host_view : (p : PathId) (ty : TypeComponentInstanceIndex) (entry : ℕ) (path : Path) (tree : TypeTree)
-      → slice_get st.paths p.0 ≡ Some path → IsInstanceType ms (tables_of st) ty entry tree → (x : Subject)
+      → slice_get st.paths.held p.0 ≡ Some path → IsInstanceType ms (tables_of st) ty entry tree → (x : Subject)
       → ((w : World) → subject_node x w ≡ host_node path tree w)
       → InstanceView (definition.HostInstance p ty entry) x
   host_view p ty entry path tree held both x is =
@@ -121,7 +121,7 @@ module _ (ms : List ModuleRecord) (st : State) where
   }
 
   there_view : (d : Definition) (p : PathId) (path : Path) (m : HostMember) (tree : TypeTree)
-      → slice_get st.paths p.0 ≡ Some path → HostMemberStands ms (tables_of st) m tree → definition_at p m ≡ Some d
+      → slice_get st.paths.held p.0 ≡ Some path → HostMemberStands ms (tables_of st) m tree → definition_at p m ≡ Some d
       → nests d ≡ true → InstanceView d (of_host path tree)
   there_view d p path m tree held (func_member typed) at is =
       absurd (let same = sym (same_Some _ d at) in let no : ⊥ = cc in no)

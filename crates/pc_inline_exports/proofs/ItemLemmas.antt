@@ -151,13 +151,13 @@ module _ (t : TypeTable) (ms : List ModuleRecord) (st : State) where
 
   -- the path of what the host gives is there
   pub func_held : (p : PathId) (ty : TypeFuncIndex) → IsReachable t ms st (definition.HostFunc p ty)
-      → p.0 < length st.paths
-  func_held p ty r = let v = func_view ms st p ty r.subject r.is in slice_get_within st.paths p.0 v.path v.held
+      → p.0 < length st.paths.held
+  func_held p ty r = let v = func_view ms st p ty r.subject r.is in slice_get_within st.paths.held p.0 v.path v.held
 
   pub module_held : (p : PathId) (ty : TypeModuleIndex) (entry : ℕ)
-      → IsReachable t ms st (definition.HostModule p ty entry) → p.0 < length st.paths
+      → IsReachable t ms st (definition.HostModule p ty entry) → p.0 < length st.paths.held
   module_held p ty entry r =
-      let v = module_view ms st p ty entry r.subject r.is in slice_get_within st.paths p.0 v.path v.held
+      let v = module_view ms st p ty entry r.subject r.is in slice_get_within st.paths.held p.0 v.path v.held
 
   -- and the options and the core function of one that was lifted
   pub lifted_options : (ty : TypeFuncIndex) (func : CoreId) (o : Options)

@@ -134,7 +134,7 @@ module _ (t : TypeTable) (ms : List ModuleRecord) where
           }
 
     module _ (keeps : Keeps (tables_of st) (tables_of new)) (p : PathId) (r : RuntimeImportIndex)
-        (uses : (path : Path) → slice_get st.paths p.0 ≡ Some path → Uses t ms st new path r) where
+        (uses : (path : Path) → slice_get st.paths.held p.0 ≡ Some path → Uses t ms st new path r) where
       -- that of a function of the host
       pub func_leaf : (ty : TypeFuncIndex)
           → IsLeaf t ms st (definition.HostFunc p ty) new (Ok (export.ImportedFunction ty r))

@@ -1,21 +1,20 @@
 -- What an instance has at a place is the part there.
 use Rattle.std.proofs.Common.{◌≡◌, ◌<◌, ◌∙◌, ℕ, zero, suc, List, length, Option, None, Some, Result, Ok, Err}
-use Rattle.std.proofs.Common.{refl, sym, ap, subst, arith, Bor}
-use Rattle.pc_entity.specs.declared.text.Text.{Text}
+use Rattle.std.proofs.Common.{refl, sym, ap, subst, arith}
 use Rattle.std.specs.Prelude.{option_and_then, slice_get}
 use Rattle.std.specs.Option.{option_map}
 use Rattle.std.specs.Result.{IsErrAnd}
-use Rattle.std.proofs.lemmas.Option.{same_Some, slice_get_within}
-use Rattle.pc_numbers.specs.declared.runtime.ResourceIndex.{ResourceIndex}
+use Rattle.std.proofs.lemmas.Option.{none-some, same_Some, slice_get_within}
+use Rattle.pc_entity.specs.declared.string_pool.Atom.{Atom}
 use Rattle.pc_types.specs.declared.error.Unsupported.TheVariants.{ComponentImport}
 use Rattle.pc_types.specs.declared.module_record.ModuleRecord.{ModuleRecord}
+use Rattle.pc_types.specs.declared.parsed.DeclType.{DeclType}
 use Rattle.pc_types.specs.declared.parsed.TypeTable.{TypeTable}
 use Rattle.pc_types.specs.declared.type_index.TypeComponentInstanceIndex.{TypeComponentInstanceIndex}
-use Rattle.pc_types.specs.declared.types.TypeComponentInstance.{TypeComponentInstance}
-use Rattle.pc_types.specs.declared.types.TypeDef.{TypeDef}
 use Rattle.pc_types.specs.declared.types.TypeDef.TheVariants as type
-use Rattle.pc_types.specs.TypeTree.{Fields, Identity, Path, TypeTree, and_field, instance_of, no_fields}
-use Rattle.pc_types_lists.specs.Trees.{ExternsHaveTrees, HasTree}
+use Rattle.pc_types.specs.TypeTree.{Fields, Path, TypeTree, instance_of}
+use Rattle.pc_types_lists.specs.Trees.{HasTree}
+use Rattle.pc_types_walk.specs.Names.{export_names}
 use Rattle.pc_spec_reading.specs.Member.{further}
 use Rattle.pc_spec_reading.specs.Nodes.{host_node, no_data, refused}
 use Rattle.pc_spec_reading.specs.Outcome.{unsupported}
@@ -23,6 +22,8 @@ use Rattle.pc_spec_reading.specs.Types.{instance_fields}
 use Rattle.pc_spec_reading.specs.Value.{NamedValues}
 use Rattle.pc_spec_reading.specs.World.{World}
 use Rattle.pc_inline_paths.specs.declared.path_id.PathId.{PathId}
+use Rattle.pc_inline_names.specs.Both.{Both, both}
+use Rattle.pc_inline_names.specs.Numbers.{IsNumber}
 use Rattle.pc_inline_state.specs.declared.definition.Definition.{Definition}
 use Rattle.pc_inline_state.specs.declared.definition.Definition.TheVariants as definition
 use Rattle.pc_inline_state.specs.declared.definition.DefinitionId.{DefinitionId}
@@ -33,7 +34,7 @@ use Rattle.pc_inline_state.specs.declared.error.ItemFault.TheVariants as item_fa
 use Rattle.pc_inline_state.specs.declared.state.Member.{Member}
 use Rattle.pc_inline_state.specs.declared.state.State.{State}
 use Rattle.pc_inline_state.specs.AddsEach.{AddsEach, nowhere}
-use Rattle.pc_inline_state.specs.Frames.{Both}
+use Rattle.pc_inline_state.specs.Points.{IsSoundState}
 use Rattle.pc_inline_state.specs.Stands.{MembersStand, and_member, no_members, stands}
 use Rattle.pc_inline_state.specs.Tables.{Keeps, Tables, tables_of}
 use Rattle.pc_inline_state.specs.TakesPath.{SoundWithPaths, TakesPath}
@@ -47,9 +48,10 @@ use Rattle.pc_inline_hosts.specs.HostMembers.{definition_at}
 use Rattle.pc_inline_hosts.specs.HostStands.{HostFieldStands, HostMemberStands, IsInstanceType, component_member}
 use Rattle.pc_inline_hosts.specs.HostStands.{field_at}
 use Rattle.pc_inline_hosts.specs.HostStands.{fields_list, func_member, instance_member, module_member, type_member}
+use Rattle.pc_inline_hosts.proofs.FieldLemmas.{fields_declared, names_declared}
 use Rattle.pc_inline_exports.specs.declared.part.Found.{Found}
 use Rattle.pc_inline_exports.specs.Building.{AddsPath, Finds, FindsPart, StillStands}
-use Rattle.pc_inline_exports.specs.Found.{export_label, found_member, made_part}
+use Rattle.pc_inline_exports.specs.Found.{found_member, made_part}
 use Rattle.pc_inline_exports.specs.Reaching.{HasParts, HasSomeParts, host_has, made_has, stands_at, stands_value}
 use Rattle.pc_inline_exports.specs.Subjects.{Part, host_part, host_parts, value_parts}
 use Rattle.pc_inline_exports.proofs.GrownLemmas.{member_kept}
@@ -85,6 +87,24 @@ path_stands t ms st new sound rest w s = record {
   world = subst (λ (y : State). WorldStands y.types y.graph w) (sym rest) s.world;
 }
 
+-- the name of an export of an entry, by its place
+abbrev pub name_at : TypeTable → (entry place : ℕ) → Option (List ℕ)
+name_at t n place = option_and_then (λ (e : DeclType). slice_get (export_names e) place) (slice_get t.types n)
+
+-- what has no number is not there
+unnumbered : {A B : Type 0} (R : A → B → Type 0) (o : Option A) (w : Option B) → Both R o w → w ≡ None → o ≡ None
+unnumbered R None w m none = refl
+unnumbered R (Some a) None m none = elim m [ ]
+unnumbered R (Some a) (Some b) m none = absurd (none-some b (sym none))
+
+-- what has one is
+named_by : {A B : Type 0} (R : A → B → Type 0) (o : Option A) (w : Option B) (y : B) → Both R o w → w ≡ Some y
+    → (x : A) × (o ≡ Some x) × R x y
+named_by R None None y m some = absurd (none-some y some)
+named_by R None (Some b) y m some = elim m [ ]
+named_by R (Some a) None y m some = elim m [ ]
+named_by R (Some a) (Some b) y (both r) some = (a, refl, subst (R a) (same_Some b y some) r)
+
 module _ (t : TypeTable) (ms : List ModuleRecord) (st : State) where
   module _ (new : State) (r : Result (Option Found) ItemError) (d : Definition) (place : ℕ) where
     -- memory ran out
@@ -97,27 +117,28 @@ module _ (t : TypeTable) (ms : List ModuleRecord) (st : State) where
         by (Ok x) is = absurd is
         by (Err e) is = subst (λ y. FindsPart t ms new (slice_get parts place) (Err y)) (sym is) tt
 
-  -- a member with its definition
-  found_as : (e : List ℕ × Member) (n : DefinitionId) (d : Definition) → n ≡ e.1.item
-      → slice_get st.definitions n.0 ≡ Some d
-      → found_member st.definitions e ≡ Some (record { name = e.0; data_ = e.1.data_; definition = d })
-  found_as e n d same held =
-      ap (option_map (λ (y : Definition). record { name = e.0; data_ = e.1.data_; definition = y }))
-      (ap (λ (k : DefinitionId). slice_get st.definitions k.0) (sym same) ∙ held)
+  -- a member with its name and its definition
+  found_as : (e : Atom × Member) (name : List ℕ) → IsNumber st.names.now.texts e.0 name → (n : DefinitionId)
+      (d : Definition) → n ≡ e.1.item → slice_get st.definitions n.0 ≡ Some d
+      → found_member st.names.now.texts st.definitions e
+      ≡ Some (record { name = name; data_ = e.1.data_; definition = d })
+  found_as e name numbered n d same held =
+      let made : List ℕ → Definition → Found = λ l y. record { name = l; data_ = e.1.data_; definition = y } in
+      ap (option_and_then (λ (l : List ℕ). option_map (made l) (slice_get st.definitions e.1.item.0))) numbered
+      ∙ ap (option_map (made name)) (ap (λ (k : DefinitionId). slice_get st.definitions k.0) (sym same) ∙ held)
 
-  members_find : (es : List (List ℕ × Member)) (vs : NamedValues) → MembersStand ms (tables_of st) es vs → (place : ℕ)
+  members_find : (es : List (Atom × Member)) (vs : NamedValues) → MembersStand ms (tables_of st) es vs → (place : ℕ)
       → FindsPart t ms st (slice_get (value_parts vs) place)
-      (Ok (option_and_then (found_member st.definitions) (slice_get es place)))
+      (Ok (option_and_then (found_member st.names.now.texts st.definitions) (slice_get es place)))
   unfolding FindsPart
   members_find es vs no_members place = refl
-  members_find es vs (and_member {name =
-      name} {m = m} {v = v} {es = rest} {vs = others} says (stands {d = d} held x) more)
-      zero =
+  members_find es vs (and_member {name = name} {n = n} {m = m} {v = v} {es = rest} {vs = others} numbered says
+      (stands {d = d} held x) more) zero =
       subst (λ f. FindsPart t ms st (slice_get (value_parts vs) zero) (Ok f))
-      (sym (found_as (name.name, m) m.item d refl held))
+      (sym (found_as (n, m) name.name numbered m.item d refl held))
       (_, refl, record { name = refl; data_ = says; is = stands_value x })
-  members_find es vs (and_member {es =
-      rest} {vs = others} says x more) (suc place) = members_find rest others more place
+  members_find es vs (and_member {es = rest} {vs = others} numbered says x more) (suc place) =
+      members_find rest others more place
 
   made_at : (d : Definition) (parts : List Part) (tree : TypeTree) → HasParts ms (tables_of st) d parts tree
       → (n : ExportsId) (ty : TypeComponentInstanceIndex) → d ≡ definition.Instance n ty → (place : ℕ)
@@ -125,8 +146,8 @@ module _ (t : TypeTable) (ms : List ModuleRecord) (st : State) where
   made_at d parts tree (made_has {n = m} {es = es} {vs = vs} held members typed) n ty same place =
       let one : m ≡ n = cc in
       subst (λ o. FindsPart t ms st (slice_get (value_parts vs) place) (Ok o))
-      (sym (ap (option_and_then (λ (l : List (List ℕ × Member)).
-      option_and_then (found_member st.definitions) (slice_get l place)))
+      (sym (ap (option_and_then (λ (l : List (Atom × Member)).
+      option_and_then (found_member st.names.now.texts st.definitions) (slice_get l place)))
       (ap (λ (k : ExportsId). slice_get st.instances k.0) (sym one) ∙ held)))
       (members_find es vs members place)
   made_at d parts tree (host_has held is) n ty same place = absurd (let no : ⊥ = cc in no)
@@ -138,33 +159,32 @@ module _ (t : TypeTable) (ms : List ModuleRecord) (st : State) where
       subst (λ y. FindsPart t ms st (slice_get parts place) (Ok y)) (sym is)
       (made_at d parts tree has n ty same place)
 
-  -- the names of the exports of an instance type
-  externs_label : (who : ResourceIndex → Identity) (es : List (List ℕ × TypeDef)) (fs : Fields)
-      → ExternsHaveTrees st.types who es fs → (n : ℕ) → option_map (λ (e : List ℕ × TypeDef). e.0) (slice_get es n)
-      ≡ option_map (λ (f : List ℕ × TypeTree). f.0) (slice_get (fields_list fs) n)
-  externs_label who es no_fields h n = ap (λ l. option_map (λ (e : List ℕ × TypeDef). e.0) (slice_get l n)) h
-  externs_label who es (and_field name tree fs) h zero =
-      ap (λ l. option_map (λ (e : List ℕ × TypeDef). e.0) (slice_get l zero)) h.2
-  externs_label who es (and_field name tree fs) h (suc n) =
-      ap (λ l. option_map (λ (e : List ℕ × TypeDef). e.0) (slice_get l (suc n))) h.2 ∙ externs_label who h.1 fs h.4 n
-
-  labels : (ty : TypeComponentInstanceIndex) (fields : Fields)
-      → HasTree st.types (who_of st.graph) (type.ComponentInstance ty) (instance_of fields) → (place : ℕ)
-      → export_label st.types ty place ≡ option_map (λ (f : List ℕ × TypeTree). f.0) (slice_get (fields_list fields) place)
-  labels ty fields h place =
-      let same : ty ≡ h.0 = (let is = h.2 in cc) in
-      ap (option_and_then (λ (i : TypeComponentInstance).
-      option_map (λ (e : List ℕ × TypeDef). e.0) (slice_get i.exports place)))
-      (ap (λ (k : TypeComponentInstanceIndex). slice_get st.types.instances k.0) same ∙ h.3)
-      ∙ externs_label (who_of st.graph) h.1.exports fields h.4 place
-
-  label_is : (ty : TypeComponentInstanceIndex) (entry : ℕ) (tree : TypeTree)
+  -- the name of an export of an instance type in the type table is that of the field
+  declared_name : (ty : TypeComponentInstanceIndex) (entry : ℕ) (tree : TypeTree)
       → IsInstanceType ms (tables_of st) ty entry tree → (place : ℕ)
-      → export_label st.types ty place ≡ option_map (λ (f : List ℕ × TypeTree). f.0) (field_at tree place)
-  label_is ty entry tree is place =
-      let h = is.typed (who_of st.graph) (who_fits st.graph) in
-      labels ty (instance_fields tree)
-      (subst (HasTree st.types (who_of st.graph) (type.ComponentInstance ty)) (fields_of ms st ty tree h) h) place
+      → name_at st.table.now entry place ≡ option_map (λ (f : List ℕ × TypeTree). f.0) (field_at tree place)
+  declared_name ty entry tree is place =
+      let d = is.declared in
+      let f = fields_declared d.known d.component_instance st.table.now entry tree d.there d.is in
+      ap (option_and_then (λ (e : DeclType). slice_get (export_names e) place)) f.2
+      ∙ ap (λ (ns : List (List ℕ)). slice_get ns place)
+      (names_declared d.known d.component_instance st.table.now f.0 (fields_list f.1) f.4)
+      ∙ slice_mapped (λ (g : List ℕ × TypeTree). g.0) (fields_list f.1) place
+      ∙ ap (λ (y : TypeTree). option_map (λ (g : List ℕ × TypeTree). g.0) (field_at y place)) f.3
+
+  module _ (entry place : ℕ) (n : Option Atom)
+      (numbers : Both (λ name k. IsNumber st.names.now.texts k name) (name_at st.names.now.table entry place) n) where
+    -- the number of an export of an entry is that of a name
+    number_named : (k : Atom) → n ≡ Some k → (name : List ℕ)
+        × (name_at st.names.now.table entry place ≡ Some name) × IsNumber st.names.now.texts k name
+    number_named k some = named_by (λ name j. IsNumber st.names.now.texts j name) _ n k numbers some
+
+    -- so paths go further by it
+    pub number_held : IsSoundState t ms st → (k : Atom) → n ≡ Some k → k.0 < length st.paths.names
+    number_held sound k some =
+        let x = number_named k some in
+        subst (λ (names : List (List ℕ)). k.0 < length names) (sym sound.names.paths)
+        (slice_get_within st.names.now.texts k.0 x.0 x.2)
 
   type_below : (ty : TypeComponentInstanceIndex) (fields : Fields)
       → HasTree st.types (who_of st.graph) (type.ComponentInstance ty) (instance_of fields)
@@ -182,7 +202,7 @@ module _ (t : TypeTable) (ms : List ModuleRecord) (st : State) where
     pub record HostHas (parts : List Part) : Type 0 where
       pub path : Path
       pub tree : TypeTree
-      pub held : slice_get st.paths p.0 ≡ Some path
+      pub held : slice_get st.paths.held p.0 ≡ Some path
       pub is : IsInstanceType ms (tables_of st) ty entry tree
       pub are : parts ≡ host_parts path (fields_list (instance_fields tree))
 
@@ -196,7 +216,7 @@ module _ (t : TypeTable) (ms : List ModuleRecord) (st : State) where
         record {
           path = path;
           tree = tree;
-          held = subst (λ (k : PathId). slice_get st.paths k.0 ≡ Some path) one held;
+          held = subst (λ (k : PathId). slice_get st.paths.held k.0 ≡ Some path) one held;
           is = subst (λ k. IsInstanceType ms (tables_of st) ty k tree) three
               (subst (λ k. IsInstanceType ms (tables_of st) k m tree) two is);
           are = refl;
@@ -209,9 +229,9 @@ module _ (t : TypeTable) (ms : List ModuleRecord) (st : State) where
         type_below ty (instance_fields v.tree)
         (subst (HasTree st.types (who_of st.graph) (type.ComponentInstance ty)) (fields_of ms st ty v.tree h) h)
 
-    pub host_path_held : HasSomeParts ms (tables_of st) instance → p.0 < length st.paths
+    pub host_path_held : HasSomeParts ms (tables_of st) instance → p.0 < length st.paths.held
     host_path_held some =
-        let v = host_as instance some.0 some.1 some.2 refl in slice_get_within st.paths p.0 v.path v.held
+        let v = host_as instance some.0 some.1 some.2 refl in slice_get_within st.paths.held p.0 v.path v.held
 
     module _ (place : ℕ) where
       part_of : (parts : List Part) (v : HostHas parts)
@@ -235,14 +255,40 @@ module _ (t : TypeTable) (ms : List ModuleRecord) (st : State) where
       mapped_none f None is = refl
       mapped_none f (Some x) is = absurd (let no : ⊥ = cc in no)
 
-      pub host_unnamed : (o : Option (List ℕ)) → o ≡ export_label st.types ty place → o ≡ None
-          → Finds t ms st instance place st (Ok None)
-      unfolding FindsPart
-      host_unnamed o is none parts tree has =
-          let v = host_as instance parts tree has refl in
-          part_of parts v ∙ ap (option_map (host_part v.path))
-          (mapped_none (λ (f : List ℕ × TypeTree). f.0) (field_at v.tree place)
-          (sym (label_is ty entry v.tree v.is place) ∙ sym is ∙ none))
+      -- the number of a name is that of the field
+      module _ (sound : IsSoundState t ms st) (n : Option Atom)
+          (numbers : Both (λ name k. IsNumber st.names.now.texts k name) (name_at st.names.now.table entry place) n)
+        where
+          field_name : (parts : List Part) (v : HostHas parts) → name_at st.names.now.table entry place
+              ≡ option_map (λ (f : List ℕ × TypeTree). f.0) (field_at v.tree place)
+          field_name parts v =
+              ap (λ (y : TypeTable). name_at y entry place) (sound.names.table ∙ sym sound.table)
+              ∙ declared_name ty entry v.tree v.is place
+
+          -- there is no number
+          pub host_unnumbered : n ≡ None → Finds t ms st instance place st (Ok None)
+          unfolding FindsPart
+          host_unnumbered none parts tree has =
+              let v = host_as instance parts tree has refl in
+              part_of parts v ∙ ap (option_map (host_part v.path))
+              (mapped_none (λ (f : List ℕ × TypeTree). f.0) (field_at v.tree place)
+              (sym (field_name parts v) ∙ unnumbered (λ name k. IsNumber st.names.now.texts k name) _ n numbers none))
+
+          -- a number has a text
+          pub host_untold : (k : Atom) → n ≡ Some k → (o : Option (List ℕ)) → o ≡ slice_get st.names.now.texts k.0
+              → o ≡ None → Finds t ms st instance place st (Ok None)
+          host_untold k some o told none =
+              let x = number_named entry place n numbers k some in
+              absurd (none-some x.0 (sym none ∙ told ∙ x.2))
+
+          -- which is the name of the field
+          pub field_named : (k : Atom) → n ≡ Some k → (label : List ℕ) → slice_get st.names.now.texts k.0 ≡ Some label
+              → (parts : List Part) (v : HostHas parts) (f : List ℕ × TypeTree) → field_at v.tree place ≡ Some f
+              → label ≡ f.0
+          field_named k some label told parts v f there =
+              let x = number_named entry place n numbers k some in
+              same_Some label f.0 (sym told ∙ x.2 ∙ sym x.1 ∙ field_name parts v
+              ∙ ap (option_map (λ (y : List ℕ × TypeTree). y.0)) there)
 
       module _ (o : Option HostMember) (finds : (js : List ModuleRecord) (tree : TypeTree)
           → IsInstanceType js (tables_of st) ty entry tree
@@ -268,39 +314,26 @@ module _ (t : TypeTable) (ms : List ModuleRecord) (st : State) where
             )
 
         -- anything else
-        module _ (label : List ℕ) (named : Option (List ℕ)) (named_is : named ≡ export_label st.types ty place)
-            (is_named : named ≡ Some label) (new : State) (keeps : Keeps (tables_of st) (tables_of new)) (id : PathId)
-            (takes : (path : Path) → slice_get st.paths p.0 ≡ Some path → TakesPath (further path label) st new id)
+        module _ (label : List ℕ) (named : (parts : List Part) (v : HostHas parts) (f : List ℕ × TypeTree)
+            → field_at v.tree place ≡ Some f → label ≡ f.0) (new : State) (keeps : Keeps (tables_of st) (tables_of new))
+            (id : PathId)
+            (takes : (path : Path) → slice_get st.paths.held p.0 ≡ Some path → TakesPath (further path label) st new id)
             (d : Definition) (at : definition_at id m ≡ Some d) where
-          same_label : (parts : List Part) (v : HostHas parts) (f : List ℕ × TypeTree) → field_at v.tree place ≡ Some f
-              → label ≡ f.0
-          same_label parts v f there =
-              same_Some label f.0 (sym is_named ∙ named_is ∙ label_is ty entry v.tree v.is place
-              ∙ ap (option_map (λ (y : List ℕ × TypeTree). y.0)) there)
-
           pub host_found : (name : List ℕ) → name ≡ label
               → Finds t ms st instance place new (Ok (Some (record { name = name; data_ = no_data; definition = d })))
           unfolding FindsPart
           host_found name copied parts tree has =
               let v = host_as instance parts tree has refl in
               let f = field_there parts v in
-              let same = same_label parts v f.0 f.1 in (
+              let same = named parts v f.0 f.1 in (
                 host_part v.path f.0,
                 part_of parts v ∙ ap (option_map (host_part v.path)) f.1,
                 record {
                   name = copied ∙ same;
                   data_ = refl;
                   is = stands_at id m
-                      (subst (λ (l : List ℕ). slice_get new.paths id.0 ≡ Some (further v.path l)) same
+                      (subst (λ (l : List ℕ). slice_get new.paths.held id.0 ≡ Some (further v.path l)) same
                       (takes v.path v.held).held)
                       (member_kept ms (tables_of st) (tables_of new) keeps m f.0.1 f.2) at;
                 },
               )
-
--- what a reference to a name says of it
-pub label_none : (o : Option (Bor Text)) → o ≡ None → option_map (λ (name : Bor Text). name.now) o ≡ None
-label_none o is = ap (option_map (λ (name : Bor Text). name.now)) is
-
-pub label_some : (o : Option (Bor Text)) (x : Bor Text) → o ≡ Some x
-    → option_map (λ (name : Bor Text). name.now) o ≡ Some x.now
-label_some o x is = ap (option_map (λ (name : Bor Text). name.now)) is

@@ -115,11 +115,12 @@ module _ (t : TypeTable) (ms : List ModuleRecord) (st : State) (e : Export) wher
             adapter_partitionings = s.sound.plain.adapter_partitionings;
             unsafe_intrinsics = s.sound.plain.unsafe_intrinsics;
           };
-          used = used_kept st.graph exported grows refl st.paths st.used.items s.sound.used;
+          used = used_kept st.graph exported grows refl st.paths.held st.used.items s.sound.used;
           numbers = s.sound.numbers;
           held = after_held s.sound.held;
           table = s.sound.table;
           bodies = s.sound.bodies;
+          names = s.sound.names;
           members = s.sound.members;
           instances = instances_kept ms (tables_of st) (tables_of after) after_keeps refl st.runtime_instances.items
               s.sound.instances;

@@ -135,11 +135,12 @@ module _ (t : TypeTable) (ms : List ModuleRecord) (st : State) (e : NamedExport)
           adapter_partitionings = root.sound.plain.adapter_partitionings;
           unsafe_intrinsics = root.sound.plain.unsafe_intrinsics;
         };
-        used = used_kept st.graph named grows refl st.paths st.used.items root.sound.used;
+        used = used_kept st.graph named grows refl st.paths.held st.used.items root.sound.used;
         numbers = root.sound.numbers;
         held = types_held st.types t st.graph named name_fits refl refl root.sound.held;
         table = root.sound.table;
         bodies = root.sound.bodies;
+        names = root.sound.names;
         members = root.sound.members;
         instances = instances_kept ms (tables_of st) (tables_of after_name) name_keeps refl st.runtime_instances.items
             root.sound.instances;

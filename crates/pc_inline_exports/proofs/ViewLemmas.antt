@@ -107,7 +107,7 @@ module _ (ms : List ModuleRecord) (st : State) where
   pub record FuncView (p : PathId) (ty : TypeFuncIndex) (x : Subject) : Type 0 where
     pub path : Path
     pub tree : TypeTree
-    pub held : slice_get st.paths p.0 ≡ Some path
+    pub held : slice_get st.paths.held p.0 ≡ Some path
     pub typed : IsFunc ms (tables_of st) ty tree
     pub reads : (w : World) → WorldStands st.types st.graph w
         → subject_node x w ≡ host_function_node path (Some tree) w
@@ -116,7 +116,7 @@ module _ (ms : List ModuleRecord) (st : State) where
   pub record ModuleView (p : PathId) (ty : TypeModuleIndex) (entry : ℕ) (x : Subject) : Type 0 where
     pub path : Path
     pub tree : TypeTree
-    pub held : slice_get st.paths p.0 ≡ Some path
+    pub held : slice_get st.paths.held p.0 ≡ Some path
     pub typed : IsType ms (tables_of st) (type.Module ty) tree
     pub reads : (w : World) → subject_node x w ≡ host_module_node path tree w
 
@@ -156,7 +156,7 @@ module _ (ms : List ModuleRecord) (st : State) where
       record {
         path = path;
         tree = tree;
-        held = subst (λ (k : PathId). slice_get st.paths k.0 ≡ Some path) one held;
+        held = subst (λ (k : PathId). slice_get st.paths.held k.0 ≡ Some path) one held;
         typed = subst (λ k. IsFunc ms (tables_of st) k tree) two typed;
         reads = λ w world. ap (λ o. host_function_node path o w) (type_given w world path tree given);
       }
@@ -172,7 +172,7 @@ module _ (ms : List ModuleRecord) (st : State) where
   func_value p ty d v (stands_type typed) same = absurd (let no : ⊥ = cc in no)
 
   func_there : (q : PathId) (ty : TypeFuncIndex) (p : PathId) (path : Path) (m : HostMember) (tree : TypeTree)
-      → slice_get st.paths p.0 ≡ Some path → HostMemberStands ms (tables_of st) m tree
+      → slice_get st.paths.held p.0 ≡ Some path → HostMemberStands ms (tables_of st) m tree
       → definition_at p m ≡ Some (definition.HostFunc q ty) → FuncView q ty (of_host path tree)
   unfolding value_node host_node
   func_there q ty p path m tree held (func_member {ty = u} {params = ps} {result = res} {is_async = a} typed) at =
@@ -181,7 +181,7 @@ module _ (ms : List ModuleRecord) (st : State) where
       record {
         path = path;
         tree = func_of ps res a;
-        held = subst (λ (k : PathId). slice_get st.paths k.0 ≡ Some path) one held;
+        held = subst (λ (k : PathId). slice_get st.paths.held k.0 ≡ Some path) one held;
         typed = subst (λ k. IsFunc ms (tables_of st) k (func_of ps res a)) two typed;
         reads = λ w world. refl;
       }
@@ -211,7 +211,7 @@ module _ (ms : List ModuleRecord) (st : State) where
       record {
         path = path;
         tree = tree;
-        held = subst (λ (k : PathId). slice_get st.paths k.0 ≡ Some path) one held;
+        held = subst (λ (k : PathId). slice_get st.paths.held k.0 ≡ Some path) one held;
         typed = subst (λ k. IsType ms (tables_of st) (type.Module k) tree) two typed;
         reads = λ w. refl;
       }
@@ -225,7 +225,7 @@ module _ (ms : List ModuleRecord) (st : State) where
 
   module_there : (q : PathId) (ty : TypeModuleIndex) (entry : ℕ) (p : PathId) (path : Path) (m : HostMember)
       (tree : TypeTree)
-      → slice_get st.paths p.0 ≡ Some path → HostMemberStands ms (tables_of st) m tree
+      → slice_get st.paths.held p.0 ≡ Some path → HostMemberStands ms (tables_of st) m tree
       → definition_at p m ≡ Some (definition.HostModule q ty entry) → ModuleView q ty entry (of_host path tree)
   unfolding value_node host_node
   module_there q ty entry p path m tree held (func_member typed) at = absurd (let no : ⊥ = cc in no)
@@ -237,7 +237,7 @@ module _ (ms : List ModuleRecord) (st : State) where
       record {
         path = path;
         tree = module_of is es;
-        held = subst (λ (k : PathId). slice_get st.paths k.0 ≡ Some path) one held;
+        held = subst (λ (k : PathId). slice_get st.paths.held k.0 ≡ Some path) one held;
         typed = subst (λ k. IsType ms (tables_of st) (type.Module k) (module_of is es)) two typed;
         reads = λ w. refl;
       }
@@ -279,7 +279,7 @@ module _ (ms : List ModuleRecord) (st : State) where
   static_value m ty d v (stands_type typed) same = absurd (let no : ⊥ = cc in no)
 
   static_there : (k : StaticModuleIndex) (ty : ℕ) (p : PathId) (path : Path) (m : HostMember) (tree : TypeTree)
-      → slice_get st.paths p.0 ≡ Some path → HostMemberStands ms (tables_of st) m tree
+      → slice_get st.paths.held p.0 ≡ Some path → HostMemberStands ms (tables_of st) m tree
       → definition_at p m ≡ Some (definition.StaticModule k ty) → StaticView k ty (of_host path tree)
   unfolding value_node
   static_there k ty p path m tree held (func_member typed) at = absurd (let no : ⊥ = cc in no)
@@ -326,7 +326,7 @@ module _ (ms : List ModuleRecord) (st : State) where
 
   lifted_there : (ty : TypeFuncIndex) (func : CoreId) (opts : Options) (p : PathId) (path : Path) (m : HostMember)
       (tree : TypeTree)
-      → slice_get st.paths p.0 ≡ Some path → HostMemberStands ms (tables_of st) m tree
+      → slice_get st.paths.held p.0 ≡ Some path → HostMemberStands ms (tables_of st) m tree
       → definition_at p m ≡ Some (definition.LiftedFunc ty func opts) → LiftedView ty func opts (of_host path tree)
   unfolding value_node
   lifted_there ty func opts p path m tree held (func_member typed) at = absurd (let no : ⊥ = cc in no)
@@ -364,7 +364,7 @@ module _ (ms : List ModuleRecord) (st : State) where
       }
 
   type_there : (d : TypeDef) (p : PathId) (path : Path) (m : HostMember) (tree : TypeTree)
-      → slice_get st.paths p.0 ≡ Some path → HostMemberStands ms (tables_of st) m tree
+      → slice_get st.paths.held p.0 ≡ Some path → HostMemberStands ms (tables_of st) m tree
       → definition_at p m ≡ Some (definition.Type_ d) → TypeView d (of_host path tree)
   unfolding value_node
   type_there d p path m tree held (func_member typed) at = absurd (let no : ⊥ = cc in no)

@@ -2,6 +2,7 @@
 use Rattle.std.specs.Prelude.{◌≡◌, ◌<◌, ◌≤◌, ◌+◌, ◌*◌, ◌⊎◌, ℕ, true, List, Some, Result, Ok, Err, length, slice_get}
 use Rattle.std.specs.Prelude.{[], ◌∷◌, ◌++◌}
 use Rattle.pc_numbers.specs.declared.runtime.ExportIndex.{ExportIndex}
+use Rattle.pc_entity.specs.declared.string_pool.Atom.{Atom}
 use Rattle.pc_types.specs.declared.error.Unsupported.{Unsupported}
 use Rattle.pc_types.specs.declared.module_record.ModuleRecord.{ModuleRecord}
 use Rattle.pc_types.specs.declared.parsed.CoreKind.TheVariants as core
@@ -82,7 +83,7 @@ module _ (ms : List ModuleRecord) (b : Tables) where
 
   -- a definition is an instance that has these parts and this type
   pub data HasParts : Definition → List Part → TypeTree → Type 0 where
-    made_has : {n : ExportsId} {ty : TypeComponentInstanceIndex} {es : List (List ℕ × Member)} {vs : NamedValues}
+    made_has : {n : ExportsId} {ty : TypeComponentInstanceIndex} {es : List (Atom × Member)} {vs : NamedValues}
         {tree : TypeTree} → slice_get b.instances n.0 ≡ Some es → MembersStand ms b es vs
         → IsType ms b (type.ComponentInstance ty) tree → HasParts (definition.Instance n ty) (value_parts vs) tree
     host_has : {p : PathId} {ty : TypeComponentInstanceIndex} {entry : ℕ} {path : Path} {tree : TypeTree}

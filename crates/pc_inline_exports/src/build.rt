@@ -63,9 +63,10 @@ fn names_are_apart(context: &Context<'_>, state: &State<'_>, instance: Definitio
     requires table { state.now.table.now ≡ context.now.table.now }
     ensures { IsApart context.now.table.now context.now.modules state.now instance }
 {
+    state.names.are_distinct();
     if let Definition::Instance { exports, .. } = instance {
         if let Some(members) = state.instances.get(exports) {
-            members.names_are_distinct();
+            members.numbers_are_distinct();
         }
     }
 }

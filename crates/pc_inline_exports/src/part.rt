@@ -1,9 +1,9 @@
 //! What an instance has at a place.
 
-ghost use Rattle.std.specs.Prelude.{◌≡◌, ◌<◌, length, IfOk, OnOk, option_map};
+ghost use Rattle.std.specs.Prelude.{◌≡◌, IfOk, OnOk};
 ghost use Rattle.pc_inline_state.specs.declared.definition.Definition.TheVariants as definition;
 ghost use Rattle.pc_inline_exports.specs.Building.{AddsPath, Finds, StillStands};
-ghost use Rattle.pc_inline_exports.specs.Found.{export_label, made_part, nests};
+ghost use Rattle.pc_inline_exports.specs.Found.{made_part, nests};
 ghost use Rattle.pc_inline_exports.specs.Reaching.{HasSomeParts};
 ghost use Rattle.pc_inline_state.specs.Points.{IsInput, IsSoundState};
 ghost use Rattle.pc_inline_state.specs.Tables.{tables_of};
@@ -13,7 +13,6 @@ use pc_inline_hosts::{HostMember, host_member};
 use pc_inline_paths::PathId;
 use pc_inline_state::{Context, Definition, ExportsId, ItemError, ItemFault, State};
 use pc_types::{ComponentExternData, TypeComponentInstanceIndex, Unsupported};
-use pc_types_builder::ComponentTypesBuilder;
 
 /// What an instance has at a place: its name, what the name says of itself, and what it is.
 #[derive(Drop)]
@@ -45,7 +44,10 @@ fn made_part(
     let Some(members) = state.instances.get(exports) else {
         return Ok(None);
     };
-    let Some((name, member)) = members.get_index(place) else {
+    let Some((number, member)) = members.get_index(place) else {
+        return Ok(None);
+    };
+    let Some(name) = state.names.text(number) else {
         return Ok(None);
     };
     let Some(definition) = state.definitions.get(member.item) else {
@@ -58,22 +60,7 @@ fn made_part(
     }))
 }
 
-/// The name of an export of an instance type, by its place.
-fn export_label(
-    types: &ComponentTypesBuilder,
-    ty: TypeComponentInstanceIndex,
-    place: usize,
-) -> Option<&Text>
-    requires held { ty.0 < length types.now.instances }
-    ensures { option_map (λ name. name.now) result ≡ export_label types.now ty place }
-{
-    match types.instance(ty).exports.as_slice().get(place) {
-        Some(export) => Some(&export.0),
-        None => None,
-    }
-}
-
-/// What a host instance has at a place. A component is refused.
+/// What a host instance has at a place, under its name in the type table. A component is refused.
 fn host_part(
     context: &Context<'_>,
     state: &mut State<'_>,
@@ -93,15 +80,17 @@ fn host_part(
     let Some(member) = host_member(context, state, ty, entry, place) else {
         return Ok(None);
     };
-    let Some(label) = export_label(&state.types, ty, place) else {
-        return Ok(None);
-    };
     if let HostMember::Component = member {
         return Err(ItemError::Fault(ItemFault::Unsupported(Unsupported::ComponentImport)));
     }
-    let name = label.try_clone(context.alloc)?;
-    let step = label.try_clone(context.alloc)?;
-    let path = state.path_to_member(path, step)?;
+    let Some(number) = state.names.export_number(entry, place) else {
+        return Ok(None);
+    };
+    let Some(label) = state.names.text(number) else {
+        return Ok(None);
+    };
+    let name = label.share()?;
+    let path = state.path_to_member(path, number)?;
     let data_ = ComponentExternData {
         implements: None,
         external_id: None,

@@ -1,20 +1,20 @@
 //! What a host instance has at a place, and under a name.
 
-ghost use Rattle.std.specs.Prelude.{◌≡◌, ◌<◌, List, None, length, option_map, slice_get};
+ghost use Rattle.std.specs.Prelude.{◌≡◌, ◌<◌, ℕ, List, None, length, option_map, slice_get};
 ghost use Rattle.pc_types.specs.declared.module_record.ModuleRecord.{ModuleRecord};
 ghost use Rattle.pc_types.specs.Table.{table_fault};
 ghost use Rattle.pc_types.specs.TypeTree.{TypeTree};
 ghost use Rattle.pc_types_walk.specs.Walks.{export_at};
 ghost use Rattle.pc_spec_reading.specs.Member.{field_under};
 ghost use Rattle.pc_spec_reading.specs.Types.{instance_fields};
+ghost use Rattle.pc_inline_names.specs.Numbers.{IsNumber};
 ghost use Rattle.pc_inline_state.specs.Frames.{Both};
-ghost use Rattle.pc_inline_state.specs.Ready.{IsReady};
 ghost use Rattle.pc_inline_state.specs.Tables.{tables_of};
 ghost use Rattle.pc_inline_hosts.specs.HostMembers.{entry_of, export_type, member_at};
 ghost use Rattle.pc_inline_hosts.specs.HostStands.{HostFieldStands, HostMemberStands, IsInstanceType, field_at};
 
 use crate::member::{HostMember, entry_of, member_of};
-use pc_entity::Text;
+use pc_entity::{Atom, Text};
 use pc_inline_state::{Context, State};
 use pc_types::{DeclType, TypeComponentInstanceIndex, TypeDef, TypeTable};
 use pc_types_builder::ComponentTypesBuilder;
@@ -92,23 +92,23 @@ pub fn host_member(
     member_at(context.table, &state.types, ty, entry, place)
 }
 
-/// What a host instance has under a name, by its type: of a name that stands twice the first.
+/// What a host instance has under the name of a number, by its type: of a name that stands twice the first.
 pub fn host_export(
     context: &Context<'_>,
     state: &State<'_>,
     ty: TypeComponentInstanceIndex,
     entry: u32,
-    name: &str,
+    number: Atom,
 ) -> Option<HostMember>
     requires sound { table_fault context.now.table.now ≡ None }
-    requires ready { IsReady context.now }
+    requires named { state.now.names.now.table ≡ context.now.table.now }
     requires table { state.now.table.now ≡ context.now.table.now }
     requires held { ty.0 < length state.now.types.instances }
-    ensures { (ms : List ModuleRecord) (tree : TypeTree)
-        → IsInstanceType ms (tables_of state.now) ty entry tree
-        → Both (HostMemberStands ms (tables_of state.now)) result (field_under name.now (instance_fields tree)) }
+    ensures { (name : List ℕ) → IsNumber state.now.names.now.texts number name
+        → (ms : List ModuleRecord) (tree : TypeTree) → IsInstanceType ms (tables_of state.now) ty entry tree
+        → Both (HostMemberStands ms (tables_of state.now)) result (field_under name (instance_fields tree)) }
 {
-    match context.names.place(entry, name) {
+    match state.names.type_export(entry, number) {
         Some(place) => member_at(context.table, &state.types, ty, entry, place),
         None => None,
     }

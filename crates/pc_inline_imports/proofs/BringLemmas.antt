@@ -80,11 +80,12 @@ module _ (t : TypeTable) (ms : List ModuleRecord) (st : State) (is : List (List 
         adapter_partitionings = sound.plain.adapter_partitionings;
         unsafe_intrinsics = sound.plain.unsafe_intrinsics;
       };
-      used = used_kept st.graph other grows refl st.paths st.used.items sound.used;
+      used = used_kept st.graph other grows refl st.paths.held st.used.items sound.used;
       numbers = sound.numbers;
       held = types_held st.types t st.graph other fits refl refl sound.held;
       table = sound.table;
       bodies = sound.bodies;
+      names = sound.names;
       members = sound.members;
       instances = instances_kept ms (tables_of st) (tables_of (record st { graph = other }))
           (graph_grown (tables_of st) other grows fits) refl st.runtime_instances.items sound.instances;
@@ -264,7 +265,7 @@ module _ (t : TypeTable) (ms : List ModuleRecord) (ids : List PathId) (found : L
   pub record BroughtSoFar (st : State) (k : ℕ) : Type 0 where
     pub keeps : Keeps (tables_of old) (tables_of st)
     pub adds : AddsEach (in_brought k) 0 0 (tables_of old) (tables_of st)
-    pub brings : Brings t ms (map (path_at ids old.paths) (take k found)) old st
+    pub brings : Brings t ms (map (path_at ids old.paths.held) (take k found)) old st
 
   -- none so far
   pub brought_start : IsSoundState t ms old → BroughtSoFar old 0
@@ -276,11 +277,11 @@ module _ (t : TypeTable) (ms : List ModuleRecord) (ids : List PathId) (found : L
 
   module _ (st : State) (k : ℕ) (far : BroughtSoFar st k) where
     -- the paths are those of the beginning
-    pub same_paths : st.paths ≡ old.paths
-    same_paths = ap (λ (s : State). s.paths) far.brings.rest
+    pub same_paths : st.paths.held ≡ old.paths.held
+    same_paths = ap (λ (s : State). s.paths.held) far.brings.rest
 
     -- so they are held
-    pub held_still : AllHeld ids old.paths → AllHeld ids st.paths
+    pub held_still : AllHeld ids old.paths.held → AllHeld ids st.paths.held
     held_still held = subst (AllHeld ids) (sym same_paths) held
 
     -- and no resource is declared
@@ -291,14 +292,14 @@ module _ (t : TypeTable) (ms : List ModuleRecord) (ids : List PathId) (found : L
         (keeps : Keeps (tables_of st) (tables_of st'))
         (adds : AddsEach (in_brought 1) 0 0 (tables_of st) (tables_of st')) where
       -- one more
-      pub brought_next : Brings t ms (path_at ids st.paths f ∷ []) st st' → BroughtSoFar st' (k + 1)
+      pub brought_next : Brings t ms (path_at ids st.paths.held f ∷ []) st st' → BroughtSoFar st' (k + 1)
       brought_next brings = record {
         keeps = keeps_trans (tables_of old) (tables_of st) (tables_of st') far.keeps keeps;
         adds = brought_more k 1 (k + 1) (omega arith) (tables_of old) (tables_of st) (tables_of st') far.adds adds;
-        brings = subst (λ ps. Brings t ms ps old st') (sym (map_more (path_at ids old.paths) found k f within
-            ∙ ap (λ x. map (path_at ids old.paths) (take k found) ++ path_at ids old.paths x ∷ [])
+        brings = subst (λ ps. Brings t ms ps old st') (sym (map_more (path_at ids old.paths.held) found k f within
+            ∙ ap (λ x. map (path_at ids old.paths.held) (take k found) ++ path_at ids old.paths.held x ∷ [])
             (get_or_from_slice_get found k f f at)))
-            (brings_more t ms (map (path_at ids old.paths) (take k found)) (path_at ids old.paths f) old st st'
+            (brings_more t ms (map (path_at ids old.paths.held) (take k found)) (path_at ids old.paths.held f) old st st'
             far.brings keeps.graph (subst (λ ps. Brings t ms (path_at ids ps f ∷ []) st st') same_paths brings));
       }
 

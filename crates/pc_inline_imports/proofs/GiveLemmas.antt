@@ -1,12 +1,13 @@
 -- An import that comes into the graph, with its resources behind it.
 use Rattle.std.proofs.Common.{◌≡◌, ◌<◌, ◌≤◌, ◌+◌, ℕ, zero, suc, List, [], ◌∷◌, ◌++◌, length, map, get_or, refl}
 use Rattle.std.proofs.Common.{sym, ap, subst, ◌∙◌, Some, None, arith, ◌⊎◌, inl, inr, Result, Ok, Err}
-use Rattle.std.specs.Prelude.{slice_get, OnOk, OnErr, IfOk}
+use Rattle.std.specs.Prelude.{slice_get, option_and_then, Option, OnOk, OnErr, IfOk}
 use Rattle.std.specs.List.{AllZip, fold}
 use Rattle.std.proofs.lemmas.List.{length_push}
 use Rattle.std.proofs.lemmas.Option.{none-some, same_Some, slice_get-get_or, slice_get_within}
 use Rattle.pc_entity.proofs.Growing.{slice_get-append_seam}
 use Rattle.pc_entity.proofs.LookupLemmas.{found_at}
+use Rattle.pc_entity.specs.declared.string_pool.Atom.{Atom}
 use Rattle.pc_entity.specs.Lists.{Kept}
 use Rattle.pc_numbers.specs.declared.runtime.ImportIndex.{ImportIndex}
 use Rattle.pc_numbers.specs.declared.runtime.RuntimeImportIndex.{RuntimeImportIndex}
@@ -20,6 +21,7 @@ use Rattle.pc_types.specs.declared.types.TypeDef.TheVariants as type
 use Rattle.pc_types.specs.TypeTree.{Path}
 use Rattle.pc_types_walk.specs.declared.walk.Found.{Found}
 use Rattle.pc_types_walk.specs.declared.walk.Place.{Place}
+use Rattle.pc_types_walk.specs.Names.{export_names}
 use Rattle.pc_types_walk.specs.Walks.{AreNamed, export_at}
 use Rattle.pc_parsed.specs.declared.payload.ExternName.{ExternName}
 use Rattle.pc_spec_plan.specs.PlanView as plan
@@ -32,7 +34,8 @@ use Rattle.pc_dfg.specs.Means.{HasPath}
 use Rattle.pc_dfg.specs.Numbers.{slots_of}
 use Rattle.pc_dfg.specs.Ordered.{IsOrdered}
 use Rattle.pc_inline_paths.specs.declared.path_id.PathId.{PathId}
-use Rattle.pc_inline_paths.specs.Paths.{at_import}
+use Rattle.pc_inline_paths.specs.Paths.{at_import, further}
+use Rattle.pc_inline_names.specs.Numbers.{IsNumber}
 use Rattle.pc_inline_state.specs.declared.definition.Definition.{Definition}
 use Rattle.pc_inline_state.specs.declared.definition.DefinitionId.{DefinitionId}
 use Rattle.pc_inline_state.specs.declared.error.ItemError.{ItemError}
@@ -40,6 +43,7 @@ use Rattle.pc_inline_state.specs.declared.state.State.{State}
 use Rattle.pc_inline_state.specs.AddsEach.{AddsEach, nowhere}
 use Rattle.pc_inline_state.specs.Definitions.{exports_of}
 use Rattle.pc_inline_state.specs.Fits.{FitsBefore, path_of}
+use Rattle.pc_inline_state.specs.Frames.{Both}
 use Rattle.pc_inline_state.specs.Points.{IsSoundState}
 use Rattle.pc_inline_state.specs.Tables.{Keeps, Tables, tables_of}
 use Rattle.pc_inline_state.specs.TakesPath.{SoundWithPaths, TakesPath}
@@ -48,6 +52,7 @@ use Rattle.pc_inline_state.proofs.FitsLemmas.{fits_grown}
 use Rattle.pc_inline_state.proofs.GrowthLemmas.{graph_grown}
 use Rattle.pc_inline_state.proofs.MembersLemmas.{no_instance}
 use Rattle.pc_inline_state.proofs.StateLemmas.{definition_prepares, keeps_trans}
+use Rattle.pc_inline_resources.proofs.PlaceLemmas.{export_number_is}
 use Rattle.pc_inline_imports.specs.declared.learn.Learnt.{Learnt}
 use Rattle.pc_inline_imports.specs.Given.{host_definition, import_of}
 use Rattle.pc_inline_imports.specs.Brings.{AllBelow, AllHeld, ArePaths, Brings, Gives, GoesFurther, in_brought, in_given}
@@ -90,7 +95,7 @@ module _ (t : TypeTable) (places : List Place) (import : ImportIndex) (old : Sta
   -- the paths of the import itself and of so many places
   pub record PathsSoFar (st : State) (ids : List PathId) (k : ℕ) : Type 0 where
     pub count : length ids ≡ k + 1
-    pub are : (names : List (List (List ℕ))) → AreNamed t places names → ArePaths import.0 names st.paths ids
+    pub are : (names : List (List (List ℕ))) → AreNamed t places names → ArePaths import.0 names st.paths.held ids
     pub sound : SoundWithPaths old st
     pub keeps : Keeps (tables_of old) (tables_of st)
     pub adds : AddsEach nowhere 0 0 (tables_of old) (tables_of st)
@@ -103,18 +108,18 @@ module _ (t : TypeTable) (places : List Place) (import : ImportIndex) (old : Sta
       → PathsSoFar st ids 0
   paths_start st id takes sound keeps adds rest ids is = record {
     count = ap length is;
-    are = λ names named. subst (ArePaths import.0 names st.paths) (sym is) (one names named);
+    are = λ names named. subst (ArePaths import.0 names st.paths.held) (sym is) (one names named);
     sound = sound;
     keeps = keeps;
     adds = adds;
     rest = rest;
   }
     where
-      one : (names : List (List (List ℕ))) → AreNamed t places names → ArePaths import.0 names st.paths (id ∷ [])
+      one : (names : List (List (List ℕ))) → AreNamed t places names → ArePaths import.0 names st.paths.held (id ∷ [])
       one names named zero x at = (
         [],
         named.start,
-        subst (λ (y : PathId). slice_get st.paths y.0 ≡ Some (path_with import.0 []))
+        subst (λ (y : PathId). slice_get st.paths.held y.0 ≡ Some (path_with import.0 []))
             (same_Some id x at) takes.held,
       )
       one names named (suc n) x at = absurd (none-some x at)
@@ -122,8 +127,8 @@ module _ (t : TypeTable) (places : List Place) (import : ImportIndex) (old : Sta
   module _ (st : State) (ids : List PathId) (k : ℕ) (far : PathsSoFar st ids k) where
     module _ (named : (names : List (List (List ℕ))) × AreNamed t places names) where
       -- they are held
-      pub far_held : AllHeld ids st.paths
-      far_held = paths_held import.0 named.0 st.paths ids (far.are named.0 named.1)
+      pub far_held : AllHeld ids st.paths.held
+      far_held = paths_held import.0 named.0 st.paths.held ids (far.are named.0 named.1)
 
       module _ (p : Place) (at : slice_get places k ≡ Some p) where
         -- the next place is an export
@@ -140,12 +145,12 @@ module _ (t : TypeTable) (places : List Place) (import : ImportIndex) (old : Sta
 
     -- the path of one place more
     pub paths_next : (p : Place) → slice_get places k ≡ Some p → (st' : State) (ids' : List PathId)
-        → GoesFurther t p st.paths ids st'.paths ids' → SoundWithPaths st st' → Keeps (tables_of st) (tables_of st')
+        → GoesFurther t p st.paths.held ids st'.paths.held ids' → SoundWithPaths st st' → Keeps (tables_of st) (tables_of st')
         → AddsEach nowhere 0 0 (tables_of st) (tables_of st') → st' ≡ record st { paths = st'.paths; used = st'.used }
         → PathsSoFar st' ids' (k + 1)
     paths_next p at_place st' ids' goes sound keeps adds rest = record {
       count = ap length goes.1 ∙ length_push ids goes.0 ∙ ap (λ n. n + 1) far.count;
-      are = λ names named. subst (ArePaths import.0 names st'.paths) (sym goes.1) (more names named);
+      are = λ names named. subst (ArePaths import.0 names st'.paths.held) (sym goes.1) (more names named);
       sound = λ u ms s. sound u ms (far.sound u ms s);
       keeps = keeps_trans (tables_of old) (tables_of st) (tables_of st') far.keeps keeps;
       adds = each_weaken (λ l. nowhere l + nowhere l) nowhere 0 0 0 0 (tables_of old) (tables_of st')
@@ -156,7 +161,7 @@ module _ (t : TypeTable) (places : List Place) (import : ImportIndex) (old : Sta
       where
         last : (names : List (List (List ℕ))) → AreNamed t places names
             → (ns : List (List ℕ)) × (slice_get names (k + 1) ≡ Some ns)
-            × (slice_get st'.paths goes.0.0 ≡ Some (path_with import.0 ns))
+            × (slice_get st'.paths.held goes.0.0 ≡ Some (path_with import.0 ns))
         last names named =
             let f = named.further k p at_place in
             let prefix = f.0 in
@@ -166,23 +171,56 @@ module _ (t : TypeTable) (places : List Place) (import : ImportIndex) (old : Sta
             let there = found_at ids p.parent (omega (arith, le, count)) in
             let parent = far.are names named p.parent there.0 there.1 in
             let same : parent.0 ≡ prefix = same_Some parent.0 prefix (sym parent.1 ∙ f.3) in
-            let held = subst (λ ns. slice_get st.paths there.0.0 ≡ Some (path_with import.0 ns)) same parent.2 in
+            let held = subst (λ ns. slice_get st.paths.held there.0.0 ≡ Some (path_with import.0 ns)) same parent.2 in
             (prefix ++ x.0 ∷ [], f.5, goes.2 there.0 (path_with import.0 prefix) x there.1 held f.4)
 
         more : (names : List (List (List ℕ))) → AreNamed t places names
-            → ArePaths import.0 names st'.paths (ids ++ goes.0 ∷ [])
+            → ArePaths import.0 names st'.paths.held (ids ++ goes.0 ∷ [])
         more names named n id at = elim (push_cases ids goes.0 n id at)
             as (λ _. (ns : List (List ℕ)) × (slice_get names n ≡ Some ns)
-            × (slice_get st'.paths id.0 ≡ Some (path_with import.0 ns))) [
+            × (slice_get st'.paths.held id.0 ≡ Some (path_with import.0 ns))) [
               | inl before ↦
-                  paths_kept import.0 names st.paths st'.paths ids keeps.paths (far.are names named) n id before
+                  paths_kept import.0 names st.paths.held st'.paths.held ids keeps.paths (far.are names named) n id before
               | inr here ↦ (
                   let l = last names named in (
                     l.0,
                     ap (slice_get names) (here.0 ∙ far.count) ∙ l.1,
-                    subst (λ (y : PathId). slice_get st'.paths y.0 ≡ Some (path_with import.0 l.0)) here.1 l.2,
+                    subst (λ (y : PathId). slice_get st'.paths.held y.0 ≡ Some (path_with import.0 l.0)) here.1 l.2,
                   ))
             ]
+
+-- a path goes one name further, by the number of the name of an export
+module _ (t : TypeTable) (ms : List ModuleRecord) (place : Place) (st : State) (sound : IsSoundState t ms st)
+    (o : Option Atom)
+    (has : Both (λ (name : List ℕ) (k : Atom). IsNumber st.names.now.texts k name)
+    (option_and_then (λ e. slice_get (export_names e) place.export) (slice_get st.names.now.table.types place.entry)) o)
+    (k : Atom) (is : o ≡ Some k) where
+  -- the number is that of the name among the names in which paths are written
+  written : (x : List ℕ × Entity) → export_at t place.entry place.export ≡ Some x
+      → slice_get st.paths.names k.0 ≡ Some x.0
+  written x at =
+      ap (λ names. slice_get names k.0) sound.names.paths
+      ∙ export_number_is place.export x st.names.now.texts t st.names.now.table place.entry o has sound.names.table at k
+      is
+
+  -- so it is one of their numbers
+  pub number_held : (x : List ℕ × Entity) × (export_at t place.entry place.export ≡ Some x)
+      → k.0 < length st.paths.names
+  number_held there = slice_get_within st.paths.names k.0 there.0.0 (written there.0 there.1)
+
+  -- and the path is that of the place
+  pub taken_further : (st' : State) (before after : List PathId) (parent id : PathId)
+      → slice_get before place.parent ≡ Some parent
+      → ((p : Path) (name : List ℕ) → slice_get st.paths.held parent.0 ≡ Some p
+      → slice_get st.paths.names k.0 ≡ Some name → TakesPath (further p name) st st' id)
+      → after ≡ before ++ id ∷ [] → GoesFurther t place st.paths.held before st'.paths.held after
+  taken_further st' before after parent id at takes pushed = (
+    id,
+    pushed,
+    λ other p x there held export.
+        (takes p x.0 (subst (λ (y : PathId). slice_get st.paths.held y.0 ≡ Some p)
+        (same_Some other parent (sym there ∙ at)) held) (written x export)).held,
+  )
 
 -- what the host gives isn't made of exports
 host_exports : (p : PathId) (e : Entity) (d : TypeDef) → exports_of (host_definition p e d) ≡ None
@@ -350,10 +388,10 @@ module _ (t : TypeTable) (ms : List ModuleRecord) (name : ExternName) (e : Entit
   first = record old { graph = g }
 
   module _ (mid : State) (ids : List PathId)
-      (are : (names : List (List (List ℕ))) → AreNamed t l.places names → ArePaths n.0 names mid.paths ids)
+      (are : (names : List (List (List ℕ))) → AreNamed t l.places names → ArePaths n.0 names mid.paths.held ids)
       (count : length ids ≡ length l.places + 1)
       (mid_rest : mid ≡ record first { paths = mid.paths; used = mid.used }) (st : State)
-      (brings : Brings t ms (map (path_at ids mid.paths) l.found) mid st)
+      (brings : Brings t ms (map (path_at ids mid.paths.held) l.found) mid st)
       (named : (names : List (List (List ℕ))) × AreNamed t l.places names × AllBelow (length names) l.found) where
     imports_mid : mid.graph.imports ≡ old.graph.imports
     imports_mid = ap (λ (s : State). s.graph.imports) mid_rest ∙ ap (λ (h : ComponentDfg). h.imports) rest
@@ -364,9 +402,9 @@ module _ (t : TypeTable) (ms : List ModuleRecord) (name : ExternName) (e : Entit
 
     paths_last : (names : List (List (List ℕ))) → AreNamed t l.places names → (ps : List (List (List ℕ)))
         → AllZip (λ (f : Found) (ns : List (List ℕ)). slice_get names f.place ≡ Some ns) l.found ps
-        → map (path_at ids mid.paths) l.found ≡ map (path_with (length old.graph.import_types)) ps
+        → map (path_at ids mid.paths.held) l.found ≡ map (path_with (length old.graph.import_types)) ps
     paths_last names named_so ps beside =
-        paths_are n.0 names mid.paths ids (are names named_so) l.found ps (below_paths t l ids count named) beside
+        paths_are n.0 names mid.paths.held ids (are names named_so) l.found ps (below_paths t l ids count named) beside
         ∙ ap (λ i. map (path_with i) ps) is_last
 
     graph_st : st.graph ≡ record old.graph {
@@ -423,7 +461,7 @@ module _ (t : TypeTable) (ms : List ModuleRecord) (name : ExternName) (e : Entit
           sound = more.sound sound_now;
           imports = λ names named_so ps beside.
               brings.imports
-              ∙ ap (λ is. fold with_path (map path_of is) (map (path_at ids mid.paths) l.found)) imports_mid
+              ∙ ap (λ is. fold with_path (map path_of is) (map (path_at ids mid.paths.held) l.found)) imports_mid
               ∙ ap (fold with_path (map path_of old.graph.imports)) (paths_last names named_so ps beside);
           more = brings.more;
           resources = brings.resources ∙ ap (λ rs. rs ++ brings.more) resources_mid;
@@ -461,11 +499,11 @@ module _ (t : TypeTable) (ms : List ModuleRecord) (name : ExternName) (e : Entit
               imported_resources = st.graph.imported_resources;
             }) (sym (ap (λ (h : ComponentDfg). h.import_types) graph_st))
 
-        held_now : slice_get st.paths path.0 ≡ Some (import_path (length old.graph.import_types))
+        held_now : slice_get st.paths.held path.0 ≡ Some (import_path (length old.graph.import_types))
         held_now =
             let here = are named.0 named.1 0 path at in
             let none : here.0 ≡ [] = same_Some here.0 [] (sym here.1 ∙ named.1.start) in
-            ap (λ (s : State). slice_get s.paths path.0) brings.rest ∙ here.2
+            ap (λ (s : State). slice_get s.paths.held path.0) brings.rest ∙ here.2
             ∙ ap (λ ns. Some (path_with n.0 ns)) none
             ∙ ap (λ i. Some (path_with i [])) is_last
 

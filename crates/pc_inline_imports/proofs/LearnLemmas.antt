@@ -127,8 +127,9 @@ module _ (t : TypeTable) (a : State) (k : Resources) where
     definitions = kept_refl a.definitions;
     closures = kept_refl a.closures;
     instances = kept_refl a.instances;
-    paths = kept_refl a.paths;
+    paths = kept_refl a.paths.held;
     bodies = refl;
+    names = refl;
     table = refl;
   }
 
@@ -175,6 +176,7 @@ module _ (t : TypeTable) (a : State) (k : Resources) where
     };
     table = s.table;
     bodies = s.bodies;
+    names = s.names;
     members = s.members;
     instances = instances_kept ms (tables_of a) (tables_of knowing_so) known_keeps refl a.runtime_instances.items
         s.instances;

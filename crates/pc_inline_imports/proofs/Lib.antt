@@ -1,5 +1,4 @@
 -- What the functions of this crate rest on.
-mod ArgumentLemmas
 mod FewLemmas
 mod EntityLemmas
 mod LearnLemmas

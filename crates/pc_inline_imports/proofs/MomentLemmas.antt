@@ -7,7 +7,7 @@ use Rattle.std.specs.List.{AllZip, fold}
 use Rattle.std.proofs.lemmas.List.Elements.{Contains-append_left}
 use Rattle.std.proofs.lemmas.Option.{none-some, same_Some}
 use Rattle.pc_entity.proofs.Growing.{slice_get-append_seam}
-use Rattle.pc_entity.specs.FirstValues.{with_first}
+use Rattle.pc_entity.specs.declared.string_pool.Atom.{Atom}
 use Rattle.pc_entity.specs.Lists.{AreDistinct}
 use Rattle.pc_numbers.specs.declared.runtime.ResourceIndex.{ResourceIndex}
 use Rattle.pc_numbers.specs.declared.runtime.RuntimeImportIndex.{RuntimeImportIndex}
@@ -48,6 +48,9 @@ use Rattle.pc_dfg.specs.Lists.{ListName}
 use Rattle.pc_dfg.specs.Means.{HasPath}
 use Rattle.pc_dfg.proofs.GrowLemmas.{kept}
 use Rattle.pc_inline_paths.specs.declared.path_id.PathId.{PathId}
+use Rattle.pc_inline_names.specs.Named.{Named}
+use Rattle.pc_inline_names.specs.Numbers.{IsNumber, with_first_number}
+use Rattle.pc_inline_names.proofs.NumberedLemmas.{named_first}
 use Rattle.pc_inline_state.specs.declared.definition.DefinitionId.{DefinitionId}
 use Rattle.pc_inline_state.specs.declared.frame.Frame.{Frame}
 use Rattle.pc_inline_state.specs.declared.state.State.{State}
@@ -60,8 +63,8 @@ use Rattle.pc_inline_state.specs.Frames.{Both, FrameStands, both}
 use Rattle.pc_inline_state.specs.Holds.{Holds}
 use Rattle.pc_inline_state.specs.KnowsSame.{IsResource, KnowsSame}
 use Rattle.pc_inline_state.specs.Points.{Goes, PointStands}
-use Rattle.pc_inline_state.specs.Stands.{DefinitionStands, IsHostType, IsTableTree, IsType, stands, stands_host}
-use Rattle.pc_inline_state.specs.Stands.{stands_host_instance, stands_host_module, stands_type}
+use Rattle.pc_inline_state.specs.Stands.{DefinitionStands, IsHostType, IsTableTree, IsType, Stands, stands}
+use Rattle.pc_inline_state.specs.Stands.{stands_host, stands_host_instance, stands_host_module, stands_type}
 use Rattle.pc_inline_state.specs.Tables.{Keeps, Tables, tables_of}
 use Rattle.pc_inline_state.specs.Worlds.{EffectStands, ImportStands, WorldStands}
 use Rattle.pc_inline_state.proofs.FitsLemmas.{fits_refl}
@@ -77,7 +80,6 @@ use Rattle.pc_inline_imports.specs.Given.{IsEntityType, entity_number, host_defi
 use Rattle.pc_inline_imports.specs.Learns.{Learns, registered}
 use Rattle.pc_inline_imports.specs.Brings.{AllBelow, Gives, in_given, path_with}
 use Rattle.pc_inline_imports.proofs.ApartLemmas.{resources_apart}
-use Rattle.pc_inline_imports.proofs.ArgumentLemmas.{argument_given}
 use Rattle.pc_inline_imports.proofs.BringLemmas.{zip_append}
 use Rattle.pc_inline_imports.proofs.LearnLemmas.{found_within}
 use Rattle.pc_inline_imports.proofs.ImportedLemmas.{adapters_needed, as_many, declared_before, knowing_all}
@@ -432,7 +434,7 @@ module _ (t : TypeTable) (ms : List ModuleRecord) (e : Entity) (st : State) (f :
         × IsType ms (tables_of st2) l.ty tree
     tree = entry_here st2.graph st2.types moment.scope knows t (entity_number e) l.ty entry.entry
 
-    path_held : slice_get st2.paths gives.path.0 ≡ Some (import_path place)
+    path_held : slice_get st2.paths.held gives.path.0 ≡ Some (import_path place)
     path_held = gives.held ∙ ap (λ (g : ComponentDfg). Some (import_path (length g.import_types))) graph_same
 
     import_there : slice_get st2.graph.import_types place ≡ Some import
@@ -475,57 +477,60 @@ module _ (t : TypeTable) (ms : List ModuleRecord) (e : Entity) (st : State) (f :
         (ap (λ (s : State). s.graph.unsafe_intrinsics) gives.rest
         ∙ ap (λ (g : ComponentDfg). g.unsafe_intrinsics) graph_same)
         imports_more import_stands imports_are gives.more came beside
-        (resources_apart st.graph st.paths st.used.items at.sound.used t no_fault e now.scope.known
+        (resources_apart st.graph st.paths.held st.used.items at.sound.used t no_fault e now.scope.known
         st.graph.imported_resources now.world.imported_resources at.world.imported_resources at.world.resources_apart)
 
-    abbrev framed : Frame
-    framed = record f {
-      arguments = with_first f.arguments (name.name, id);
-      converted = f1.converted;
-      changes = f1.changes;
-    }
+    module _ (number : Atom) (numbered : IsNumber st.names.now.texts number name.name) where
+      abbrev framed : Frame
+      framed = record f {
+        arguments = with_first_number f.arguments number id;
+        converted = f1.converted;
+        changes = f1.changes;
+      }
 
-    frame : FrameStands ms (tables_of st2) framed next.scope
-    frame =
-        let h = frame_kept ms (tables_of st) (tables_of st2) keeps f now.scope at.frame in
-        record {
-          core_funcs = h.core_funcs;
-          memories = h.memories;
-          tables = h.tables;
-          globals = h.globals;
-          tags = h.tags;
-          modules = h.modules;
-          funcs = h.funcs;
-          core_instances = h.core_instances;
-          instances = h.instances;
-          components = h.components;
-          arguments = argument_given ms (tables_of st2) f.arguments now.scope.arguments name.name id value.0 h.arguments
-              (stands gives.defined value.2);
-          component_instance = h.component_instance;
-          begun = h.begun;
-        }
+      frame : FrameStands ms (tables_of st2) framed next.scope
+      frame =
+          let h = frame_kept ms (tables_of st) (tables_of st2) keeps f now.scope at.frame in
+          record {
+            core_funcs = h.core_funcs;
+            memories = h.memories;
+            tables = h.tables;
+            globals = h.globals;
+            tags = h.tags;
+            modules = h.modules;
+            funcs = h.funcs;
+            core_instances = h.core_instances;
+            instances = h.instances;
+            components = h.components;
+            arguments = named_first st2.names.now.texts (Stands ms (tables_of st2)) f.arguments now.scope.arguments number
+                name.name id value.0 gives.sound.names.distinct
+                (subst (λ (n : Named). IsNumber n.texts number name.name) (sym keeps.names) numbered) h.arguments
+                (stands gives.defined value.2);
+            component_instance = h.component_instance;
+            begun = h.begun;
+          }
 
-    -- the import was prepared as it is read
-    pub given_goes : (g : Frame) → g ≡ record f1 { arguments = with_first f1.arguments (name.name, id) }
-        → Goes t ms st2 g (prepare t name e now)
-    given_goes g is = record {
-      now = next;
-      stands = subst (λ (x : Frame). PointStands t ms st2 x next) (sym (is
-          ∙ ap (λ (x : Frame). record x { arguments = with_first x.arguments (name.name, id) }) learns.frame)) (record {
-            sound = gives.sound;
-            here = knows_in st2.graph st2.types.resources moment.scope knows next.scope refl refl;
-            converted = subst (λ (ty : Types). AreConverted ty t f1.converted) (sym types_same) learns.converted;
-            frame = frame;
-            world = world;
-            unexported = record {
-              exports = ap (λ (s : State). s.graph.exports) gives.rest
-                  ∙ ap (λ (x : ComponentDfg). x.exports) graph_same ∙ at.unexported.exports;
-              items = ap (λ (s : State). s.graph.export_items) gives.rest
-                  ∙ ap (λ (x : ComponentDfg). x.export_items) graph_same ∙ at.unexported.items;
-            };
-          });
-      done = reads_so;
-    }
+      -- the import was prepared as it is read
+      pub given_goes : (g : Frame) → g ≡ record f1 { arguments = with_first_number f1.arguments number id }
+          → Goes t ms st2 g (prepare t name e now)
+      given_goes g is = record {
+        now = next;
+        stands = subst (λ (x : Frame). PointStands t ms st2 x next) (sym (is
+            ∙ ap (λ (x : Frame). record x { arguments = with_first_number x.arguments number id }) learns.frame)) (record {
+              sound = gives.sound;
+              here = knows_in st2.graph st2.types.resources moment.scope knows next.scope refl refl;
+              converted = subst (λ (ty : Types). AreConverted ty t f1.converted) (sym types_same) learns.converted;
+              frame = frame;
+              world = world;
+              unexported = record {
+                exports = ap (λ (s : State). s.graph.exports) gives.rest
+                    ∙ ap (λ (x : ComponentDfg). x.exports) graph_same ∙ at.unexported.exports;
+                items = ap (λ (s : State). s.graph.export_items) gives.rest
+                    ∙ ap (λ (x : ComponentDfg). x.export_items) graph_same ∙ at.unexported.items;
+              };
+            });
+        done = reads_so;
+      }
 
 module _ (t : TypeTable) (ms : List ModuleRecord) (e : Entity) (st : State) (f : Frame) (st1 : State) (f1 : Frame)
     (l : Learnt) (learns : Learns t ms e st f st1 f1 l) where

@@ -100,7 +100,7 @@ module _ (t : TypeTable) (ms : List ModuleRecord) where
         → AllZip (λ (r : RuntimeImportIndex). HasPath new.graph r.0) more
         (map (path_with (length old.graph.import_types)) ps)
     pub path : PathId
-    pub held : slice_get new.paths path.0 ≡ Some (import_path (length old.graph.import_types))
+    pub held : slice_get new.paths.held path.0 ≡ Some (import_path (length old.graph.import_types))
     pub defined : slice_get new.definitions id.0 ≡ Some (host_definition path e l.ty)
     pub import_types : new.graph.import_types ≡ old.graph.import_types ++ import_of name l.ty ∷ []
     pub rest : new ≡ record old {

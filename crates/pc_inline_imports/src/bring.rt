@@ -13,7 +13,7 @@ ghost use Rattle.pc_inline_imports.specs.Brings.{in_given, path_at};
 
 use crate::entity::{host_definition, import_of};
 use crate::learn::Learnt;
-use pc_entity::{ImportIndex, NoMemory, TryClone};
+use pc_entity::{ImportIndex, NoMemory};
 use pc_inline_canon::use_host;
 use pc_inline_paths::PathId;
 use pc_inline_state::{Context, DefinitionId, ItemError, State};
@@ -28,21 +28,21 @@ fn push_place(
     paths: &mut Vec<PathId>,
     place: &Place,
 ) -> Result<(), NoMemory>
+    requires sound { IsSoundState context.now.table.now context.now.modules state.old }
     requires there { (x : List ℕ × Entity)
         × (export_at context.now.table.now place.now.entry place.now.export ≡ Some x) }
     requires parent { place.now.parent < length paths.old.items }
-    requires held { AllHeld paths.old.items state.old.paths }
-    ensures further { OnOk result (GoesFurther context.now.table.now place.now state.old.paths paths.old.items
-        state.new.paths paths.new.items) }
+    requires held { AllHeld paths.old.items state.old.paths.held }
+    ensures further { OnOk result (GoesFurther context.now.table.now place.now state.old.paths.held paths.old.items
+        state.new.paths.held paths.new.items) }
     ensures sound { OnOk result (SoundWithPaths state.old state.new) }
     ensures keeps { Keeps (tables_of state.old) (tables_of state.new) }
     ensures adds { AddsEach nowhere 0 0 (tables_of state.old) (tables_of state.new) }
     ensures rest { state.new ≡ record state.old { paths = state.new.paths; used = state.new.used } }
 {
-    match place.export(context.table) {
-        Some(export) => {
-            let name = export.0.try_clone(context.alloc)?;
-            let path = state.path_to_member(paths[place.parent], name)?;
+    match state.names.export_number(place.entry, place.export) {
+        Some(number) => {
+            let path = state.path_to_member(paths[place.parent], number)?;
             paths.push(path)?;
             Ok(())
         }
@@ -57,10 +57,11 @@ fn place_paths(
     import: ImportIndex,
     places: &[Place],
 ) -> Result<Vec<PathId>, NoMemory>
+    requires sound { IsSoundState context.now.table.now context.now.modules state.old }
     requires there { import.0 < length state.old.graph.import_types }
     requires named { (names : List (List (List ℕ))) × AreNamed context.now.table.now places.now names }
     ensures paths { IfOk result (λ ids. (names : List (List (List ℕ)))
-        → AreNamed context.now.table.now places.now names → ArePaths import.0 names state.new.paths ids.items) }
+        → AreNamed context.now.table.now places.now names → ArePaths import.0 names state.new.paths.held ids.items) }
     ensures count { IfOk result (λ ids. length ids.items ≡ length places.now + 1) }
     ensures sound { OnOk result (SoundWithPaths state.old state.new) }
     ensures keeps { Keeps (tables_of state.old) (tables_of state.new) }
@@ -86,11 +87,11 @@ fn bring_one(
     requires sound { IsSoundState context.now.table.now context.now.modules state.old }
     requires undeclared { state.old.graph.resources ≡ [] }
     requires there { found.now.place < length paths.now }
-    requires held { AllHeld paths.now state.old.paths }
+    requires held { AllHeld paths.now state.old.paths.held }
     ensures keeps { Keeps (tables_of state.old) (tables_of state.new) }
     ensures adds { AddsEach (in_brought 1) 0 0 (tables_of state.old) (tables_of state.new) }
     ensures brings { OnOk result (Brings context.now.table.now context.now.modules
-        (path_at paths.now state.old.paths found.now ∷ []) state.old state.new) }
+        (path_at paths.now state.old.paths.held found.now ∷ []) state.old state.new) }
     ensures err { IfErr result (LacksRoom state.new) }
 {
     let host = use_host(context, state, paths[found.place])?;
@@ -108,11 +109,11 @@ fn bring_all(
     requires sound { IsSoundState context.now.table.now context.now.modules state.old }
     requires undeclared { state.old.graph.resources ≡ [] }
     requires there { AllBelow (length paths.now) found.now }
-    requires held { AllHeld paths.now state.old.paths }
+    requires held { AllHeld paths.now state.old.paths.held }
     ensures keeps { Keeps (tables_of state.old) (tables_of state.new) }
     ensures adds { AddsEach (in_brought (length found.now)) 0 0 (tables_of state.old) (tables_of state.new) }
     ensures brings { OnOk result (Brings context.now.table.now context.now.modules
-        (map (path_at paths.now state.old.paths) found.now) state.old state.new) }
+        (map (path_at paths.now state.old.paths.held) found.now) state.old state.new) }
     ensures err { IfErr result (LacksRoom state.new) }
 {
     for one in found {

@@ -3,7 +3,7 @@ use Rattle.std.proofs.Common.{◌≡◌, ℕ, Bool, true, false, true≢false, L
 use Rattle.std.proofs.Common.{sym, ap, subst, ◌∙◌}
 use Rattle.std.specs.Prelude.{⊤, option_and_then, option_map, slice_get}
 use Rattle.std.proofs.lemmas.Option.{none-some, same_Some}
-use Rattle.pc_entity.specs.Lists.{value_of}
+use Rattle.pc_entity.specs.declared.string_pool.Atom.{Atom}
 use Rattle.pc_types.specs.declared.module_record.ModuleRecord.{ModuleRecord}
 use Rattle.pc_types.specs.declared.parsed.TypeTable.{TypeTable}
 use Rattle.pc_types.specs.declared.type_index.TypeComponentInstanceIndex.{TypeComponentInstanceIndex}
@@ -19,6 +19,8 @@ use Rattle.pc_spec_reading.specs.Scope.{Moment, add_value}
 use Rattle.pc_spec_reading.specs.Value.{Instance, NamedValues, Value, instance_value, made_instance, the_intrinsics}
 use Rattle.pc_spec_reading.specs.Value.{value_named}
 use Rattle.pc_inline_paths.specs.declared.path_id.PathId.{PathId}
+use Rattle.pc_inline_names.specs.Both.{Both}
+use Rattle.pc_inline_names.specs.Numbers.{IsNumber, numbered_value}
 use Rattle.pc_inline_state.specs.declared.definition.Definition.{Definition}
 use Rattle.pc_inline_state.specs.declared.definition.Definition.TheVariants as definition
 use Rattle.pc_inline_state.specs.declared.definition.DefinitionId.{DefinitionId}
@@ -30,7 +32,7 @@ use Rattle.pc_inline_state.specs.declared.frame.Frame.{Frame}
 use Rattle.pc_inline_state.specs.declared.state.Member.{Member}
 use Rattle.pc_inline_state.specs.declared.state.State.{State}
 use Rattle.pc_inline_state.specs.Definitions as definitions
-use Rattle.pc_inline_state.specs.Frames.{Both, InstanceStands}
+use Rattle.pc_inline_state.specs.Frames.{InstanceStands}
 use Rattle.pc_inline_state.specs.Lists.{with_item_id}
 use Rattle.pc_inline_state.specs.Members.{item_of}
 use Rattle.pc_inline_state.specs.Points.{Follows, PointStands, Steps, StepsItem}
@@ -127,48 +129,50 @@ intrinsics_source (Some _) h = absurd (none-some _ h)
 
 -- Of an instance that was made.
 module _ (t : TypeTable) (ms : List ModuleRecord) (st : State) (f : Frame) (k : ItemKind) (n : ExportsId)
-    (name : List ℕ) (now : Moment) (es : List (List ℕ × Member)) (vs : NamedValues) (tree : TypeTree)
+    (number : Atom) (name : List ℕ) (is_number : IsNumber st.names.now.texts number name) (now : Moment)
+    (es : List (Atom × Member)) (vs : NamedValues) (tree : TypeTree)
     (at : PointStands t ms st f now) (held_there : slice_get st.instances n.0 ≡ Some es)
     (stand : MembersStand ms (tables_of st) es vs) (found_ : Option DefinitionId)
-    (is_found : found_ ≡ option_map item_of (option_and_then (value_of name) (slice_get st.instances n.0))) where
-  both_found : Both (Stands ms (tables_of st)) found_ (value_named name vs)
-  both_found =
-      subst (λ o. Both (Stands ms (tables_of st)) o (value_named name vs))
-      (sym (is_found ∙ ap (λ o. option_map item_of (option_and_then (value_of name) o)) held_there))
-      (members_named ms (tables_of st) es vs stand name)
+    (is_found : found_ ≡ option_map item_of (option_and_then (numbered_value number) (slice_get st.instances n.0)))
+  where
+    both_found : Both (Stands ms (tables_of st)) found_ (value_named name vs)
+    both_found =
+        subst (λ o. Both (Stands ms (tables_of st)) o (value_named name vs))
+        (sym (is_found ∙ ap (λ o. option_map item_of (option_and_then (numbered_value number) o)) held_there))
+        (members_named ms (tables_of st) es vs stand at.sound.names.distinct number name is_number)
 
-  -- it has no such name
-  pub made_misses : found_ ≡ None → (f' : Frame)
-      → Follows t ms st f' (alias_in now k name (made_instance vs tree)) (Err (item_error.Fault item_fault.Invalid))
-  unfolding Follows
-  made_misses none f' =
-      alias_made_is k now name vs tree ∙ ap (taken_of k now)
-      (both_missing (Stands ms (tables_of st)) _ _ both_found none)
-
-  module _ (id : DefinitionId) (some : found_ ≡ Some id) where
-    named : (v : Value) × (value_named name vs ≡ Some v) × Stands ms (tables_of st) id v
-    named = both_there (Stands ms (tables_of st)) _ _ id both_found some
-
-    -- what stands there is of another kind
-    pub made_other : (f' : Frame) → is_some_and (definitions.is_of_kind k) (slice_get st.definitions id.0) ≡ false
+    -- it has no such name
+    pub made_misses : found_ ≡ None → (f' : Frame)
         → Follows t ms st f' (alias_in now k name (made_instance vs tree)) (Err (item_error.Fault item_fault.Invalid))
     unfolding Follows
-    made_other f' isnt =
-        let other = sym (stands_kind ms (tables_of st) k id named.0 named.2) ∙ isnt in
-        alias_made_is k now name vs tree ∙ ap (taken_of k now) named.1 ∙ rw (other) refl
+    made_misses none f' =
+        alias_made_is k now name vs tree ∙ ap (taken_of k now)
+        (both_missing (Stands ms (tables_of st)) _ _ both_found none)
 
-    -- it is an item of the component instance now
-    pub made_follows : (f' : Frame) (r : ⊤)
-        → is_some_and (definitions.is_of_kind k) (slice_get st.definitions id.0) ≡ true → f' ≡ with_item_id f k id
-        → Follows t ms st f' (alias_in now k name (made_instance vs tree)) (Ok r)
-    unfolding Follows
-    made_follows f' r does framed =
-        let is = sym (stands_kind ms (tables_of st) k id named.0 named.2) ∙ does in
-        subst (λ g. Follows t ms st g (alias_in now k name (made_instance vs tree)) (Ok r)) (sym framed) (record {
-          now = add_value now named.0;
-          stands = item_point t ms st f now at k id named.0 named.2 is;
-          done = alias_made_is k now name vs tree ∙ ap (taken_of k now) named.1 ∙ rw (is) refl;
-        })
+    module _ (id : DefinitionId) (some : found_ ≡ Some id) where
+      named : (v : Value) × (value_named name vs ≡ Some v) × Stands ms (tables_of st) id v
+      named = both_there (Stands ms (tables_of st)) _ _ id both_found some
+
+      -- what stands there is of another kind
+      pub made_other : (f' : Frame) → is_some_and (definitions.is_of_kind k) (slice_get st.definitions id.0) ≡ false
+          → Follows t ms st f' (alias_in now k name (made_instance vs tree)) (Err (item_error.Fault item_fault.Invalid))
+      unfolding Follows
+      made_other f' isnt =
+          let other = sym (stands_kind ms (tables_of st) k id named.0 named.2) ∙ isnt in
+          alias_made_is k now name vs tree ∙ ap (taken_of k now) named.1 ∙ rw (other) refl
+
+      -- it is an item of the component instance now
+      pub made_follows : (f' : Frame) (r : ⊤)
+          → is_some_and (definitions.is_of_kind k) (slice_get st.definitions id.0) ≡ true → f' ≡ with_item_id f k id
+          → Follows t ms st f' (alias_in now k name (made_instance vs tree)) (Ok r)
+      unfolding Follows
+      made_follows f' r does framed =
+          let is = sym (stands_kind ms (tables_of st) k id named.0 named.2) ∙ does in
+          subst (λ g. Follows t ms st g (alias_in now k name (made_instance vs tree)) (Ok r)) (sym framed) (record {
+            now = add_value now named.0;
+            stands = item_point t ms st f now at k id named.0 named.2 is;
+            done = alias_made_is k now name vs tree ∙ ap (taken_of k now) named.1 ∙ rw (is) refl;
+          })
 
 module _ (t : TypeTable) (ms : List ModuleRecord) (st : State) (f : Frame) (k : ItemKind) (n : ℕ) (name : List ℕ) where
   abbrev alias : Item
@@ -212,7 +216,7 @@ module _ (t : TypeTable) (ms : List ModuleRecord) (st : State) (f : Frame) (k : 
         → option_and_then instance_source (slice_get st.definitions id.0) ≡ Some (source.Made e) → (st' : State)
         (f' : Frame)
         → (r : Result ⊤ ItemError)
-        → ((now : Moment) (es : List (List ℕ × Member)) (vs : NamedValues) (tree : TypeTree) → PointStands t ms st f now
+        → ((now : Moment) (es : List (Atom × Member)) (vs : NamedValues) (tree : TypeTree) → PointStands t ms st f now
         → slice_get st.instances e.0 ≡ Some es → MembersStand ms (tables_of st) es vs
         → Follows t ms st' f' (alias_in now k name (made_instance vs tree)) r) → StepsItem t ms alias st f st' f' r
     unfolding Steps

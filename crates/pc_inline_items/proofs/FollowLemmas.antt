@@ -4,6 +4,7 @@ use Rattle.std.proofs.Common.{subst, ◌∙◌, zero, suc}
 use Rattle.std.specs.Prelude.{⊤, slice_get}
 use Rattle.std.specs.Result.{IsErrAnd}
 use Rattle.std.proofs.lemmas.Option.{none-some, same_Some, slice_get_within}
+use Rattle.pc_entity.specs.declared.string_pool.Atom.{Atom}
 use Rattle.pc_types.specs.declared.module_record.ModuleRecord.{ModuleRecord}
 use Rattle.pc_types.specs.declared.parsed.TypeTable.{TypeTable}
 use Rattle.pc_types_builder.specs.Converted.{AreConverted}
@@ -72,14 +73,14 @@ pub stands_below : (ms : List ModuleRecord) (b : Tables) (id : DefinitionId) (v 
 stands_below ms b id v (stands {d = d} held entry) = slice_get_within b.definitions id.0 d held
 
 -- members are held
-pub members_held : (ms : List ModuleRecord) (b : Tables) (es : List (List ℕ × Member)) (vs : NamedValues)
-    → MembersStand ms b es vs → (k : ℕ) (e : List ℕ × Member) → slice_get es k ≡ Some e
+pub members_held : (ms : List ModuleRecord) (b : Tables) (es : List (Atom × Member)) (vs : NamedValues)
+    → MembersStand ms b es vs → (k : ℕ) (e : Atom × Member) → slice_get es k ≡ Some e
     → e.1.item.0 < length b.definitions
 members_held ms b es vs no_members k e at = absurd (none-some e at)
-members_held ms b es vs (and_member {name = n} {m = m} {v = v} {es = rest} {vs = others} said x more) zero e at =
-    subst (λ (y : List ℕ × Member). y.1.item.0 < length b.definitions) (same_Some (n.name, m) e at)
+members_held ms b es vs (and_member {n = n} {m = m} {v = v} {es = rest} {vs = others} number said x more) zero e at =
+    subst (λ (y : Atom × Member). y.1.item.0 < length b.definitions) (same_Some (n, m) e at)
     (stands_below ms b m.item v x)
-members_held ms b es vs (and_member {name = n} {m = m} {v = v} {es = rest} {vs = others} said x more) (suc k) e at =
+members_held ms b es vs (and_member {n = n} {m = m} {v = v} {es = rest} {vs = others} number said x more) (suc k) e at =
     members_held ms b rest others more k e at
 
 -- a point is where it was when a path was taken in

@@ -98,8 +98,8 @@ member_kept ms b c keeps m tree (type_member {d = d} {tree = x} kind typed) =
 module _ (k : ItemKind) (parent : PathId) (name : List ℕ) (m : HostMember) (st : State) (f : Frame) (mid : State)
     (rest : mid ≡ record st { paths = mid.paths; used = mid.used }) (keeps : Keeps (tables_of st) (tables_of mid))
     (sound : SoundWithPaths st mid) (p : PathId)
-    (takes : (path : Path) → slice_get st.paths parent.0 ≡ Some path
-    → slice_get mid.paths p.0 ≡ Some (further path name)) where
+    (takes : (path : Path) → slice_get st.paths.held parent.0 ≡ Some path
+    → slice_get mid.paths.held p.0 ≡ Some (further path name)) where
   -- it is a component
   pub alias_component : definition_at p m ≡ None → (st' : State) (f' : Frame)
       → HostMemberAlias k parent name m st f st' f'
@@ -113,7 +113,7 @@ module _ (k : ItemKind) (parent : PathId) (name : List ℕ) (m : HostMember) (st
   module _ (d : Definition) (is : definition_at p m ≡ Some d) where
     -- its value
     value_of_it : (ms : List ModuleRecord) (path : Path) (tree field : TypeTree)
-        → slice_get st.paths parent.0 ≡ Some path → IsHostType ms (tables_of st) path tree
+        → slice_get st.paths.held parent.0 ≡ Some path → IsHostType ms (tables_of st) path tree
         → field_under name (instance_fields tree) ≡ Some field → HostMemberStands ms (tables_of st) m field
         → (v : Value) × (host_member (further path name) field ≡ a_value v) × DefinitionStands ms (tables_of mid) d v
     value_of_it ms path tree field held host under stands =
@@ -170,8 +170,7 @@ alias_unfed k parent name m st f st' f' r is t ms now path tree field at held ho
     follows_unfed t ms st' f' (alias_member now k (host_member (further path name) field)) r is
 
 -- A component instance of the host.
-module _ (t : TypeTable) (ms : List ModuleRecord) (k : ItemKind) (p : PathId) (ty : TypeComponentInstanceIndex)
-    (entry : ℕ) (name : List ℕ) (st : State) (f : Frame) where
+module _ (ms : List ModuleRecord) (p : PathId) (ty : TypeComponentInstanceIndex) (entry : ℕ) (st : State) where
   -- its type is held
   pub host_held : (v : Value) → DefinitionStands ms (tables_of st) (definition.HostInstance p ty entry) v
       → ty.0 < length st.types.instances
@@ -180,9 +179,13 @@ module _ (t : TypeTable) (ms : List ModuleRecord) (k : ItemKind) (p : PathId) (t
 
   -- and its path
   pub path_held : (v : Value) → DefinitionStands ms (tables_of st) (definition.HostInstance p ty entry) v
-      → p.0 < length st.paths
-  path_held v (stands_host_instance {path = path} held host declared typed) = slice_get_within st.paths p.0 path held
+      → p.0 < length st.paths.held
+  path_held v (stands_host_instance {path = path} held host declared typed) =
+      slice_get_within st.paths.held p.0 path held
 
+-- What it has under a name.
+module _ (t : TypeTable) (ms : List ModuleRecord) (k : ItemKind) (p : PathId) (ty : TypeComponentInstanceIndex)
+    (entry : ℕ) (name : List ℕ) (st : State) (f : Frame) where
   module _ (found_ : Option HostMember)
       (is_found : (tree : TypeTree) → IsInstanceType ms (tables_of st) ty entry tree
       → Both (HostMemberStands ms (tables_of st)) found_ (field_under name (instance_fields tree))) where

@@ -1,11 +1,13 @@
 -- Items by kind and index (`item_there`, `item_kind`, `item_framed`, `item_goes`), of which kind a definition is
--- (`kind_entry`, `stands_kind`), and what component instances have under a name (`members_push`, `members_named`).
+-- (`kind_entry`, `stands_kind`), and what component instances have under the number of a name (`members_push`,
+-- `members_named`).
 use Rattle.std.proofs.Common.{◌≡◌, ℕ, Bool, true, false, List, [], ◌∷◌, ◌++◌, Option, None, Some, Ok, refl, sym, ap}
 use Rattle.std.proofs.Common.{true≢false, ◌∙◌, if◌then◌else◌, subst}
 use Rattle.std.specs.Prelude.{option_map, slice_get}
 use Rattle.std.specs.Str.{bytes_eq}
 use Rattle.std.proofs.lemmas.Option.{none-some, same_Some}
-use Rattle.pc_entity.specs.Lists.{value_of}
+use Rattle.pc_entity.specs.declared.string_pool.Atom.{Atom}
+use Rattle.pc_entity.specs.Lists.{AreDistinct}
 use Rattle.pc_types.specs.declared.module_record.ModuleRecord.{ModuleRecord}
 use Rattle.pc_types.specs.declared.parsed.TypeTable.{TypeTable}
 use Rattle.pc_types.specs.Table.{is_some_and}
@@ -19,6 +21,9 @@ use Rattle.pc_spec_reading.specs.Scope.{Moment, Scope, add_value, with_value}
 use Rattle.pc_spec_reading.specs.Types.{type_tree}
 use Rattle.pc_spec_reading.specs.Value.{NamedValue, NamedValues, Value, component_value, func_value}
 use Rattle.pc_spec_reading.specs.Value.{instance_value, module_value, pack_values, type_value, value_named}
+use Rattle.pc_inline_names.specs.Both.{Both, both, neither}
+use Rattle.pc_inline_names.specs.Numbers.{IsNumber, numbered_value}
+use Rattle.pc_inline_names.proofs.NumberedLemmas.{number_alike}
 use Rattle.pc_inline_state.specs.declared.definition.Definition.{Definition}
 use Rattle.pc_inline_state.specs.declared.definition.DefinitionId.{DefinitionId}
 use Rattle.pc_inline_state.specs.declared.frame.Frame.{Frame}
@@ -26,9 +31,7 @@ use Rattle.pc_inline_state.specs.declared.state.State.{State}
 use Rattle.pc_inline_state.specs.declared.state.Member.{Member}
 use Rattle.pc_inline_state.specs.Adds.{is_type_kind}
 use Rattle.pc_inline_state.specs.Definitions as definitions
-use Rattle.pc_inline_state.specs.Frames.{Both, ComponentStands, FrameStands, FuncStands, InstanceStands, ModuleStands}
-use Rattle.pc_inline_state.specs.Frames.{both}
-use Rattle.pc_inline_state.specs.Frames.{neither}
+use Rattle.pc_inline_state.specs.Frames.{ComponentStands, FrameStands, FuncStands, InstanceStands, ModuleStands}
 use Rattle.pc_inline_state.specs.Lists.{item_ids, with_item_id}
 use Rattle.pc_inline_state.specs.Members.{item_of}
 use Rattle.pc_inline_items.specs.Members.{member_of}
@@ -193,22 +196,27 @@ module _ (ms : List ModuleRecord) (b : Tables) where
 
 module _ (ms : List ModuleRecord) (b : Tables) where
   -- one member more
-  pub members_push : (es : List (List ℕ × Member)) (vs : List NamedValue) (x : NamedValue) (id : DefinitionId)
-      → MembersStand ms b es (pack_values vs) → Stands ms b id x.value
-      → MembersStand ms b (es ++ (x.name.name, member_of x.name id) ∷ []) (pack_values (vs ++ x ∷ []))
-  members_push es [] x id no_members y = and_member refl y no_members
-  members_push es (v ∷ vs) x id (and_member {es = rest} said z more) y =
-      and_member said z (members_push rest vs x id more y)
+  pub members_push : (es : List (Atom × Member)) (vs : List NamedValue) (n : Atom) (x : NamedValue) (id : DefinitionId)
+      → MembersStand ms b es (pack_values vs) → IsNumber b.names.texts n x.name.name → Stands ms b id x.value
+      → MembersStand ms b (es ++ (n, member_of x.name id) ∷ []) (pack_values (vs ++ x ∷ []))
+  members_push es [] n x id no_members is y = and_member is refl y no_members
+  members_push es (v ∷ vs) n x id (and_member {es = rest} number said z more) is y =
+      and_member number said z (members_push rest vs n x id more is y)
 
-  -- a name has the same value on both sides
-  pub members_named : (es : List (List ℕ × Member)) (vs : NamedValues) → MembersStand ms b es vs → (name : List ℕ)
-      → Both (Stands ms b) (option_map item_of (value_of name es)) (value_named name vs)
-  members_named es vs no_members name = neither
-  members_named es vs (and_member {name = n} {m = m} {v = v} {es = rest} {vs = others} said x more) name =
-      by (bytes_eq name n.name) (members_named rest others more name)
+  -- a name has on one side what its number has on the other
+  pub members_named : (es : List (Atom × Member)) (vs : NamedValues) → MembersStand ms b es vs
+      → AreDistinct b.names.texts → (n : Atom) (name : List ℕ) → IsNumber b.names.texts n name
+      → Both (Stands ms b) (option_map item_of (numbered_value n es)) (value_named name vs)
+  members_named es vs no_members distinct n name is = neither
+  members_named es vs (and_member {name = k} {n = m} {m = e} {v = v} {es = rest} {vs = others} number said x more)
+      distinct n name is =
+      subst (λ (t : Bool). Both (Stands ms b) (option_map item_of (if t then Some e else numbered_value n rest))
+      (if bytes_eq name k.name then Some v else value_named name others))
+      (sym (number_alike b.names.texts n m name k.name distinct is number))
+      (by (bytes_eq name k.name) (members_named rest others more distinct n name is))
     where
-      by : (t : Bool) → Both (Stands ms b) (option_map item_of (value_of name rest)) (value_named name others)
-          → Both (Stands ms b) (option_map item_of (if t then Some m else value_of name rest))
+      by : (t : Bool) → Both (Stands ms b) (option_map item_of (numbered_value n rest)) (value_named name others)
+          → Both (Stands ms b) (option_map item_of (if t then Some e else numbered_value n rest))
           (if t then Some v else value_named name others)
       by true go = both x
       by false go = go

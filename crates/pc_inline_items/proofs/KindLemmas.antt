@@ -1,9 +1,11 @@
--- The step of a local item from that of its kind.
-use Rattle.std.proofs.Common.{◌≡◌, ◌+◌, ◌<◌, true, ℕ, List, Option, Result, map, refl, ap, sym, subst, ◌∙◌}
+-- The step of a local item from that of its kind, and the numbers of its names.
+use Rattle.std.proofs.Common.{◌≡◌, ◌+◌, ◌<◌, true, ℕ, List, [], ◌∷◌, Option, Result, map, refl, ap, sym, subst, ◌∙◌}
 use Rattle.std.specs.Prelude.{⊤}
 use Rattle.pc_numbers.specs.declared.component_entity.StaticModuleIndex.{StaticModuleIndex}
 use Rattle.pc_numbers.specs.declared.entity_index.EntityIndex.{EntityIndex}
 use Rattle.pc_numbers.specs.declared.runtime.RuntimeComponentInstanceIndex.{RuntimeComponentInstanceIndex}
+use Rattle.pc_entity.specs.declared.string_pool.Atom.{Atom}
+use Rattle.pc_entity.specs.Lists.{names_of}
 use Rattle.pc_types.specs.declared.module_record.ModuleRecord.{ModuleRecord}
 use Rattle.pc_types.specs.declared.parsed.CoreKind.{CoreKind}
 use Rattle.pc_types.specs.declared.parsed.Entity.{Entity}
@@ -22,6 +24,8 @@ use Rattle.pc_local.specs.declared.item.LocalInitializer.{LocalInitializer}
 use Rattle.pc_local.specs.declared.item.LocalInitializer.TheVariants as local
 use Rattle.pc_local.specs.Plain.{plain_item}
 use Rattle.pc_local.specs.Sound.{IsSoundItem, export_name}
+use Rattle.pc_inline_names.specs.Named.{item_names}
+use Rattle.pc_inline_names.specs.Numbers.{AreNumbersOf}
 use Rattle.pc_inline_state.specs.declared.definition.ClosureId.{ClosureId}
 use Rattle.pc_inline_state.specs.declared.error.ItemError.{ItemError}
 use Rattle.pc_inline_state.specs.declared.frame.Change.{Change}
@@ -49,6 +53,51 @@ pub exports_sound : (n : ℕ) (l : LocalInitializer) {es xs : List (ExternName �
 unfolding IsSoundItem
 exports_sound n l is same sound =
     subst (λ ys. distinct_names (map export_name ys) ≡ true) (sym same) (subst (IsSoundItem n) is sound)
+
+-- The numbers of the names of an item, by its kind.
+module _ (names : List (List ℕ)) (l : LocalInitializer) (ns : List Atom) (numbered : AreNumbersOf names (item_names l) ns)
+  where
+    -- import
+    pub import_numbers : {name : ExternName} {ty : Entity} → l ≡ local.Import name ty
+        → AreNumbersOf names (name.name ∷ []) ns
+    unfolding item_names
+    import_numbers is = subst (λ i. AreNumbersOf names (item_names i) ns) is numbered
+
+    -- core instance
+    pub core_instance_numbers : {m : ℕ} {args xs : List (List ℕ × ℕ)} → l ≡ local.ModuleInstantiate m args → xs ≡ args
+        → AreNumbersOf names (names_of xs) ns
+    unfolding item_names
+    core_instance_numbers is same =
+        subst (λ ys. AreNumbersOf names (names_of ys) ns) (sym same)
+        (subst (λ i. AreNumbersOf names (item_names i) ns) is numbered)
+
+    -- core exports
+    pub core_exports_numbers : {items xs : List (List ℕ × EntityIndex)} → l ≡ local.ModuleSynthetic items → xs ≡ items
+        → AreNumbersOf names (names_of xs) ns
+    unfolding item_names
+    core_exports_numbers is same =
+        subst (λ ys. AreNumbersOf names (names_of ys) ns) (sym same)
+        (subst (λ i. AreNumbersOf names (item_names i) ns) is numbered)
+
+    -- core alias
+    pub core_alias_numbers : {kind : CoreKind} {n : ℕ} {name : List ℕ} → l ≡ local.AliasCoreExport kind n name
+        → AreNumbersOf names (name ∷ []) ns
+    unfolding item_names
+    core_alias_numbers is = subst (λ i. AreNumbersOf names (item_names i) ns) is numbered
+
+    -- component exports
+    pub component_exports_numbers : {es xs : List (ExternName × ItemKind × ℕ)} {ty : ℕ}
+        → l ≡ local.ComponentSynthetic es ty → xs ≡ es → AreNumbersOf names (map export_name xs) ns
+    unfolding item_names
+    component_exports_numbers is same =
+        subst (λ ys. AreNumbersOf names (map export_name ys) ns) (sym same)
+        (subst (λ i. AreNumbersOf names (item_names i) ns) is numbered)
+
+    -- alias
+    pub alias_numbers : {kind : ItemKind} {n : ℕ} {name : List ℕ} → l ≡ local.AliasComponentExport kind n name
+        → AreNumbersOf names (name ∷ []) ns
+    unfolding item_names
+    alias_numbers is = subst (λ i. AreNumbersOf names (item_names i) ns) is numbered
 
 module _ {t : TypeTable} {a : Tables} {cs ds : List Change} {x y : RuntimeComponentInstanceIndex} {S : Type 0} where
   -- what the step of an instance from items promises, of exports that are these

@@ -7,6 +7,7 @@ use Rattle.std.proofs.Math.Nat.{add-mul}
 use Rattle.std.proofs.lemmas.Option.{slice_get-get_or}
 use Rattle.pc_entity.specs.Lists.{map_all}
 use Rattle.pc_entity.proofs.Growing.{slice_get-append_seam}
+use Rattle.pc_entity.specs.declared.string_pool.Atom.{Atom}
 use Rattle.pc_types.specs.declared.module_record.ModuleRecord.{ModuleRecord}
 use Rattle.pc_types.specs.declared.parsed.TypeTable.{TypeTable}
 use Rattle.pc_types.specs.declared.type_index.TypeComponentInstanceIndex.{TypeComponentInstanceIndex}
@@ -65,7 +66,7 @@ contains_place xs x c = (c.0, slice_get-get_or xs c.0 x c.1 ∙ ap Some c.2)
 module _ (t : TypeTable) (ms : List ModuleRecord) (st : State) (f : Frame) (mid : State) (done : Layers)
     (converts : Converts t st f.converted mid done) (ty : ℕ) (has : has_entry t is_instance ty ≡ true)
     (i : TypeComponentInstanceIndex) (entry : IsEntry mid.types t ty (type.ComponentInstance i))
-    (es : List (List ℕ × Member)) (n : ExportsId) (number : n.0 ≡ length mid.instances) (key : DefinitionId)
+    (es : List (Atom × Member)) (n : ExportsId) (number : n.0 ≡ length mid.instances) (key : DefinitionId)
     (last : key.0 ≡ length mid.definitions) where
   abbrev with_members : State
   with_members = record mid { instances = mid.instances ++ es ∷ [] }
@@ -116,7 +117,7 @@ module _ (t : TypeTable) (ms : List ModuleRecord) (st : State) (f : Frame) (mid 
 pub instance_done : (t : TypeTable) (ms : List ModuleRecord) (st : State) (f : Frame) (mid : State)
     (done : Layers) → Converts t st f.converted mid done → (ty : ℕ) → has_entry t is_instance ty ≡ true
     → (i : TypeComponentInstanceIndex) → IsEntry mid.types t ty (type.ComponentInstance i)
-    → (es : List (List ℕ × Member)) (n : ExportsId) → n.0 ≡ length mid.instances → (key : DefinitionId)
+    → (es : List (Atom × Member)) (n : ExportsId) → n.0 ≡ length mid.instances → (key : DefinitionId)
     (st1 st2 : State) (is : List DefinitionId) → st1 ≡ record mid { instances = mid.instances ++ es ∷ [] }
     → key.0 ≡ length st1.definitions
     → st2 ≡ record st1 { definitions = st1.definitions ++ definition.Instance n i ∷ [] }

@@ -1,23 +1,23 @@
--- Items by name against the values of the reading: one export or argument more (`exports_next`, `arguments_next`), and
--- whether all are there (`exports_all`, `arguments_all`) or one isn't (`exports_lack`, `arguments_lack`).
+-- Items by the numbers of their names against the values of the reading: one export or argument more (`exports_next`,
+-- `arguments_next`), and whether all are there (`exports_all`, `arguments_all`) or one isn't (`exports_lack`,
+-- `arguments_lack`).
 use Rattle.std.proofs.Common.{◌≡◌, ◌∙◌, ◌&&◌, ◌||◌, ◌≤◌, ◌+◌, ℕ, Bool, true, false, true≢false, List, [], ◌∷◌}
-use Rattle.std.proofs.Common.{◌++◌, Option, None, Some, refl, sym, ap, subst, map, if◌then◌else◌, length, take, arith}
+use Rattle.std.proofs.Common.{◌++◌, get_or, Option, None, Some, refl, sym, ap, subst, map, if◌then◌else◌, length, take, arith}
 use Rattle.std.proofs.Common.{cond}
 use Rattle.std.proofs.Common.{zero, suc}
-use Rattle.std.specs.Prelude.{is_some, option_and_then, option_map, slice_get, filter_map, nat_lt}
+use Rattle.std.specs.Prelude.{is_some, option_and_then, option_map, slice_get, filter_map, nat_eq, nat_lt}
 use Rattle.std.specs.List.{cons_option, list_all}
 use Rattle.std.specs.Str.{bytes_eq}
 use Rattle.std.proofs.lemmas.Bool.{le-ltb, lt-ltb}
-use Rattle.std.proofs.lemmas.List.{append-nil}
+use Rattle.std.proofs.lemmas.List.{append-nil, length-map}
 use Rattle.std.proofs.lemmas.Nat.{mul-le}
 use Rattle.std.proofs.lemmas.List.Elements.{filter_map-append}
 use Rattle.std.proofs.lemmas.List.Folds.{list_any-append}
 use Rattle.std.proofs.lemmas.List.Sums.{sum_by-append}
-use Rattle.std.proofs.lemmas.Option.{none-some, slice_get_within}
-use Rattle.pc_entity.specs.FirstValues.{with_first}
-use Rattle.pc_entity.specs.Lists.{map_all, value_of}
+use Rattle.std.proofs.lemmas.Option.{none-some, slice_get-map, slice_get_within}
+use Rattle.pc_entity.specs.declared.string_pool.Atom.{Atom}
+use Rattle.pc_entity.specs.Lists.{AreDistinct, map_all, value_of}
 use Rattle.pc_entity.proofs.Elements.{and_true}
-use Rattle.pc_entity.proofs.Naming.{value_of-append_absent}
 use Rattle.pc_types.specs.declared.module_record.ModuleRecord.{ModuleRecord}
 use Rattle.pc_types.specs.declared.parsed.DeclType.{DeclType}
 use Rattle.pc_types.specs.declared.parsed.TypeTable.{TypeTable}
@@ -34,12 +34,16 @@ use Rattle.pc_spec_reading.specs.Scope.{Scope}
 use Rattle.pc_spec_reading.specs.Section.{argument_of, named_item}
 use Rattle.pc_spec_reading.specs.Types.{type_tree}
 use Rattle.pc_spec_reading.specs.Value.{NamedValue, Value, pack_values, type_value}
+use Rattle.pc_inline_names.specs.Both.{Both, both, neither}
+use Rattle.pc_inline_names.specs.Named.{Named}
+use Rattle.pc_inline_names.specs.Numbers.{AreNumbersOf, IsNumber, SameNamed, numbered_value, with_first_number}
+use Rattle.pc_inline_names.proofs.NumberedLemmas.{named_first, number_alike, number_at, numbers_many}
 use Rattle.pc_inline_state.specs.declared.definition.DefinitionId.{DefinitionId}
 use Rattle.pc_inline_state.specs.declared.frame.Frame.{Frame}
 use Rattle.pc_inline_state.specs.declared.state.Member.{Member}
 use Rattle.pc_inline_state.specs.declared.state.State.{State}
 use Rattle.pc_inline_state.specs.Adds.{is_type_kind, types_among}
-use Rattle.pc_inline_state.specs.Frames.{Both, FrameStands, SameNames, both, neither}
+use Rattle.pc_inline_state.specs.Frames.{FrameStands}
 use Rattle.pc_inline_state.specs.Lists.{item_ids}
 use Rattle.pc_inline_state.specs.Named.{export_name}
 use Rattle.pc_inline_state.specs.Stands.{MembersStand, Stands, no_members}
@@ -47,7 +51,6 @@ use Rattle.pc_inline_state.specs.Tables.{Tables, tables_of}
 use Rattle.pc_inline_state.proofs.ZipLemmas.{both_more}
 use Rattle.pc_inline_canon.proofs.KeptLemmas.{members_kept, stands_kept}
 use Rattle.pc_inline_canon.proofs.TreeLemmas.{tested_tree}
-use Rattle.pc_inline_modules.proofs.BagLemmas.{names_again, names_push}
 use Rattle.pc_inline_items.specs.Members.{AddsItem, ArgumentsSoFar, ExportsSoFar, TakesTypes, are_there, are_typed}
 use Rattle.pc_inline_items.specs.Members.{if_type}
 use Rattle.pc_inline_items.specs.Members.{is_held, is_there, is_typed, member_of, with_item}
@@ -129,22 +132,38 @@ none_is : {A : Type 0} (o : Option A) → is_some o ≡ false → o ≡ None
 none_is None h = refl
 none_is (Some x) h = absurd (true≢false h)
 
--- a value under a name that has none goes last
-first_new : {A : Type 0} (es : List (List ℕ × A)) (name : List ℕ) (x : A) → is_some (value_of name es) ≡ false
-    → with_first es (name, x) ≡ es ++ (name, x) ∷ []
-first_new es name x none = rw (none) refl
+-- a value under a number that has none goes last
+first_new : {A : Type 0} (es : List (Atom × A)) (n : Atom) (x : A) → is_some (numbered_value n es) ≡ false
+    → with_first_number es n x ≡ es ++ (n, x) ∷ []
+first_new es n x none = rw (none) refl
+
+-- what has a number that none in front has stands at the end
+last_numbered : {A : Type 0} (m n : Atom) (es : List (Atom × A)) (x : A) → numbered_value m es ≡ None
+    → numbered_value m (es ++ (n, x) ∷ []) ≡ (if nat_eq m.0 n.0 then Some x else None)
+last_numbered m n [] x none = refl
+last_numbered m n (e ∷ es) x none = by (nat_eq m.0 e.0.0) (last_numbered m n es x) none
+  where
+    by : (t : Bool)
+        → (numbered_value m es ≡ None
+        → numbered_value m (es ++ (n, x) ∷ []) ≡ (if nat_eq m.0 n.0 then Some x else None))
+        → (if t then Some e.1 else numbered_value m es) ≡ None
+        → (if t then Some e.1 else numbered_value m (es ++ (n, x) ∷ []))
+        ≡ (if nat_eq m.0 n.0 then Some x else None)
+    by true rest h = absurd (none-some e.1 (sym h))
+    by false rest h = rest h
 
 module _ (t : TypeTable) (ms : List ModuleRecord) (a : State) (f : Frame) (b : State) (g : Frame) (c : State)
     (h : Frame)
   where
     -- one export more
-    pub exports_next : (xs : List (ExternName × ItemKind × ℕ)) (x : ExternName × ItemKind × ℕ)
-        (es fs : List (List ℕ × Member)) → ExportsSoFar t ms xs a f b g es → TakesTypes t ms (if_type x.1) b g c h
-        → AddsItem t ms (member_of x.0) x.0.name x.1 x.2 b g c es fs
+    pub exports_next : (xs : List (ExternName × ItemKind × ℕ)) (x : ExternName × ItemKind × ℕ) (n : Atom)
+        (es fs : List (Atom × Member)) → AreDistinct a.names.now.texts → IsNumber a.names.now.texts n x.0.name
+        → ExportsSoFar t ms xs a f b g es → TakesTypes t ms (if_type x.1) b g c h
+        → AddsItem t ms (member_of x.0) n x.1 x.2 b g c es fs
         → has_name (map export_name xs) x.0.name ≡ false → ExportsSoFar t ms (xs ++ x ∷ []) a f c h fs
     unfolding exports_at exported_value
-    exports_next xs x es fs so_far takes adds apart = record {
-      takes = subst (λ n. TakesTypes t ms n a f c h) (sym (types_push xs x))
+    exports_next xs x n es fs distinct number so_far takes adds apart = record {
+      takes = subst (λ k. TakesTypes t ms k a f c h) (sym (types_push xs x))
           (takes_both t ms (types_among xs) (if_type x.1) a f b g c h so_far.takes takes);
       members = λ now at.
           let kept = members_kept ms (tables_of b) (tables_of c) takes.keeps es
@@ -156,18 +175,23 @@ module _ (t : TypeTable) (ms : List ModuleRecord) (a : State) (f : Frame) (b : S
           ++ cons_option (exported_value t now.scope (named_item x)) []))) (sym adds.added)
           (member adds.id (value_at t now.scope x.1 x.2) (adds.stands now (so_far.takes.stands now at))
           (exports_at t now.scope (map named_item xs)) kept));
-      names = λ name is.
+      names = λ m name is_m is.
           subst (λ r. r ≡ true) (sym (named_push xs x name))
-          (named name adds.id (subst (λ zs. is_some (value_of name zs) ≡ true) adds.added is));
+          (named m name is_m adds.id (subst (λ zs. is_some (numbered_value m zs) ≡ true) adds.added is));
     }
       where
-        fresh : is_some (value_of x.0.name es) ≡ false
-        fresh = absent (value_of x.0.name es) (has_name (map export_name xs) x.0.name) (so_far.names x.0.name) apart
+        fresh : is_some (numbered_value n es) ≡ false
+        fresh = absent (numbered_value n es) (has_name (map export_name xs) x.0.name) (so_far.names n x.0.name number)
+            apart
+
+        still : IsNumber c.names.now.texts n x.0.name
+        still = subst (λ (k : Named). IsNumber k.texts n x.0.name) (sym (takes.keeps.names ∙ so_far.takes.keeps.names))
+            number
 
         member : (o : Option DefinitionId) (w : Option Value) → Both (Stands ms (tables_of c)) o w
             → (vs : List NamedValue)
             → MembersStand ms (tables_of c) es (pack_values vs)
-            → MembersStand ms (tables_of c) (with_item es x.0.name (option_map (member_of x.0) o))
+            → MembersStand ms (tables_of c) (with_item es n (option_map (member_of x.0) o))
             (pack_values (vs ++ cons_option (option_map (λ (v : Value). record { name = x.0; value = v }) w) []))
         member None None m vs stand = subst (λ zs. MembersStand ms (tables_of c) es (pack_values zs))
             (sym (append-nil vs)) stand
@@ -175,70 +199,79 @@ module _ (t : TypeTable) (ms : List ModuleRecord) (a : State) (f : Frame) (b : S
         member (Some id) None m vs stand = elim m [ ]
         member (Some id) (Some v) (both r) vs stand =
             subst (λ zs. MembersStand ms (tables_of c) zs (pack_values (vs ++ record { name = x.0; value = v } ∷ [])))
-            (sym (first_new es x.0.name (member_of x.0 id) fresh))
-            (members_push ms (tables_of c) es vs (record { name = x.0; value = v }) id stand r)
+            (sym (first_new es n (member_of x.0 id) fresh))
+            (members_push ms (tables_of c) es vs n (record { name = x.0; value = v }) id stand still r)
 
-        named : (name : List ℕ) (o : Option DefinitionId)
-            → is_some (value_of name (with_item es x.0.name (option_map (member_of x.0) o))) ≡ true
+        named : (m : Atom) (name : List ℕ) → IsNumber a.names.now.texts m name → (o : Option DefinitionId)
+            → is_some (numbered_value m (with_item es n (option_map (member_of x.0) o))) ≡ true
             → (has_name (map export_name xs) name || (bytes_eq name x.0.name || false)) ≡ true
-        named name None is = or_first (has_name (map export_name xs) name) (bytes_eq name x.0.name || false)
-            (so_far.names name is)
-        named name (Some id) is =
-            by (value_of name es) refl
-            (subst (λ zs. is_some (value_of name zs) ≡ true) (first_new es x.0.name (member_of x.0 id) fresh) is)
+        named m name is_m None is = or_first (has_name (map export_name xs) name) (bytes_eq name x.0.name || false)
+            (so_far.names m name is_m is)
+        named m name is_m (Some id) is =
+            by (numbered_value m es) refl
+            (subst (λ zs. is_some (numbered_value m zs) ≡ true) (first_new es n (member_of x.0 id) fresh) is)
           where
             last : (r : Bool) → is_some (if r then Some (member_of x.0 id) else None) ≡ true → (r || false) ≡ true
             last true h = refl
             last false h = absurd (true≢false (sym h))
 
-            by : (o : Option Member) → value_of name es ≡ o
-                → is_some (value_of name (es ++ (x.0.name, member_of x.0 id) ∷ [])) ≡ true
+            by : (o : Option Member) → numbered_value m es ≡ o
+                → is_some (numbered_value m (es ++ (n, member_of x.0 id) ∷ [])) ≡ true
                 → (has_name (map export_name xs) name || (bytes_eq name x.0.name || false)) ≡ true
-            by (Some m) at h =
+            by (Some e) at h =
                 or_first (has_name (map export_name xs) name) (bytes_eq name x.0.name || false)
-                (so_far.names name (ap is_some at))
+                (so_far.names m name is_m (ap is_some at))
             by None at h =
                 or_second (has_name (map export_name xs) name) (bytes_eq name x.0.name || false)
-                (last (bytes_eq name x.0.name)
-                (subst (λ o. is_some o ≡ true)
-                (value_of-append_absent name es ((x.0.name, member_of x.0 id) ∷ []) at) h))
+                (subst (λ (r : Bool). (r || false) ≡ true)
+                (number_alike a.names.now.texts m n name x.0.name distinct is_m number)
+                (last (nat_eq m.0 n.0)
+                (subst (λ o. is_some o ≡ true) (last_numbered m n es (member_of x.0 id) at) h)))
 
     -- one argument more
-    pub arguments_next : (xs : List (List ℕ × ItemKind × ℕ)) (x : List ℕ × ItemKind × ℕ)
-        (es fs : List (List ℕ × DefinitionId)) → ArgumentsSoFar t ms xs a f b g es → TakesTypes t ms
-        (if_type x.1) b g c h
-        → AddsItem t ms (λ id. id) x.0 x.1 x.2 b g c es fs → ArgumentsSoFar t ms (xs ++ x ∷ []) a f c h fs
+    pub arguments_next : (xs : List (List ℕ × ItemKind × ℕ)) (x : List ℕ × ItemKind × ℕ) (n : Atom)
+        (es fs : List (Atom × DefinitionId)) → AreDistinct a.names.now.texts → IsNumber a.names.now.texts n x.0
+        → ArgumentsSoFar t ms xs a f b g es → TakesTypes t ms (if_type x.1) b g c h
+        → AddsItem t ms (λ id. id) n x.1 x.2 b g c es fs → ArgumentsSoFar t ms (xs ++ x ∷ []) a f c h fs
     unfolding argument_value
-    arguments_next xs x es fs so_far takes adds = record {
-      takes = subst (λ n. TakesTypes t ms n a f c h) (sym (types_push xs x))
+    arguments_next xs x n es fs distinct number so_far takes adds = record {
+      takes = subst (λ k. TakesTypes t ms k a f c h) (sym (types_push xs x))
           (takes_both t ms (types_among xs) (if_type x.1) a f b g c h so_far.takes takes);
       values = λ now at.
           let vs = filter_map (argument_value t now.scope) (map argument_of xs) in
-          let kept : SameNames (Stands ms (tables_of c)) es vs =
-          (λ name. both_more (Stands ms (tables_of b)) (Stands ms (tables_of c))
-          (stands_kept ms (tables_of b) (tables_of c) takes.keeps) (value_of name es) (value_of name vs)
-          (so_far.values now at name)) in
+          let kept : SameNamed a.names.now.texts (Stands ms (tables_of c)) es vs =
+          (λ m name is. both_more (Stands ms (tables_of b)) (Stands ms (tables_of c))
+          (stands_kept ms (tables_of b) (tables_of c) takes.keeps) (numbered_value m es) (value_of name vs)
+          (so_far.values now at m name is)) in
           let grown = ap (filter_map (argument_value t now.scope)) (map_push argument_of xs x)
           ∙ filter_map-append (argument_value t now.scope) (map argument_of xs) (argument_of x ∷ []) in
-          subst (SameNames (Stands ms (tables_of c)) fs) (sym grown)
-          (subst (λ zs. SameNames (Stands ms (tables_of c)) zs
+          subst (SameNamed a.names.now.texts (Stands ms (tables_of c)) fs) (sym grown)
+          (subst (λ zs. SameNamed a.names.now.texts (Stands ms (tables_of c)) zs
           (vs ++ cons_option (argument_value t now.scope (argument_of x)) [])) (sym adds.added)
           (value adds.id (value_at t now.scope x.1 x.2) (adds.stands now (so_far.takes.stands now at)) vs kept));
     }
       where
         value : (o : Option DefinitionId) (w : Option Value) → Both (Stands ms (tables_of c)) o w
-            → (vs : List (List ℕ × Value)) → SameNames (Stands ms (tables_of c)) es vs
-            → SameNames (Stands ms (tables_of c)) (with_item es x.0 (option_map (λ id. id) o))
+            → (vs : List (List ℕ × Value)) → SameNamed a.names.now.texts (Stands ms (tables_of c)) es vs
+            → SameNamed a.names.now.texts (Stands ms (tables_of c)) (with_item es n (option_map (λ id. id) o))
             (vs ++ cons_option (option_map {U = List ℕ × Value} (λ (v : Value). (x.0, v)) w) [])
-        value None None m vs same = subst (SameNames (Stands ms (tables_of c)) es) (sym (append-nil vs)) same
+        value None None m vs same =
+            subst (SameNamed a.names.now.texts (Stands ms (tables_of c)) es) (sym (append-nil vs)) same
         value None (Some v) m vs same = elim m [ ]
         value (Some id) None m vs same = elim m [ ]
-        value (Some id) (Some v) (both r) vs same = by (is_some (value_of x.0 es)) refl
-          where
-            by : (q : Bool) → is_some (value_of x.0 es) ≡ q
-                → SameNames (Stands ms (tables_of c)) (if q then es else es ++ (x.0, id) ∷ []) (vs ++ (x.0, v) ∷ [])
-            by true there = names_again (Stands ms (tables_of c)) es vs x.0 v same there
-            by false new = names_push (Stands ms (tables_of c)) es vs x.0 id v same r
+        value (Some id) (Some v) (both r) vs same =
+            named_first a.names.now.texts (Stands ms (tables_of c)) es vs n x.0 id v distinct number same r
+
+module _ {A : Type 0} (names : List (List ℕ)) (f : A → List ℕ) where
+  -- there are as many items as numbers of their names
+  pub items_numbered : (xs : List A) (ns : List Atom) → AreNumbersOf names (map f xs) ns → length ns ≡ length xs
+  items_numbered xs ns are = numbers_many names (map f xs) ns are ∙ length-map xs f
+
+  -- the name of the item at a place has the number at the place
+  pub item_number : (xs : List A) (ns : List Atom) → AreNumbersOf names (map f xs) ns → (i : ℕ) (x : A) (d : Atom)
+      → slice_get xs i ≡ Some x → IsNumber names (get_or ns i d) (f x)
+  item_number xs ns are i x d at =
+      number_at names (map f xs) ns are i (f x) (get_or ns i d) d (slice_get-map f xs i ∙ ap (option_map f) at) refl
 
 -- before the first
 pub exports_begin : (t : TypeTable) (ms : List ModuleRecord) (a : State) (f : Frame) → ExportsSoFar t ms [] a f a f []
@@ -246,13 +279,13 @@ unfolding exports_at
 exports_begin t ms a f = record {
   takes = takes_none t ms 0 a f;
   members = λ now at. no_members;
-  names = λ name is. absurd (true≢false (sym is));
+  names = λ n name number is. absurd (true≢false (sym is));
 }
 
 -- the same of arguments
 pub arguments_begin : (t : TypeTable) (ms : List ModuleRecord) (a : State) (f : Frame)
     → ArgumentsSoFar t ms [] a f a f []
-arguments_begin t ms a f = record { takes = takes_none t ms 0 a f; values = λ now at name. neither }
+arguments_begin t ms a f = record { takes = takes_none t ms 0 a f; values = λ now at n name number. neither }
 
 module _ {A B : Type 0} (read : A → Option B) where
   -- where there is an answer for each item, the answer for all is that which passes over what isn't there

@@ -1,8 +1,10 @@
 -- An import that takes its argument, against its row.
-use Rattle.std.proofs.Common.{◌≡◌, ℕ, true, false, List, Result, Ok, Err, Some, None, refl, sym, ap, subst, ◌∙◌}
+use Rattle.std.proofs.Common.{◌≡◌, ◌<◌, ℕ, length, [], get_or, true, false, List, Result, Ok, Err, Some, None, refl, sym, ap, subst, ◌∙◌}
 use Rattle.std.proofs.Common.{true≢false}
 use Rattle.std.specs.Prelude.{⊤, is_err, slice_get}
 use Rattle.std.specs.Result.{IsErrAnd}
+use Rattle.std.proofs.lemmas.Option.{slice_get-get_or}
+use Rattle.pc_entity.specs.declared.string_pool.Atom.{Atom}
 use Rattle.pc_entity.specs.Lists.{value_of}
 use Rattle.pc_types.specs.declared.module_record.ModuleRecord.{ModuleRecord}
 use Rattle.pc_types.specs.declared.parsed.Entity.{Entity}
@@ -21,6 +23,7 @@ use Rattle.pc_spec_reading.specs.Rows.{read_row}
 use Rattle.pc_spec_reading.specs.Scope.{Moment, add_value, with_known}
 use Rattle.pc_spec_reading.specs.Types.{is_plain_type, names_entry}
 use Rattle.pc_spec_reading.specs.Value.{Value, component_value, func_value, instance_value, module_value, type_value}
+use Rattle.pc_inline_names.specs.Numbers.{IsNumber, numbered_value}
 use Rattle.pc_inline_state.specs.declared.definition.DefinitionId.{DefinitionId}
 use Rattle.pc_inline_state.specs.declared.error.ItemError.{ItemError}
 use Rattle.pc_inline_state.specs.declared.error.ItemError.TheVariants as item_error
@@ -59,6 +62,16 @@ kind_same entity.Value v = refl
 err_ok : {A : Type 0} (k : Fault) (x : A) → Err k ≡ Ok x → ⊥
 err_ok k x h = true≢false (ap is_err h)
 
+-- an argument has a value
+pub argument_stands : (t : TypeTable) (ms : List ModuleRecord) (st : State) (f : Frame) (now : Moment)
+    → PointStands t ms st f now → (n : Atom) → n.0 < length st.names.now.texts → (id : DefinitionId)
+    → numbered_value n f.arguments ≡ Some id → (v : Value) × Stands ms (tables_of st) id v
+argument_stands t ms st f now at n within id there =
+    let name = get_or st.names.now.texts n.0 [] in
+    let v = both_there (Stands ms (tables_of st)) _ _ id
+    (at.frame.arguments n name (slice_get-get_or st.names.now.texts n.0 [] within)) there in
+    (v.0, v.2)
+
 module _ (t : TypeTable) (ms : List ModuleRecord) (st : State) (f : Frame) (name : ExternName) (e : Entity) where
   abbrev import : Item
   import = import_item name e
@@ -76,31 +89,34 @@ module _ (t : TypeTable) (ms : List ModuleRecord) (st : State) (f : Frame) (name
     unfolding read_row read_import
     taken_row now = rw (typed) refl
 
-    module _ (none : value_of name.name f.arguments ≡ None) where
-      untaken : (now : Moment) → PointStands t ms st f now → read_row t ms now import ≡ take_if t now e None
-      untaken now at =
-          taken_row now
-          ∙ ap (take_if t now e) (both_missing (Stands ms (tables_of st)) _ _ (at.frame.arguments name.name) none)
+    module _ (n : Atom) (number : IsNumber st.names.now.texts n name.name) (none : numbered_value n f.arguments ≡ None)
+      where
+        untaken : (now : Moment) → PointStands t ms st f now → read_row t ms now import ≡ take_if t now e None
+        untaken now at =
+            taken_row now
+            ∙ ap (take_if t now e) (both_missing (Stands ms (tables_of st)) _ _ (at.frame.arguments n name.name number)
+            none)
 
-      -- there is no argument, and there has to be one
-      pub import_absent : (st' : State) (f' : Frame) → is_plain_type t e ≡ false
-          → StepsItem t ms import st f st' f' (Err (item_error.Fault item_fault.Invalid))
-      import_absent st' f' other = steps_stuck t ms _ st f st' f' item_fault.Invalid (λ now at.
-          untaken now at ∙ rw (other) refl)
+        -- there is no argument, and there has to be one
+        pub import_absent : (st' : State) (f' : Frame) → is_plain_type t e ≡ false
+            → StepsItem t ms import st f st' f' (Err (item_error.Fault item_fault.Invalid))
+        import_absent st' f' other = steps_stuck t ms _ st f st' f' item_fault.Invalid (λ now at.
+            untaken now at ∙ rw (other) refl)
 
-      -- none is needed
-      pub import_plain : is_plain_type t e ≡ true → (r : ⊤) → StepsItem t ms import st f st f (Ok r)
-      import_plain plain r = steps_on t ms _ st f st f r (λ now at. record {
-        now = now;
-        stands = at;
-        done = untaken now at ∙ rw (plain) refl;
-      })
+        -- none is needed
+        pub import_plain : is_plain_type t e ≡ true → (r : ⊤) → StepsItem t ms import st f st f (Ok r)
+        import_plain plain r = steps_on t ms _ st f st f r (λ now at. record {
+          now = now;
+          stands = at;
+          done = untaken now at ∙ rw (plain) refl;
+        })
 
-    module _ (id : DefinitionId) (there : value_of name.name f.arguments ≡ Some id) where
+    module _ (n : Atom) (number : IsNumber st.names.now.texts n name.name) (id : DefinitionId)
+        (there : numbered_value n f.arguments ≡ Some id) where
       -- the argument
-      pub argument : (now : Moment) → PointStands t ms st f now
+      argument : (now : Moment) → PointStands t ms st f now
           → (v : Value) × (value_of name.name now.scope.arguments ≡ Some v) × Stands ms (tables_of st) id v
-      argument now at = both_there (Stands ms (tables_of st)) _ _ id (at.frame.arguments name.name) there
+      argument now at = both_there (Stands ms (tables_of st)) _ _ id (at.frame.arguments n name.name number) there
 
       -- it is of another kind
       pub import_other : (st' : State) (f' : Frame)

@@ -27,7 +27,7 @@ unfoldable pub HostMemberAlias : ItemKind → PathId → (name : List ℕ) → H
     → Result ⊤ ItemError → Type 0
 HostMemberAlias k p name m st f st' f' r =
     (t : TypeTable) (ms : List ModuleRecord) (now : Moment) (path : Path) (tree field : TypeTree)
-    → PointStands t ms st f now → slice_get st.paths p.0 ≡ Some path → IsHostType ms (tables_of st) path tree
+    → PointStands t ms st f now → slice_get st.paths.held p.0 ≡ Some path → IsHostType ms (tables_of st) path tree
     → field_under name (instance_fields tree) ≡ Some field → HostMemberStands ms (tables_of st) m field
     → Follows t ms st' f' (alias_member now k (host_member (further path name) field)) r
 

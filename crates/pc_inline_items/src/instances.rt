@@ -10,9 +10,10 @@ ghost use Rattle.pc_spec_reading.specs.Instances.{alias_in};
 ghost use Rattle.pc_spec_reading.specs.Item.{alias_item, export_item};
 ghost use Rattle.pc_spec_reading.specs.Scope.{Moment};
 ghost use Rattle.pc_spec_reading.specs.Value.{NamedValues, made_instance};
+ghost use Rattle.pc_entity.specs.declared.string_pool.Atom.{Atom};
+ghost use Rattle.pc_inline_names.specs.Numbers.{IsNumber};
 ghost use Rattle.pc_inline_state.specs.Adds.{Adds};
 ghost use Rattle.pc_inline_state.specs.Points.{Follows, IsInput, IsPoint, PointStands, StepsItem};
-ghost use Rattle.pc_inline_state.specs.Ready.{IsReady};
 ghost use Rattle.pc_inline_state.specs.Stands.{MembersStand};
 ghost use Rattle.pc_inline_state.specs.Tables.{Keeps, tables_of};
 ghost use Rattle.pc_inline_state.specs.Trails.{Trails};
@@ -23,7 +24,7 @@ use crate::hosts::alias_host;
 use crate::intrinsics::alias_intrinsic;
 use crate::members::is_typed;
 use crate::source::{InstanceSource, source_of};
-use pc_entity::Text;
+use pc_entity::{Atom, Text};
 use pc_inline_state::{Context, ExportsId, Frame, ItemError, ItemFault, State};
 use pc_parsed::ItemKind;
 use pc_types::TypeTable;
@@ -55,28 +56,29 @@ pub(crate) fn step_export(
     }
 }
 
-/// An item that a component instance from items, or of a component, exports.
+/// An item that a component instance from items, or of a component, exports, by the number of its name.
 fn alias_made(
     state: &State<'_>,
     frame: &mut Frame,
     kind: ItemKind,
     exports: ExportsId,
-    name: &Text,
+    number: Atom,
 ) -> Result<(), ItemError>
     ensures changes { frame.new.changes ≡ frame.old.changes }
     ensures same { frame.new.component_instance ≡ frame.old.component_instance }
-    ensures follows { (t : TypeTable) (ms : List ModuleRecord) (now : Moment) (es : List (List ℕ × Member))
+    ensures follows { (t : TypeTable) (ms : List ModuleRecord) (name : List ℕ)
+        → IsNumber state.now.names.now.texts number name → (now : Moment) (es : List (Atom × Member))
         (vs : NamedValues) (tree : TypeTree) → PointStands t ms state.now frame.old now
         → slice_get state.now.instances exports.0 ≡ Some es → MembersStand ms (tables_of state.now) es vs
-        → Follows t ms state.now frame.new (alias_in now kind name.now (made_instance vs tree)) result }
+        → Follows t ms state.now frame.new (alias_in now kind name (made_instance vs tree)) result }
 {
-    match state.member(exports, name.as_str()) {
+    match state.member(exports, number) {
         Some(id) if state.is_of_kind(id, kind) => Ok(frame.push_item(kind, id)?),
         _ => Err(ItemError::Fault(ItemFault::Invalid)),
     }
 }
 
-/// An item that a component instance exports.
+/// An item that a component instance exports, by its name and the number of that. The text serves the intrinsics alone.
 pub(crate) fn step_alias(
     context: &Context<'_>,
     state: &mut State<'_>,
@@ -84,10 +86,11 @@ pub(crate) fn step_alias(
     kind: ItemKind,
     instance: u32,
     name: &Text,
+    number: Atom,
 ) -> Result<(), ItemError>
     requires input { IsInput context.now.table.now context.now.modules }
-    requires ready { IsReady context.now }
     requires here { IsPoint context.now.table.now context.now.modules state.old frame.old }
+    requires named { IsNumber state.old.names.now.texts number name.now }
     ensures keeps { Keeps (tables_of state.old) (tables_of state.new) }
     ensures adds { Adds context.now.table.now 4 (tables_of state.old) (tables_of state.new) }
     ensures trail { Trails frame.old.changes state.old.types.resources frame.new.changes state.new.types.resources }
@@ -99,9 +102,9 @@ pub(crate) fn step_alias(
         return Err(ItemError::Fault(ItemFault::Invalid));
     };
     match source_of(state, id) {
-        Some(InstanceSource::Made(exports)) => alias_made(state, frame, kind, exports, name),
+        Some(InstanceSource::Made(exports)) => alias_made(state, frame, kind, exports, number),
         Some(InstanceSource::Host { path, ty, entry }) => {
-            alias_host(context, state, frame, kind, path, ty, entry, name)
+            alias_host(context, state, frame, kind, path, ty, entry, number)
         }
         Some(InstanceSource::Intrinsics) => alias_intrinsic(state, frame, kind, name),
         // Never: what stands among the instances of a frame is an instance, which the contract knows.

@@ -8,6 +8,7 @@ ghost use Rattle.pc_spec_reading.specs.Section.{named_item};
 ghost use Rattle.pc_spec_reading.specs.Types.{has_entry};
 ghost use Rattle.pc_spec_reading.specs.Value.{NamedValues};
 ghost use Rattle.pc_types.specs.Names.{distinct_names};
+ghost use Rattle.pc_inline_names.specs.Numbers.{AreNumbersOf};
 ghost use Rattle.pc_inline_state.specs.Adds.{Adds, most_converted, types_among};
 ghost use Rattle.pc_inline_state.specs.Named.{export_name};
 ghost use Rattle.pc_inline_state.specs.Points.{Follows, IsInput, IsPoint, PointStands, StepsItem};
@@ -17,7 +18,8 @@ ghost use Rattle.pc_inline_state.specs.Trails.{Trails};
 ghost use Rattle.pc_inline_items.specs.Made.{made_of};
 
 use crate::members::{are_there, are_typed, export_members};
-use pc_entity::TextMap;
+use pc_entity::Atom;
+use pc_inline_names::AtomMap;
 use pc_inline_state::{
     Context, Definition, Frame, ItemError, ItemFault, Member, State, is_instance_type,
 };
@@ -28,7 +30,7 @@ pub fn add_instance(
     context: &Context<'_>,
     state: &mut State<'_>,
     frame: &mut Frame,
-    members: TextMap<Member>,
+    members: AtomMap<Member>,
     ty: u32,
 ) -> Result<(), ItemError>
     requires input { IsInput context.now.table.now context.now.modules }
@@ -60,10 +62,12 @@ pub(crate) fn step_component_exports(
     frame: &mut Frame,
     exports: &[(ExternName, ItemKind, u32)],
     ty: u32,
+    numbers: &[Atom],
 ) -> Result<(), ItemError>
     requires input { IsInput context.now.table.now context.now.modules }
     requires here { IsPoint context.now.table.now context.now.modules state.old frame.old }
     requires named { distinct_names (map export_name exports.now) ≡ true }
+    requires numbered { AreNumbersOf state.old.names.now.texts (map export_name exports.now) numbers.now }
     ensures keeps { Keeps (tables_of state.old) (tables_of state.new) }
     ensures adds { Adds context.now.table.now (most_converted context.now.table.now (1 + types_among exports.now))
         (tables_of state.old) (tables_of state.new) }
@@ -81,6 +85,6 @@ pub(crate) fn step_component_exports(
     if !are_there(frame, exports) {
         return Err(ItemError::Fault(ItemFault::Invalid));
     }
-    let members = export_members(context, state, frame, exports)?;
+    let members = export_members(context, state, frame, exports, numbers)?;
     add_instance(context, state, frame, members, ty)
 }

@@ -10,8 +10,10 @@ ghost use Rattle.pc_spec_reading.specs.Nodes.{extern_data};
 ghost use Rattle.pc_spec_reading.specs.Scope.{Moment};
 ghost use Rattle.pc_spec_reading.specs.Section.{argument_of, named_item};
 ghost use Rattle.pc_spec_reading.specs.Value.{pack_values};
+ghost use Rattle.pc_inline_names.specs.Both.{Both};
+ghost use Rattle.pc_inline_names.specs.Named.{argument_name};
+ghost use Rattle.pc_inline_names.specs.Numbers.{AreNumbersOf, SameNamed};
 ghost use Rattle.pc_inline_state.specs.Adds.{types_among};
-ghost use Rattle.pc_inline_state.specs.Frames.{Both, SameNames};
 ghost use Rattle.pc_inline_state.specs.Named.{export_name};
 ghost use Rattle.pc_inline_state.specs.Points.{IsInput, IsPoint, PointStands};
 ghost use Rattle.pc_inline_state.specs.Refused.{LacksRoom};
@@ -20,7 +22,8 @@ ghost use Rattle.pc_inline_state.specs.Tables.{tables_of};
 ghost use Rattle.pc_inline_items.specs.Members.{AddsItem, TakesTypes, are_there, are_typed, if_type, is_held, is_there};
 ghost use Rattle.pc_inline_items.specs.Members.{is_typed, member_of};
 
-use pc_entity::{NoMemory, Text, TextMap, TryClone};
+use pc_entity::{Atom, NoMemory, Text, TryClone};
+use pc_inline_names::AtomMap;
 use pc_inline_state::{Context, Definition, DefinitionId, Frame, ItemError, Member, State};
 use pc_parsed::{ExternName, ItemKind};
 use pc_types::{ComponentExternData, TypeTable};
@@ -125,13 +128,14 @@ fn value_id(
     }
 }
 
-/// An export is a member, if it is there.
+/// An export is a member under the number of its name, if it is there.
 fn add_export(
     context: &Context<'_>,
     state: &mut State<'_>,
     frame: &mut Frame,
-    members: &mut TextMap<Member>,
+    members: &mut AtomMap<Member>,
     export: &(ExternName, ItemKind, u32),
+    number: Atom,
 ) -> Result<(), ItemError>
     requires input { IsInput context.now.table.now context.now.modules }
     requires here { IsPoint context.now.table.now context.now.modules state.old frame.old }
@@ -139,26 +143,29 @@ fn add_export(
         state.old frame.old state.new frame.new }
     ensures lacks { IfErr result (LacksRoom state.new) }
     ensures adds { OnOk result (AddsItem context.now.table.now context.now.modules (member_of export.now.0)
-        export.now.0.name export.now.1 export.now.2 state.old frame.old state.new members.old members.new) }
+        number export.now.1 export.now.2 state.old frame.old state.new members.old members.new) }
 {
     let found = value_id(context, state, frame, export.1, export.2)?;
     if let Some(item) = found {
         let data_ = extern_data(context.alloc, &export.0)?;
-        members.insert_first(&export.0.name, Member { item, data_ })?;
+        members.insert_first(number, Member { item, data_ })?;
     }
     Ok(())
 }
 
-/// What a component instance exports: the items that are there, under their names. What isn't there is passed over.
+/// What a component instance exports: the items that are there, under the numbers of their names. What isn't there is
+/// passed over.
 pub fn export_members(
     context: &Context<'_>,
     state: &mut State<'_>,
     frame: &mut Frame,
     exports: &[(ExternName, ItemKind, u32)],
-) -> Result<TextMap<Member>, ItemError>
+    numbers: &[Atom],
+) -> Result<AtomMap<Member>, ItemError>
     requires input { IsInput context.now.table.now context.now.modules }
     requires here { IsPoint context.now.table.now context.now.modules state.old frame.old }
     requires named { distinct_names (map export_name exports.now) ≡ true }
+    requires numbered { AreNumbersOf state.old.names.now.texts (map export_name exports.now) numbers.now }
     ensures takes { TakesTypes context.now.table.now context.now.modules (types_among exports.now)
         state.old frame.old state.new frame.new }
     ensures lacks { IfErr result (LacksRoom state.new) }
@@ -167,20 +174,21 @@ pub fn export_members(
         → IfOk result (λ members. MembersStand context.now.modules (tables_of state.new) members
         (pack_values (exports_at context.now.table.now now.scope (map named_item exports.now)))) }
 {
-    let mut members = TextMap::new(context.alloc, context.seed);
-    for export in exports {
-        add_export(context, state, frame, &mut members, export)?;
+    let mut members = AtomMap::new(context.alloc, context.seed);
+    for (place, export) in exports.iter().enumerate() {
+        add_export(context, state, frame, &mut members, export, numbers[place])?;
     }
     Ok(members)
 }
 
-/// An argument is a value under its name, if it is there and the name is new.
+/// An argument is a value under the number of its name, if it is there and the number is new.
 fn add_argument(
     context: &Context<'_>,
     state: &mut State<'_>,
     frame: &mut Frame,
-    values: &mut TextMap<DefinitionId>,
+    values: &mut AtomMap<DefinitionId>,
     arg: &(Text, ItemKind, u32),
+    number: Atom,
 ) -> Result<(), ItemError>
     requires input { IsInput context.now.table.now context.now.modules }
     requires here { IsPoint context.now.table.now context.now.modules state.old frame.old }
@@ -188,36 +196,39 @@ fn add_argument(
         state.old frame.old state.new frame.new }
     ensures lacks { IfErr result (LacksRoom state.new) }
     ensures adds { OnOk result (AddsItem context.now.table.now context.now.modules (λ id. id)
-        arg.now.0 arg.now.1 arg.now.2 state.old frame.old state.new values.old values.new) }
+        number arg.now.1 arg.now.2 state.old frame.old state.new values.old values.new) }
 {
     let found = value_id(context, state, frame, arg.1, arg.2)?;
     if let Some(item) = found {
-        values.insert_first(&arg.0, item)?;
+        values.insert_first(number, item)?;
     }
     Ok(())
 }
 
-/// What a child is given: the items that are there, under the names that they are given for. What isn't there is passed
-/// over, and of a name that stands twice the first counts.
+/// What a child is given: the items that are there, under the numbers of the names that they are given for. What isn't
+/// there is passed over, and of a name that stands twice the first counts.
 pub fn argument_values(
     context: &Context<'_>,
     state: &mut State<'_>,
     frame: &mut Frame,
     args: &[(Text, ItemKind, u32)],
-) -> Result<TextMap<DefinitionId>, ItemError>
+    numbers: &[Atom],
+) -> Result<AtomMap<DefinitionId>, ItemError>
     requires input { IsInput context.now.table.now context.now.modules }
     requires here { IsPoint context.now.table.now context.now.modules state.old frame.old }
+    requires numbered { AreNumbersOf state.old.names.now.texts (map argument_name args.now) numbers.now }
     ensures takes { TakesTypes context.now.table.now context.now.modules (types_among args.now)
         state.old frame.old state.new frame.new }
     ensures lacks { IfErr result (LacksRoom state.new) }
     ensures values { (now : Moment)
         → PointStands context.now.table.now context.now.modules state.old frame.old now
-        → IfOk result (λ values. SameNames (Stands context.now.modules (tables_of state.new)) values
+        → IfOk result (λ values. SameNamed state.old.names.now.texts
+        (Stands context.now.modules (tables_of state.new)) values
         (filter_map (argument_value context.now.table.now now.scope) (map argument_of args.now))) }
 {
-    let mut values = TextMap::new(context.alloc, context.seed);
-    for arg in args {
-        add_argument(context, state, frame, &mut values, arg)?;
+    let mut values = AtomMap::new(context.alloc, context.seed);
+    for (place, arg) in args.iter().enumerate() {
+        add_argument(context, state, frame, &mut values, arg, numbers[place])?;
     }
     Ok(values)
 }

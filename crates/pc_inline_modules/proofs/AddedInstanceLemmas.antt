@@ -118,11 +118,12 @@ module _ (t : TypeTable) (ms : List ModuleRecord) (st : State) (x : Instance) (o
       adapter_partitionings = sound.plain.adapter_partitionings;
       unsafe_intrinsics = sound.plain.unsafe_intrinsics;
     };
-    used = used_kept st.graph after grows refl st.paths st.used.items sound.used;
+    used = used_kept st.graph after grows refl st.paths.held st.used.items sound.used;
     numbers = sound.numbers;
     held = types_held st.types t st.graph after added_fits refl refl sound.held;
     table = sound.table;
     bodies = sound.bodies;
+    names = sound.names;
     members = sound.members;
     instances = subst (InstancesStand ms (tables_of (added modules))) (sym more)
         (instances_pushed ms (tables_of st) (tables_of (added modules))

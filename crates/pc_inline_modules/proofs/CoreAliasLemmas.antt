@@ -1,6 +1,7 @@
 -- An alias of an item of a core instance, against its row.
 use Rattle.std.proofs.Common.{◌≡◌, ℕ, List, Ok, Err, Some, None, refl, ap, sym, subst}
 use Rattle.std.specs.Prelude.{⊤, slice_get, option_and_then}
+use Rattle.pc_entity.specs.declared.string_pool.Atom.{Atom}
 use Rattle.pc_types.specs.declared.module_record.ModuleRecord.{ModuleRecord}
 use Rattle.pc_types.specs.declared.parsed.CoreKind.{CoreKind}
 use Rattle.pc_types.specs.declared.parsed.CoreKind.TheVariants as core
@@ -13,6 +14,8 @@ use Rattle.pc_spec_reading.specs.Modules.{read_core_alias}
 use Rattle.pc_spec_reading.specs.Outcome.{found, invalid}
 use Rattle.pc_spec_reading.specs.Rows.{read_row}
 use Rattle.pc_spec_reading.specs.Scope.{Moment, Scope, add_core, with_core}
+use Rattle.pc_inline_names.specs.Both.{Both}
+use Rattle.pc_inline_names.specs.Numbers.{IsNumber}
 use Rattle.pc_inline_state.specs.declared.core_item.CoreItem.{CoreItem}
 use Rattle.pc_inline_state.specs.declared.definition.CoreId.{CoreId}
 use Rattle.pc_inline_state.specs.declared.error.ItemError.TheVariants as item_error
@@ -21,7 +24,7 @@ use Rattle.pc_inline_state.specs.declared.frame.Frame.{Frame}
 use Rattle.pc_inline_state.specs.declared.state.State.{State}
 use Rattle.pc_inline_state.specs.Bags.{export_item}
 use Rattle.pc_inline_state.specs.Found.{ItemFound}
-use Rattle.pc_inline_state.specs.Frames.{Both, CoreInstanceStands}
+use Rattle.pc_inline_state.specs.Frames.{CoreInstanceStands}
 use Rattle.pc_inline_state.specs.Lists.{with_core_id}
 use Rattle.pc_inline_state.specs.Points.{IsInput, PointStands, StepsItem}
 use Rattle.pc_inline_state.specs.Prepares.{Prepares}
@@ -67,19 +70,20 @@ core_known s core.Global v = refl
 core_known s core.Tag v = refl
 
 module _ (t : TypeTable) (ms : List ModuleRecord) (input : IsInput t ms) (st : State) (f : Frame) (k : CoreKind) (n : ℕ)
-    (name : List ℕ) where
+    (number : Atom) (name : List ℕ) (named : IsNumber st.names.now.texts number name) where
   -- what the alias finds, in the code and in the reading
   pub alias_found : (now : Moment) → PointStands t ms st f now
-      → Both (ItemFound ms (tables_of st) k) (option_and_then (export_item t ms k name) (slice_get f.core_instances n))
+      → Both (ItemFound ms (tables_of st) k)
+      (option_and_then (export_item t ms k number name) (slice_get f.core_instances n))
       (option_and_then (core_export ms k name) (slice_get now.scope.core_instances n))
   alias_found now at =
-      found_in t ms input (tables_of st) at.sound.table k name _ _
+      found_in t ms input (tables_of st) at.sound.table k number name named _ _
       (zip_at (CoreInstanceStands ms (tables_of st)) f.core_instances now.scope.core_instances n
       at.frame.core_instances)
 
   -- the core instance is missing, or has no such item
   pub alias_missing : (st' : State) (f' : Frame)
-      → option_and_then (export_item t ms k name) (slice_get f.core_instances n) ≡ None
+      → option_and_then (export_item t ms k number name) (slice_get f.core_instances n) ≡ None
       → StepsItem t ms (core_alias_item k n name) st f st' f' (Err (item_error.Fault item_fault.Invalid))
   unfolding read_row read_core_alias
   alias_missing st' f' none = steps_stuck t ms _ st f st' f' item_fault.Invalid (λ now at.
@@ -88,7 +92,8 @@ module _ (t : TypeTable) (ms : List ModuleRecord) (input : IsInput t ms) (st : S
 
   -- it has one, which gets a number
   pub alias_made : (st' : State) (f' : Frame) (x : CoreItem) (id : CoreId) (r : ⊤)
-      → option_and_then (export_item t ms k name) (slice_get f.core_instances n) ≡ Some x → Prepares t ms st st'
+      → option_and_then (export_item t ms k number name) (slice_get f.core_instances n) ≡ Some x
+      → Prepares t ms st st'
       → ((j : CoreKind) (v : CoreValue Mark) → ItemFound ms (tables_of st) j x v → ItemStands ms (tables_of st') j id v)
       → f' ≡ with_core_id f k id → StepsItem t ms (core_alias_item k n name) st f st' f' (Ok r)
   unfolding read_row read_core_alias

@@ -5,6 +5,7 @@ use Rattle.std.specs.Prelude.{slice_get, option_and_then}
 use Rattle.std.specs.List.{AllZip, list_all}
 use Rattle.std.specs.Str.{bytes_eq}
 use Rattle.std.proofs.lemmas.Option.{none-some, same_Some}
+use Rattle.pc_entity.specs.declared.string_pool.Atom.{Atom}
 use Rattle.pc_entity.specs.Lists.{map_all, names_of, value_of}
 use Rattle.pc_entity.proofs.Elements.{all_at, and_true}
 use Rattle.pc_entity.proofs.MapAll.{map_all-push}
@@ -23,13 +24,15 @@ use Rattle.pc_types_walk.specs.Names.{export_names, export_place}
 use Rattle.pc_spec_plan.specs.CoreValue.{CoreValue, by_index, by_name, exported}
 use Rattle.pc_parsed.specs.Mark.{Mark}
 use Rattle.pc_spec_reading.specs.Arguments as reading_of
-use Rattle.pc_spec_reading.specs.Arguments.{core_export, host_item, record_item}
+use Rattle.pc_spec_reading.specs.Arguments.{core_export, host_item, record_item, static_argument}
 use Rattle.pc_spec_reading.specs.Member.{place_from}
 use Rattle.pc_spec_reading.specs.Scope as reading
 use Rattle.pc_spec_reading.specs.Scope.{Scope}
 use Rattle.pc_spec_reading.specs.Types.{module_exports}
 use Rattle.pc_dfg.specs.declared.core_def.CoreDef.{CoreDef}
 use Rattle.pc_dfg.specs.declared.instance.Instance.TheVariants as source
+use Rattle.pc_inline_names.specs.Both.{Both, both, neither}
+use Rattle.pc_inline_names.specs.Numbers.{AreNumbers, HasNumbers, IsNumber, numbered_value}
 use Rattle.pc_inline_state.specs.declared.core_item.CoreItem.{CoreItem}
 use Rattle.pc_inline_state.specs.declared.core_item.CoreItem.TheVariants as item
 use Rattle.pc_inline_state.specs.declared.definition.CoreId.{CoreId}
@@ -38,9 +41,9 @@ use Rattle.pc_inline_state.specs.declared.frame.Frame.{Frame}
 use Rattle.pc_inline_state.specs.Bags as bags
 use Rattle.pc_inline_state.specs.Bags.{argument_item, entity_of_kind, export_item, known_of_kind, module_export}
 use Rattle.pc_inline_state.specs.Bags.{named_of_kind}
-use Rattle.pc_inline_state.specs.Found.{FoundThere, ItemFound, SameValues, entity_found, known_found, named_found}
-use Rattle.pc_inline_state.specs.Frames.{BagItemStands, Both, CoreInstanceStands, FrameStands, bag_stands, both}
-use Rattle.pc_inline_state.specs.Frames.{host_stands, made_stands, neither}
+use Rattle.pc_inline_state.specs.Found.{FoundThere, ItemFound, entity_found, known_found, named_found}
+use Rattle.pc_inline_state.specs.Frames.{BagItemStands, CoreInstanceStands, FrameStands, bag_stands, host_stands}
+use Rattle.pc_inline_state.specs.Frames.{made_stands}
 use Rattle.pc_inline_state.specs.Points.{IsInput}
 use Rattle.pc_inline_state.specs.Stands.{IsTableTree, ItemStands}
 use Rattle.pc_inline_state.specs.Tables.{IsHostInstance, Tables}
@@ -191,18 +194,20 @@ module _ (t : TypeTable) (ms : List ModuleRecord) (input : IsInput t ms) (b : Ta
           (there e p export_at named c kind (same_kind k (kind_of e.1)) refl))
 
   module _ (table : b.table ≡ t) where
-    -- what a core instance has under a name
-    export_stands : (k : CoreKind) (name : List ℕ) (x : CoreInstance) (i : reading.CoreInstance)
-        → CoreInstanceStands ms b x i → Both (ItemFound ms b k) (export_item t ms k name x) (core_export ms k name i)
+    -- what a core instance has under the number of a name
+    export_stands : (k : CoreKind) (number : Atom) (name : List ℕ) → IsNumber b.names.texts number name
+        → (x : CoreInstance) (i : reading.CoreInstance) → CoreInstanceStands ms b x i
+        → Both (ItemFound ms b k) (export_item t ms k number name x) (core_export ms k name i)
     unfolding core_export
-    export_stands k name x i (made_stands {i = n} {m = m} {args = args} made) = made_export k name n m args made
-    export_stands k name x i (host_stands {i = n} {entry = entry} {tree = tree} host tabled) =
+    export_stands k number name named x i (made_stands {i = n} {m = m} {args = args} made) =
+        made_export k name n m args made
+    export_stands k number name named x i (host_stands {i = n} {entry = entry} {tree = tree} host tabled) =
         subst (λ (u : TypeTable). Both (ItemFound ms b k)
         (option_and_then (named_of_kind u n entry k) (export_place u entry name))
         (option_and_then (host_item n.0 k name) (value_of name (module_exports tree)))) table
         (host_export k name n entry tree host tabled)
-    export_stands k name x i (bag_stands {xs = xs} {items = items} same numbers) =
-        by (value_of name xs.items) (value_of name items) (same name)
+    export_stands k number name named x i (bag_stands {xs = xs} {items = items} same) =
+        by (numbered_value number xs) (value_of name items) (same number name named)
       where
         by : (o : Option (CoreKind × CoreId)) (w : Option reading.CoreItem) → Both (BagItemStands ms b) o w
             → Both (ItemFound ms b k) (option_and_then (known_of_kind k) o)
@@ -213,36 +218,40 @@ module _ (t : TypeTable) (ms : List ModuleRecord) (input : IsInput t ms) (b : Ta
         by (Some y) (Some z) (both r) = bag_export k y z r
 
     -- what is looked up after what stands for it
-    pub found_in : (k : CoreKind) (name : List ℕ) (o : Option CoreInstance) (w : Option reading.CoreInstance)
-        → Both (CoreInstanceStands ms b) o w
-        → Both (ItemFound ms b k) (option_and_then (export_item t ms k name) o)
+    pub found_in : (k : CoreKind) (number : Atom) (name : List ℕ) → IsNumber b.names.texts number name
+        → (o : Option CoreInstance) (w : Option reading.CoreInstance) → Both (CoreInstanceStands ms b) o w
+        → Both (ItemFound ms b k) (option_and_then (export_item t ms k number name) o)
         (option_and_then (core_export ms k name) w)
-    found_in k name None None neither = neither
-    found_in k name None (Some y) m = elim m [ ]
-    found_in k name (Some x) None m = elim m [ ]
-    found_in k name (Some x) (Some y) (both r) = export_stands k name x y r
+    found_in k number name named None None neither = neither
+    found_in k number name named None (Some y) m = elim m [ ]
+    found_in k number name named (Some x) None m = elim m [ ]
+    found_in k number name named (Some x) (Some y) (both r) = export_stands k number name named x y r
 
-    -- what is given for an import
-    pub argument_stands : (f : Frame) (s : Scope) → FrameStands ms b f s → (args written : List (List ℕ × ℕ))
-        → SameValues args written → (module_name name : List ℕ) (k : CoreKind)
-        → Both (ItemFound ms b k) (argument_item t ms f args module_name name k)
-        (reading_of.argument ms s written module_name name k)
-    argument_stands f s stands args written same module_name name k =
-        by (value_of module_name args) (value_of module_name written) (same module_name)
+    -- what is given for an import whose names have these numbers
+    pub argument_stands : (f : Frame) (s : Scope) → FrameStands ms b f s → (args : List (Atom × ℕ))
+        (written : List (List ℕ × ℕ)) → HasNumbers b.names.texts written args
+        → (i : List ℕ × List ℕ × CoreEntity) (ns : Atom × Atom) → AreNumbers b.names.texts i ns
+        → Both (ItemFound ms b (kind_of i.2)) (argument_item t ms f args ns.0 ns.1 i.1 (kind_of i.2))
+        (static_argument ms s written i)
+    argument_stands f s stands args written has i ns are =
+        by (numbered_value ns.0 args) (value_of i.0 written) (has ns.0 i.0 are.of_module)
       where
+        k : CoreKind
+        k = kind_of i.2
+
         by : (o w : Option ℕ) → o ≡ w
             → Both (ItemFound ms b k)
-            (option_and_then (λ n. option_and_then (export_item t ms k name) (slice_get f.core_instances n)) o)
-            (option_and_then (λ n. option_and_then (core_export ms k name) (slice_get s.core_instances n)) w)
+            (option_and_then (λ n. option_and_then (export_item t ms k ns.1 i.1) (slice_get f.core_instances n)) o)
+            (option_and_then (λ n. option_and_then (core_export ms k i.1) (slice_get s.core_instances n)) w)
         by None None is = neither
         by None (Some y) is = absurd (none-some y is)
         by (Some y) None is = absurd (none-some y (sym is))
         by (Some y) (Some z) is =
             subst (λ n. Both (ItemFound ms b k)
-            (option_and_then (export_item t ms k name) (slice_get f.core_instances y))
-            (option_and_then (core_export ms k name) (slice_get s.core_instances n))) (same_Some y z is)
-            (found_in k name _ _ (zip_at (CoreInstanceStands ms b) f.core_instances s.core_instances y
-            stands.core_instances))
+            (option_and_then (export_item t ms k ns.1 i.1) (slice_get f.core_instances y))
+            (option_and_then (core_export ms k i.1) (slice_get s.core_instances n))) (same_Some y z is)
+            (found_in k ns.1 i.1 are.of_name _ _
+            (zip_at (CoreInstanceStands ms b) f.core_instances s.core_instances y stands.core_instances))
 
 -- what was found is there
 pub item_found_there : (ms : List ModuleRecord) (b : Tables) (k : CoreKind) (x : CoreItem) (v : CoreValue Mark)

@@ -22,13 +22,15 @@ use Rattle.pc_spec_reading.specs.Arguments.{static_argument}
 use Rattle.pc_spec_reading.specs.Scope.{Scope}
 use Rattle.pc_spec_reading.specs.Types.{has_entry, module_imports}
 use Rattle.pc_dfg.specs.declared.core_def.CoreDef.{CoreDef}
+use Rattle.pc_inline_names.specs.Both.{Both, both}
+use Rattle.pc_inline_names.specs.Named.{imports_of}
 use Rattle.pc_inline_state.specs.declared.frame.Frame.{Frame}
 use Rattle.pc_inline_state.specs.Found.{ArgumentStands, ArgumentsStand, knows_instances}
-use Rattle.pc_inline_state.specs.Frames.{Both, FrameStands, both}
+use Rattle.pc_inline_state.specs.Frames.{FrameStands}
 use Rattle.pc_inline_state.specs.Stands.{IsTableTree}
 use Rattle.pc_inline_state.specs.Tables.{Tables}
 use Rattle.pc_inline_state.proofs.ZipLemmas.{both_there, zip_length}
-use Rattle.pc_inline_modules.specs.Given.{HostArgumentsStand, NamedStands, imports_of}
+use Rattle.pc_inline_modules.specs.Given.{HostArgumentsStand, NamedStands}
 use Rattle.pc_inline_modules.specs.Grouped.{by_module, grouped_by, paired, pair_of}
 use Rattle.pc_inline_modules.proofs.GroupLemmas.{as_listed, by_module_listed, grouped_zip, ungrouped}
 use Rattle.pc_inline_modules.proofs.ModuleArgumentsLemmas.{same_known}

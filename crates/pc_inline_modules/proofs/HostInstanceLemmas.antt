@@ -189,7 +189,7 @@ module _ (t : TypeTable) (ms : List ModuleRecord) (st : State) (f : Frame) (n : 
   record HostThere (now : Moment) : Type 0 where
     pub path : Path
     pub tree : TypeTree
-    pub held : slice_get st.paths q.0 ≡ Some path
+    pub held : slice_get st.paths.held q.0 ≡ Some path
     pub given : IsHostType ms (tables_of st) path tree
     pub tabled : IsTableTree ms (tables_of st) is_module entry tree
     pub row : read_row t ms now (instantiate_module_item n args)
@@ -213,8 +213,8 @@ module _ (t : TypeTable) (ms : List ModuleRecord) (st : State) (f : Frame) (n : 
       }
 
   -- its path is one of the state
-  pub host_path : IsPoint t ms st f → q.0 < length st.paths
-  host_path here = let x = host_there here.0 here.1 in slice_get_within st.paths q.0 x.path x.held
+  pub host_path : IsPoint t ms st f → q.0 < length st.paths.held
+  host_path here = let x = host_there here.0 here.1 in slice_get_within st.paths.held q.0 x.path x.held
 
   -- an argument is missing
   pub host_stuck : (st' : State) (f' : Frame) (o : Option (List (List ℕ × List (List ℕ × CoreDef)))) → o ≡ None
@@ -226,7 +226,7 @@ module _ (t : TypeTable) (ms : List ModuleRecord) (st : State) (f : Frame) (n : 
       (both_missing (HostArgumentsStand ms (tables_of st)) o _ (given now.scope x.tree at.frame x.tabled) none))
 
   module _ (mid : State) (r : RuntimeImportIndex) (keeps : Keeps (tables_of st) (tables_of mid))
-      (uses : (p : Path) → slice_get st.paths q.0 ≡ Some p → Uses t ms st mid p r)
+      (uses : (p : Path) → slice_get st.paths.held q.0 ≡ Some p → Uses t ms st mid p r)
       (instances : mid.graph.instances ≡ st.graph.instances) where
     -- the core instance is made, and its module is known
     pub host_made : (given : List (List ℕ × List (List ℕ × CoreDef))) (g : ComponentDfg)

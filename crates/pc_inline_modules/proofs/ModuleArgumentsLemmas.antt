@@ -9,18 +9,23 @@ use Rattle.pc_entity.specs.declared.string_pool.Atom.{Atom}
 use Rattle.pc_entity.specs.Lists.{map_all}
 use Rattle.pc_types.specs.declared.module_record.ModuleRecord.{ModuleRecord}
 use Rattle.pc_types.specs.declared.parsed.CoreEntity.{CoreEntity}
+use Rattle.pc_types.specs.declared.parsed.CoreKind.{CoreKind}
 use Rattle.pc_types.specs.declared.parsed.TypeTable.{TypeTable}
 use Rattle.pc_types.specs.Record.{kind_of}
 use Rattle.pc_spec_reading.specs.Arguments.{has_instances, static_argument, static_arguments}
 use Rattle.pc_spec_reading.specs.Scope.{Scope}
 use Rattle.pc_dfg.specs.declared.core_def.CoreDef.{CoreDef}
+use Rattle.pc_inline_names.specs.Both.{Both}
+use Rattle.pc_inline_names.specs.Numbers.{AreNumbers, HasNumbers, IsNumber}
+use Rattle.pc_inline_state.specs.declared.core_item.CoreItem.{CoreItem}
 use Rattle.pc_inline_state.specs.declared.frame.Frame.{Frame}
-use Rattle.pc_inline_state.specs.Bags.{argument_item, export_item}
-use Rattle.pc_inline_state.specs.Found.{ArgumentsStand, knows_instances}
-use Rattle.pc_inline_state.specs.Frames.{Both, CoreInstanceStands, FrameStands}
-use Rattle.pc_inline_state.specs.Numbers.{AreNumbers, HasNumbers, import_names, numbered_value}
+use Rattle.pc_inline_state.specs.Bags.{argument_item}
+use Rattle.pc_inline_state.specs.Found.{ArgumentsStand, ItemFound, knows_instances}
+use Rattle.pc_inline_state.specs.Frames.{CoreInstanceStands, FrameStands}
+use Rattle.pc_inline_state.specs.Points.{IsInput}
 use Rattle.pc_inline_state.specs.Tables.{Tables}
 use Rattle.pc_inline_state.proofs.ZipLemmas.{both_there, zip_at, zip_length}
+use Rattle.pc_inline_modules.proofs.ExportedLemmas.{argument_stands}
 
 -- what is there on both sides stands so
 pub both_are : {A B : Type 0} (R : A → B → Type 0) (o : Option A) (w : Option B) (x : A) (y : B) → Both R o w
@@ -38,17 +43,19 @@ read_both R xs ys i x y all within is =
     both_are R _ _ x (get_or ys i y) (zip_at R xs ys i all) (slice_get-get_or xs i x within ∙ ap Some (sym is))
     (slice_get-get_or ys i y also)
 
-module _ (t : TypeTable) (ms : List ModuleRecord) (f : Frame) (written : List (List ℕ × ℕ)) (args : List (Atom × ℕ))
-    (i : List ℕ × List ℕ × CoreEntity) (ns : Atom × Atom) (has : HasNumbers (import_names ms) written args)
-    (are : AreNumbers (import_names ms) i ns) where
-  -- an import is given what the core instance has that stands under the number of its module name
-  pub given_by_number : (o : Option ℕ) → numbered_value ns.0 args ≡ o
-      → argument_item t ms f written i.0 i.1 (kind_of i.2)
-      ≡ option_and_then (λ n. option_and_then (export_item t ms (kind_of i.2) i.1) (slice_get f.core_instances n)) o
-  given_by_number o is =
-      ap (option_and_then (λ (n : ℕ).
-      option_and_then (export_item t ms (kind_of i.2) i.1) (slice_get f.core_instances n)))
-      (sym (has ns.0 i.0 are.of_module) ∙ is)
+module _ (t : TypeTable) (ms : List ModuleRecord) (input : IsInput t ms) (b : Tables) (table : b.table ≡ t) (f : Frame)
+    (args : List (List ℕ × ℕ)) (given : List (Atom × ℕ)) (has : HasNumbers b.names.texts args given)
+    (i : List ℕ × List ℕ × CoreEntity) (ns : Atom × Atom) (are : AreNumbers b.names.texts i ns) (k : CoreKind)
+    (kind : k ≡ kind_of i.2) (found : Option CoreItem)
+    (is : (name : List ℕ) → IsNumber b.names.texts ns.1 name → found ≡ argument_item t ms f given ns.0 ns.1 name k)
+  where
+    -- what was found for an import by numbers, or nothing, stands for what the reading gives it
+    pub import_given : (s : Scope) → FrameStands ms b f s
+        → Both (ItemFound ms b (kind_of i.2)) found (static_argument ms s args i)
+    import_given s stands =
+        subst (λ o. Both (ItemFound ms b (kind_of i.2)) o (static_argument ms s args i))
+        (sym (is i.1 are.of_name ∙ ap (argument_item t ms f given ns.0 ns.1 i.1) kind))
+        (argument_stands t ms input b table f s stands given args has i ns are)
 
 module _ (ms : List ModuleRecord) (b : Tables) (f : Frame) (args : List (List ℕ × ℕ)) where
   -- the code and the reading know the same core instances

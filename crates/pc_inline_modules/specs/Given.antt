@@ -1,21 +1,13 @@
 -- What a module of the host is given.
-use Rattle.std.specs.Prelude.{◌≡◌, ℕ, List, Option, None, Some}
+use Rattle.std.specs.Prelude.{◌≡◌, ℕ, List}
 use Rattle.std.specs.List.{AllZip}
 use Rattle.pc_types.specs.declared.module_record.ModuleRecord.{ModuleRecord}
-use Rattle.pc_types.specs.declared.parsed.CoreEntity.{CoreEntity}
-use Rattle.pc_types.specs.declared.parsed.DeclType.{DeclType}
-use Rattle.pc_types.specs.declared.parsed.DeclType.TheVariants as entry
 use Rattle.pc_spec_plan.specs.Log.{NamedArgument}
 use Rattle.pc_parsed.specs.Mark.{Mark}
 use Rattle.pc_dfg.specs.declared.core_def.CoreDef.{CoreDef}
 use Rattle.pc_dfg.specs.Effects.{Argument, host_arguments}
 use Rattle.pc_inline_state.specs.Found.{ArgumentStands}
 use Rattle.pc_inline_state.specs.Tables.{Tables}
-
--- the imports of a module type; another type has none
-abbrev pub imports_of : DeclType → Option (List (List ℕ × List ℕ × CoreEntity))
-imports_of (entry.Module imports exports) = Some imports
-imports_of e = None
 
 module _ (ms : List ModuleRecord) (b : Tables) where
   -- an argument of a module of the host, under its names

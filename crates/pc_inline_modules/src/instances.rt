@@ -1,11 +1,12 @@
 //! Core instances of modules.
 
 ghost use Rattle.std.specs.Prelude.{◌≡◌, ◌<◌, ◌∷◌, ◌++◌, [], ℕ, length, Some, option_and_then, slice_get, OnOk};
+ghost use Rattle.pc_entity.specs.Lists.{names_of};
 ghost use Rattle.pc_spec_reading.specs.Item.{instantiate_module_item};
+ghost use Rattle.pc_inline_names.specs.Numbers.{AreNumbersOf};
 ghost use Rattle.pc_inline_state.specs.Adds.{Adds};
 ghost use Rattle.pc_inline_state.specs.declared.definition.DefinitionId.{DefinitionId};
 ghost use Rattle.pc_inline_state.specs.Points.{IsInput, IsPoint, StepsItem};
-ghost use Rattle.pc_inline_state.specs.Ready.{IsReady};
 ghost use Rattle.pc_inline_state.specs.Tables.{Keeps, tables_of};
 ghost use Rattle.pc_inline_state.specs.Trails.{Trails};
 ghost use Rattle.pc_inline_modules.specs.declared.modules.ModuleSource.TheVariants as source;
@@ -14,7 +15,7 @@ ghost use Rattle.pc_inline_modules.specs.Sources.{module_source};
 use crate::arguments::{host_arguments, module_arguments};
 use crate::modules::{ModuleSource, source_of};
 use pc_dfg::Instance;
-use pc_entity::{NoMemory, StaticModuleIndex, Text};
+use pc_entity::{Atom, NoMemory, StaticModuleIndex, Text};
 use pc_inline_canon::use_host;
 use pc_inline_paths::PathId;
 use pc_inline_state::{Context, CoreInstance, Frame, InstanceModule, ItemError, ItemFault, State};
@@ -37,10 +38,11 @@ fn instantiate_static(
     frame: &mut Frame,
     core_module: StaticModuleIndex,
     args: &[(Text, u32)],
+    numbers: &[Atom],
 ) -> Result<(), ItemError>
     requires input { IsInput context.now.table.now context.now.modules }
-    requires ready { IsReady context.now }
     requires here { IsPoint context.now.table.now context.now.modules state.old frame.old }
+    requires numbered { AreNumbersOf state.old.names.now.texts (names_of args.now) numbers.now }
     ensures keeps { Keeps (tables_of state.old) (tables_of state.new) }
     ensures adds { Adds context.now.table.now 4 (tables_of state.old) (tables_of state.new) }
     ensures trail { Trails frame.old.changes state.old.types.resources frame.new.changes state.new.types.resources }
@@ -50,7 +52,7 @@ fn instantiate_static(
         → StepsItem context.now.table.now context.now.modules (instantiate_module_item n args.now)
         state.old frame.old state.new frame.new result }
 {
-    let Some(defs) = module_arguments(context, state, frame, core_module, args)? else {
+    let Some(defs) = module_arguments(context, state, frame, core_module, args, numbers)? else {
         return Err(ItemError::Fault(ItemFault::Invalid));
     };
     let made = Instance::Static(core_module, defs);
@@ -74,11 +76,12 @@ fn instantiate_host(
     path: PathId,
     entry: u32,
     args: &[(Text, u32)],
+    numbers: &[Atom],
 ) -> Result<(), ItemError>
     requires input { IsInput context.now.table.now context.now.modules }
-    requires ready { IsReady context.now }
     requires here { IsPoint context.now.table.now context.now.modules state.old frame.old }
-    requires there { path.0 < length state.old.paths }
+    requires numbered { AreNumbersOf state.old.names.now.texts (names_of args.now) numbers.now }
+    requires there { path.0 < length state.old.paths.held }
     ensures keeps { Keeps (tables_of state.old) (tables_of state.new) }
     ensures adds { Adds context.now.table.now 4 (tables_of state.old) (tables_of state.new) }
     ensures trail { Trails frame.old.changes state.old.types.resources frame.new.changes state.new.types.resources }
@@ -88,7 +91,7 @@ fn instantiate_host(
         → StepsItem context.now.table.now context.now.modules (instantiate_module_item n args.now)
         state.old frame.old state.new frame.new result }
 {
-    let Some(given) = host_arguments(context, state, frame, entry, args)? else {
+    let Some(given) = host_arguments(context, state, frame, entry, args, numbers)? else {
         return Err(ItemError::Fault(ItemFault::Invalid));
     };
     let import = use_host(context, state, path)?;
@@ -108,10 +111,11 @@ pub fn step_core_instance(
     frame: &mut Frame,
     core_module: u32,
     args: &[(Text, u32)],
+    numbers: &[Atom],
 ) -> Result<(), ItemError>
     requires input { IsInput context.now.table.now context.now.modules }
-    requires ready { IsReady context.now }
     requires here { IsPoint context.now.table.now context.now.modules state.old frame.old }
+    requires numbered { AreNumbersOf state.old.names.now.texts (names_of args.now) numbers.now }
     ensures keeps { Keeps (tables_of state.old) (tables_of state.new) }
     ensures adds { Adds context.now.table.now 4 (tables_of state.old) (tables_of state.new) }
     ensures trail { Trails frame.old.changes state.old.types.resources frame.new.changes state.new.types.resources }
@@ -124,10 +128,10 @@ pub fn step_core_instance(
     };
     match source_of(state, id) {
         Some(ModuleSource::Static(core_module)) => {
-            instantiate_static(context, state, frame, core_module, args)
+            instantiate_static(context, state, frame, core_module, args, numbers)
         }
         Some(ModuleSource::Host { path, entry }) => {
-            instantiate_host(context, state, frame, path, entry, args)
+            instantiate_host(context, state, frame, path, entry, args, numbers)
         }
         None => Err(ItemError::Fault(ItemFault::Invalid)),
     }

@@ -40,11 +40,6 @@ module _ {A : Type 0} where
     ]
   ]
 
-  -- what was read from the same list stands at its place
-  pub read_at : (xs ys : List A) (k : ℕ) (x : A) → ys ≡ xs → k < length ys → x ≡ get_or ys k x → slice_get xs k ≡ Some x
-  read_at xs ys k x same within is =
-      ap (λ zs. slice_get zs k) (sym same) ∙ slice_get-get_or ys k x within ∙ ap Some (sym is)
-
   -- a list with an item isn't empty
   pub not_empty : (xs : List A) (x : A) → [] ≡ xs ++ x ∷ [] → ⊥
   not_empty xs x h = absurd (omega (arith, ap length h, length-append xs (x ∷ [])))

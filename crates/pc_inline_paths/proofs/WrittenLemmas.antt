@@ -5,11 +5,12 @@ use Rattle.std.proofs.lemmas.List.{append-nil, append_assoc, reverse-append}
 use Rattle.std.proofs.lemmas.Option.{same_Some, slice_get_within}
 use Rattle.pc_entity.proofs.LookupLemmas.{found_at}
 use Rattle.pc_numbers.specs.declared.runtime.ImportIndex.{ImportIndex}
+use Rattle.pc_entity.specs.declared.string_pool.Atom.{Atom}
 use Rattle.pc_types.specs.TypeTree.{Path}
 use Rattle.pc_inline_paths.specs.declared.path_id.PathId.{PathId}
 use Rattle.pc_inline_paths.specs.declared.step.Step.TheVariants as step
 use Rattle.pc_inline_paths.specs.Paths.{further}
-use Rattle.pc_inline_paths.specs.Steps.{behind, path_at}
+use Rattle.pc_inline_paths.specs.Steps.{behind, name_at, path_at}
 
 -- a path is one that is held, and behind it these names, the last one first
 pub record IsWritten (ps : List Path) (id at : PathId) (names : List (List ℕ)) : Type 0 where
@@ -17,7 +18,7 @@ pub record IsWritten (ps : List Path) (id at : PathId) (names : List (List ℕ))
   pub held : slice_get ps at.0 ≡ Some front
   pub whole : slice_get ps id.0 ≡ Some (record { import = front.import; names = front.names ++ reverse names })
 
-module _ (ps : List Path) (id : PathId) where
+module _ (texts : List (List ℕ)) (ps : List Path) (id : PathId) where
   -- no name is written yet
   pub none_written : id.0 < length ps → IsWritten ps id id []
   none_written within =
@@ -34,9 +35,11 @@ module _ (ps : List Path) (id : PathId) where
     written_within = slice_get_within ps at.0 so_far.front so_far.held
 
     -- one name more is written
-    pub name_written : (p : PathId) (name : List ℕ) → p.0 < length ps
-        → slice_get ps at.0 ≡ Some (path_at ps (step.Member p name)) → IsWritten ps id p (names ++ name ∷ [])
-    name_written p name within there =
+    pub name_written : (p : PathId) (n : Atom) → p.0 < length ps
+        → slice_get ps at.0 ≡ Some (path_at texts ps (step.Member p n))
+        → IsWritten ps id p (names ++ name_at texts n ∷ [])
+    name_written p n within there =
+        let name = name_at texts n in
         let f = found_at ps p.0 within in
         let front : so_far.front ≡ further f.0 name =
         same_Some so_far.front (further f.0 name)
@@ -53,7 +56,7 @@ module _ (ps : List Path) (id : PathId) where
         }
 
     -- all names are written
-    pub all_written : (i : ImportIndex) → slice_get ps at.0 ≡ Some (path_at ps (step.Import i))
+    pub all_written : (i : ImportIndex) → slice_get ps at.0 ≡ Some (path_at texts ps (step.Import i))
         → slice_get ps id.0 ≡ Some (record { import = i.0; names = reverse names })
     all_written i there =
         let front = same_Some so_far.front (record { import = i.0; names = [] }) (sym so_far.held ∙ there) in

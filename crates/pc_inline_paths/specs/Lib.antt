@@ -1,4 +1,5 @@
 -- What the public contracts rest on.
+pub mod HeldPaths
 pub mod Paths
 -- What the functions inside promise each other.
 pub mod Steps

@@ -1,20 +1,19 @@
 //! The last steps of paths.
 
 ghost use Rattle.std.proofs.Common.{rules};
-ghost use Rattle.pc_entity.specs.Exact.{texts_tell};
 
 use crate::PathId;
-use pc_entity::{ExactEq, ImportIndex, Text};
+use pc_entity::{Atom, ExactEq, ImportIndex};
 
 /// How a path ends.
-#[derive(PartialEq, Eq, Hash, Drop)]
+#[derive(Clone, Copy, PartialEq, Eq, Hash)]
 pub(crate) enum Step {
     /// At an import of the root itself.
     Import(ImportIndex),
-    /// One name further than another path.
-    Member(PathId, Text),
+    /// One name further than another path, by the number of the name.
+    Member(PathId, Atom),
 }
 
 impl ExactEq for Step {
-    ghost exact = { Prim.grind (rules, texts_tell) };
+    ghost exact = { Prim.search rules };
 }

@@ -83,6 +83,7 @@ module _ (x : Resource) (g h : ComponentDfg) (declares : Declares x g h) where
         instances = still.instances;
         paths = still.paths;
         bodies = refl;
+        names = refl;
         table = refl;
       }
 

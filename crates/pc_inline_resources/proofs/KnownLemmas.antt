@@ -103,6 +103,7 @@ module _ (st : State) (k : Resources) where
         instances = still.instances;
         paths = still.paths;
         bodies = refl;
+        names = refl;
         table = refl;
       }
 
@@ -152,6 +153,7 @@ module _ (st : State) (k : Resources) where
     };
     table = s.table;
     bodies = s.bodies;
+    names = s.names;
     members = s.members;
     instances = instances_kept ms (tables_of st) (tables_of (knowing_in st k)) known_keeps refl
         st.runtime_instances.items s.instances;

@@ -1,5 +1,6 @@
 -- What the functions of this crate rest on, and those of the crates above: the public ones are theirs too.
 pub mod KnownLemmas
+pub mod PlaceLemmas
 mod RegisterLemmas
 mod DeclareLemmas
 mod DestructorLemmas

@@ -1,12 +1,13 @@
 -- What stands at the places of a walk.
 use Rattle.std.proofs.Common.{◌≡◌, ◌-◌, ℕ, zero, suc, Bool, true, false, List, [], ◌∷◌, Option, None, Some, refl, sym}
 use Rattle.std.proofs.Common.{subst, ◌∙◌, arith, if◌then◌else◌, true≢false}
-use Rattle.std.specs.Prelude.{slice_get, option_and_then}
+use Rattle.std.specs.Prelude.{nat_eq, slice_get, option_and_then}
 use Rattle.std.specs.Borrow.{Bor}
 use Rattle.std.specs.Option.{option_map}
 use Rattle.std.specs.Str.{bytes_eq}
 use Rattle.std.proofs.lemmas.Option.{none-some, same_Some}
-use Rattle.pc_entity.specs.Lists.{value_of}
+use Rattle.pc_entity.specs.declared.string_pool.Atom.{Atom}
+use Rattle.pc_entity.specs.Lists.{AreDistinct}
 use Rattle.pc_types.specs.declared.module_record.ModuleRecord.{ModuleRecord}
 use Rattle.pc_types.specs.declared.type_index.TypeComponentInstanceIndex.{TypeComponentInstanceIndex}
 use Rattle.pc_types.specs.Intrinsic.{intrinsic_names}
@@ -17,6 +18,8 @@ use Rattle.pc_spec_reading.specs.Member.{place_from, resource_at, value_of_membe
 use Rattle.pc_spec_reading.specs.Types.{instance_fields}
 use Rattle.pc_spec_reading.specs.Value.{NamedValues, Value, func_value, host_instance, instance_value}
 use Rattle.pc_spec_reading.specs.Value.{intrinsic_function, made_instance, the_intrinsics, type_value, value_named}
+use Rattle.pc_inline_names.specs.Numbers.{IsNumber, numbered_value}
+use Rattle.pc_inline_names.proofs.NumberedLemmas.{number_alike}
 use Rattle.pc_inline_state.specs.declared.definition.Definition.{Definition}
 use Rattle.pc_inline_state.specs.declared.definition.DefinitionId.{DefinitionId}
 use Rattle.pc_inline_state.specs.declared.definition.ExportsId.{ExportsId}
@@ -110,37 +113,51 @@ module _ (ms : List ModuleRecord) (b : Tables) where
       subst (λ w. ItemIs ms b item.Nothing
       (option_and_then value_of_member (option_map (host_member (further path name)) w))) (sym none) (is_nothing no_value)
 
-  -- what an instance exports under a name
-  exported_named : (es : List (List ℕ × Member)) (vs : NamedValues) → MembersStand ms b es vs → (name : List ℕ)
-      → ItemIs ms b (exported_item es name) (value_named name vs)
-  exported_named es vs no_members name = is_nothing no_value
-  exported_named es vs (and_member {name = n} {m = m} {v = v} {es = rest} {vs = others} data_ is more) name =
-      by (bytes_eq name n.name) (exported_named rest others more name)
-    where
-      by : (x : Bool) → ItemIs ms b (exported_item rest name) (value_named name others)
-          → ItemIs ms b (found_item (option_map item_of (if x then Some m else value_of name rest)))
-          (if x then Some v else value_named name others)
-      by true r = is_defined is
-      by false r = r
+  module _ (distinct : AreDistinct b.names.texts) (k : Atom) (name : List ℕ)
+      (number : IsNumber b.names.texts k name) where
+    -- what an instance exports under a name, by the number of the name
+    exported_named : (es : List (Atom × Member)) (vs : NamedValues) → MembersStand ms b es vs
+        → ItemIs ms b (exported_item es k) (value_named name vs)
+    exported_named es vs no_members = is_nothing no_value
+    exported_named es vs (and_member {name = n} {n = j} {m = m} {v = v} {es = rest} {vs = others} here data_ is more) =
+        by (nat_eq k.0 j.0) (bytes_eq name n.name) (number_alike b.names.texts k j name n.name distinct number here)
+        (exported_named rest others more)
+      where
+        by : (x y : Bool) → x ≡ y → ItemIs ms b (exported_item rest k) (value_named name others)
+            → ItemIs ms b (found_item (option_map item_of (if x then Some m else numbered_value k rest)))
+            (if y then Some v else value_named name others)
+        by true true alike r = is_defined is
+        by true false alike r = absurd (true≢false alike)
+        by false true alike r = absurd (true≢false (sym alike))
+        by false false alike r = r
 
-  pub exported_is : (es : List (List ℕ × Member)) (vs : NamedValues) (tree : TypeTree) → MembersStand ms b es vs
-      → (name : List ℕ) → ItemIs ms b (exported_item es name) (value_in name (instance_value (made_instance vs tree)))
-  exported_is es vs tree members name =
-      subst (ItemIs ms b (exported_item es name)) (sym (made_value name vs tree)) (exported_named es vs members name)
+    exported_is : (es : List (Atom × Member)) (vs : NamedValues) (tree : TypeTree) → MembersStand ms b es vs
+        → ItemIs ms b (exported_item es k) (value_in name (instance_value (made_instance vs tree)))
+    exported_is es vs tree members =
+        subst (ItemIs ms b (exported_item es k)) (sym (made_value name vs tree)) (exported_named es vs members)
 
-  -- so does an instance by the number of what it exports
-  pub exports_named : (x : InstanceOf) (n : ExportsId) → x ≡ instance.Exports n → (v : Option Value)
-      → InstanceIs ms b x v → (name : List ℕ)
-      → ItemIs ms b (found_item (option_map item_of (option_and_then (value_of name) (slice_get b.instances n.0))))
-      (option_and_then (value_in name) v)
-  exports_named x n same v is name = by v (subst (λ y. InstanceIs ms b y v) same is)
-    where
-      by : (w : Option Value) → InstanceIs ms b (instance.Exports n) w
-          → ItemIs ms b (found_item (option_map item_of (option_and_then (value_of name) (slice_get b.instances n.0))))
-          (option_and_then (value_in name) w)
-      by w (has_exports {es = es} {vs = vs} {tree = tree} held members) =
-          subst (λ o. ItemIs ms b (found_item (option_map item_of (option_and_then (value_of name) o)))
-          (value_in name (instance_value (made_instance vs tree)))) (sym held) (exported_is es vs tree members name)
+    -- so does an instance by the number of what it exports
+    pub exports_named : (x : InstanceOf) (n : ExportsId) → x ≡ instance.Exports n → (v : Option Value)
+        → InstanceIs ms b x v
+        → ItemIs ms b (found_item (option_map item_of (option_and_then (numbered_value k) (slice_get b.instances n.0))))
+        (option_and_then (value_in name) v)
+    exports_named x n same v is = by v (subst (λ y. InstanceIs ms b y v) same is)
+      where
+        by : (w : Option Value) → InstanceIs ms b (instance.Exports n) w
+            → ItemIs ms b
+            (found_item (option_map item_of (option_and_then (numbered_value k) (slice_get b.instances n.0))))
+            (option_and_then (value_in name) w)
+        by w (has_exports {es = es} {vs = vs} {tree = tree} held members) =
+            subst (λ o. ItemIs ms b (found_item (option_map item_of (option_and_then (numbered_value k) o)))
+            (value_in name (instance_value (made_instance vs tree)))) (sym held) (exported_is es vs tree members)
+
+    -- and a walk that starts at what an instance exports
+    pub start_exports : (x : Start) (es : Bor (List (Atom × Member))) → x ≡ start.Exports es → (v : Value)
+        → StartIs ms b x v → ItemIs ms b (exported_item es.now k) (value_in name v)
+    start_exports x es same v is = by v (subst (λ y. StartIs ms b y v) same is)
+      where
+        by : (w : Value) → StartIs ms b (start.Exports es) w → ItemIs ms b (exported_item es.now k) (value_in name w)
+        by w (is_exports {vs = vs} {tree = tree} members) = exported_is es.now vs tree members
 
   -- what is no instance has nothing under a name
   pub nothing_named : (x : InstanceOf) → x ≡ instance.Nothing → (v : Option Value) → InstanceIs ms b x v
@@ -258,14 +275,6 @@ module _ (ms : List ModuleRecord) (b : Tables) where
   start_instance x id same r made v is =
       subst (λ y. InstanceIs ms b y (Some v)) (sym made)
       (instance_is id v (start_value id v (subst (λ y. StartIs ms b y v) same is)))
-
-  pub start_exports : (x : Start) (es : Bor (List (List ℕ × Member))) → x ≡ start.Exports es → (v : Value)
-      → StartIs ms b x v → (name : List ℕ) → ItemIs ms b (exported_item es.now name) (value_in name v)
-  start_exports x es same v is name = by v (subst (λ y. StartIs ms b y v) same is)
-    where
-      by : (w : Value) → StartIs ms b (start.Exports es) w
-          → ItemIs ms b (exported_item es.now name) (value_in name w)
-      by w (is_exports {vs = vs} {tree = tree} members) = exported_is es.now vs tree members name
 
   start_known : (x : Start) (v : Value) → StartIs ms b x v
       → Both (IsResource b.graph) (start_resource b.types b.definitions x) (type_identity v)

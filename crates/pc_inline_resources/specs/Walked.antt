@@ -4,7 +4,7 @@ use Rattle.std.specs.Prelude.{option_map, slice_get}
 use Rattle.std.specs.Prelude.{option_and_then}
 use Rattle.std.specs.Borrow.{Bor}
 use Rattle.std.specs.List.{fold}
-use Rattle.pc_entity.specs.Lists.{value_of}
+use Rattle.pc_entity.specs.declared.string_pool.Atom.{Atom}
 use Rattle.pc_numbers.specs.declared.runtime.ResourceIndex.{ResourceIndex}
 use Rattle.pc_types.specs.declared.module_record.ModuleRecord.{ModuleRecord}
 use Rattle.pc_types.specs.declared.parsed.CoreKind.TheVariants as core
@@ -33,6 +33,7 @@ use Rattle.pc_inline_state.specs.declared.error.ItemError.{ItemError}
 use Rattle.pc_inline_state.specs.declared.error.ItemError.TheVariants as item_error
 use Rattle.pc_inline_state.specs.declared.error.ItemFault.TheVariants as item_fault
 use Rattle.pc_inline_state.specs.declared.state.Member.{Member}
+use Rattle.pc_inline_names.specs.Numbers.{numbered_value}
 use Rattle.pc_inline_state.specs.Frames.{Both}
 use Rattle.pc_inline_state.specs.KnowsSame.{IsResource}
 use Rattle.pc_inline_state.specs.Members.{item_of}
@@ -70,7 +71,7 @@ module _ (ms : List ModuleRecord) (b : Tables) where
   pub data InstanceIs : InstanceOf → Option Value → Type 0 where
     is_none : {v : Option Value} → ((name : List ℕ) → HasNoResource (option_and_then (value_in name) v))
         → InstanceIs instance.Nothing v
-    has_exports : {n : ExportsId} {es : List (List ℕ × Member)} {vs : NamedValues} {tree : TypeTree}
+    has_exports : {n : ExportsId} {es : List (Atom × Member)} {vs : NamedValues} {tree : TypeTree}
         → slice_get b.instances n.0 ≡ Some es → MembersStand ms b es vs
         → InstanceIs (instance.Exports n) (Some (instance_value (made_instance vs tree)))
     is_of_host : {ty : TypeComponentInstanceIndex} {entry : ℕ} {path : Path} {tree : TypeTree}
@@ -80,7 +81,7 @@ module _ (ms : List ModuleRecord) (b : Tables) where
   -- what a walk starts at: a value, or an instance that exports so much
   pub data StartIs : Start → Value → Type 0 where
     is_value : {id : DefinitionId} {v : Value} → Stands ms b id v → StartIs (start.Value id) v
-    is_exports : {es : Bor (List (List ℕ × Member))} {vs : NamedValues} {tree : TypeTree} → MembersStand ms b es.now vs
+    is_exports : {es : Bor (List (Atom × Member))} {vs : NamedValues} {tree : TypeTree} → MembersStand ms b es.now vs
         → StartIs (start.Exports es) (instance_value (made_instance vs tree))
 
   -- at each place stands what is along the names that lead to it
@@ -111,9 +112,9 @@ abbrev pub found_item : Option DefinitionId → Item
 found_item None = item.Nothing
 found_item (Some id) = item.Defined id
 
--- what an instance exports under a name
-abbrev pub exported_item : List (List ℕ × Member) → List ℕ → Item
-exported_item es name = found_item (option_map item_of (value_of name es))
+-- what an instance exports under the name of this number
+abbrev pub exported_item : List (Atom × Member) → Atom → Item
+exported_item es n = found_item (option_map item_of (numbered_value n es))
 
 -- the resource of handles, if they are those of one that is known
 abbrev pub handled : TypeResourceTable → Option ResourceIndex

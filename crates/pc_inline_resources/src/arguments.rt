@@ -19,7 +19,7 @@ ghost use Rattle.pc_inline_resources.specs.Walked.{IsMet, StartIs};
 
 use crate::known::register;
 use crate::walked::{Met, Start, new_resources};
-use pc_entity::TextMap;
+use pc_inline_names::AtomMap;
 use pc_inline_state::{Context, DefinitionId, Frame, ItemError, ItemFault, Member, State};
 use pc_types::Entity;
 
@@ -123,7 +123,7 @@ pub fn return_resources(
     context: &Context<'_>,
     state: &mut State<'_>,
     frame: &mut Frame,
-    exports: &TextMap<Member>,
+    exports: &AtomMap<Member>,
     ty: u32,
 ) -> Result<(), ItemError>
     requires input { IsInput context.now.table.now context.now.modules }

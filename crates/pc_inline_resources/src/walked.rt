@@ -1,7 +1,7 @@
 //! What stands at the places of a walk.
 //!
 //! A walk of the type table finds the resources of a type, each at the end of a path. Here the same paths are followed
-//! from a value: a place costs the look-up of one name.
+//! from a value: a place costs the look-up of one number, that of the name of its export.
 
 ghost use Rattle.std.specs.Prelude.{◌≡◌, ℕ, List, Option, Some, length, slice_get, option_and_then, IfOk, OnOk};
 ghost use Rattle.std.specs.List.{AllZip};
@@ -13,6 +13,7 @@ ghost use Rattle.pc_spec_reading.specs.Member.{resource_at, value_in};
 ghost use Rattle.pc_spec_reading.specs.Resource.{newly, resource_paths};
 ghost use Rattle.pc_spec_reading.specs.Scope.{Scope};
 ghost use Rattle.pc_spec_reading.specs.Value.{Value, host_instance, instance_value};
+ghost use Rattle.pc_inline_names.specs.Numbers.{IsNumber};
 ghost use Rattle.pc_inline_state.specs.KnowsSame.{KnowsSame};
 ghost use Rattle.pc_inline_state.specs.Points.{IsInput, IsSoundState};
 ghost use Rattle.pc_inline_state.specs.Ready.{IsReady};
@@ -24,8 +25,9 @@ ghost use Rattle.pc_inline_resources.specs.Walked.{instance_in};
 ghost use Rattle.pc_inline_resources.specs.Walked.{instance_of, item_resource, met_all, met_with, place_resource};
 ghost use Rattle.pc_inline_resources.specs.Walked.{start_resource, type_resource};
 
-use pc_entity::{NoMemory, ResourceIndex, Seq, TextMap};
+use pc_entity::{Atom, NoMemory, ResourceIndex, Seq};
 use pc_inline_hosts::{HostMember, host_export};
+use pc_inline_names::AtomMap;
 use pc_inline_state::{Context, Definition, DefinitionId, ExportsId, Member, State};
 use pc_types::{
     Entity, TypeComponentInstanceIndex, TypeDef, TypeKind, TypeResourceTable,
@@ -58,7 +60,7 @@ pub(crate) enum InstanceOf {
 #[derive(Clone, Copy)]
 pub(crate) enum Start<'s> {
     Value(DefinitionId),
-    Exports(&'s TextMap<Member>),
+    Exports(&'s AtomMap<Member>),
 }
 
 /// A number that a walk came to, and the resource that stands there, if one does that is known.
@@ -68,25 +70,24 @@ pub(crate) struct Met {
     pub resource: Option<ResourceIndex>,
 }
 
-/// What a host instance has under a name.
+/// What a host instance has under a name, by the number of the name.
 fn host_item(
     context: &Context<'_>,
     state: &State<'_>,
     ty: TypeComponentInstanceIndex,
     entry: u32,
-    name: &str,
+    number: Atom,
 ) -> Item
     requires input { IsInput context.now.table.now context.now.modules }
-    requires ready { IsReady context.now }
     requires sound { IsSoundState context.now.table.now context.now.modules state.now }
     requires typed { (tree : TypeTree)
         × IsInstanceType context.now.modules (tables_of state.now) ty entry tree }
-    ensures { (tree : TypeTree) (path : Path)
+    ensures { (name : List ℕ) → IsNumber state.now.names.now.texts number name → (tree : TypeTree) (path : Path)
         → IsInstanceType context.now.modules (tables_of state.now) ty entry tree
         → ItemIs context.now.modules (tables_of state.now) result
-        (value_in name.now (instance_value (host_instance path tree))) }
+        (value_in name (instance_value (host_instance path tree))) }
 {
-    match host_export(context, state, ty, entry, name) {
+    match host_export(context, state, ty, entry, number) {
         Some(member) => Item::Host(member),
         None => Item::Nothing,
     }
@@ -102,11 +103,11 @@ fn found_item(found: Option<DefinitionId>) -> Item
     }
 }
 
-/// What an instance exports under a name.
-fn exported_item(exports: &TextMap<Member>, name: &str) -> Item
-    ensures { result ≡ exported_item exports.now name.now }
+/// What an instance exports under a name, by the number of the name.
+fn exported_item(exports: &AtomMap<Member>, number: Atom) -> Item
+    ensures { result ≡ exported_item exports.now number }
 {
-    match exports.get(name) {
+    match exports.get(number) {
         Some(member) => Item::Defined(member.item),
         None => Item::Nothing,
     }
@@ -137,46 +138,51 @@ fn instance_of(state: &State<'_>, item: Item) -> InstanceOf
     }
 }
 
-/// What an instance has under a name.
-fn instance_item(context: &Context<'_>, state: &State<'_>, instance: InstanceOf, name: &str) -> Item
+/// What an instance has under a name, by the number of the name.
+fn instance_item(
+    context: &Context<'_>,
+    state: &State<'_>,
+    instance: InstanceOf,
+    number: Atom,
+) -> Item
     requires input { IsInput context.now.table.now context.now.modules }
-    requires ready { IsReady context.now }
     requires sound { IsSoundState context.now.table.now context.now.modules state.now }
     requires is { (v : Option Value) × InstanceIs context.now.modules (tables_of state.now) instance v }
-    ensures { (v : Option Value) → InstanceIs context.now.modules (tables_of state.now) instance v
-        → ItemIs context.now.modules (tables_of state.now) result (option_and_then (value_in name.now) v) }
+    ensures { (name : List ℕ) → IsNumber state.now.names.now.texts number name
+        → (v : Option Value) → InstanceIs context.now.modules (tables_of state.now) instance v
+        → ItemIs context.now.modules (tables_of state.now) result (option_and_then (value_in name) v) }
 {
     match instance {
         InstanceOf::Nothing => Item::Nothing,
-        InstanceOf::Exports(id) => found_item(state.member(id, name)),
-        InstanceOf::Host { ty, entry } => host_item(context, state, ty, entry, name),
+        InstanceOf::Exports(id) => found_item(state.member(id, number)),
+        InstanceOf::Host { ty, entry } => host_item(context, state, ty, entry, number),
     }
 }
 
-/// What stands one name further than an item.
-fn member_item(context: &Context<'_>, state: &State<'_>, item: Item, name: &str) -> Item
+/// What stands one name further than an item, by the number of the name.
+fn member_item(context: &Context<'_>, state: &State<'_>, item: Item, number: Atom) -> Item
     requires input { IsInput context.now.table.now context.now.modules }
-    requires ready { IsReady context.now }
     requires sound { IsSoundState context.now.table.now context.now.modules state.now }
     requires is { (v : Option Value) × ItemIs context.now.modules (tables_of state.now) item v }
-    ensures { (v : Option Value) → ItemIs context.now.modules (tables_of state.now) item v
-        → ItemIs context.now.modules (tables_of state.now) result (option_and_then (value_in name.now) v) }
+    ensures { (name : List ℕ) → IsNumber state.now.names.now.texts number name
+        → (v : Option Value) → ItemIs context.now.modules (tables_of state.now) item v
+        → ItemIs context.now.modules (tables_of state.now) result (option_and_then (value_in name) v) }
 {
-    instance_item(context, state, instance_of(state, item), name)
+    instance_item(context, state, instance_of(state, item), number)
 }
 
-/// What stands one name further than the start.
-fn first_item(context: &Context<'_>, state: &State<'_>, start: Start<'_>, name: &str) -> Item
+/// What stands one name further than the start, by the number of the name.
+fn first_item(context: &Context<'_>, state: &State<'_>, start: Start<'_>, number: Atom) -> Item
     requires input { IsInput context.now.table.now context.now.modules }
-    requires ready { IsReady context.now }
     requires sound { IsSoundState context.now.table.now context.now.modules state.now }
     requires is { (v : Value) × StartIs context.now.modules (tables_of state.now) start v }
-    ensures { (v : Value) → StartIs context.now.modules (tables_of state.now) start.entry v
-        → ItemIs context.now.modules (tables_of state.now) result (value_in name.now v) }
+    ensures { (name : List ℕ) → IsNumber state.now.names.now.texts number name
+        → (v : Value) → StartIs context.now.modules (tables_of state.now) start.entry v
+        → ItemIs context.now.modules (tables_of state.now) result (value_in name v) }
 {
     match start {
-        Start::Value(id) => instance_item(context, state, instance_at(state, id), name),
-        Start::Exports(exports) => exported_item(exports, name),
+        Start::Value(id) => instance_item(context, state, instance_at(state, id), number),
+        Start::Exports(exports) => exported_item(exports, number),
     }
 }
 
@@ -189,7 +195,6 @@ fn place_item(
     place: &Place,
 ) -> Item
     requires input { IsInput context.now.table.now context.now.modules }
-    requires ready { IsReady context.now }
     requires sound { IsSoundState context.now.table.now context.now.modules state.now }
     requires parent { (v : Option Value)
         × ParentIs context.now.modules (tables_of state.now) start items.now place.now.parent v }
@@ -198,15 +203,14 @@ fn place_item(
         → export_at context.now.table.now place.now.entry place.now.export ≡ Some x
         → ItemIs context.now.modules (tables_of state.now) result (option_and_then (value_in x.0) v) }
 {
-    let Some(export) = place.export(context.table) else {
+    let Some(number) = state.names.export_number(place.entry, place.export) else {
         return Item::Nothing;
     };
-    let name = export.0.as_str();
     if place.parent == 0 {
-        return first_item(context, state, start, name);
+        return first_item(context, state, start, number);
     }
     match items.get(place.parent - 1) {
-        Some(item) => member_item(context, state, *item, name),
+        Some(item) => member_item(context, state, *item, number),
         None => Item::Nothing,
     }
 }
@@ -219,7 +223,6 @@ fn items_at(
     places: &[Place],
 ) -> Result<Seq<Item>, NoMemory>
     requires input { IsInput context.now.table.now context.now.modules }
-    requires ready { IsReady context.now }
     requires sound { IsSoundState context.now.table.now context.now.modules state.now }
     requires start { (v : Value) × StartIs context.now.modules (tables_of state.now) start v }
     requires named { (names : List (List (List ℕ))) × AreNamed context.now.table.now places.now names }

@@ -161,6 +161,7 @@ begun_sound t ms st grows ordered s = record {
   };
   table = s.table;
   bodies = s.bodies;
+  names = s.names;
   members = s.members;
   instances = instances_kept ms (tables_of st) (tables_of (record st { graph = begun_graph st.graph }))
       (begun_keeps st grows) refl st.runtime_instances.items s.instances;

@@ -4,6 +4,7 @@ use Rattle.std.proofs.Common.{ap, subst, ◌∙◌, IsErrAnd}
 use Rattle.std.specs.Prelude.{option_and_then, slice_get}
 use Rattle.std.specs.List.{filter_map, list_all}
 use Rattle.std.proofs.lemmas.Option.{none-some, same_Some}
+use Rattle.pc_entity.specs.declared.string_pool.Atom.{Atom}
 use Rattle.pc_entity.specs.Lists.{map_all}
 use Rattle.pc_types.specs.declared.module_record.ModuleRecord.{ModuleRecord}
 use Rattle.pc_types.specs.declared.parsed.TypeTable.{TypeTable}
@@ -19,6 +20,8 @@ use Rattle.pc_spec_reading.specs.Scope.{Moment, Scope}
 use Rattle.pc_spec_reading.specs.Section.{argument_of}
 use Rattle.pc_spec_reading.specs.Types.{has_entry}
 use Rattle.pc_spec_reading.specs.Value.{Component, Value, component_value}
+use Rattle.pc_inline_names.specs.Named.{Named}
+use Rattle.pc_inline_names.specs.Numbers.{SameNamed}
 use Rattle.pc_inline_state.specs.declared.definition.ClosureId.{ClosureId}
 use Rattle.pc_inline_state.specs.declared.definition.Definition.{Definition}
 use Rattle.pc_inline_state.specs.declared.definition.DefinitionId.{DefinitionId}
@@ -32,7 +35,7 @@ use Rattle.pc_inline_stack.specs.Calls.{CallFollows, CallStands, Calls, Stays}
 use Rattle.pc_inline_items.specs.Captures.{IsEnclosed}
 use Rattle.pc_inline_items.specs.Members.{are_there, are_typed}
 use Rattle.pc_inline_state.specs.Definitions.{component_parts}
-use Rattle.pc_inline_state.specs.Frames.{ComponentStands, SameNames}
+use Rattle.pc_inline_state.specs.Frames.{ComponentStands}
 use Rattle.pc_inline_state.specs.Points.{IsPoint, PointStands}
 use Rattle.pc_inline_state.specs.Refused.{LacksRoom}
 use Rattle.pc_inline_state.specs.Stands.{Stands, stands, stands_component}
@@ -168,8 +171,9 @@ module _ (t : TypeTable) (ms : List ModuleRecord) (st : State) (f : Frame) (n : 
         -- the child can begin
         pub call_ready : table_fault t ≡ None → are_there f xs ≡ true → (s : StaticComponentIndex) (k : ClosureId)
             → option_and_then component_parts (slice_get st.definitions id.0) ≡ Some (s, k)
-            → (st' : State) → Keeps (tables_of st) (tables_of st') → (given : List (List ℕ × DefinitionId))
-            → ((now : Moment) → PointStands t ms st f now → SameNames (Stands ms (tables_of st')) given
+            → (st' : State) → Keeps (tables_of st) (tables_of st') → (given : List (Atom × DefinitionId))
+            → ((now : Moment) → PointStands t ms st f now
+            → SameNamed st.names.now.texts (Stands ms (tables_of st')) given
             (filter_map (argument_value t now.scope) the_args))
             → Calls t ms n the_args ty st f st' (Ok (record { body = s; closure = k; arguments = given }))
         unfolding Calls CallFollows
@@ -183,7 +187,8 @@ module _ (t : TypeTable) (ms : List ModuleRecord) (st : State) (f : Frame) (n : 
                   (arguments_all t ms (tables_of st) f now.scope at.frame sound xs numbers all);
               stands = component_stands c.0 (stands_kept ms (tables_of st) (tables_of st') keeps id
                   (component_value c.0)
-                  c.2) vs (are now at);
+                  c.2) vs (subst (λ (n : Named). SameNamed n.texts (Stands ms (tables_of st')) given vs) (sym keeps.names)
+                  (are now at));
               is_typed = typed;
             }
           where
@@ -197,7 +202,7 @@ module _ (t : TypeTable) (ms : List ModuleRecord) (st : State) (f : Frame) (n : 
                 by (Some d) at is = ap (option_and_then component_parts) (keeps.definitions id.0 d at) ∙ is
 
             component_stands : (c : Component) → Stands ms (tables_of st') id (component_value c)
-                → (vs : List (List ℕ × Value)) → SameNames (Stands ms (tables_of st')) given vs
+                → (vs : List (List ℕ × Value)) → SameNamed st'.names.now.texts (Stands ms (tables_of st')) given vs
                 → CallStands t ms (tables_of st') (record { body = s; closure = k; arguments = given })
                 (record { component = c; arguments = vs })
             component_stands c (stands held (stands_component {s = i} {k = j} {tr = tr} {inner = inner} {body = body}

@@ -43,6 +43,7 @@ current_keeps b r =
       instances = still.instances;
       paths = still.paths;
       bodies = refl;
+      names = refl;
       table = refl;
     }
 
@@ -83,6 +84,7 @@ current_sound t ms st r s = record {
   };
   table = s.table;
   bodies = s.bodies;
+  names = s.names;
   members = s.members;
   instances = instances_kept ms (tables_of st) (record (tables_of st) { types = going_on_with st.types r })
       (current_keeps (tables_of st) r) refl st.runtime_instances.items s.instances;

@@ -94,11 +94,11 @@ module _ (t : TypeTable) (ms : List ModuleRecord) (limit : ℕ) (root : Translat
     root_left : all_most_left t old.bodies.now root [] root_open ≡ most_of_items t root.initializers
     root_left = omega arith
 
-    -- nothing was read yet
-    driven_alone : 0 < old.graph.num_runtime_component_instances
+    -- nothing was read yet, and the names are those of the root
+    driven_alone : old.names.now.root ≡ root → 0 < old.graph.num_runtime_component_instances
         → old.graph.num_runtime_component_instances ≤ limit → counted < full
         → Driven t ms limit root old f counted old [] root_open counted
-    driven_alone begun within below =
+    driven_alone rooted begun within below =
         let left = root_left in
         record {
           added = 0;
@@ -113,17 +113,18 @@ module _ (t : TypeTable) (ms : List ModuleRecord) (limit : ℕ) (root : Translat
             stand = are.1;
             at = counting_point point.0 point.1;
             is_total = refl;
+            rooted = rooted;
           };
           reads = root_reached;
         }
 
     -- when none waits yet
-    pub driven_first : 0 < old.graph.num_runtime_component_instances
+    pub driven_first : old.names.now.root ≡ root → 0 < old.graph.num_runtime_component_instances
         → old.graph.num_runtime_component_instances ≤ limit → counted < full → (waiting : List Open) → waiting ≡ []
         → Driven t ms limit root old f counted old (reverse waiting) root_open counted
-    driven_first begun within below waiting none =
+    driven_first rooted begun within below waiting none =
         subst (λ ks. Driven t ms limit root old f counted old (reverse ks) root_open counted) (sym none)
-        (driven_alone begun within below)
+        (driven_alone rooted begun within below)
 
   module _ (old : State) (f : Frame) (counted : ℕ) (st : State) where
     fails_ends : (total : ℕ) (o : Outcome Moment) (e : Error) → Fails t ms limit root st f o e

@@ -3,6 +3,7 @@ use Rattle.std.proofs.Common.{◌≡◌, ◌+◌, ℕ, List, [], ◌∷◌, leng
 use Rattle.std.proofs.Common.{IsErrAnd, if◌then◌else◌, ◌==◌, arith}
 use Rattle.std.specs.Prelude.{⊤, OnOk}
 use Rattle.pc_numbers.specs.declared.runtime.ResourceIndex.{ResourceIndex}
+use Rattle.pc_entity.specs.declared.string_pool.Atom.{Atom}
 use Rattle.pc_types.specs.declared.module_record.ModuleRecord.{ModuleRecord}
 use Rattle.pc_types.specs.declared.parsed.TypeTable.{TypeTable}
 use Rattle.pc_types_lists.specs.Known.{resource_of}
@@ -192,7 +193,7 @@ module _ (t : TypeTable) (ms : List ModuleRecord) (es : List (ExternName × Item
           (keeps_whatever st1.types st1.types st1.types.resources resources (keeps_same st1.types)))
           (stays now x.ended).converted back_point.converted)
 
-    module _ (members : List (List ℕ × Member))
+    module _ (members : List (Atom × Member))
         (given : (now : Moment) → PointStands t ms st child now
         → MembersStand ms (tables_of st1) members (pack_values (exports_at t now.scope (map named_item es)))) where
       members_back : (now : Moment) → PointStands t ms st child now

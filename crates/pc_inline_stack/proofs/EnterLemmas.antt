@@ -7,7 +7,7 @@ use Rattle.pc_inline_state.specs.declared.definition.ClosureId.{ClosureId}
 use Rattle.pc_local.specs.Plain.{plain_item}
 use Rattle.pc_spec_reading.specs.Reading.{beginning}
 use Rattle.std.proofs.lemmas.Bool.{le-ltb, lt-ltb}
-use Rattle.std.proofs.lemmas.Option.{same_Some}
+use Rattle.std.proofs.lemmas.Option.{same_Some, slice_get_within}
 use Rattle.pc_numbers.specs.declared.runtime.RuntimeComponentInstanceIndex.{RuntimeComponentInstanceIndex}
 use Rattle.pc_types.specs.declared.error.Place.TheVariants as place
 use Rattle.pc_types.specs.declared.module_record.ModuleRecord.{ModuleRecord}
@@ -28,6 +28,7 @@ use Rattle.pc_local.specs.Standing.{ItemsStand}
 use Rattle.pc_dfg.specs.declared.dfg.ComponentDfg.{ComponentDfg}
 use Rattle.pc_dfg.specs.Grows as graph
 use Rattle.pc_dfg.specs.Ordered.{IsOrdered}
+use Rattle.pc_inline_names.specs.Numbers.{numbered_value}
 use Rattle.pc_inline_stack.specs.declared.driver.Call.{Call}
 use Rattle.pc_inline_stack.specs.declared.driver.Open.{Open}
 use Rattle.pc_inline_state.specs.declared.error.ItemError.{ItemError}
@@ -327,9 +328,9 @@ module _ (t : TypeTable) (ms : List ModuleRecord) (limit : ℕ) (root : Translat
               core_instances = tt;
               instances = tt;
               components = tt;
-              arguments = λ name. both_more (Stands ms (tables_of st)) (Stands ms (tables_of st_now))
-                  (stands_kept ms (tables_of st) (tables_of st_now) keeps_now) (value_of name call.arguments)
-                  (value_of name reads_call.read.arguments) (s.arguments name);
+              arguments = λ n name is. both_more (Stands ms (tables_of st)) (Stands ms (tables_of st_now))
+                  (stands_kept ms (tables_of st) (tables_of st_now) keeps_now) (numbered_value n call.arguments)
+                  (value_of name reads_call.read.arguments) (s.arguments n name is);
               component_instance = begun ∙ sym number;
               begun = omega (arith, number);
             };
@@ -390,6 +391,7 @@ module _ (t : TypeTable) (ms : List ModuleRecord) (limit : ℕ) (root : Translat
             all = child_stands (child_open_stands b.1)
                 (record {
                   index = call.body;
+                  there = slice_get_within st.bodies.now call.body.0 s.translation s.there;
                   is = refl;
                   exports = ap (λ (tr : Translation). map named_item tr.exports) child_translation
                       ∙ s.stands.exports;

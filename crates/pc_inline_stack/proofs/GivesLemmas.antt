@@ -2,6 +2,7 @@
 -- known.
 use Rattle.std.proofs.Common.{◌≡◌, ℕ, List, Result, Ok, Err, refl, sym, ap, subst, ◌∙◌, IsErrAnd}
 use Rattle.std.specs.Prelude.{⊤}
+use Rattle.pc_entity.specs.declared.string_pool.Atom.{Atom}
 use Rattle.pc_types.specs.declared.module_record.ModuleRecord.{ModuleRecord}
 use Rattle.pc_types.specs.declared.parsed.Entity.TheVariants as entity
 use Rattle.pc_types.specs.declared.parsed.TypeTable.{TypeTable}
@@ -38,7 +39,7 @@ return_is t exports ty now =
     by (Ok known) = refl
     by (Err k) = refl
 
-module _ (t : TypeTable) (ms : List ModuleRecord) (members : List (List ℕ × Member)) (ty : ℕ) (st : State) (f : Frame)
+module _ (t : TypeTable) (ms : List ModuleRecord) (members : List (Atom × Member)) (ty : ℕ) (st : State) (f : Frame)
   where
     -- what the reading makes of the resources
     abbrev pub Known : State → Frame → Result ⊤ ItemError → Type 0

@@ -277,6 +277,12 @@ module _ (t : TypeTable) (ms : List ModuleRecord) (limit : ℕ) (root : Translat
       let r = underway_reached t ms limit root st (caller ∷ ks) o total under in
       is_return t ms limit root r.0 r.1 st caller ks o total r.2
 
+  -- it has one of the bodies
+  pub underway_has : (r : Reader) × ChildHas t ms st.bodies.now root o r
+  underway_has =
+      let r = underway_reached t ms limit root st (caller ∷ ks) o total under in
+      (r.2.reader, (the_stack t ms limit root r.0 r.1 st caller ks o total r.2).has)
+
   -- its type is an instance type
   pub underway_type : has_entry t is_instance
       (unwrap_or (instance_type_at (items_of st.bodies.now root caller) caller.next) 0) ≡ true

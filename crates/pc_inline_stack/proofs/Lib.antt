@@ -17,6 +17,7 @@ mod BegunLemmas
 mod CurrentLemmas
 mod EnterLemmas
 mod LeaveLemmas
+mod NamesLemmas
 mod ChildLemmas
 mod DriveLemmas
 mod CallLemmas

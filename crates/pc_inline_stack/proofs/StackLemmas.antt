@@ -40,7 +40,7 @@ module _ (t : TypeTable) (ms : List ModuleRecord) (bodies : List Translation) (r
         → AllStand t ms bodies root b l ks (record o { frame = g; next = n }) ws (record r { scope = s })
     top_goes k l ks o ws r g n s trails (root_stands h) x = root_stands x
     top_goes k l ks o ws r g n s trails (child_stands {j = j} {caller = c} h has caller waits all) x =
-        child_stands x (record { index = has.index; is = has.is; exports = has.exports }) caller
+        child_stands x (record { index = has.index; there = has.there; is = has.is; exports = has.exports }) caller
         (waits_again k o.frame l g trails c.frame j waits) all
 
     -- as many wait as wait in the reading

@@ -1,5 +1,6 @@
 -- What a child begins with, and what it gives back.
 use Rattle.std.specs.Prelude.{◌≡◌, ⊤, ℕ, true, List, map, Some, Result, Ok, Err, slice_get}
+use Rattle.pc_entity.specs.declared.string_pool.Atom.{Atom}
 use Rattle.pc_types.specs.declared.module_record.ModuleRecord.{ModuleRecord}
 use Rattle.pc_types.specs.declared.parsed.TypeTable.{TypeTable}
 use Rattle.pc_types.specs.Table.{is_instance}
@@ -18,6 +19,7 @@ use Rattle.pc_spec_reading.specs.Types.{has_entry}
 use Rattle.pc_spec_reading.specs.Value.{Chain, NamedValue, closed, pack_values}
 use Rattle.pc_local.specs.declared.item.Translation.{Translation}
 use Rattle.pc_local.specs.Standing.{BodyStands, Names}
+use Rattle.pc_inline_names.specs.Numbers.{SameNamed}
 use Rattle.pc_inline_state.specs.declared.closure.Closure.{Closure}
 use Rattle.pc_inline_stack.specs.declared.driver.Call.{Call}
 use Rattle.pc_inline_state.specs.declared.error.ItemError.{ItemError}
@@ -27,7 +29,7 @@ use Rattle.pc_inline_state.specs.declared.state.Member.{Member}
 use Rattle.pc_inline_state.specs.declared.state.State.{State}
 use Rattle.pc_inline_items.specs.Captures.{IsEnclosed}
 use Rattle.pc_inline_state.specs.Faults.{fault_of}
-use Rattle.pc_inline_state.specs.Frames.{FrameStands, SameNames}
+use Rattle.pc_inline_state.specs.Frames.{FrameStands}
 use Rattle.pc_inline_state.specs.KnowsSame.{KnowsSame}
 use Rattle.pc_inline_state.specs.Points.{Follows, IsFullSomewhere, PointStands}
 use Rattle.pc_inline_stack.specs.Stacks.{Waits}
@@ -48,7 +50,7 @@ module _ (t : TypeTable) (ms : List ModuleRecord) where
     pub closure : Closure
     pub captured : slice_get b.closures call.closure.0 ≡ Some closure
     pub enclosed : IsEnclosed ms b names (Some call.closure) chain
-    pub arguments : SameNames (Stands ms b) call.arguments c.arguments
+    pub arguments : SameNamed b.names.texts (Stands ms b) call.arguments c.arguments
 
   -- a child can begin
   pub record CallReads (b : Tables) (ty : ℕ) (reads : Result reading.Call Fault) (call : Call) : Type 0 where
@@ -75,7 +77,7 @@ module _ (t : TypeTable) (ms : List ModuleRecord) where
   Stays st f st' f' = (now : Moment) → PointStands t ms st f now → PointStands t ms st' f' now
 
   -- what a component instance makes of these members of a child is what the reading makes of the values that they are
-  unfoldable pub AddsChild : List (List ℕ × Member) → (ty : ℕ) → (old : State) → Frame → (new : State) → Frame
+  unfoldable pub AddsChild : List (Atom × Member) → (ty : ℕ) → (old : State) → Frame → (new : State) → Frame
       → Result ⊤ ItemError → Type 0
   AddsChild members ty st f st' f' r =
       (now : Moment) (exports : List NamedValue) → PointStands t ms st f now

@@ -1,7 +1,7 @@
 -- Component instances one inside another: those of the code against the readers of the reading.
 use Rattle.std.specs.Prelude.{◌≡◌, ◌<◌, ◌≤◌, ◌+◌, ◌-◌, ◌⊎◌, ⊤, ℕ, zero, suc, Bool, true, false, List, [], ◌∷◌}
 use Rattle.std.specs.Prelude.{◌*◌, All, drop, length, map, reverse, sum_by}
-use Rattle.std.specs.Prelude.{Option, None, Some, Result, Ok, Err, option_and_then, slice_get, unwrap_or}
+use Rattle.std.specs.Prelude.{Option, None, Some, Result, Ok, Err, option_and_then, slice_get}
 use Rattle.std.specs.List.{AllZip}
 use Rattle.std.specs.Result.{IfOk, OnOk}
 use Rattle.pc_numbers.specs.declared.component_entity.StaticComponentIndex.{StaticComponentIndex}
@@ -29,6 +29,7 @@ use Rattle.pc_local.specs.declared.item.LocalInitializer.TheVariants as local
 use Rattle.pc_local.specs.declared.item.Translation.{Translation}
 use Rattle.pc_local.specs.Standing.{ItemsStand, Names, no_names}
 use Rattle.pc_weights.specs.Weighs.{HasWeight}
+pub use Rattle.pc_inline_names.specs.Named.{body_at}
 use Rattle.pc_inline_state.specs.declared.closure.Closure.{Closure}
 use Rattle.pc_inline_state.specs.declared.definition.ClosureId.{ClosureId}
 use Rattle.pc_inline_stack.specs.declared.driver.Open.{Open}
@@ -45,11 +46,6 @@ use Rattle.pc_inline_stack.specs.Reads.{Ends, items_from}
 use Rattle.pc_inline_state.specs.Tables.{Keeps, Tables, tables_of}
 use Rattle.pc_inline_state.specs.Trails.{undone}
 use Rattle.pc_inline_state.specs.Worlds.{HasNoExports, WorldStands}
-
--- the body of this number, that of the root where there is none
-abbrev pub body_at : List Translation → (root : Translation) → Option StaticComponentIndex → Translation
-body_at bodies root None = root
-body_at bodies root (Some s) = unwrap_or (slice_get bodies s.0) root
 
 -- these are the weights of the bodies: of each body of the reading that a body stands for, cut where a total is full
 abbrev pub AreWeights : TypeTable → List ModuleRecord → List Translation → List ℕ → Type 0
@@ -175,6 +171,7 @@ module _ (t : TypeTable) (ms : List ModuleRecord) (bodies : List Translation) (r
   -- a child has one of the bodies, and exports what its reader does
   pub record ChildHas (o : Open) (r : Reader) : Type 0 where
     pub index : StaticComponentIndex
+    pub there : index.0 < length bodies
     pub is : o.body ≡ Some index
     pub exports : map named_item (body_at bodies root o.body).exports ≡ exports_in r.body
 
@@ -214,13 +211,14 @@ module _ (t : TypeTable) (ms : List ModuleRecord) (limit : ℕ) (root : Translat
     pub all : AllStand t ms st.bodies.now root (tables_of st) st.types.resources ks o waiting reader
     pub same : reads_on t ms limit waiting reader o.next world ≡ reading_from t ms limit is first
 
-  -- the reading began in some moment with this total
+  -- the reading began in some moment with this total, and the names are those of this root
   pub record Starts (old : State) (f : Frame) (counted : ℕ) : Type 0 where
     pub items : Items
     pub first : Moment
     pub stand : ItemsStand old.bodies.now no_names root.initializers items
     pub at : PointStands t ms old f first
     pub is_total : first.world.total ≡ Some counted
+    pub rooted : old.names.now.root ≡ root
 
   -- so much has been added since the reading began with a total, whatever the moment was
   pub record Driven (old : State) (f : Frame) (counted : ℕ) (st : State) (ks : List Open) (o : Open) (total : ℕ)

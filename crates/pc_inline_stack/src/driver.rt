@@ -3,6 +3,7 @@
 
 ghost use Rattle.std.specs.Prelude.{◌≡◌, ◌<◌, ◌≤◌, ◌+◌, ◌*◌, ◌++◌, ◌∷◌, ℕ, List, [], false, true, length, map, reverse};
 ghost use Rattle.std.specs.Prelude.{None, Some, slice_get, option_and_then, OnOk, unwrap_or};
+ghost use Rattle.pc_entity.specs.declared.string_pool.Atom.{Atom};
 ghost use Rattle.pc_types.specs.Names.{distinct_names};
 ghost use Rattle.pc_types.specs.declared.parsed.TypeTable.{TypeTable};
 ghost use Rattle.pc_types.specs.Table.{is_instance, table_fault};
@@ -14,7 +15,11 @@ ghost use Rattle.pc_spec_reading.specs.Section.{argument_of};
 ghost use Rattle.pc_spec_reading.specs.Types.{has_entry};
 ghost use Rattle.pc_spec_reading.specs.Value.{NamedValue, pack_values};
 ghost use Rattle.pc_local.specs.Sound.{IsSoundBody, export_name};
+ghost use Rattle.pc_numbers.specs.declared.component_entity.StaticComponentIndex.{StaticComponentIndex};
+ghost use Rattle.pc_local.specs.declared.item.Translation.{Translation};
 ghost use Rattle.pc_local.specs.declared.item.LocalInitializer.TheVariants as local;
+ghost use Rattle.pc_inline_names.specs.Named.{argument_name, item_names};
+ghost use Rattle.pc_inline_names.specs.Numbers.{AreNumbersOf};
 ghost use Rattle.pc_inline_state.specs.Adds.{Adds, most_converted, types_among};
 ghost use Rattle.pc_inline_state.specs.Definitions.{component_parts};
 ghost use Rattle.pc_inline_state.specs.Points.{IsInput, IsPoint};
@@ -32,9 +37,10 @@ ghost use Rattle.pc_inline_stack.specs.Stacks.{instance_type_at, items_of};
 
 use crate::begin::begin_instance;
 use pc_entity::{
-    NoMemory, PrimaryMap, RuntimeComponentInstanceIndex, StaticComponentIndex, Text, TextMap,
+    Atom, NoMemory, PrimaryMap, RuntimeComponentInstanceIndex, StaticComponentIndex, Text,
 };
 use pc_inline_items::{add_instance, are_there, are_typed, argument_values, export_members, step};
+use pc_inline_names::{AtomMap, ProgramNames};
 use pc_inline_resources::return_resources;
 use pc_inline_state::{
     Change, ClosureId, Context, Definition, DefinitionId, Frame, ItemError, ItemFault, Member,
@@ -70,7 +76,7 @@ pub struct Stack {
 pub struct Call {
     pub body: StaticComponentIndex,
     pub closure: ClosureId,
-    pub arguments: TextMap<DefinitionId>,
+    pub arguments: AtomMap<DefinitionId>,
 }
 
 /// The body of this number, or that of the root.
@@ -113,10 +119,12 @@ fn call_of(
     frame: &mut Frame,
     component: u32,
     args: &[(Text, ItemKind, u32)],
+    numbers: &[Atom],
     ty: u32,
 ) -> Result<Call, ItemError>
     requires input { IsInput context.now.table.now context.now.modules }
     requires here { IsPoint context.now.table.now context.now.modules state.old frame.old }
+    requires numbered { AreNumbersOf state.old.names.now.texts (map argument_name args.now) numbers.now }
     ensures keeps { Keeps (tables_of state.old) (tables_of state.new) }
     ensures adds { Adds context.now.table.now (types_among args.now * (1 + most_types context.now.table.now))
         (tables_of state.old) (tables_of state.new) }
@@ -143,7 +151,7 @@ fn call_of(
     let Some((body, closure)) = body_of(state, component) else {
         return Err(ItemError::Fault(ItemFault::Invalid));
     };
-    let arguments = argument_values(context, state, frame, args)?;
+    let arguments = argument_values(context, state, frame, args, numbers)?;
     Ok(Call {
         body,
         closure,
@@ -202,6 +210,7 @@ fn enter(
     stack: &mut Stack,
     component: u32,
     args: &[(Text, ItemKind, u32)],
+    numbers: &[Atom],
     ty: u32,
     limit: u32,
     weights: &PrimaryMap<StaticComponentIndex, u32>,
@@ -212,11 +221,20 @@ fn enter(
         state.old (reverse stack.old.callers.items) stack.old.top stack.old.total }
     requires item { slice_get (items_of state.old.bodies.now root.now stack.old.top) stack.old.top.next
         ≡ Some (local.ComponentInstantiate component args.now ty) }
+    requires numbered { AreNumbersOf state.old.names.now.texts (map argument_name args.now) numbers.now }
     requires next { stack.old.top.next < 18446744073709551615 }
     ensures { Moved context.now.table.now context.now.modules limit root.now
         state.old (reverse stack.old.callers.items) stack.old state.new stack.new result }
 {
-    let called = call_of(context, state, &mut stack.top.frame, component, args, ty);
+    let called = call_of(
+        context,
+        state,
+        &mut stack.top.frame,
+        component,
+        args,
+        numbers,
+        ty,
+    );
     let call = match called {
         Ok(call) => call,
         Err(error) => return Err(error_at(error, stack.top.frame.place_of(stack.top.next))),
@@ -243,6 +261,7 @@ fn advance(
     root: &Translation,
     stack: &mut Stack,
     item: &LocalInitializer,
+    numbers: &[Atom],
     limit: u32,
 ) -> Result<(), Error>
     requires input { IsInput context.now.table.now context.now.modules }
@@ -252,6 +271,7 @@ fn advance(
         state.old (reverse stack.old.callers.items) stack.old.top stack.old.total }
     requires item { slice_get (items_of state.old.bodies.now root.now stack.old.top) stack.old.top.next
         ≡ Some item.now }
+    requires numbered { AreNumbersOf state.old.names.now.texts (item_names item.now) numbers.now }
     requires plain { begins_child item.now ≡ false }
     requires next { stack.old.top.next < 18446744073709551615 }
     ensures { Moved context.now.table.now context.now.modules limit root.now
@@ -263,6 +283,7 @@ fn advance(
         &mut stack.top.frame,
         stack.top.closure,
         item,
+        numbers,
     );
     if let Err(error) = read {
         return Err(error_at(error, stack.top.frame.place_of(stack.top.next)));
@@ -294,7 +315,7 @@ fn add_child(
     context: &Context<'_>,
     state: &mut State<'_>,
     frame: &mut Frame,
-    members: TextMap<Member>,
+    members: AtomMap<Member>,
     ty: u32,
 ) -> Result<(), ItemError>
     requires input { IsInput context.now.table.now context.now.modules }
@@ -322,12 +343,14 @@ fn end_child(
     frame: &mut Frame,
     child: &mut Frame,
     exports: &[(ExternName, ItemKind, u32)],
+    numbers: &[Atom],
     ty: u32,
 ) -> Result<(), ItemError>
     requires input { IsInput context.now.table.now context.now.modules }
     requires ready { IsReady context.now }
     requires returns { IsReturn context.now.table.now context.now.modules state.old child.old frame.old }
     requires named { distinct_names (map export_name exports.now) ≡ true }
+    requires numbered { AreNumbersOf state.old.names.now.texts (map export_name exports.now) numbers.now }
     requires typed { has_entry context.now.table.now is_instance ty ≡ true }
     ensures keeps { Keeps (tables_of state.old) (tables_of state.new) }
     ensures adds { Adds context.now.table.now
@@ -338,7 +361,7 @@ fn end_child(
     ensures gives { GivesBack context.now.table.now context.now.modules exports.now ty
         state.old child.old frame.old state.new frame.new result }
 {
-    let members = export_members(context, state, child, exports)?;
+    let members = export_members(context, state, child, exports, numbers)?;
     undo(&mut state.types, child.changes.as_slice())?;
     convert_for(&mut state.types, frame.component_instance);
     take_back(frame, child);
@@ -360,6 +383,19 @@ fn type_at(
     {
         Some(LocalInitializer::ComponentInstantiate { ty, .. }) => Some(*ty),
         _ => None,
+    }
+}
+
+/// The numbers of the names of what a child exports, which has the body of this number.
+fn export_numbers<'b>(names: &'b ProgramNames<'_>, body: Option<StaticComponentIndex>) -> &'b [Atom]
+    ensures { (index : StaticComponentIndex) (tr : Translation) → body ≡ Some index
+        → slice_get names.now.bodies index.0 ≡ Some tr
+        → AreNumbersOf names.now.texts (map export_name tr.exports) result.now }
+{
+    match body {
+        Some(index) => names.body_exports(index),
+        // Never nothing: a child has one of the bodies, which the contract knows.
+        None => &[],
     }
 }
 
@@ -386,12 +422,14 @@ fn leave(
     let ty = type_at(state.bodies, root, &caller).unwrap_or(0);
     let mut child = mem::replace(&mut stack.top, caller);
     let exports = body_at(state.bodies, root, child.body).exports.as_slice();
+    let numbers = export_numbers(state.names, child.body);
     let ended = end_child(
         context,
         state,
         &mut stack.top.frame,
         &mut child.frame,
         exports,
+        numbers,
         ty,
     );
     if let Err(error) = ended {
@@ -408,6 +446,7 @@ fn read_item(
     root: &Translation,
     stack: &mut Stack,
     item: &LocalInitializer,
+    numbers: &[Atom],
     limit: u32,
     weights: &PrimaryMap<StaticComponentIndex, u32>,
 ) -> Result<(), Error>
@@ -419,6 +458,7 @@ fn read_item(
         state.old (reverse stack.old.callers.items) stack.old.top stack.old.total }
     requires item { slice_get (items_of state.old.bodies.now root.now stack.old.top) stack.old.top.next
         ≡ Some item.now }
+    requires numbered { AreNumbersOf state.old.names.now.texts (item_names item.now) numbers.now }
     requires next { stack.old.top.next < 18446744073709551615 }
     ensures { Moved context.now.table.now context.now.modules limit root.now
         state.old (reverse stack.old.callers.items) stack.old state.new stack.new result }
@@ -435,11 +475,12 @@ fn read_item(
             stack,
             *component,
             args.as_slice(),
+            numbers,
             *ty,
             limit,
             weights,
         ),
-        _ => advance(context, state, root, stack, item, limit),
+        _ => advance(context, state, root, stack, item, numbers, limit),
     }
 }
 
@@ -465,7 +506,8 @@ fn turn(
     let body = body_at(state.bodies, root, stack.top.body);
     match body.initializers.as_slice().get(stack.top.next) {
         Some(item) => {
-            read_item(context, state, root, stack, item, limit, weights)?;
+            let numbers = state.names.item(stack.top.body, stack.top.next);
+            read_item(context, state, root, stack, item, numbers, limit, weights)?;
             Ok(true)
         }
         None => match stack.callers.pop() {
@@ -521,6 +563,7 @@ pub fn run(
     requires weights { AreWeights context.now.table.now context.now.modules state.old.bodies.now weights.now }
     requires here { IsPoint context.now.table.now context.now.modules state.old frame }
     requires items { AreItems state.old.bodies.now root.now.initializers }
+    requires rooted { state.old.names.now.root ≡ root.now }
     requires begun { 0 < state.old.graph.num_runtime_component_instances }
     requires within { state.old.graph.num_runtime_component_instances ≤ limit }
     requires below { total.old < 4294967295 }

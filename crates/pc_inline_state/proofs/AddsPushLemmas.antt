@@ -2,6 +2,7 @@
 use Rattle.std.proofs.Common.{◌≡◌, ◌⊎◌, inl, inr, ℕ, ◌+◌, ◌≤◌, List, [], ◌∷◌, ◌++◌, length, refl, sym, subst, ap, arith}
 use Rattle.std.specs.Prelude.{Result, Ok, Err, OnErr, OnOk}
 use Rattle.std.proofs.lemmas.List.{length-append, length-map}
+use Rattle.pc_entity.specs.declared.string_pool.Atom.{Atom}
 use Rattle.pc_numbers.specs.declared.module_entity.MemoryIndex.{MemoryIndex}
 use Rattle.pc_numbers.specs.declared.runtime.ImportIndex.{ImportIndex}
 use Rattle.pc_numbers.specs.declared.runtime.RuntimeComponentInstanceIndex.{RuntimeComponentInstanceIndex}
@@ -288,7 +289,7 @@ module _ (b : Tables) where
     }
 
     -- what an instance exports
-    pub instance_exports_adds : (is : List (List (List ℕ × Member))) (x : List (List ℕ × Member))
+    pub instance_exports_adds : (is : List (List (Atom × Member))) (x : List (Atom × Member))
         → OnOk r (is ≡ b.instances ++ x ∷ []) → OnErr r (is ≡ b.instances)
         → AddsEach nowhere 0 1 b (record b { instances = is })
     instance_exports_adds is x ok err = record {

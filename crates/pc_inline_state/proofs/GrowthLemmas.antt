@@ -1,8 +1,9 @@
 -- Tables that have grown in one list.
-use Rattle.std.proofs.Common.{◌≡◌, ◌≤◌, ◌+◌, ℕ, List, [], ◌∷◌, ◌++◌, length, Result, Ok, Err, refl, sym, subst, ap, ◌∙◌}
+use Rattle.std.proofs.Common.{◌≡◌, ◌≤◌, ◌+◌, List, [], ◌∷◌, ◌++◌, length, Result, Ok, Err, refl, sym, subst, ap, ◌∙◌}
 use Rattle.std.proofs.Common.{arith}
 use Rattle.std.specs.Prelude.{OnErr, OnOk}
 use Rattle.std.proofs.lemmas.List.{length-append}
+use Rattle.pc_entity.specs.declared.string_pool.Atom.{Atom}
 use Rattle.pc_entity.specs.Lists.{Kept}
 use Rattle.pc_entity.proofs.Growing.{append_kept, kept_refl}
 use Rattle.pc_dfg.specs.declared.core_def.CoreDef.{CoreDef}
@@ -38,6 +39,7 @@ module _ (b : Tables) where
     instances = kept_refl b.instances;
     paths = kept_refl b.paths;
     bodies = refl;
+    names = refl;
     table = refl;
   }
 
@@ -53,6 +55,7 @@ module _ (b : Tables) where
     instances = kept_refl b.instances;
     paths = kept_refl b.paths;
     bodies = refl;
+    names = refl;
     table = refl;
   }
 
@@ -68,11 +71,12 @@ module _ (b : Tables) where
     instances = kept_refl b.instances;
     paths = kept_refl b.paths;
     bodies = refl;
+    names = refl;
     table = refl;
   }
 
   -- what instances export has grown
-  pub instances_grown : (is : List (List (List ℕ × Member))) → Kept b.instances is
+  pub instances_grown : (is : List (List (Atom × Member))) → Kept b.instances is
       → Keeps b (record b { instances = is })
   instances_grown is kept = record {
     types = types_refl b.types;
@@ -84,6 +88,7 @@ module _ (b : Tables) where
     instances = kept;
     paths = kept_refl b.paths;
     bodies = refl;
+    names = refl;
     table = refl;
   }
 
@@ -99,6 +104,7 @@ module _ (b : Tables) where
     instances = kept_refl b.instances;
     paths = kept_refl b.paths;
     bodies = refl;
+    names = refl;
     table = refl;
   }
 

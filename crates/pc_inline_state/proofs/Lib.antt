@@ -1,9 +1,5 @@
 -- What the functions of this crate rest on, and those of the crates above: the public ones are theirs too.
 pub mod ZipLemmas
-pub mod NameLemmas
-mod AddedLemmas
-pub mod NumberedLemmas
-pub mod BagLemmas
 pub mod FitsLemmas
 mod LookupLemmas
 mod NumberLemmas

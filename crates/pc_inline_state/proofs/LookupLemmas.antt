@@ -1,66 +1,23 @@
--- Look-ups of exports by name, and of memories.
+-- Look-ups of memories: by number, and by name.
 use Rattle.std.proofs.Common.{◌≡◌, ◌+◌, ℕ, suc, Bool, true, false, List, [], ◌∷◌, Option, Some, None, refl, ap}
-use Rattle.std.proofs.Common.{◌∙◌, if◌then◌else◌, subst, arith}
+use Rattle.std.proofs.Common.{◌∙◌, if◌then◌else◌, arith}
 use Rattle.std.specs.Prelude.{slice_get, option_and_then}
 use Rattle.std.specs.List.{AllZip}
-use Rattle.pc_numbers.specs.declared.entity_index.EntityIndex.{EntityIndex}
 use Rattle.std.specs.Str.{bytes_eq}
-use Rattle.pc_entity.specs.declared.string_pool.Atom.{Atom}
 use Rattle.pc_entity.specs.Lists.{names_of, value_of}
 use Rattle.pc_inline_state.proofs.ZipLemmas.{zip_at}
 use Rattle.pc_inline_state.specs.Frames.{Both, neither, both}
 use Rattle.pc_inline_state.specs.Bags.{module_export, module_exports}
-use Rattle.pc_inline_state.specs.Index.{HasExports, HasMemories}
+use Rattle.pc_inline_state.specs.Index.{HasMemories}
 use Rattle.pc_inline_state.specs.Instances.{is_wide_named}
-use Rattle.pc_inline_state.specs.declared.import_numbers.ImportNumbers.{ImportNumbers}
-use Rattle.pc_inline_state.specs.Numbers.{AreImportNumbers, HasExportNumbers, IsNumber, IsNumbering, import_names}
-use Rattle.pc_inline_state.specs.Numbers.{numbered_value}
 use Rattle.pc_spec_reading.specs.Member.{place_from}
 use Rattle.pc_types.specs.declared.module_record.ModuleRecord.{ModuleRecord}
 use Rattle.pc_types.specs.declared.parsed.CoreEntity.{CoreEntity}
 use Rattle.pc_types.specs.declared.parsed.DeclType.{DeclType}
 use Rattle.pc_types.specs.declared.parsed.DeclType.TheVariants as entry
 use Rattle.pc_types.specs.declared.parsed.TypeTable.{TypeTable}
-use Rattle.pc_types.specs.Record.{export_of, memory_widths, width_in}
+use Rattle.pc_types.specs.Record.{memory_widths, width_in}
 use Rattle.pc_types_walk.specs.Names.{export_names, export_place}
-
--- the exports of a module by name are those of its record
-pub found_export : (rs : List ModuleRecord) (maps : List (List (List ℕ × EntityIndex))) (n : ℕ) (name : List ℕ)
-    → AllZip HasExports rs maps
-    → option_and_then (value_of name) (slice_get maps n) ≡ option_and_then (λ (r : ModuleRecord). export_of r name)
-    (slice_get rs n)
-found_export rs maps n name h = by (slice_get rs n) (slice_get maps n) (zip_at HasExports rs maps n h)
-  where
-    by : (o : Option ModuleRecord) (w : Option (List (List ℕ × EntityIndex))) → Both HasExports o w
-        → option_and_then (value_of name) w ≡ option_and_then (λ (r : ModuleRecord). export_of r name) o
-    by None None neither = refl
-    by None (Some map) m = elim m [ ]
-    by (Some r) None m = elim m [ ]
-    by (Some r) (Some map) (both is) = is name
-
--- the numbers of the names of a module's imports are found where the module is
-pub found_numbers : (ms : List ModuleRecord) (x : ImportNumbers) (n : ℕ) → IsNumbering ms x
-    → Both (AreImportNumbers (import_names ms)) (slice_get ms n) (slice_get x.imports n)
-found_numbers ms x n is =
-    zip_at (AreImportNumbers (import_names ms)) ms x.imports n
-    (subst (λ (names : List (List ℕ)). AllZip (AreImportNumbers names) ms x.imports) is.names is.imports)
-
--- the exports of a module by number are those of its record
-pub numbered_export : (ms : List ModuleRecord) (x : ImportNumbers) (n : ℕ) (number : Atom) (name : List ℕ)
-    → IsNumbering ms x → IsNumber (import_names ms) number name
-    → option_and_then (numbered_value number) (slice_get x.exports n)
-    ≡ option_and_then (λ (r : ModuleRecord). export_of r name) (slice_get ms n)
-numbered_export ms x n number name is here =
-    by (slice_get ms n) (slice_get x.exports n) (zip_at (HasExportNumbers (import_names ms)) ms x.exports n
-    (subst (λ (names : List (List ℕ)). AllZip (HasExportNumbers names) ms x.exports) is.names is.exports))
-  where
-    by : (o : Option ModuleRecord) (w : Option (List (Atom × EntityIndex)))
-        → Both (HasExportNumbers (import_names ms)) o w
-        → option_and_then (numbered_value number) w ≡ option_and_then (λ (r : ModuleRecord). export_of r name) o
-    by None None neither = refl
-    by None (Some map) m = elim m [ ]
-    by (Some r) None m = elim m [ ]
-    by (Some r) (Some map) (both has) = has number name here
 
 -- whether the memories of a module have 64 bits is as in its record
 pub found_memory : (rs : List ModuleRecord) (widths : List (List Bool)) (n i : ℕ) → AllZip HasMemories rs widths

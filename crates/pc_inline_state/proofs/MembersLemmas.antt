@@ -4,6 +4,7 @@ use Rattle.std.proofs.Common.{inl, inr, arith}
 use Rattle.std.specs.Prelude.{Contains}
 use Rattle.std.proofs.lemmas.List.{length-append}
 use Rattle.std.proofs.lemmas.Option.{none-some, same_Some}
+use Rattle.pc_entity.specs.declared.string_pool.Atom.{Atom}
 use Rattle.pc_dfg.proofs.AddLemmas.{get_appended}
 use Rattle.pc_inline_state.specs.declared.definition.Definition.{Definition}
 use Rattle.pc_inline_state.specs.declared.definition.ExportsId.{ExportsId}
@@ -32,7 +33,7 @@ none_earlier = record {
   earlier = λ k es e j at among is. absurd (none-some es at);
 }
 
-module _ (ds : List Definition) (lists : List (List (List ℕ × Member))) (are : AreEarlier ds lists) where
+module _ (ds : List Definition) (lists : List (List (Atom × Member))) (are : AreEarlier ds lists) where
   -- an instance among the definitions that were there is one of them
   before : (d : Definition) (n : ℕ) (j : ExportsId) → n < length ds → IsInstanceOf (ds ++ d ∷ []) n j
       → IsInstanceOf ds n j
@@ -55,8 +56,8 @@ module _ (ds : List Definition) (lists : List (List (List ℕ × Member))) (are 
   }
 
   -- one more list of members, which are definitions that are there
-  pub members_earlier : (es : List (List ℕ × Member))
-      → ((e : List ℕ × Member) → Contains es e → e.1.item.0 < length ds) → AreEarlier ds (lists ++ es ∷ [])
+  pub members_earlier : (es : List (Atom × Member))
+      → ((e : Atom × Member) → Contains es e → e.1.item.0 < length ds) → AreEarlier ds (lists ++ es ∷ [])
   members_earlier es held = record {
     there = λ n k is. longer lists es k.0 (are.there n k is);
     held = λ k xs e at among. elim (get_appended lists es k xs at) as (λ _. e.1.item.0 < length ds) [

@@ -1,6 +1,6 @@
 -- The paths to host items with one more: it is free, and what is said of the others stays so.
 use Rattle.std.proofs.Common.{◌≡◌, ◌<◌, ◌||◌, ℕ, zero, suc, Bool, true, false, List, [], ◌∷◌, ◌++◌}
-use Rattle.std.proofs.Common.{length, map, Option, None, Some, refl, sym, ap, subst, inl, inr, arith}
+use Rattle.std.proofs.Common.{length, map, Option, None, Some, refl, sym, ap, subst, ◌∙◌, inl, inr, arith}
 use Rattle.std.specs.Prelude.{Contains, slice_get}
 use Rattle.std.specs.List.{list_any}
 use Rattle.std.proofs.lemmas.List.{length-append}
@@ -16,6 +16,7 @@ use Rattle.pc_spec_reading.specs.SameTypes.{same_path}
 use Rattle.pc_spec_reading.proofs.SameTypeLemmas.{path_exact}
 use Rattle.pc_dfg.specs.declared.dfg.ComponentDfg.{ComponentDfg}
 use Rattle.pc_inline_paths.specs.declared.path_id.PathId.{PathId}
+use Rattle.pc_inline_paths.specs.HeldPaths.{HeldPaths}
 use Rattle.pc_inline_paths.specs.Paths.{TakesIn}
 use Rattle.pc_inline_state.specs.declared.state.State.{State}
 use Rattle.pc_inline_state.specs.Points.{IsSoundState}
@@ -123,14 +124,16 @@ paths_grown b ps kept =
       instances = same.instances;
       paths = kept;
       bodies = same.bodies;
+      names = same.names;
       table = same.table;
     }
 
--- a state is sound with other paths of which that is so, and which keep those that it has
-pub sound_with : (old new : State) (ps : List Path) → new ≡ record old { paths = ps; used = new.used }
-    → Kept old.paths ps → (AreUsed old.graph old.paths old.used.items → AreUsed old.graph ps new.used.items)
+-- a state is sound with other paths of which that is so, which are written in the same names and keep those that it has
+pub sound_with : (old new : State) (ps : HeldPaths) → ps.names ≡ old.paths.names
+    → new ≡ record old { paths = ps; used = new.used } → Kept old.paths.held ps.held
+    → (AreUsed old.graph old.paths.held old.used.items → AreUsed old.graph ps.held new.used.items)
     → SoundWithPaths old new
-sound_with old new ps rest kept used t ms s = subst (IsSoundState t ms) (sym rest) (record {
+sound_with old new ps same rest kept used t ms s = subst (IsSoundState t ms) (sym rest) (record {
   ordered = s.ordered;
   items = s.items;
   plain = s.plain;
@@ -139,8 +142,15 @@ sound_with old new ps rest kept used t ms s = subst (IsSoundState t ms) (sym res
   held = s.held;
   table = s.table;
   bodies = s.bodies;
+  names = record {
+    modules = s.names.modules;
+    table = s.names.table;
+    bodies = s.names.bodies;
+    distinct = s.names.distinct;
+    paths = same ∙ s.names.paths;
+  };
   members = s.members;
-  instances = instances_kept ms (tables_of old) (record (tables_of old) { paths = ps })
-      (paths_grown (tables_of old) ps kept) refl old.runtime_instances.items s.instances;
+  instances = instances_kept ms (tables_of old) (record (tables_of old) { paths = ps.held })
+      (paths_grown (tables_of old) ps.held kept) refl old.runtime_instances.items s.instances;
   widths = s.widths;
 })

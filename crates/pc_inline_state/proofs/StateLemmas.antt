@@ -1,6 +1,7 @@
 -- What grows and does nothing: tables, types.
 use Rattle.std.proofs.Common.{◌≡◌, ◌<◌, ℕ, List, [], ◌∷◌, ◌++◌, length, Some, refl, sym, subst, ◌∙◌}
 use Rattle.std.specs.Prelude.{Contains, Err, Ok, OnErr, OnOk, Result}
+use Rattle.pc_entity.specs.declared.string_pool.Atom.{Atom}
 use Rattle.pc_entity.proofs.Growing.{append_kept, kept_refl, kept_trans}
 use Rattle.pc_entity.proofs.LookupLemmas.{kept_within}
 use Rattle.pc_types.specs.declared.module_record.ModuleRecord.{ModuleRecord}
@@ -45,6 +46,7 @@ keeps_refl b = record {
   instances = kept_refl b.instances;
   paths = kept_refl b.paths;
   bodies = refl;
+  names = refl;
   table = refl;
 }
 
@@ -60,6 +62,7 @@ keeps_trans a b c first second = record {
   instances = kept_trans a.instances b.instances c.instances first.instances second.instances;
   paths = kept_trans a.paths b.paths c.paths first.paths second.paths;
   bodies = second.bodies ∙ first.bodies;
+  names = second.names ∙ first.names;
   table = second.table ∙ first.table;
 }
 
@@ -139,8 +142,9 @@ module _ (t : TypeTable) (ms : List ModuleRecord) where
         definitions = kept_refl st.definitions;
         closures = kept_refl st.closures;
         instances = kept_refl st.instances;
-        paths = kept_refl st.paths;
+        paths = kept_refl st.paths.held;
         bodies = refl;
+        names = refl;
         table = refl;
       } in
       record {
@@ -154,6 +158,7 @@ module _ (t : TypeTable) (ms : List ModuleRecord) where
           held = s.held;
           table = s.table;
           bodies = s.bodies;
+          names = s.names;
           members = s.members;
           instances = instances_kept ms (tables_of st) (tables_of next) keeps refl st.runtime_instances.items
               s.instances;
@@ -190,8 +195,9 @@ module _ (t : TypeTable) (ms : List ModuleRecord) where
         definitions = append_kept st.definitions (d ∷ []);
         closures = kept_refl st.closures;
         instances = kept_refl st.instances;
-        paths = kept_refl st.paths;
+        paths = kept_refl st.paths.held;
         bodies = refl;
+        names = refl;
         table = refl;
       } in
       record {
@@ -205,6 +211,7 @@ module _ (t : TypeTable) (ms : List ModuleRecord) where
           held = s.held;
           table = s.table;
           bodies = s.bodies;
+          names = s.names;
           members = definition_earlier st.definitions st.instances s.members d new;
           instances = instances_kept ms (tables_of st) (tables_of next) keeps refl st.runtime_instances.items
               s.instances;
@@ -228,8 +235,8 @@ module _ (t : TypeTable) (ms : List ModuleRecord) where
       }
 
   -- what one more instance exports: definitions that are there
-  pub instance_prepares : (st : State) (es : List (List ℕ × Member))
-      → ((e : List ℕ × Member) → Contains es e → e.1.item.0 < length st.definitions)
+  pub instance_prepares : (st : State) (es : List (Atom × Member))
+      → ((e : Atom × Member) → Contains es e → e.1.item.0 < length st.definitions)
       → Prepares t ms st (record st { instances = st.instances ++ es ∷ [] })
   instance_prepares st es held =
       let next : State = record st { instances = st.instances ++ es ∷ [] } in
@@ -241,8 +248,9 @@ module _ (t : TypeTable) (ms : List ModuleRecord) where
         definitions = kept_refl st.definitions;
         closures = kept_refl st.closures;
         instances = append_kept st.instances (es ∷ []);
-        paths = kept_refl st.paths;
+        paths = kept_refl st.paths.held;
         bodies = refl;
+        names = refl;
         table = refl;
       } in
       record {
@@ -256,6 +264,7 @@ module _ (t : TypeTable) (ms : List ModuleRecord) where
           held = s.held;
           table = s.table;
           bodies = s.bodies;
+          names = s.names;
           members = members_earlier st.definitions st.instances s.members es held;
           instances = instances_kept ms (tables_of st) (tables_of next) keeps refl st.runtime_instances.items
               s.instances;
@@ -291,8 +300,9 @@ module _ (t : TypeTable) (ms : List ModuleRecord) where
         definitions = kept_refl st.definitions;
         closures = append_kept st.closures (d ∷ []);
         instances = kept_refl st.instances;
-        paths = kept_refl st.paths;
+        paths = kept_refl st.paths.held;
         bodies = refl;
+        names = refl;
         table = refl;
       } in
       record {
@@ -306,6 +316,7 @@ module _ (t : TypeTable) (ms : List ModuleRecord) where
           held = s.held;
           table = s.table;
           bodies = s.bodies;
+          names = s.names;
           members = s.members;
           instances = instances_kept ms (tables_of st) (tables_of next) keeps refl st.runtime_instances.items
               s.instances;
@@ -341,8 +352,9 @@ module _ (t : TypeTable) (ms : List ModuleRecord) where
         definitions = kept_refl old.definitions;
         closures = kept_refl old.closures;
         instances = kept_refl old.instances;
-        paths = kept_refl old.paths;
+        paths = kept_refl old.paths.held;
         bodies = refl;
+        names = refl;
         table = refl;
       } in
       subst (λ st. Prepares t ms old st) (sym c.rest) (record {
@@ -356,6 +368,7 @@ module _ (t : TypeTable) (ms : List ModuleRecord) where
           held = holds_grow old.types new.types c.grows t old.graph s.held;
           table = s.table;
           bodies = s.bodies;
+          names = s.names;
           members = s.members;
           instances = instances_kept ms (tables_of old) (tables_of next) keeps refl old.runtime_instances.items
               s.instances;
@@ -425,8 +438,8 @@ module _ (t : TypeTable) (ms : List ModuleRecord) where
     closure_pushed d = pushed r old new (record old { closures = old.closures ++ d ∷ [] }) (closure_prepares old d)
 
     -- what an instance exports: definitions that are there
-    pub instance_pushed : (es : List (List ℕ × Member))
-        → ((e : List ℕ × Member) → Contains es e → e.1.item.0 < length old.definitions)
+    pub instance_pushed : (es : List (Atom × Member))
+        → ((e : Atom × Member) → Contains es e → e.1.item.0 < length old.definitions)
         → OnOk r (new ≡ record old { instances = old.instances ++ es ∷ [] })
         → OnErr r (new ≡ old) → Prepares t ms old new
     instance_pushed es held =

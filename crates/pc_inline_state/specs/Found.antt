@@ -1,7 +1,6 @@
 -- What a core instance has under a name, and the arguments of a core module.
 use Rattle.std.specs.Prelude.{◌≡◌, ℕ, Bool, List, Some, nat_lt, length}
 use Rattle.std.specs.List.{AllZip, list_all}
-use Rattle.pc_entity.specs.Lists.{value_of}
 use Rattle.pc_dfg.specs.declared.ids.InstanceId.{InstanceId}
 use Rattle.pc_numbers.specs.declared.entity_index.EntityIndex.{EntityIndex}
 use Rattle.pc_types.specs.declared.module_record.ModuleRecord.{ModuleRecord}
@@ -23,10 +22,6 @@ use Rattle.pc_inline_state.specs.Tables.{HasEntity, IsHostInstance, IsItem, Tabl
 -- whether each argument, also one that no import asks for, is a core instance of the component instance
 abbrev pub knows_instances : Frame → List (List ℕ × ℕ) → Bool
 knows_instances f args = list_all (λ (a : List ℕ × ℕ). nat_lt a.1 (length f.core_instances)) args
-
--- two lists have the same value under each name
-abbrev pub SameValues : {A : Type 0} → List (List ℕ × A) → List (List ℕ × A) → Type 0
-SameValues xs ys = (name : List ℕ) → value_of name xs ≡ value_of name ys
 
 module _ (ms : List ModuleRecord) (b : Tables) where
   -- what a core instance has under a name, of a kind

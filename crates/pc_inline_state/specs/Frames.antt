@@ -1,7 +1,7 @@
 -- Component instances while their items are read, against the scopes of the reading.
-use Rattle.std.specs.Prelude.{◌≡◌, ℕ, List, Option, None, Some, slice_get}
+use Rattle.std.specs.Prelude.{◌≡◌, ℕ, List, Some, slice_get}
 use Rattle.std.specs.List.{AllZip}
-use Rattle.pc_entity.specs.Lists.{value_of}
+use Rattle.pc_entity.specs.declared.string_pool.Atom.{Atom}
 use Rattle.pc_dfg.specs.declared.ids.InstanceId.{InstanceId}
 use Rattle.pc_numbers.specs.declared.component_entity.StaticModuleIndex.{StaticModuleIndex}
 use Rattle.pc_types.specs.declared.module_record.ModuleRecord.{ModuleRecord}
@@ -18,24 +18,15 @@ use Rattle.pc_spec_reading.specs.Value.{module_value}
 use Rattle.pc_dfg.specs.declared.core_def.CoreDef.{CoreDef}
 use Rattle.pc_dfg.specs.declared.instance.Instance.TheVariants as source
 use Rattle.pc_dfg.specs.Held.{HasBegun}
+pub use Rattle.pc_inline_names.specs.Both.{Both, both, neither}
+use Rattle.pc_inline_names.specs.Numbers.{SameNamed}
 use Rattle.pc_inline_state.specs.declared.definition.CoreId.{CoreId}
 use Rattle.pc_inline_state.specs.declared.definition.DefinitionId.{DefinitionId}
-use Rattle.pc_inline_state.specs.declared.frame.Bag.{Bag}
 use Rattle.pc_inline_state.specs.declared.frame.CoreInstance.{CoreInstance}
 use Rattle.pc_inline_state.specs.declared.frame.CoreInstance.TheVariants as instance
 use Rattle.pc_inline_state.specs.declared.frame.Frame.{Frame}
-use Rattle.pc_inline_state.specs.Numbers.{HasNumbers, import_names}
 use Rattle.pc_inline_state.specs.Stands.{IsTableTree, ItemStands, Stands}
 use Rattle.pc_inline_state.specs.Tables.{IsHostInstance, Tables}
-
--- both are there and stand so, or neither is there
-pub data Both {A B : Type 0} (R : A → B → Type 0) : Option A → Option B → Type 0 where
-  neither : Both R None None
-  both : {a : A} {b : B} → R a b → Both R (Some a) (Some b)
-
--- each name has on both sides what stands so, or on neither anything
-abbrev pub SameNames : {A B : Type 0} → (A → B → Type 0) → List (List ℕ × A) → List (List ℕ × B) → Type 0
-SameNames {A} {B} R xs ys = (name : List ℕ) → Both R (value_of name xs) (value_of name ys)
 
 module _ (ms : List ModuleRecord) (b : Tables) where
   -- core items by number, of a kind
@@ -54,8 +45,8 @@ module _ (ms : List ModuleRecord) (b : Tables) where
         → CoreInstanceStands (instance.Made i m) (reading.of_module i.0 m.0)
     host_stands : {i : InstanceId} {entry : ℕ} {tree : TypeTree} → IsHostInstance b.graph i
         → IsTableTree ms b is_module entry tree → CoreInstanceStands (instance.Host i entry) (reading.of_host_module i.0 tree)
-    bag_stands : {xs : Bag} {items : List (List ℕ × CoreItem)} → SameNames BagItemStands xs.items items
-        → HasNumbers (import_names ms) xs.items xs.numbered → CoreInstanceStands (instance.Bag xs) (reading.bag items)
+    bag_stands : {xs : List (Atom × (CoreKind × CoreId))} {items : List (List ℕ × CoreItem)}
+        → SameNamed b.names.texts BagItemStands xs items → CoreInstanceStands (instance.Bag xs) (reading.bag items)
 
   -- a function, by number
   abbrev pub FuncStands : DefinitionId → Function → Type 0
@@ -85,6 +76,6 @@ module _ (ms : List ModuleRecord) (b : Tables) where
     pub core_instances : AllZip CoreInstanceStands f.core_instances s.core_instances
     pub instances : AllZip InstanceStands f.instances s.instances
     pub components : AllZip ComponentStands f.components s.components
-    pub arguments : SameNames (Stands ms b) f.arguments s.arguments
+    pub arguments : SameNamed b.names.texts (Stands ms b) f.arguments s.arguments
     pub component_instance : s.component_instance ≡ f.component_instance.0
     pub begun : HasBegun b.graph f.component_instance.0

@@ -7,14 +7,15 @@ use Rattle.pc_dfg.specs.Empty.{empty_graph}
 use Rattle.pc_inline_state.specs.declared.state.State.{State}
 use Rattle.pc_inline_state.specs.Typed.{AreNumbers, no_resources}
 
--- nothing was read yet, and no resource is known
+-- nothing was read yet, and no resource is known; paths are written in the names
 pub record IsFresh (t : TypeTable) (st : State) : Type 0 where
   pub graph : st.graph ≡ empty_graph
   pub cores : st.cores ≡ []
   pub definitions : st.definitions ≡ []
   pub closures : st.closures ≡ []
   pub instances : st.instances ≡ []
-  pub paths : st.paths ≡ []
+  pub paths : st.paths.held ≡ []
+  pub path_names : st.paths.names ≡ st.names.now.texts
   pub used : st.used.items ≡ []
   pub runtime_instances : st.runtime_instances.items ≡ []
   pub table : st.table.now ≡ t

@@ -12,7 +12,6 @@ pub mod Bags
 pub mod Instances
 pub mod Members
 pub mod Named
-pub mod Numbers
 pub mod Trails
 pub mod Ready
 pub mod TakesPath

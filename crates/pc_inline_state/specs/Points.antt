@@ -1,6 +1,7 @@
 -- A moment of the code against a moment of the reading, and what the code makes of an item.
-use Rattle.std.specs.Prelude.{◌≡◌, ◌≤◌, ◌+◌, ⊤, true, length, List, Result, Ok, Err, None}
+use Rattle.std.specs.Prelude.{◌≡◌, ◌≤◌, ◌+◌, ℕ, ⊤, true, length, List, Result, Ok, Err, None}
 use Rattle.std.specs.List.{list_all}
+use Rattle.pc_entity.specs.Lists.{AreDistinct}
 use Rattle.pc_types_lists.specs.Types.{IsFull}
 use Rattle.pc_types_builder.specs.Converted.{AreConverted}
 use Rattle.pc_types.specs.declared.module_record.ModuleRecord.{ModuleRecord}
@@ -13,6 +14,9 @@ use Rattle.pc_spec_reading.specs.Item.{Item}
 use Rattle.pc_spec_reading.specs.Outcome.{Fault}
 use Rattle.pc_spec_reading.specs.Rows.{read_row}
 use Rattle.pc_spec_reading.specs.Scope.{Moment}
+use Rattle.pc_local.specs.declared.item.Translation.{Translation}
+use Rattle.pc_local.specs.Sound.{AreSoundBodies}
+use Rattle.pc_inline_names.specs.Named.{Named}
 use Rattle.pc_inline_state.specs.declared.error.ItemError.{ItemError}
 use Rattle.pc_inline_state.specs.declared.error.ItemError.TheVariants as item_error
 use Rattle.pc_inline_state.specs.declared.frame.Frame.{Frame}
@@ -22,7 +26,6 @@ use Rattle.pc_inline_state.specs.Instances.{HaveWidths, InstancesStand}
 use Rattle.pc_inline_state.specs.Frames.{FrameStands}
 use Rattle.pc_inline_state.specs.KnowsSame.{KnowsSame}
 use Rattle.pc_inline_state.specs.Members.{AreEarlier}
-use Rattle.pc_local.specs.Sound.{AreSoundBodies}
 use Rattle.pc_inline_state.specs.Tables.{Tables, tables_of}
 use Rattle.pc_inline_state.specs.Typed.{AreNumbers}
 use Rattle.pc_inline_state.specs.Worlds.{AreUsed, HasItems, HasNoExports, HoldsTypes, IsPlain, WorldStands}
@@ -45,16 +48,25 @@ module _ (t : TypeTable) (ms : List ModuleRecord) where
     pub table : table_fault t ≡ None
     pub modules : list_all (is_sound t) ms ≡ true
 
+  -- the names are those of what is read, where these are the bodies, and each is there once; paths are written in them
+  pub record AreItsNames (n : Named) (trs : List Translation) (path_names : List (List ℕ)) : Type 0 where
+    pub modules : n.modules ≡ ms
+    pub table : n.table ≡ t
+    pub bodies : n.bodies ≡ trs
+    pub distinct : AreDistinct n.texts
+    pub paths : path_names ≡ n.texts
+
   -- what all component instances share is in order by itself
   pub record IsSoundState (st : State) : Type 0 where
     pub ordered : IsOrdered st.graph
     pub items : HasItems ms st.graph
     pub plain : IsPlain st.graph
-    pub used : AreUsed st.graph st.paths st.used.items
+    pub used : AreUsed st.graph st.paths.held st.used.items
     pub numbers : AreNumbers st.types t st.numbers
     pub held : HoldsTypes st.types t st.graph
     pub table : st.table.now ≡ t
     pub bodies : AreSoundBodies (length ms) st.bodies.now
+    pub names : AreItsNames st.names.now st.bodies.now st.paths.names
     pub members : AreEarlier st.definitions st.instances
     pub instances : InstancesStand ms (tables_of st) st.runtime_instances.items
     pub widths : HaveWidths t ms st.runtime_instances.items st.graph

@@ -1,5 +1,6 @@
 -- What the numbers of the tables stand for: the values of the reading, with whole types.
 use Rattle.std.specs.Prelude.{◌≡◌, ◌<◌, ℕ, Bool, true, [], ◌∷◌, length, List, Option, None, Some, slice_get}
+use Rattle.pc_entity.specs.declared.string_pool.Atom.{Atom}
 use Rattle.pc_numbers.specs.declared.component_entity.StaticComponentIndex.{StaticComponentIndex}
 use Rattle.pc_numbers.specs.declared.component_entity.StaticModuleIndex.{StaticModuleIndex}
 use Rattle.pc_numbers.specs.declared.runtime.ResourceIndex.{ResourceIndex}
@@ -49,6 +50,7 @@ use Rattle.pc_inline_state.specs.declared.definition.DefinitionId.{DefinitionId}
 use Rattle.pc_inline_state.specs.declared.definition.ExportsId.{ExportsId}
 use Rattle.pc_inline_state.specs.declared.definition.Options.{Options}
 use Rattle.pc_inline_state.specs.declared.state.Member.{Member}
+use Rattle.pc_inline_names.specs.Numbers.{IsNumber}
 use Rattle.pc_inline_paths.specs.declared.path_id.PathId.{PathId}
 use Rattle.pc_inline_state.specs.Fits.{Fits}
 use Rattle.pc_inline_state.specs.Tables.{IsItem, Tables}
@@ -145,7 +147,7 @@ module _ (ms : List ModuleRecord) (b : Tables) where
           {tree : TypeTree} → slice_get b.paths p.0 ≡ Some path → IsHostType path tree → IsTableTree is_instance entry tree
           → IsType (type.ComponentInstance ty) tree
           → DefinitionStands (definition.HostInstance p ty entry) (instance_value (host_instance path tree))
-      stands_instance : {n : ExportsId} {ty : TypeComponentInstanceIndex} {es : List (List ℕ × Member)}
+      stands_instance : {n : ExportsId} {ty : TypeComponentInstanceIndex} {es : List (Atom × Member)}
           {vs : NamedValues} {tree : TypeTree} → slice_get b.instances n.0 ≡ Some es → MembersStand es vs
           → IsType (type.ComponentInstance ty) tree
           → DefinitionStands (definition.Instance n ty) (instance_value (made_instance vs tree))
@@ -161,8 +163,8 @@ module _ (ms : List ModuleRecord) (b : Tables) where
           → Captured k (id ∷ ids) ((c, n) ∷ names) chain
 
     -- what an instance exports, in order, each with what its name says of it
-    pub data MembersStand : List (List ℕ × Member) → NamedValues → Type 0 where
+    pub data MembersStand : List (Atom × Member) → NamedValues → Type 0 where
       no_members : MembersStand [] no_values
-      and_member : {name : ExternName} {m : Member} {v : Value} {es : List (List ℕ × Member)} {vs : NamedValues}
-          → m.data_ ≡ extern_data name → Stands m.item v → MembersStand es vs
-          → MembersStand ((name.name, m) ∷ es) (and_value name v vs)
+      and_member : {name : ExternName} {n : Atom} {m : Member} {v : Value} {es : List (Atom × Member)}
+          {vs : NamedValues} → IsNumber b.names.texts n name.name → m.data_ ≡ extern_data name → Stands m.item v
+          → MembersStand es vs → MembersStand ((n, m) ∷ es) (and_value name v vs)

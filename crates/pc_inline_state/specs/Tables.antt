@@ -1,5 +1,6 @@
 -- What numbers are looked up in: the types builder, the graph, and the tables of what items are.
 use Rattle.std.specs.Prelude.{◌≡◌, ◌<◌, ℕ, true, List, length, Some, slice_get}
+use Rattle.pc_entity.specs.declared.string_pool.Atom.{Atom}
 use Rattle.pc_entity.specs.Lists.{Kept}
 use Rattle.pc_dfg.specs.declared.ids.AdapterId.{AdapterId}
 use Rattle.pc_dfg.specs.declared.ids.InstanceId.{InstanceId}
@@ -26,6 +27,7 @@ use Rattle.pc_dfg.specs.declared.instance.Instance.TheVariants as source
 use Rattle.pc_dfg.specs.Grows as graph
 use Rattle.pc_dfg.specs.Grows.{HasIntrinsic}
 use Rattle.pc_local.specs.declared.item.Translation.{Translation}
+use Rattle.pc_inline_names.specs.Named.{Named}
 use Rattle.pc_inline_state.specs.declared.closure.Closure.{Closure}
 use Rattle.pc_inline_state.specs.declared.definition.Definition.{Definition}
 use Rattle.pc_inline_state.specs.declared.state.Member.{Member}
@@ -33,17 +35,19 @@ use Rattle.pc_inline_state.specs.declared.state.State.{State}
 use Rattle.pc_inline_state.specs.Fits.{FitsBefore}
 
 -- the types builder, the graph so far, and the tables: core items, definitions, what components captured, what
--- instances export, the paths to host items, the bodies of the program, and its type table
+-- instances export by the numbers of their names, the paths to host items, the bodies of the program, its type table,
+-- and its names
 pub record Tables : Type 0 where
   pub types : Types
   pub graph : ComponentDfg
   pub cores : List CoreDef
   pub definitions : List Definition
   pub closures : List Closure
-  pub instances : List (List (List ℕ × Member))
+  pub instances : List (List (Atom × Member))
   pub paths : List Path
   pub bodies : List Translation
   pub table : TypeTable
+  pub names : Named
 
 -- those of a state
 abbrev pub tables_of : State → Tables
@@ -54,9 +58,10 @@ tables_of st = record {
   definitions = st.definitions;
   closures = st.closures;
   instances = st.instances;
-  paths = st.paths;
+  paths = st.paths.held;
   bodies = st.bodies.now;
   table = st.table.now;
+  names = st.names.now;
 }
 
 -- each number still names what it named, and resource numbers that fit now fitted
@@ -71,6 +76,7 @@ pub record Keeps (old new : Tables) : Type 0 where
   pub paths : Kept old.paths new.paths
   pub bodies : new.bodies ≡ old.bodies
   pub table : new.table ≡ old.table
+  pub names : new.names ≡ old.names
 
 -- the core instance is made of a module of the host
 pub record IsHostInstance (g : ComponentDfg) (i : InstanceId) : Type 0 where

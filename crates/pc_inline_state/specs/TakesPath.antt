@@ -10,8 +10,8 @@ use Rattle.pc_inline_state.specs.Points.{IsSoundState}
 
 -- a path has a number of its own: the one that it had, or the next
 pub record TakesPath (path : Path) (old new : State) (id : PathId) : Type 0 where
-  pub held : slice_get new.paths id.0 ≡ Some path
-  pub grows : (new.paths ≡ old.paths) ⊎ (new.paths ≡ old.paths ++ path ∷ [])
+  pub held : slice_get new.paths.held id.0 ≡ Some path
+  pub grows : (new.paths.held ≡ old.paths.held) ⊎ (new.paths.held ≡ old.paths.held ++ path ∷ [])
 
 -- a state that is sound still is
 abbrev pub SoundWithPaths : State → State → Type 0

@@ -3,7 +3,7 @@
 use crate::core_modules::CoreModules;
 use pc_entity::Seed;
 use pc_types::TypeTable;
-use pc_types_walk::{Leads, TableNames};
+use pc_types_walk::Leads;
 use std::alloc::Global;
 
 /// The type table, with what was found out of it once, and the core modules that were handed in.
@@ -14,8 +14,6 @@ pub struct Context<'a> {
     pub table: &'a TypeTable,
     /// Through which exports each instance type leads to its resources.
     pub leads: Leads,
-    /// Where each name stands among the exports of a type.
-    pub names: TableNames,
     pub modules: CoreModules<'a>,
 }
 
@@ -27,14 +25,13 @@ impl<'a> Drop for Context<'a> {
             seed: _,
             table: _,
             leads,
-            names,
             modules,
         } = self;
         drop_modules(modules);
-        drop_table(leads, names);
+        drop_leads(leads);
     }
 }
 
 fn drop_modules(_modules: CoreModules<'_>) {}
 
-fn drop_table(_leads: Leads, _names: TableNames) {}
+fn drop_leads(_leads: Leads) {}

@@ -9,12 +9,11 @@ ghost use Rattle.pc_parsed.specs.Mark.{Mark};
 ghost use Rattle.pc_dfg.specs.declared.core_def.CoreDef.TheVariants as def;
 ghost use Rattle.pc_info.specs.declared.core_def.ExportItem.TheVariants as item;
 ghost use Rattle.pc_inline_state.specs.AddsEach.{AddsEach, nowhere};
-ghost use Rattle.pc_inline_state.specs.Bags.{IsNumbered, entity_of_kind, export_item, known_of_kind, module_export};
+ghost use Rattle.pc_inline_names.specs.Numbers.{IsNumber};
+ghost use Rattle.pc_inline_state.specs.Bags.{entity_of_kind, export_item, known_of_kind, module_export};
 ghost use Rattle.pc_inline_state.specs.Bags.{named_of_kind};
 ghost use Rattle.pc_inline_state.specs.Found.{ArgumentStands, FoundThere, ItemFound};
-ghost use Rattle.pc_inline_state.specs.Numbers.{IsNumber, import_names};
 ghost use Rattle.pc_inline_state.specs.Prepares.{Prepares};
-ghost use Rattle.pc_inline_state.specs.Ready.{IsReady};
 ghost use Rattle.pc_inline_state.specs.Refused.{LacksRoom};
 ghost use Rattle.pc_inline_state.specs.Stands.{ItemStands};
 ghost use Rattle.pc_inline_state.specs.Tables.{tables_of};
@@ -26,6 +25,7 @@ use crate::frame::CoreInstance;
 use crate::state::State;
 use pc_dfg::{CoreDef, CoreExport, ExportItem, InstanceId};
 use pc_entity::{Atom, EntityIndex, NoMemory, Text, TryClone};
+use pc_inline_names::ProgramNames;
 use pc_types::{CoreEntity, CoreKind, DeclType, TypeTable};
 use std::alloc::Global;
 
@@ -137,51 +137,32 @@ fn known_of_kind(kind: CoreKind, item: (CoreKind, CoreId)) -> Option<CoreItem>
 }
 
 impl<'a> Context<'a> {
-    /// What a core instance has under a name, if it is of a kind.
-    pub fn export(&self, instance: &CoreInstance, kind: CoreKind, name: &str) -> Option<CoreItem>
-        requires ready { IsReady self.now }
-        ensures { result ≡ export_item self.now.table.now self.now.modules kind name.now instance.now }
-    {
-        match instance {
-            CoreInstance::Made {
-                instance,
-                core_module,
-            } => entity_of_kind(*instance, kind, self.modules.export(*core_module, name)),
-            CoreInstance::Host { instance, entry } => {
-                let place = self.names.place(*entry, name)?;
-                named_of_kind(self.table, *instance, *entry, kind, place)
-            }
-            CoreInstance::Bag(bag) => known_of_kind(kind, *bag.items.get(name)?),
-        }
-    }
-
-    /// What a core instance has under the name of an import, if it is of a kind. Only what a host module exports is
-    /// found by the name itself.
-    pub fn export_numbered(
+    /// What a core instance has under the name of a number, if it is of a kind.
+    pub fn export(
         &self,
+        names: &ProgramNames<'_>,
         instance: &CoreInstance,
         kind: CoreKind,
         number: Atom,
-        name: &str,
     ) -> Option<CoreItem>
-        requires ready { IsReady self.now }
-        ensures { IsNumber (import_names self.now.modules) number name.now
-            → IsNumbered self.now.modules instance.now
-            → result ≡ export_item self.now.table.now self.now.modules kind name.now instance.now }
+        requires modules { names.now.modules ≡ self.now.modules }
+        requires table { names.now.table ≡ self.now.table.now }
+        ensures { (name : List ℕ) → IsNumber names.now.texts number name
+            → result ≡ export_item self.now.table.now self.now.modules kind number name instance.now }
     {
         match instance {
             CoreInstance::Made {
                 instance,
                 core_module,
             } => {
-                let entity = self.modules.export_numbered(*core_module, number);
+                let entity = names.module_export(*core_module, number);
                 entity_of_kind(*instance, kind, entity)
             }
             CoreInstance::Host { instance, entry } => {
-                let place = self.names.place(*entry, name)?;
+                let place = names.type_export(*entry, number)?;
                 named_of_kind(self.table, *instance, *entry, kind, place)
             }
-            CoreInstance::Bag(bag) => known_of_kind(kind, *bag.numbered.get(number)?),
+            CoreInstance::Bag(items) => known_of_kind(kind, *items.get(number)?),
         }
     }
 

@@ -4,24 +4,15 @@ ghost use Rattle.std.specs.Prelude.{◌≡◌, [], slice_get, OnOk, OnErr};
 ghost use Rattle.pc_types.specs.declared.error.Place.TheVariants as place;
 ghost use Rattle.pc_inline_state.specs.Lists.{core_ids, item_ids, with_core_id, with_item_id};
 
-use crate::atom_map::AtomMap;
 use crate::definition::{CoreId, DefinitionId};
 use crate::lookup::at;
 use pc_dfg::InstanceId;
-use pc_entity::{
-    NoMemory, ResourceIndex, RuntimeComponentInstanceIndex, Seq, StaticModuleIndex, TextMap,
-};
+use pc_entity::{NoMemory, ResourceIndex, RuntimeComponentInstanceIndex, Seq, StaticModuleIndex};
+use pc_inline_names::AtomMap;
 use pc_parsed::ItemKind;
 use pc_types::{CoreKind, Place};
 use pc_types_builder::Converted;
 use std::alloc::Global;
-
-/// Core items under names. What the names of imports have stands under their numbers too.
-#[derive(Drop)]
-pub struct Bag {
-    pub items: TextMap<(CoreKind, CoreId)>,
-    pub numbered: AtomMap<(CoreKind, CoreId)>,
-}
 
 /// A core instance, as its component instance knows it.
 #[derive(Drop)]
@@ -36,8 +27,8 @@ pub enum CoreInstance {
         instance: InstanceId,
         entry: u32,
     },
-    /// Core items under names.
-    Bag(Bag),
+    /// Core items under the numbers of their names.
+    Bag(AtomMap<(CoreKind, CoreId)>),
 }
 
 /// What a table number of a resource stood for before it was made to stand for another.
@@ -47,8 +38,9 @@ pub struct Change {
     pub was: Option<ResourceIndex>,
 }
 
-/// A component instance while its items are read: what its indices count into, its arguments by name, the types that
-/// were converted for it, and what the resource numbers that it changed stood for before, the oldest change first.
+/// A component instance while its items are read: what its indices count into, its arguments by the numbers of their
+/// names, the types that were converted for it, and what the resource numbers that it changed stood for before, the
+/// oldest change first.
 pub struct Frame {
     pub core_funcs: Seq<CoreId>,
     pub memories: Seq<CoreId>,
@@ -60,7 +52,7 @@ pub struct Frame {
     pub components: Seq<DefinitionId>,
     pub instances: Seq<DefinitionId>,
     pub core_instances: Seq<CoreInstance>,
-    pub arguments: TextMap<DefinitionId>,
+    pub arguments: AtomMap<DefinitionId>,
     pub component_instance: RuntimeComponentInstanceIndex,
     pub converted: Converted,
     pub changes: Seq<Change>,
@@ -72,7 +64,7 @@ impl Frame {
         alloc: Global,
         converted: Converted,
         component_instance: RuntimeComponentInstanceIndex,
-        arguments: TextMap<DefinitionId>,
+        arguments: AtomMap<DefinitionId>,
     ) -> Frame
         ensures { result ≡ record {
           core_funcs = [];
@@ -215,6 +207,6 @@ fn drop_items(
     _instances: Seq<DefinitionId>,
 ) {}
 
-fn drop_named(_core_instances: Seq<CoreInstance>, _arguments: TextMap<DefinitionId>) {}
+fn drop_named(_core_instances: Seq<CoreInstance>, _arguments: AtomMap<DefinitionId>) {}
 
 fn drop_converted(_converted: Converted, _changes: Seq<Change>) {}

@@ -6,7 +6,6 @@
 //! them: types, core modules and core items.
 #![tactic(auto)]
 
-mod atom_map;
 mod closure;
 mod context;
 mod core_item;
@@ -14,7 +13,6 @@ mod core_modules;
 mod definition;
 mod error;
 mod frame;
-mod import_numbers;
 mod instance_module;
 mod lookup;
 mod numbers;
@@ -22,14 +20,13 @@ mod state;
 mod types;
 mod widths;
 
-pub use atom_map::AtomMap;
 pub use closure::Closure;
 pub use context::Context;
 pub use core_item::CoreItem;
 pub use core_modules::CoreModules;
 pub use definition::{ClosureId, CoreId, DataModel, Definition, DefinitionId, ExportsId, Options};
 pub use error::{ItemError, ItemFault, error_at};
-pub use frame::{Bag, Change, CoreInstance, Frame};
+pub use frame::{Change, CoreInstance, Frame};
 pub use instance_module::InstanceModule;
 pub use lookup::at;
 pub use numbers::Numbers;

@@ -1,9 +1,8 @@
 //! What all component instances share while they are read: the graph so far, and the tables of what their items are.
 
-ghost use Rattle.std.specs.Prelude.{◌≡◌, ◌<◌, ◌++◌, ◌∷◌, [], length, None, Some, slice_get, option_and_then};
-ghost use Rattle.std.specs.Prelude.{option_map, IfOk, IfErr};
+ghost use Rattle.std.specs.Prelude.{◌≡◌, ◌<◌, ◌++◌, ◌∷◌, ℕ, List, [], length, None, Some, slice_get};
+ghost use Rattle.std.specs.Prelude.{option_and_then, option_map, IfOk, IfErr};
 ghost use Rattle.std.specs.Prelude.{OnOk, OnErr};
-ghost use Rattle.pc_entity.specs.Lists.{value_of};
 ghost use Rattle.pc_numbers.specs.declared.module_entity.ModuleInternedTypeIndex.{ModuleInternedTypeIndex};
 ghost use Rattle.pc_numbers.specs.declared.runtime.TrampolineIndex.{TrampolineIndex};
 ghost use Rattle.pc_types.specs.IntrinsicType.{intrinsic_place};
@@ -14,6 +13,7 @@ ghost use Rattle.pc_dfg.specs.Held.{HeldTrampoline};
 ghost use Rattle.pc_dfg.specs.Numbers.{trampoline_entry};
 ghost use Rattle.pc_dfg.specs.Ordered.{IsOrdered};
 ghost use Rattle.pc_dfg.specs.Pushed.{IsPut, with_intrinsic};
+ghost use Rattle.pc_inline_names.specs.Numbers.{numbered_value};
 ghost use Rattle.pc_inline_paths.specs.Paths.{at_import, further};
 ghost use Rattle.pc_types.specs.Table.{is_some_and};
 ghost use Rattle.pc_inline_state.specs.AddsEach.{AddsEach, in_trampolines, nowhere};
@@ -32,9 +32,10 @@ use crate::instance_module::InstanceModule;
 use crate::numbers::Numbers;
 use pc_dfg::{ComponentDfg, CoreDef, Trampoline};
 use pc_entity::{
-    EntityRef, ImportIndex, ModuleInternedTypeIndex, NoMemory, PrimaryMap, RuntimeImportIndex,
-    Seed, StaticComponentIndex, Text, TextMap,
+    Atom, EntityRef, ImportIndex, ModuleInternedTypeIndex, NoMemory, PrimaryMap,
+    RuntimeImportIndex, Seed, StaticComponentIndex,
 };
+use pc_inline_names::{AtomMap, ProgramNames};
 use pc_inline_paths::{PathId, Paths};
 use pc_local::Translation;
 use pc_parsed::ItemKind;
@@ -67,17 +68,17 @@ pub struct Member {
 }
 
 /// The types builder, the graph so far, the tables of what items are, what was asked for once already, and the bodies
-/// of the program with its type table.
+/// of the program with its type table and its names.
 pub struct State<'a> {
     pub types: ComponentTypesBuilder,
     pub graph: ComponentDfg,
     pub cores: PrimaryMap<CoreId, CoreDef>,
     pub definitions: PrimaryMap<DefinitionId, Definition>,
     pub closures: PrimaryMap<ClosureId, Closure>,
-    /// What the instances export.
-    pub instances: PrimaryMap<ExportsId, TextMap<Member>>,
+    /// What the instances export, by the numbers of the names.
+    pub instances: PrimaryMap<ExportsId, AtomMap<Member>>,
     /// The paths to the host items that something names.
-    pub paths: Paths,
+    pub paths: Paths<'a>,
     /// The number of each of them among the host items that are used, once it is.
     pub used: Vec<Option<RuntimeImportIndex>>,
     /// The module of each core instance of the graph.
@@ -85,6 +86,7 @@ pub struct State<'a> {
     pub numbers: Numbers,
     pub bodies: &'a PrimaryMap<StaticComponentIndex, Translation>,
     pub table: &'a TypeTable,
+    pub names: &'a ProgramNames<'a>,
 }
 
 impl<'a> State<'a> {
@@ -96,9 +98,11 @@ impl<'a> State<'a> {
         numbers: Numbers,
         bodies: &'a PrimaryMap<StaticComponentIndex, Translation>,
         table: &'a TypeTable,
+        names: &'a ProgramNames<'a>,
     ) -> State<'a>
         ensures types { result.types ≡ types }
         ensures bodies { result.bodies.now ≡ bodies.now }
+        ensures names { result.names.now ≡ names.now }
         ensures fresh { types.resources ≡ no_resources → AreNumbers types table.now numbers
             → IsFresh table.now result }
     {
@@ -109,12 +113,13 @@ impl<'a> State<'a> {
             definitions: PrimaryMap::new(alloc),
             closures: PrimaryMap::new(alloc),
             instances: PrimaryMap::new(alloc),
-            paths: Paths::new(alloc, seed),
+            paths: Paths::new(alloc, seed, names.texts()),
             used: Vec::new(alloc),
             runtime_instances: Vec::new(alloc),
             numbers,
             bodies,
             table,
+            names,
         }
     }
 
@@ -205,7 +210,7 @@ impl<'a> State<'a> {
     }
 
     /// Adds what an instance exports, and answers its number.
-    pub fn push_instance(&mut self, exports: TextMap<Member>) -> Result<ExportsId, ItemError>
+    pub fn push_instance(&mut self, exports: AtomMap<Member>) -> Result<ExportsId, ItemError>
         ensures key { IfOk result (λ id. id.0 ≡ length self.old.instances) }
         ensures ok { OnOk result (self.new ≡ record self.old { instances = self.old.instances ++ exports ∷ [] }) }
         ensures keeps { Keeps (tables_of self.old) (tables_of self.new) }
@@ -235,17 +240,19 @@ impl<'a> State<'a> {
         Ok(path)
     }
 
-    /// The path that goes one name further than `parent`. A path that is new isn't used yet.
-    pub fn path_to_member(&mut self, parent: PathId, name: Text) -> Result<PathId, NoMemory>
-        requires held { parent.0 < length self.old.paths }
-        ensures takes { (p : Path) → slice_get self.old.paths parent.0 ≡ Some p
+    /// The path that goes further than `parent` by the name of a number. A path that is new isn't used yet.
+    pub fn path_to_member(&mut self, parent: PathId, number: Atom) -> Result<PathId, NoMemory>
+        requires held { parent.0 < length self.old.paths.held }
+        requires named { number.0 < length self.old.paths.names }
+        ensures takes { (p : Path) (name : List ℕ) → slice_get self.old.paths.held parent.0 ≡ Some p
+            → slice_get self.old.paths.names number.0 ≡ Some name
             → IfOk result (λ id. TakesPath (further p name) self.old self.new id) }
         ensures sound { OnOk result (SoundWithPaths self.old self.new) }
         ensures keeps { Keeps (tables_of self.old) (tables_of self.new) }
         ensures adds { AddsEach nowhere 0 0 (tables_of self.old) (tables_of self.new) }
         ensures rest { self.new ≡ record self.old { paths = self.new.paths; used = self.new.used } }
     {
-        let path = match self.paths.member(parent, name) {
+        let path = match self.paths.member(parent, number) {
             Ok(path) => path,
             Err(_) => return Err(NoMemory),
         };
@@ -255,7 +262,7 @@ impl<'a> State<'a> {
 
     /// A path that is new isn't used yet.
     fn note_path(&mut self) -> Result<(), NoMemory>
-        ensures ok { OnOk result (NotesPath self.old.paths self.old.used.items self.new.used.items) }
+        ensures ok { OnOk result (NotesPath self.old.paths.held self.old.used.items self.new.used.items) }
         ensures rest { self.new ≡ record self.old { used = self.new.used } }
     {
         if self.used.len() < self.paths.len() {
@@ -274,13 +281,13 @@ impl<'a> State<'a> {
         }
     }
 
-    /// The definition that a component instance from items, or of a component, exports under a name.
-    pub fn member(&self, exports: ExportsId, name: &str) -> Option<DefinitionId>
+    /// The definition that a component instance from items, or of a component, exports under the name of a number.
+    pub fn member(&self, exports: ExportsId, number: Atom) -> Option<DefinitionId>
         ensures { result ≡ option_map item_of
-            (option_and_then (value_of name.now) (slice_get self.now.instances exports.0)) }
+            (option_and_then (numbered_value number) (slice_get self.now.instances exports.0)) }
     {
         match self.instances.get(exports) {
-            Some(members) => match members.get(name) {
+            Some(members) => match members.get(number) {
                 Some(member) => Some(member.item),
                 None => None,
             },
@@ -316,6 +323,7 @@ impl<'a> Drop for State<'a> {
             numbers,
             bodies: _,
             table: _,
+            names: _,
         } = self;
         drop_graph(types, graph);
         drop_tables(cores, definitions);
@@ -334,9 +342,9 @@ fn drop_tables(
 
 fn drop_named(
     _closures: PrimaryMap<ClosureId, Closure>,
-    _instances: PrimaryMap<ExportsId, TextMap<Member>>,
+    _instances: PrimaryMap<ExportsId, AtomMap<Member>>,
 ) {}
 
-fn drop_numbers(_paths: Paths, _used: Vec<Option<RuntimeImportIndex>>, _numbers: Numbers) {}
+fn drop_numbers(_paths: Paths<'_>, _used: Vec<Option<RuntimeImportIndex>>, _numbers: Numbers) {}
 
 fn drop_instances(_runtime_instances: Vec<InstanceModule>) {}

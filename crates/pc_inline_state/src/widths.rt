@@ -5,13 +5,13 @@ ghost use Rattle.pc_types.specs.declared.parsed.CoreEntity.{CoreEntity};
 ghost use Rattle.pc_types.specs.Record.{width_in};
 ghost use Rattle.pc_inline_state.specs.Bags.{module_export};
 ghost use Rattle.pc_inline_state.specs.Instances.{is_wide_in, is_wide_named};
-ghost use Rattle.pc_inline_state.specs.Ready.{IsReady};
 
 use crate::context::Context;
 use crate::core_item::module_export;
 use crate::instance_module::InstanceModule;
 use pc_dfg::ExportItem;
 use pc_entity::{MemoryIndex, Text};
+use pc_inline_names::ProgramNames;
 use pc_types::TypeTable;
 
 /// Whether an export of an entry that is a module type, by its place, is a 64-bit memory, if it is a memory.
@@ -27,19 +27,24 @@ fn placed_memory64(table: &TypeTable, entry: u32, place: usize) -> Option<bool>
 
 impl<'a> Context<'a> {
     /// Whether an export of an entry that is a module type is a 64-bit memory, if it is a memory.
-    fn named_memory64(&self, entry: u32, name: &Text) -> Option<bool>
-        requires ready { IsReady self.now }
+    fn named_memory64(&self, names: &ProgramNames<'_>, entry: u32, name: &Text) -> Option<bool>
+        requires table { names.now.table ≡ self.now.table.now }
         ensures { result ≡ option_and_then (is_wide_named name.now) (slice_get self.now.table.now.types entry) }
     {
-        match self.names.place(entry, name.as_str()) {
+        match names.place(entry, name) {
             Some(place) => placed_memory64(self.table, entry, place),
             None => None,
         }
     }
 
     /// Whether an item of an instance of a module is a 64-bit memory.
-    pub fn is_wide(&self, instance_module: InstanceModule, item: &ExportItem<MemoryIndex>) -> bool
-        requires ready { IsReady self.now }
+    pub fn is_wide(
+        &self,
+        names: &ProgramNames<'_>,
+        instance_module: InstanceModule,
+        item: &ExportItem<MemoryIndex>,
+    ) -> bool
+        requires table { names.now.table ≡ self.now.table.now }
         ensures { result ≡ is_wide_in self.now.table.now self.now.modules instance_module item.now }
     {
         match instance_module {
@@ -51,7 +56,9 @@ impl<'a> Context<'a> {
             },
             InstanceModule::Import(entry) => match item {
                 ExportItem::Index(_) => false,
-                ExportItem::Name(name) => self.named_memory64(entry, name).unwrap_or(false),
+                ExportItem::Name(name) => {
+                    self.named_memory64(names, entry, name).unwrap_or(false)
+                }
             },
         }
     }

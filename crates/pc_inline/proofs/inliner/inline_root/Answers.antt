@@ -1,4 +1,5 @@
-use Rattle.std.proofs.Common.{sym, subst}
+use Rattle.std.proofs.Common.{ap, sym, subst, ◌∙◌}
+use Rattle.pc_inline_names.specs.Named.{Named}
 use Rattle.pc_inline_stack.specs.Stacks.{AreWeights}
 use Rattle.pc_inline.proofs.InstantiateLemmas.{export_starts, names_distinct, root_done, root_unbegun, root_undone}
 use Rattle.pc_inline.proofs.InstantiateLemmas.{run_starts}
@@ -15,6 +16,7 @@ run-requires c =
           c.args.weights.now.bodies) (sym c.in_ok-begun.ensures.keeps.bodies) c.requires.weights;
       here = here.0;
       items = here.1;
+      rooted = ap (λ (n : Named). n.root) c.in_ok-begun.ensures.keeps.names ∙ c.requires.rooted;
       begun = here.2;
       within = here.3;
       below = here.4;

@@ -2,6 +2,7 @@ use Rattle.std.proofs.Common.{Some, ap, sym, ◌∙◌, arith}
 use Rattle.std.proofs.lemmas.Option.{slice_get-get_or}
 use Rattle.pc_inline_state.specs.Adds.{most_prepared}
 use Rattle.pc_inline.proofs.DriverLemmas.{error_there, item_prepared, item_unprepared, items_prepared, none_prepared}
+use Rattle.pc_inline.proofs.DriverLemmas.{root_numbered}
 use Rattle.pc_inline_stack.proofs.LoopAddsLemmas.{added_all, added_last, added_more}
 use Rattle.pc_inline_state.proofs.StateLemmas.{keeps_trans}
 use Rattle.pc_inline.proofs.inliner.prepare_all.Goals as goal
@@ -10,12 +11,16 @@ pub loop-n-init : goal.loop-n-init
 loop-n-init c = none_prepared _ _ _ _ _ c.requires.here c.requires.undeclared
 
 pub prepare_item-requires : goal.prepare_item-requires
-prepare_item-requires c = record {
-  input = c.requires.input;
-  ready = c.requires.ready;
-  here = c.loop-n.invariant.prepared.point;
-  undeclared = c.loop-n.invariant.undeclared;
-}
+prepare_item-requires c =
+    let at = slice_get-get_or c.args.items.now c.loop-n.n _ c.loop-n-test.true ∙ ap Some (sym c.index-items-n.is) in
+    record {
+      input = c.requires.input;
+      ready = c.requires.ready;
+      here = c.loop-n.invariant.prepared.point;
+      undeclared = c.loop-n.invariant.undeclared;
+      numbered = root_numbered _ _ c.loop-n.invariant.prepared.keeps c.args.items.now c.requires.rooted c.loop-n.n _ at _
+          c.item-numbers.ensures;
+    }
 
 pub loop-n-preserved : goal.loop-n-preserved
 loop-n-preserved c =

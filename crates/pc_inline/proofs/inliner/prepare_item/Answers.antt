@@ -3,14 +3,20 @@ use Rattle.pc_local.specs.Plain.{plain_item}
 use Rattle.pc_inline_state.specs.Adds.{Adds, most_prepared}
 use Rattle.pc_inline_state.specs.Tables.{tables_of}
 use Rattle.pc_inline_state.proofs.AddsLemmas.{adds_refl}
-use Rattle.pc_inline.proofs.DriverLemmas.{import_prepares, other_prepares}
+use Rattle.pc_inline_names.proofs.NumberedLemmas.{one_number}
+use Rattle.pc_inline.proofs.DriverLemmas.{import_numbered, import_prepares, other_prepares}
 use Rattle.pc_inline_state.proofs.StateLemmas.{keeps_refl}
 use Rattle.pc_inline.proofs.inliner.prepare_item.Goals as goal
 
 pub returns-in-Import-clause-steps : goal.returns-in-Import-clause-steps
 unfolding plain_item
 returns-in-Import-clause-steps c =
-    import_prepares _ _ _ _ _ _ _ _ _ _ (grind (rules, c.in-Import.is)) c.prepare.ensures.steps
+    import_prepares _ _ _ _ _ _ _ _ _ _ (grind (rules, c.in-Import.is))
+    (c.prepare.ensures.steps ((one_number _ _ _ (import_numbered _ _ _ _ c.in-Import.is _ c.requires.numbered)).1 _
+    (record { 0 = 0 }) refl))
+
+pub bounds-numbers-0 : goal.bounds-numbers-0
+bounds-numbers-0 c = (one_number _ _ _ (import_numbered _ _ _ _ c.in-Import.is _ c.requires.numbered)).0
 
 pub returns-in-Import-clause-adds : goal.returns-in-Import-clause-adds
 returns-in-Import-clause-adds c =

@@ -5,6 +5,9 @@ use Rattle.pc_inline_state.specs.Slots.{MaybeThere}
 use Rattle.pc_inline_canon.proofs.SideLemmas.{memory_none, memory_some, memory_within}
 use Rattle.pc_inline_canon.proofs.adapters.side_memory.Goals as goal
 
+pub is_wide-is_wide-requires : goal.is_wide-is_wide-requires
+is_wide-is_wide-requires c = record { table = c.requires.sound.names.table }
+
 pub returns-in_ok-memory-in-Some : goal.returns-in_ok-memory-in-Some
 returns-in_ok-memory-in-Some c =
     let below = memory_within _ _ c.args.state.now c.requires.sound _

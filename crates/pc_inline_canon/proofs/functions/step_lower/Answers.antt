@@ -29,7 +29,7 @@ lower-requires c =
     (got_by _ _ _ c.as_slice.ensures _ _ c.at.ensures c.in-Some.is) c.in-Some-options_in.options
     (sym c.options_in.ensures ∙ c.in-Some-options_in.is) c.in-Some-callee_of.callee
     (sym c.callee_of.ensures ∙ c.in-Some-callee_of.is) in
-    record { sound = ready.0; ready = c.requires.ready; there = ready.1; options = ready.2 }
+    record { sound = ready.0; there = ready.1; options = ready.2 }
 
 pub unreachable-requires : goal.unreachable-requires
 unreachable-requires c =

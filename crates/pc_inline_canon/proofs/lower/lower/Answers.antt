@@ -12,7 +12,6 @@ lower_lifted-requires c =
     let held = lifted_held _ _ _ _ _ _ c.in-Lifted.is c.requires.there in
     record {
       sound = c.requires.sound;
-      ready = c.requires.ready;
       there = held.0;
       lift = held.1;
       lower = c.requires.options;

@@ -58,5 +58,5 @@ returns-clause-adds c =
 pub returns-clause-brings : goal.returns-clause-brings
 returns-clause-brings c =
     subst (λ xs. Brings c.args.context.now.table.now c.args.context.now.modules
-    (map (path_at c.args.paths.now c.args.state.now.paths) xs) c.args.state.now c.loop-one.state)
+    (map (path_at c.args.paths.now c.args.state.now.paths.held) xs) c.args.state.now c.loop-one.state)
     (take_all c.loop-one.one-index c.args.found.now c.loop-one-test.false) c.loop-one.invariant.brings

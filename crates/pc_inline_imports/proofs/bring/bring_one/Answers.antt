@@ -47,7 +47,7 @@ returns-in_err-push_imported_resource-clause-adds c =
 pub returns-clause-brings : goal.returns-clause-brings
 returns-clause-brings c =
     let at = slice_get-get_or c.args.paths.now c.args.found.now.place _ c.requires.there in
-    let held = path_held c.args.paths.now c.args.state.now.paths c.args.found.now _ at
+    let held = path_held c.args.paths.now c.args.state.now.paths.held c.args.found.now _ at
     (c.requires.held c.args.found.now.place _ at) in
     brings_one c.args.context.now.table.now c.args.context.now.modules c.args.state.now c.use_host.new.state
     c.requires.sound c.requires.undeclared c.use_host.ensures.rest c.push_imported_resource.new.self

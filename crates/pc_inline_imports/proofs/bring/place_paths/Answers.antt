@@ -30,3 +30,6 @@ loop-place-preserved c =
     let q = c.in_ok-push_place.ensures in
     paths_next _ c.args.places.now c.args.import c.args.state.now _ _ _ c.loop-place.invariant _
     (slice_get-get_or c.args.places.now c.loop-place.place-index _ (omega (arith, c.loop-place-test.true))) _ _ q.further q.sound p.keeps p.adds p.rest
+
+pub push_place-requires-clause-sound : goal.push_place-requires-clause-sound
+push_place-requires-clause-sound c = c.loop-place.invariant.sound _ _ c.requires.sound

@@ -35,6 +35,12 @@ returns-in_err-number-clause-adds c =
     (typed_adds (tables_of c.args.state.now) c.push_import_type.new.self c.push_import_type.result _ p.rest p.ok p.err)
     (each_refl nowhere 0 0 b) (each_refl (in_brought n) 0 0 b) (each_refl nowhere 0 1 b)
 
+pub place_paths-requires-clause-sound : goal.place_paths-requires-clause-sound
+place_paths-requires-clause-sound c =
+    let p = c.push_import_type.ensures in
+    typed_sound c.args.context.now.table.now c.args.context.now.modules c.args.state.now c.push_import_type.new.self
+    p.rest p.grows _ c.in_ok-number.ensures.ok c.requires.sound p.ordered
+
 pub returns-in_err-paths-clause-keeps : goal.returns-in_err-paths-clause-keeps
 returns-in_err-paths-clause-keeps c =
     let p = c.push_import_type.ensures in
@@ -79,7 +85,7 @@ bring_all-requires-clause-there c =
 pub bring_all-requires-clause-held : goal.bring_all-requires-clause-held
 bring_all-requires-clause-held c =
     let named = c.requires.named in
-    subst (λ ids. AllHeld ids c.place_paths.new.state.paths) (sym c.as_slice-ids.ensures.value)
+    subst (λ ids. AllHeld ids c.place_paths.new.state.paths.held) (sym c.as_slice-ids.ensures.value)
     (paths_held _ named.0 _ _ (c.in_ok-paths.ensures.paths named.0
     (subst (λ ps. AreNamed c.args.context.now.table.now ps named.0) (sym c.as_slice.ensures) named.1)))
 
@@ -131,9 +137,9 @@ returns-clause-gives c =
     let ms = c.args.context.now.modules in
     let mid = c.place_paths.new.state in
     let count = c.in_ok-paths.ensures.count ∙ ap (λ ps. length ps + 1) c.as_slice.ensures in
-    let brings = subst (λ xs. Brings t ms (map (path_at c.in_ok-paths.paths.items mid.paths) xs) mid
+    let brings = subst (λ xs. Brings t ms (map (path_at c.in_ok-paths.paths.items mid.paths.held) xs) mid
     c.bring_all.new.state) c.as_slice-2.ensures
-    (subst (λ ids. Brings t ms (map (path_at ids mid.paths) c.as_slice-2.result.now) mid c.bring_all.new.state)
+    (subst (λ ids. Brings t ms (map (path_at ids mid.paths.held) c.as_slice-2.result.now) mid c.bring_all.new.state)
     c.as_slice-ids.ensures.value c.in_ok-bring_all.ensures.brings) in
     let some : 0 < length c.as_slice-ids.result.now = subst (λ ids. 0 < length ids) (sym c.as_slice-ids.ensures.value)
     (omega (arith, count)) in

@@ -10,14 +10,14 @@ use Rattle.pc_inline_imports.proofs.MomentLemmas.{learnt_undeclared, prepared_fe
 use Rattle.pc_inline_imports.proofs.imports.give.Goals as goal
 
 pub returns-in_err-learnt-clause-steps : goal.returns-in_err-learnt-clause-steps
-returns-in_err-learnt-clause-steps c =
+returns-in_err-learnt-clause-steps c numbered =
     passed_lacking _ _ _ _ _ _ _ _ _ c.from_residual.ensures.1 c.in_err-learnt.ensures.err
 
 pub returns-in_err-learnt-clause-adds : goal.returns-in_err-learnt-clause-adds
 returns-in_err-learnt-clause-adds c = adds_weaken _ _ _ _ _ (omega arith) c.learn.ensures.adds
 
 pub returns-then-is_component-clause-steps : goal.returns-then-is_component-clause-steps
-returns-then-is_component-clause-steps c =
+returns-then-is_component-clause-steps c numbered =
     steps_stuck _ _ _ _ _ _ _ (item_fault.Unsupported ComponentImport) (λ now at.
     component_refused _ _ c.args.entity _ _ _ _ _ c.in_ok-learnt.ensures.learns now at c.args.name.now c.requires.named
     c.requires.given (sym c.is_component.ensures ∙ c.if-is_component.true))
@@ -42,7 +42,7 @@ returns-in_err-id-clause-adds c =
     (keeps_trans _ _ _ c.learn.ensures.keeps c.push_given.ensures.keeps)
 
 pub returns-in_err-id-clause-steps : goal.returns-in_err-id-clause-steps
-returns-in_err-id-clause-steps c =
+returns-in_err-id-clause-steps c numbered =
     passed_lacking _ _ _ _ _ _ _ _ _ c.from_residual-in_err-id.ensures.1 c.in_err-id.ensures.err
 
 pub returns-in_err-insert_first-clause-adds : goal.returns-in_err-insert_first-clause-adds
@@ -51,7 +51,7 @@ returns-in_err-insert_first-clause-adds c =
     (keeps_trans _ _ _ c.learn.ensures.keeps c.push_given.ensures.keeps)
 
 pub returns-in_err-insert_first-clause-steps : goal.returns-in_err-insert_first-clause-steps
-returns-in_err-insert_first-clause-steps c =
+returns-in_err-insert_first-clause-steps c numbered =
     passed_unfed _ _ _ _ _ _ _ _ c.from_residual-in_err-insert_first.ensures.1
 
 pub returns-clause-adds : goal.returns-clause-adds
@@ -65,9 +65,9 @@ returns-clause-undeclared c =
     c.in_ok-id.ensures.gives c.requires.undeclared
 
 pub returns-clause-steps : goal.returns-clause-steps
-returns-clause-steps c =
+returns-clause-steps c numbered =
     steps_on _ _ _ _ _ _ _ tt (λ now at.
     given_goes _ _ c.args.entity _ _ _ _ _ c.in_ok-learnt.ensures.learns now at c.args.name.now c.in_ok-id.id _
     c.in_ok-id.ensures.gives (keeps_trans _ _ _ c.learn.ensures.keeps c.push_given.ensures.keeps) c.requires.named
-    c.requires.given (sym c.is_component.ensures ∙ c.if-is_component.false) c.requires.input.table _
+    c.requires.given (sym c.is_component.ensures ∙ c.if-is_component.false) c.requires.input.table c.args.number numbered _
     (ap (λ xs. record c.learn.new.frame { arguments = xs }) c.in_ok-insert_first.ensures.ok))

@@ -1,26 +1,13 @@
-use Rattle.std.proofs.Common.{◌≡◌, Some, ap, refl, subst, sym, ◌∙◌}
-use Rattle.std.specs.Prelude.{slice_get}
-use Rattle.pc_spec_reading.specs.Member.{further}
+use Rattle.std.proofs.Common.{ap, refl, sym, ◌∙◌}
 use Rattle.pc_inline_state.specs.declared.frame.Frame.{Frame}
 use Rattle.pc_inline_state.specs.declared.state.State.{State}
-use Rattle.pc_inline_state.proofs.AddsLemmas.{adds_refl}
-use Rattle.pc_inline_state.proofs.StateLemmas.{keeps_refl, keeps_trans}
+use Rattle.pc_inline_state.proofs.StateLemmas.{keeps_trans}
 use Rattle.pc_inline_items.proofs.HostAliasLemmas.{alias_added, alias_component, alias_crowded, alias_unfed}
 use Rattle.pc_inline_items.proofs.HostAliasLemmas.{alias_unlike}
 use Rattle.pc_inline_items.proofs.HostAliasLemmas.{path_adds, path_then}
 use Rattle.pc_inline_items.proofs.ItemLemmas.{item_changes, item_same}
 use Rattle.pc_inline_items.proofs.WholeLemmas.{resources_same}
 use Rattle.pc_inline_items.proofs.hosts.add_member.Goals as goal
-
-pub returns-in_err-further : goal.returns-in_err-further
-returns-in_err-further c = record {
-  keeps = keeps_refl _;
-  adds = λ t. adds_refl t 4 _;
-  resources = refl;
-  changes = refl;
-  same = refl;
-  follows = alias_unfed _ _ _ _ _ _ _ _ _ c.from_residual.ensures.1;
-}
 
 pub returns-in_err-path : goal.returns-in_err-path
 returns-in_err-path c = record {
@@ -29,7 +16,7 @@ returns-in_err-path c = record {
   resources = ap (λ (x : State). x.types.resources) c.path_to_member.ensures.rest;
   changes = refl;
   same = refl;
-  follows = alias_unfed _ _ _ _ _ _ _ _ _ c.from_residual-in_err-path.ensures.1;
+  follows = λ name named. alias_unfed _ _ _ _ _ _ _ _ _ c.from_residual.ensures.1;
 }
 
 pub returns-in_default : goal.returns-in_default
@@ -39,11 +26,10 @@ returns-in_default c = record {
   resources = ap (λ (x : State). x.types.resources) c.path_to_member.ensures.rest;
   changes = refl;
   same = refl;
-  follows = alias_component c.args.kind c.args.parent c.args.name.now c.args.member c.args.state.now c.args.frame.now
+  follows = λ name named. alias_component c.args.kind c.args.parent name c.args.member c.args.state.now c.args.frame.now
       c.path_to_member.new.self c.path_to_member.ensures.rest c.path_to_member.ensures.keeps
       c.in_ok-path.ensures.sound c.in_ok-path.path
-      (λ path held. subst (λ x. slice_get c.path_to_member.new.self.paths c.in_ok-path.path.0
-      ≡ Some (further path x)) c.in_ok-further.ensures (c.in_ok-path.ensures.takes path held).held)
+      (λ path held. (c.in_ok-path.ensures.takes path name held named).held)
       (sym c.definition.ensures ∙ c.in_default.is) _ _;
 }
 
@@ -54,11 +40,10 @@ returns-then-not-is_of_kind c = record {
   resources = ap (λ (x : State). x.types.resources) c.path_to_member.ensures.rest;
   changes = refl;
   same = refl;
-  follows = alias_unlike c.args.kind c.args.parent c.args.name.now c.args.member c.args.state.now c.args.frame.now
+  follows = λ name named. alias_unlike c.args.kind c.args.parent name c.args.member c.args.state.now c.args.frame.now
       c.path_to_member.new.self c.path_to_member.ensures.rest c.path_to_member.ensures.keeps
       c.in_ok-path.ensures.sound c.in_ok-path.path
-      (λ path held. subst (λ x. slice_get c.path_to_member.new.self.paths c.in_ok-path.path.0
-      ≡ Some (further path x)) c.in_ok-further.ensures (c.in_ok-path.ensures.takes path held).held) c.in-Some.definition
+      (λ path held. (c.in_ok-path.ensures.takes path name held named).held) c.in-Some.definition
       (sym c.definition.ensures ∙ c.in-Some.is) (sym c.is_of_kind.ensures ∙ c.if-not-is_of_kind.true) _ _;
 }
 
@@ -70,7 +55,7 @@ returns-in_err-id c = record {
       ∙ ap (λ (x : State). x.types.resources) c.path_to_member.ensures.rest;
   changes = refl;
   same = refl;
-  follows = alias_crowded _ _ _ _ _ _ _ _ _ _ c.from_residual-in_err-id.ensures.1 c.in_err-id.ensures.lacks;
+  follows = λ name named. alias_crowded _ _ _ _ _ _ _ _ _ _ c.from_residual-in_err-id.ensures.1 c.in_err-id.ensures.lacks;
 }
 
 pub returns-in_err-push_item : goal.returns-in_err-push_item
@@ -81,7 +66,7 @@ returns-in_err-push_item c = record {
       ∙ ap (λ (x : State). x.types.resources) c.path_to_member.ensures.rest;
   changes = ap (λ (f : Frame). f.changes) c.in_err-push_item.ensures.err;
   same = ap (λ (f : Frame). f.component_instance) c.in_err-push_item.ensures.err;
-  follows = alias_unfed _ _ _ _ _ _ _ _ _ c.from_residual-in_err-push_item.ensures.1;
+  follows = λ name named. alias_unfed _ _ _ _ _ _ _ _ _ c.from_residual-in_err-push_item.ensures.1;
 }
 
 pub returns : goal.returns
@@ -94,11 +79,10 @@ returns c = record {
       ∙ item_changes c.args.frame.now c.args.kind c.in_ok-id.id;
   same = ap (λ (f : Frame). f.component_instance) c.in_ok-push_item.ensures.ok
       ∙ item_same c.args.frame.now c.args.kind c.in_ok-id.id;
-  follows = alias_added c.args.kind c.args.parent c.args.name.now c.args.member c.args.state.now c.args.frame.now
+  follows = λ name named. alias_added c.args.kind c.args.parent name c.args.member c.args.state.now c.args.frame.now
       c.path_to_member.new.self c.path_to_member.ensures.rest c.path_to_member.ensures.keeps
       c.in_ok-path.ensures.sound c.in_ok-path.path
-      (λ path held. subst (λ x. slice_get c.path_to_member.new.self.paths c.in_ok-path.path.0
-      ≡ Some (further path x)) c.in_ok-further.ensures (c.in_ok-path.ensures.takes path held).held) c.in-Some.definition
+      (λ path held. (c.in_ok-path.ensures.takes path name held named).held) c.in-Some.definition
       (sym c.definition.ensures ∙ c.in-Some.is) (sym c.is_of_kind.ensures ∙ c.if-not-is_of_kind.false) _
       c.in_ok-id.ensures.ok c.in_ok-id.id c.in_ok-id.ensures.key _ c.in_ok-push_item.ensures.ok tt;
 }

@@ -1,4 +1,6 @@
 use Rattle.std.proofs.Common.{refl}
+use Rattle.std.proofs.lemmas.Option.{slice_get_within}
+use Rattle.pc_inline_names.proofs.NumberedLemmas.{one_number}
 use Rattle.pc_inline_items.proofs.BuiltinLemmas.{builtin_local, context_local, error_context_local, new_thread_local}
 use Rattle.pc_inline_items.proofs.BuiltinLemmas.{task_return_local, waitable_local}
 use Rattle.pc_inline_items.proofs.KindLemmas.{added, intrinsics_local}
@@ -7,13 +9,60 @@ use Rattle.pc_inline_items.proofs.KindLemmas.{core_exports_local}
 use Rattle.pc_inline_items.proofs.KindLemmas.{core_instance_local, export_local, import_local, lift_local, lower_local}
 use Rattle.pc_inline_items.proofs.KindLemmas.{exported, exports_sound, module_local, module_sound, moved}
 use Rattle.pc_inline_items.proofs.KindLemmas.{resource_local}
+use Rattle.pc_inline_items.proofs.KindLemmas.{alias_numbers, component_exports_numbers, core_alias_numbers}
+use Rattle.pc_inline_items.proofs.KindLemmas.{core_exports_numbers, core_instance_numbers, import_numbers}
 use Rattle.pc_inline_items.proofs.KindLemmas.{same_local, still}
 use Rattle.pc_inline_items.proofs.LocalLemmas.{local_instantiated}
 use Rattle.pc_inline_items.proofs.WholeLemmas.{unmoved}
 use Rattle.pc_inline_items.proofs.item.step.Goals as goal
 
+pub bounds-numbers-0 : goal.bounds-numbers-0
+bounds-numbers-0 c = (one_number _ _ _ (import_numbers _ _ _ c.requires.numbered c.in-Import.is)).0
+
+pub bounds-numbers-0-in-AliasCoreExport : goal.bounds-numbers-0-in-AliasCoreExport
+bounds-numbers-0-in-AliasCoreExport c =
+    (one_number _ _ _ (core_alias_numbers _ _ _ c.requires.numbered c.in-AliasCoreExport.is)).0
+
+pub bounds-numbers-0-in-AliasComponentExport : goal.bounds-numbers-0-in-AliasComponentExport
+bounds-numbers-0-in-AliasComponentExport c =
+    (one_number _ _ _ (alias_numbers _ _ _ c.requires.numbered c.in-AliasComponentExport.is)).0
+
+pub step_import-requires-clause-named : goal.step_import-requires-clause-named
+step_import-requires-clause-named c =
+    slice_get_within _ _ _
+    ((one_number _ _ _ (import_numbers _ _ _ c.requires.numbered c.in-Import.is)).1 _ _ refl)
+
+pub step_core_alias-requires-clause-named : goal.step_core_alias-requires-clause-named
+step_core_alias-requires-clause-named c =
+    slice_get_within _ _ _
+    ((one_number _ _ _ (core_alias_numbers _ _ _ c.requires.numbered c.in-AliasCoreExport.is)).1 _ _ refl)
+
+pub step_alias-requires-clause-named : goal.step_alias-requires-clause-named
+step_alias-requires-clause-named c =
+    (one_number _ _ _ (alias_numbers _ _ _ c.requires.numbered c.in-AliasComponentExport.is)).1 _ _ refl
+
+pub step_core_instance-requires-clause-numbered : goal.step_core_instance-requires-clause-numbered
+step_core_instance-requires-clause-numbered c =
+    core_instance_numbers _ _ _ c.requires.numbered c.in-ModuleInstantiate.is
+    c.as_slice-in-ModuleInstantiate.ensures
+
+pub step_core_exports-requires : goal.step_core_exports-requires
+step_core_exports-requires c =
+    record {
+      numbered = core_exports_numbers _ _ _ c.requires.numbered c.in-ModuleSynthetic.is
+          c.as_slice-in-ModuleSynthetic.ensures;
+    }
+
+pub step_component_exports-requires-clause-numbered : goal.step_component_exports-requires-clause-numbered
+step_component_exports-requires-clause-numbered c =
+    component_exports_numbers _ _ _ c.requires.numbered c.in-ComponentSynthetic.is
+    c.as_slice-in-ComponentSynthetic.ensures
+
 pub returns-in-Import : goal.returns-in-Import
-returns-in-Import c = moved c.in-Import.is c.step_import.ensures (import_local _ _ _ _ _ _ _ _ c.in-Import.is)
+returns-in-Import c =
+    moved c.in-Import.is c.step_import.ensures
+    (λ h. import_local _ _ _ _ _ _ _ _ c.in-Import.is
+    (h _ ((one_number _ _ _ (import_numbers _ _ _ c.requires.numbered c.in-Import.is)).1 _ _ refl)))
 
 pub returns-in-IntrinsicsImport : goal.returns-in-IntrinsicsImport
 returns-in-IntrinsicsImport c =
@@ -50,7 +99,7 @@ returns-in-ModuleInstantiate c =
 pub returns-in-ModuleSynthetic : goal.returns-in-ModuleSynthetic
 returns-in-ModuleSynthetic c =
     still c.step_core_exports.ensures
-    (λ h. core_exports_local _ _ _ _ _ _ _ _ c.in-ModuleSynthetic.is c.as_slice-in-ModuleSynthetic.ensures (h _))
+    (λ h. core_exports_local _ _ _ _ _ _ _ _ c.in-ModuleSynthetic.is c.as_slice-in-ModuleSynthetic.ensures h)
 
 pub returns-in-ComponentStatic : goal.returns-in-ComponentStatic
 returns-in-ComponentStatic c =
@@ -58,7 +107,9 @@ returns-in-ComponentStatic c =
 
 pub returns-in-AliasCoreExport : goal.returns-in-AliasCoreExport
 returns-in-AliasCoreExport c =
-    moved c.in-AliasCoreExport.is c.step_core_alias.ensures (core_alias_local _ _ _ _ _ _ _ _ c.in-AliasCoreExport.is)
+    moved c.in-AliasCoreExport.is c.step_core_alias.ensures
+    (λ h. core_alias_local _ _ _ _ _ _ _ _ c.in-AliasCoreExport.is
+    (h _ ((one_number _ _ _ (core_alias_numbers _ _ _ c.requires.numbered c.in-AliasCoreExport.is)).1 _ _ refl)))
 
 pub returns-in-ComponentInstantiate : goal.returns-in-ComponentInstantiate
 returns-in-ComponentInstantiate c =

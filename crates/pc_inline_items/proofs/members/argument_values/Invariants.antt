@@ -2,7 +2,7 @@ use Rattle.std.proofs.Common.{take}
 use Rattle.pc_inline_items.specs.Members.{ArgumentsSoFar}
 use Rattle.pc_inline_items.proofs.members.argument_values.Given as goal
 
-abbrev pub invariant-loop-arg : goal.invariant-loop-arg
-invariant-loop-arg l =
-    ArgumentsSoFar l.context.table.now l.context.modules (take l.arg-index l.args) l.fn.state l.fn.frame l.state l.frame
+abbrev pub invariant-loop-place : goal.invariant-loop-place
+invariant-loop-place l =
+    ArgumentsSoFar l.context.table.now l.context.modules (take l.place l.args) l.fn.state l.fn.frame l.state l.frame
     l.values

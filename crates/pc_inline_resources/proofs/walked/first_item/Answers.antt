@@ -10,10 +10,11 @@ instance_item-requires-clause-is c =
     (Some c.requires.is.0, start_instance _ _ _ _ c.in-Value.is _ c.instance_at.ensures c.requires.is.0 c.requires.is.1)
 
 pub returns-in-Value : goal.returns-in-Value
-returns-in-Value c v is =
-    c.instance_item.ensures (Some v) (start_instance _ _ _ _ c.in-Value.is _ c.instance_at.ensures v is)
+returns-in-Value c name number v is =
+    c.instance_item.ensures name number (Some v) (start_instance _ _ _ _ c.in-Value.is _ c.instance_at.ensures v is)
 
 pub returns-in-Exports : goal.returns-in-Exports
-returns-in-Exports c v is =
-    subst (λ r. ItemIs c.args.context.now.modules (tables_of c.args.state.now) r (value_in c.args.name.now v))
-    (sym c.exported_item.ensures) (start_exports _ _ _ _ c.in-Exports.is v is c.args.name.now)
+returns-in-Exports c name number v is =
+    subst (λ r. ItemIs c.args.context.now.modules (tables_of c.args.state.now) r (value_in name v))
+    (sym c.exported_item.ensures)
+    (start_exports _ _ c.requires.sound.names.distinct c.args.number name number _ _ c.in-Exports.is v is)

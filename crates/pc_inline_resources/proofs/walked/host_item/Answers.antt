@@ -6,9 +6,9 @@ pub host_export-requires-clause-held : goal.host_export-requires-clause-held
 host_export-requires-clause-held c = instance_held _ _ _ _ _ c.requires.typed.1
 
 pub returns-in-Some : goal.returns-in-Some
-returns-in-Some c tree path is =
-    host_some _ _ path tree _ _ _ (c.host_export.ensures c.args.context.now.modules tree is) c.in-Some.is
+returns-in-Some c name number tree path is =
+    host_some _ _ path tree name _ _ (c.host_export.ensures name number c.args.context.now.modules tree is) c.in-Some.is
 
 pub returns-in-None : goal.returns-in-None
-returns-in-None c tree path is =
-    host_none _ _ path tree _ _ (c.host_export.ensures c.args.context.now.modules tree is) c.in-None.is
+returns-in-None c name number tree path is =
+    host_none _ _ path tree name _ (c.host_export.ensures name number c.args.context.now.modules tree is) c.in-None.is

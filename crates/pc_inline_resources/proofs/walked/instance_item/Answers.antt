@@ -12,16 +12,16 @@ host_item-requires-clause-typed c =
     (h.tree, h.typed)
 
 pub returns-in-Nothing : goal.returns-in-Nothing
-returns-in-Nothing c v is = nothing_named _ _ _ c.in-Nothing.is v is _
+returns-in-Nothing c name number v is = nothing_named _ _ _ c.in-Nothing.is v is _
 
 pub returns-in-Exports : goal.returns-in-Exports
-returns-in-Exports c v is =
+returns-in-Exports c name number v is =
     subst (λ r. ItemIs c.args.context.now.modules (tables_of c.args.state.now) r
-    (option_and_then (value_in c.args.name.now) v)) (sym (c.found_item.ensures ∙ ap found_item c.member.ensures))
-    (exports_named _ _ _ _ c.in-Exports.is v is c.args.name.now)
+    (option_and_then (value_in name) v)) (sym (c.found_item.ensures ∙ ap found_item c.member.ensures))
+    (exports_named _ _ c.requires.sound.names.distinct c.args.number name number _ _ c.in-Exports.is v is)
 
 pub returns-in-Host : goal.returns-in-Host
-returns-in-Host c v is =
+returns-in-Host c name number v is =
     let h = host_is _ _ _ _ _ c.in-Host.is v is in
     subst (λ w. ItemIs c.args.context.now.modules (tables_of c.args.state.now) c.host_item.result
-    (option_and_then (value_in c.args.name.now) w)) (sym h.is) (c.host_item.ensures h.tree h.path h.typed)
+    (option_and_then (value_in name) w)) (sym h.is) (c.host_item.ensures name number h.tree h.path h.typed)

@@ -6,4 +6,5 @@ instance_item-requires-clause-is c =
     (c.requires.is.0, item_instance _ _ _ _ c.instance_of.ensures c.requires.is.0 c.requires.is.1)
 
 pub returns : goal.returns
-returns c v is = c.instance_item.ensures v (item_instance _ _ _ _ c.instance_of.ensures v is)
+returns c name number v is =
+    c.instance_item.ensures name number v (item_instance _ _ _ _ c.instance_of.ensures v is)

@@ -2,6 +2,7 @@ use Rattle.std.proofs.Common.{ap, ◌∙◌}
 use Rattle.pc_local.specs.declared.item.Translation.{Translation}
 use Rattle.pc_inline_stack.proofs.MovesLemmas.{falls_leaving, leaves, leaves_crowded, leaving_named, leaving_return}
 use Rattle.pc_inline_stack.proofs.MovesLemmas.{leaving_type, leaving_typed}
+use Rattle.pc_inline_stack.proofs.NamesLemmas.{exports_numbered}
 use Rattle.pc_inline_stack.proofs.driver.leave.Goals as goal
 
 pub end_child-ended-requires-clause-returns : goal.end_child-ended-requires-clause-returns
@@ -14,6 +15,13 @@ end_child-ended-requires-clause-named c =
     leaving_named _ _ _ c.args.root.now c.requires.sound _ c.args.caller _ c.args.stack.now.top _ c.requires.here _
     c.replace-child.ensures.value _
     (c.as_slice-exports.ensures ∙ ap (λ (tr : Translation). tr.exports) c.body_at.ensures)
+
+pub end_child-ended-requires-clause-numbered : goal.end_child-ended-requires-clause-numbered
+end_child-ended-requires-clause-numbered c =
+    exports_numbered _ _ _ c.args.root.now c.args.state.now c.args.caller _ c.args.stack.now.top _ c.requires.here _
+    c.replace-child.ensures.value _
+    (c.as_slice-exports.ensures ∙ ap (λ (tr : Translation). tr.exports) c.body_at.ensures) _
+    c.export_numbers-numbers.ensures
 
 pub end_child-ended-requires-clause-typed : goal.end_child-ended-requires-clause-typed
 end_child-ended-requires-clause-typed c =

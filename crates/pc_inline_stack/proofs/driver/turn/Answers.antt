@@ -1,8 +1,16 @@
 use Rattle.std.proofs.Common.{◌≤◌, ◌∙◌, length, ap, refl, sym, subst}
 use Rattle.pc_local.specs.declared.item.Translation.{Translation}
+use Rattle.pc_inline_canon.proofs.GotLemmas.{got_some}
 use Rattle.pc_inline_stack.proofs.MovesLemmas.{counted_popped, none_wait}
+use Rattle.pc_inline_stack.proofs.NamesLemmas.{item_numbered}
 use Rattle.pc_inline_stack.proofs.TurnLemmas.{left_off, left_on, turned_last, turned_off, turned_on}
 use Rattle.pc_inline_stack.proofs.driver.turn.Goals as goal
+
+pub read_item-requires-clause-numbered : goal.read_item-requires-clause-numbered
+read_item-requires-clause-numbered c =
+    item_numbered _ _ _ c.args.root.now c.args.state.now _ c.args.stack.now.top _ c.requires.here _
+    (got_some _ _ _ (c.as_slice.ensures ∙ ap (λ (tr : Translation). tr.initializers) c.body_at-body.ensures) _
+    c.in-Some.ensures.lookup.3.0 c.in-Some.ensures.lookup.1) _ c.item-numbers.ensures
 
 pub leave-requires-clause-next : goal.leave-requires-clause-next
 leave-requires-clause-next c =

@@ -13,7 +13,7 @@ returns-in-None c =
     let at = sym (ap option_copied c.in-None.is) ∙ c.at_module.ensures
     ∙ ap (λ widths. slice_get widths n) c.as_slice.ensures.value in
     ap (option_and_then (λ (ws : List Bool). slice_get ws i)) at
-    ∙ found_memory c.self.inside.records.now c.self.inside.memories.items n i c.self.invariant.1
+    ∙ found_memory c.self.inside.records.now c.self.inside.memories.items n i c.self.invariant
     ∙ ap (λ rs. option_and_then (λ (r : ModuleRecord). slice_get (memory_widths r) i) (slice_get rs n)) c.self.view_is
 
 pub returns-in-Some : goal.returns-in-Some
@@ -24,5 +24,5 @@ returns-in-Some c =
     ∙ ap (λ widths. slice_get widths n) c.as_slice.ensures.value in
     c.width_at.ensures
     ∙ ap (option_and_then (λ (ws : List Bool). slice_get ws i)) at
-    ∙ found_memory c.self.inside.records.now c.self.inside.memories.items n i c.self.invariant.1
+    ∙ found_memory c.self.inside.records.now c.self.inside.memories.items n i c.self.invariant
     ∙ ap (λ rs. option_and_then (λ (r : ModuleRecord). slice_get (memory_widths r) i) (slice_get rs n)) c.self.view_is

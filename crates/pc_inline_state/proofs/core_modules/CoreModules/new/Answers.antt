@@ -1,10 +1,8 @@
-use Rattle.std.proofs.Common.{◌≡◌, ◌<◌, ◌+◌, ◌++◌, ◌∷◌, [], ℕ, Bool, List, length, take, sym, subst, ap, ◌∙◌, arith}
+use Rattle.std.proofs.Common.{◌≡◌, ◌<◌, ◌+◌, ◌++◌, ◌∷◌, [], Bool, List, length, take, sym, subst, ap, ◌∙◌, arith}
 use Rattle.std.specs.List.{AllZip}
 use Rattle.std.proofs.lemmas.Grind.{take_at_read}
-use Rattle.pc_numbers.specs.declared.entity_index.EntityIndex.{EntityIndex}
-use Rattle.pc_entity.specs.Lists.{value_of}
 use Rattle.pc_inline_state.proofs.ZipLemmas.{zip_push}
-use Rattle.pc_inline_state.specs.Index.{HasExports, HasMemories}
+use Rattle.pc_inline_state.specs.Index.{HasMemories}
 use Rattle.pc_types.specs.declared.module_record.ModuleRecord.{ModuleRecord}
 use Rattle.pc_types.specs.Record.{memory_widths}
 use Rattle.pc_inline_state.proofs.core_modules.CoreModules.new.Goals as goal
@@ -18,17 +16,9 @@ loop-shared-preserved c =
     let within : i < length rs = omega arith in
     let longer : take (i + 1) rs ≡ take i rs ++ r ∷ [] =
     (take_at_read rs i r within).1 ∙ (λ j. take i rs ++ sym is_it j ∷ []) in
-    let map = c.in_ok-first_values.field-0 in
     let widths = c.in_ok-memory_widths.field-0 in
-    let has : HasExports r map = λ name. c.in_ok-first_values.ensures name ∙ ap (value_of name)
-    (c.as_slice.ensures ∙ ap (λ (x : ModuleRecord). x.exports) c.get-record_.ensures) in (
-      subst (λ (xs : List ModuleRecord). AllZip HasExports xs c.push.new.self.items) (sym longer)
-          (subst (λ (ys : List (List (List ℕ × EntityIndex))). AllZip HasExports (take i rs ++ r ∷ []) ys)
-          (sym {A = List (List (List ℕ × EntityIndex))} c.in_ok-push.ensures.items)
-          (zip_push HasExports (take i rs) c.loop-shared.exports.items r map c.loop-shared.invariant.0 has)),
-      subst (λ (xs : List ModuleRecord). AllZip HasMemories xs c.push-in-loop-shared.new.self.items) (sym longer)
-          (subst (λ (ys : List (List Bool)). AllZip HasMemories (take i rs ++ r ∷ []) ys)
-          (sym {A = List (List Bool)} c.in_ok-push-2.ensures.items)
-          (zip_push HasMemories (take i rs) c.loop-shared.memories.items r widths c.loop-shared.invariant.1
-          (c.in_ok-memory_widths.ensures ∙ ap memory_widths c.get-record_.ensures))),
-    )
+    subst (λ (xs : List ModuleRecord). AllZip HasMemories xs c.push.new.self.items) (sym longer)
+    (subst (λ (ys : List (List Bool)). AllZip HasMemories (take i rs ++ r ∷ []) ys)
+    (sym {A = List (List Bool)} c.in_ok-push.ensures.items)
+    (zip_push HasMemories (take i rs) c.loop-shared.memories.items r widths c.loop-shared.invariant
+    (c.in_ok-memory_widths.ensures ∙ ap memory_widths c.get.ensures)))

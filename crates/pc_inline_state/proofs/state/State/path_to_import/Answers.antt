@@ -5,8 +5,10 @@ use Rattle.pc_inline_state.proofs.state.State.path_to_import.Goals as goal
 pub returns-clause-sound : goal.returns-clause-sound
 returns-clause-sound c =
     let st = c.args.self.now in
-    sound_with st c.note_path.new.self c.import.new.self c.note_path.ensures.rest
-    (taken_kept (at_import c.args.import) st.paths c.import.new.self c.in-Ok.path c.in-Ok.ensures.ok)
-    (λ are. used_taken st.graph st.paths st.used.items are (at_import c.args.import) c.import.new.self c.in-Ok.path
+    let ps = c.import.new.self in
+    let path = at_import c.args.import in
+    sound_with st c.note_path.new.self ps c.import.ensures.names c.note_path.ensures.rest
+    (taken_kept path st.paths.held ps.held c.in-Ok.path c.in-Ok.ensures.ok)
+    (λ are. used_taken st.graph st.paths.held st.used.items are path ps.held c.in-Ok.path
     c.note_path.new.self.used.items c.in-Ok.ensures.ok c.import.ensures.distinct c.requires.there
     c.in_ok-note_path.ensures.ok)

@@ -1,0 +1,9 @@
+use Rattle.std.proofs.Common.{◌≡◌, map, take}
+use Rattle.pc_inline_names.proofs.AddedLemmas.{Added, Numbered}
+use Rattle.pc_inline_names.proofs.bodies.make_all.Given as goal
+
+abbrev pub invariant-loop-entry : goal.invariant-loop-entry
+invariant-loop-entry g l = record {
+  added : Added Numbered l.fn.texts (map g.T.HasName.name_of (take l.entry-index l.entries)) l.texts l.lists.open_list;
+  ended : l.lists.ended ≡ l.fn.lists.ended;
+}
