@@ -1,13 +1,13 @@
 //! Paths that are taken in, and written out.
 
-use crate::support::{far_member, holds, many_members, member};
-use pc_entity::{ImportIndex, Seed, Seq, Text};
+use crate::support::{far_member, holds, many_members, member, names, numbered_names};
+use pc_entity::{Atom, ImportIndex, Seed, Seq, Text};
 use pc_inline_paths::{PathId, Paths};
 use std::alloc::Global;
 use std::test::*;
 
 /// The import and the names of a path, if it is held and memory is there.
-fn written(alloc: Global, paths: &Paths, id: PathId) -> Option<(ImportIndex, Seq<Text>)> {
+fn written(alloc: Global, paths: &Paths<'_>, id: PathId) -> Option<(ImportIndex, Seq<Text>)> {
     if (id.0 as usize) < paths.len() {
         return paths.names(alloc, id).ok();
     }
@@ -25,16 +25,14 @@ fn is_named(names: &Seq<Text>, place: usize, name: &str) -> bool {
 /// The path `a` and then `b` behind import 3, which is taken in twice.
 #[test]
 fn a_path_is_written_out(rt: HostRuntime) {
-    let mut paths = Paths::new(rt.alloc(), Seed::fixed());
+    let texts = names(rt.alloc(), &["a", "b"]).expect(&rt, "no texts");
+    let mut paths = Paths::new(rt.alloc(), Seed::fixed(), &texts);
     holds(&rt, "empty", paths.is_empty());
     let root = paths.import(ImportIndex(3)).expect(&rt, "no import");
-    let a = member(rt.alloc(), &mut paths, root, "a").expect(&rt, "no a");
-    let b = member(rt.alloc(), &mut paths, a, "b").expect(&rt, "no b");
-    holds(
-        &rt,
-        "again",
-        member(rt.alloc(), &mut paths, a, "b") == Some(b),
-    );
+    let a = member(&mut paths, root, Atom(0)).expect(&rt, "no a");
+    let b = member(&mut paths, a, Atom(1)).expect(&rt, "no b");
+    holds(&rt, "again", member(&mut paths, a, Atom(1)) == Some(b));
+    holds(&rt, "no name", !paths.has_name(Atom(2)));
     holds(&rt, "ids", paths.len() == 3);
     let path = written(rt.alloc(), &paths, b).expect(&rt, "no names");
     holds(&rt, "import", path.0 == ImportIndex(3));
@@ -46,10 +44,11 @@ fn a_path_is_written_out(rt: HostRuntime) {
 /// The paths have 2 * 10 ^ 10 names together.
 #[test]
 fn members_far_down_are_taken_in(rt: HostRuntime) {
-    let mut paths = Paths::new(rt.alloc(), Seed::fixed());
+    let texts = numbered_names(rt.alloc(), 150_000).expect(&rt, "no texts");
+    let mut paths = Paths::new(rt.alloc(), Seed::fixed(), &texts);
     let root = paths.import(ImportIndex(0)).expect(&rt, "no import");
-    let far = far_member(rt.alloc(), &mut paths, root, 100_000).expect(&rt, "no chain");
-    let many = many_members(rt.alloc(), &mut paths, far, 150_000);
+    let far = far_member(&mut paths, root, 100_000).expect(&rt, "no chain");
+    let many = many_members(&mut paths, far, 150_000);
     holds(&rt, "members", many.is_some());
     holds(&rt, "ids", paths.len() == 250_001);
     let path = written(rt.alloc(), &paths, far).expect(&rt, "no names");
