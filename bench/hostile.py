@@ -1089,7 +1089,7 @@ def over(types, *payloads):
 
 
 def children_with_a_long_name(room):
-    """Very many instances of a component that exports something under a very long name: the product."""
+    """Very many instances of a component that exports something under a very long name."""
     child = '"component","version",{"component-instances":[{"exports":[[],2]}]},{"exports":[["%s","instance",0]]},"end"'
     count = min(room // 2 // (len(ONE_CHILD) + 1), MOST - 1)
     begins = fill('{"component-instances":[', lambda n: ONE_CHILD, "]}", count)
@@ -1138,7 +1138,7 @@ GIVEN_CHILD = '{"instantiate":[0,[["i","instance",0]],2]}'
 
 
 def children_with_a_long_argument(room):
-    """Instances of a component that gives another one an argument under a very long name: the product."""
+    """Instances of a component that gives another one an argument under a very long name."""
     name = name_of(room)
     inner = '"component","version",{"imports":[["%s",["instance",2]]]},"end"' % name
     made = '{"component-instances":[{"exports":[[],2]},{"instantiate":[0,[["%s","instance",0]],2]}]}' % name
@@ -1146,7 +1146,7 @@ def children_with_a_long_argument(room):
 
 
 def children_with_a_long_alias(room):
-    """Instances of a component that takes something of a very long name out of an instance: the product."""
+    """Instances of a component that takes something of a very long name out of an instance."""
     name = name_of(room)
     made = '{"component-instances":[{"exports":[[],2]},{"exports":[[["%s","instance",0]],2]}]}' % name
     taken = '{"aliases":[{"export":["instance",1,"%s"]}]}' % name
@@ -1154,7 +1154,7 @@ def children_with_a_long_alias(room):
 
 
 def children_with_a_long_bag(room):
-    """Instances of a component that gives a core module what it imports under a very long name: the product."""
+    """Instances of a component that gives a core module what it imports under a very long name."""
     name = name_of(room, 6)
     takes = core_module('["%s","%s",["func",0]]' % (name, name), 0, "")
     taken = '{"aliases":[{"outer":["core-module",1,0]},{"outer":["core-module",1,1]}]}'
@@ -1165,7 +1165,7 @@ def children_with_a_long_bag(room):
 
 
 def children_with_a_long_core_export(room):
-    """Instances of a component that takes a function of a very long name out of a core instance: the product."""
+    """Instances of a component that takes a function of a very long name out of a core instance."""
     name = name_of(room)
     captured, taken = '{"aliases":[{"outer":["core-module",1,0]}]}', '{"aliases":[{"core-export":["func",0,"%s"]}]}' % name
     child = ",".join(['"component","version"', captured, INSTANCE, taken, '"end"'])
@@ -1173,7 +1173,7 @@ def children_with_a_long_core_export(room):
 
 
 def children_with_a_long_host_name(room):
-    """Instances of a component that takes a function of a very long name out of an imported instance: the product."""
+    """Instances of a component that takes a function of a very long name out of an imported instance."""
     name = name_of(room)
     types = NEST_TYPES[:-2] + ',{"instance":[["%s",["func",1]]]}]}' % name
     child = '"component","version",%s,{"aliases":[{"export":["func",0,"%s"]}]},"end"' % (GIVEN % 4, name)
@@ -1181,7 +1181,7 @@ def children_with_a_long_host_name(room):
 
 
 def children_with_a_long_resource(room):
-    """Instances of a component that are given a resource under a very long name: the product."""
+    """Instances of a component that are given a resource under a very long name."""
     types = NEST_TYPES[:-2] + ',"resource",{"instance":[["%s",["type",4]]]}]}' % name_of(room)
     return children_of(room, '"component","version",%s,"end"' % (GIVEN % 5), types, [GIVEN % 5], GIVEN_CHILD)
 
