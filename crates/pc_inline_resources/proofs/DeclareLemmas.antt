@@ -1,10 +1,9 @@
 -- One more resource in the graph: what that keeps and adds, and where there is no room.
 use Rattle.std.proofs.Common.{◌≡◌, ◌⊎◌, inl, inr, ◌+◌, ◌≤◌, ◌<◌, [], ◌∷◌, ◌++◌, length, Some, refl, sym}
-use Rattle.std.proofs.Common.{ap, subst, ◌∙◌, arith}
+use Rattle.std.proofs.Common.{ap, subst, arith}
 use Rattle.std.specs.Prelude.{Result, Ok, Err, OnErr, OnOk, IfErr, slice_get}
 use Rattle.std.specs.Result.{IsErrAnd}
 use Rattle.std.proofs.lemmas.List.{length-append}
-use Rattle.pc_numbers.specs.declared.runtime.ResourceIndex.{ResourceIndex}
 use Rattle.pc_types.specs.TypeTree.{declared}
 use Rattle.pc_spec_plan.specs.PlanView as plan
 use Rattle.pc_dfg.specs.declared.dfg.ComponentDfg.{ComponentDfg}
@@ -21,7 +20,6 @@ use Rattle.pc_inline_state.specs.declared.state.State.{State}
 use Rattle.pc_inline_state.specs.AddsEach.{AddsEach, everywhere}
 use Rattle.pc_inline_state.specs.Faults.{of_push_error}
 use Rattle.pc_inline_state.specs.Fits.{FitsBefore}
-use Rattle.pc_inline_state.specs.KnowsSame.{IsResource}
 use Rattle.pc_inline_state.specs.Points.{full_resources}
 use Rattle.pc_inline_state.specs.Refused.{LacksRoom}
 use Rattle.pc_inline_state.specs.Tables.{Keeps, Tables, tables_of}
@@ -125,11 +123,3 @@ pub resources_full : (st : State)
     → LacksRoom st item_error.TooMany
 unfolding LacksRoom
 resources_full st full = full_resources full
-
--- the number of the resource that is declared next is that of the next in order
-pub next_resource : (g : ComponentDfg) (x : Resource) (r : ResourceIndex)
-    → r.0 ≡ length g.imported_resources + length g.resources
-    → IsResource (with_resource g x) r (declared (length g.resources))
-next_resource g x r is who fits =
-    ap (λ n. who (record { 0 = n })) is
-    ∙ fits.own (length g.resources) (rw (length-append g.resources (x ∷ [])) (omega arith))

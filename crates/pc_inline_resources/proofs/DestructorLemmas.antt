@@ -6,7 +6,7 @@ use Rattle.std.proofs.lemmas.Option.{none-some, same_Some, slice_get_within}
 use Rattle.pc_types.specs.declared.module_record.ModuleRecord.{ModuleRecord}
 use Rattle.pc_types.specs.declared.parsed.CoreKind.TheVariants as core
 use Rattle.pc_spec_plan.specs.CoreValue as value
-use Rattle.pc_spec_plan.specs.CoreValue.{CoreValue, MaybeValue}
+use Rattle.pc_spec_plan.specs.CoreValue.{CoreValue}
 use Rattle.pc_spec_plan.specs.Machine.{chosen}
 use Rattle.pc_parsed.specs.Mark.{Mark}
 use Rattle.pc_dfg.specs.declared.core_def.CoreDef.{CoreDef}

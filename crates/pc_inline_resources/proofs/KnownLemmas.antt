@@ -3,6 +3,7 @@ use Rattle.std.proofs.Common.{◌≡◌, ◌==◌, ℕ, Bool, true, false, List,
 use Rattle.std.proofs.Common.{◌∙◌, if◌then◌else◌, true≢false}
 use Rattle.std.specs.Cmp.{nat_eq_equiv}
 use Rattle.std.proofs.lemmas.Bool.{eqb-true}
+use Rattle.pc_entity.proofs.Growing.{kept_refl}
 use Rattle.pc_numbers.specs.declared.runtime.ResourceIndex.{ResourceIndex}
 use Rattle.pc_types.specs.declared.module_record.ModuleRecord.{ModuleRecord}
 use Rattle.pc_types.specs.declared.parsed.TypeTable.{TypeTable}
@@ -29,6 +30,7 @@ use Rattle.pc_inline_state.specs.Trails.{Trails, undone}
 use Rattle.pc_inline_state.proofs.AddsLemmas.{adds_refl}
 use Rattle.pc_inline_state.proofs.GainedLemmas.{tables_aside}
 use Rattle.pc_inline_state.proofs.InstanceLemmas.{instances_kept}
+use Rattle.pc_inline_state.proofs.PlacedLemmas.{placed_kept}
 use Rattle.pc_inline_state.proofs.StateLemmas.{keeps_refl}
 use Rattle.pc_inline_canon.proofs.KeptLemmas.{frame_kept}
 use Rattle.pc_inline_canon.proofs.WorldLemmas.{world_still}
@@ -158,6 +160,7 @@ module _ (st : State) (k : Resources) where
     instances = instances_kept ms (tables_of st) (tables_of (knowing_in st k)) known_keeps refl
         st.runtime_instances.items s.instances;
     widths = s.widths;
+    placed = placed_kept t ms st (knowing_in st k) known_keeps (kept_refl st.runtime_instances.items) refl s.placed;
   }
 
   -- a point at which other resources are known on both sides
@@ -238,3 +241,15 @@ put_trail cs k j n x i same put current was is ds noted =
     put)
     (current ∙ ap (λ (l : Resources). l.current) same) ds
     (noted ∙ ap (λ w. cs ++ record { number = n; was = w } ∷ []) is)
+
+-- what else was known at first stays known
+pub others_known : (k j : Resources) (n : ℕ) (x : Option ResourceIndex) (i : Resources) → i ≡ k
+    → ((q : ℕ) → resource_of j.known q ≡ (if q == n then x else resource_of i.known q)) → (q : ℕ) → ¬ (q ≡ n)
+    → resource_of j.known q ≡ resource_of k.known q
+others_known k j n x i same put q other =
+    by (q == n) (λ is. eqb-true q n is) (put q) ∙ ap (λ (l : Resources). resource_of l.known q) same
+  where
+    by : (b : Bool) → (b ≡ true → q ≡ n) → resource_of j.known q ≡ (if b then x else resource_of i.known q)
+        → resource_of j.known q ≡ resource_of i.known q
+    by true is put_q = absurd (other (is refl))
+    by false is put_q = put_q

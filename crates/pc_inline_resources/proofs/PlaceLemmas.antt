@@ -1,5 +1,5 @@
 -- The name of an export, at a place of an entry, and its number.
-use Rattle.std.proofs.Common.{◌≡◌, ℕ, List, [], Option, None, Some, sym, ap, subst, ◌∙◌}
+use Rattle.std.proofs.Common.{◌≡◌, ℕ, List, Option, None, Some, sym, ap, subst, ◌∙◌}
 use Rattle.std.specs.Prelude.{slice_get, option_and_then}
 use Rattle.std.specs.Option.{option_map}
 use Rattle.std.proofs.lemmas.Option.{none-some, same_Some, slice_get-map}
@@ -42,12 +42,3 @@ module _ (i : ℕ) (x : List ℕ × Entity) where
   export_number_is names t u n o has same at k is =
       let y = export_numbered names t u n o has same at in
       subst (λ (j : Atom). IsNumber names j x.0) (same_Some y.0 k (sym y.1 ∙ is)) y.2
-
-  -- and it has one
-  pub export_has_number : (names : List (List ℕ)) (t u : TypeTable) (n : ℕ) (o : Option Atom)
-      → Both (λ (name : List ℕ) (k : Atom). IsNumber names k name)
-      (option_and_then (λ e. slice_get (export_names e) i) (slice_get u.types n)) o
-      → u ≡ t → export_at t n i ≡ Some x → o ≡ None → ⊥
-  export_has_number names t u n o has same at none =
-      let y = export_numbered names t u n o has same at in
-      none-some y.0 (sym none ∙ y.1)

@@ -308,7 +308,3 @@ module _ (ms : List ModuleRecord) (b : Tables) where
     later_there (suc k) later p none =
         let less : suc k - 1 ≡ k = omega arith in
         none-some p.0 (sym (subst (λ m. slice_get items m ≡ None) less none) ∙ p.1)
-
-    -- what stands at the first
-    pub first_parent : (n : ℕ) → n ≡ 0 → ParentIs ms b x items n v → (w : Value) × StartIs ms b x w × (v ≡ Some w)
-    first_parent n is p = subst (λ k. ParentIs ms b x items k v) is p

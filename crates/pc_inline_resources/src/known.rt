@@ -19,8 +19,7 @@ use pc_inline_state::{Change, Context, Frame, ItemError, State};
 /// A table number stands for a resource from now on, in the component instance of a frame. Want of memory is the one
 /// refusal.
 ///
-/// A type that leads to the number is another type now. So of what was converted only the types stay that are the same
-/// in each component instance.
+/// A type that leads to the number is another type now. So of what was converted the types are forgotten that do.
 pub fn make_known(
     context: &Context<'_>,
     state: &mut State<'_>,
@@ -46,7 +45,7 @@ pub fn make_known(
 {
     let was = state.types.resources().lookup(n);
     frame.changes.push(Change { number: n, was })?;
-    frame.converted.keep_plain();
+    frame.converted.forget(n);
     state.types.resources_mut().register_resource(n, r)?;
     Ok(())
 }

@@ -8,7 +8,7 @@ mod resources;
 
 use crate::builder::conversions::converts_each;
 use crate::builder::entries::{Shape, table_of};
-use crate::builder::long_tables::{converts_chain, converts_diamond};
+use crate::builder::long_tables::{converts_chain, converts_diamond, forgets_a_resource};
 use pc_entity::Seed;
 use pc_types_builder::ComponentTypesBuilder;
 use std::alloc::Global;
@@ -22,5 +22,6 @@ fn converts(rt: &impl Abort, alloc: Global, shape: Shape) {
         Shape::EachKind => converts_each(rt, alloc, &mut types, &table),
         Shape::Chain => converts_chain(rt, alloc, &mut types, &table),
         Shape::Diamond => converts_diamond(rt, alloc, &mut types, &table),
+        Shape::Handles => forgets_a_resource(rt, alloc, &mut types, &table),
     }
 }

@@ -1,5 +1,5 @@
 -- What was converted where nothing was.
-use Rattle.std.proofs.Common.{◌≡◌, ℕ, zero, suc, length, Option, Some, None, replicate}
+use Rattle.std.proofs.Common.{◌≡◌, ◌∙◌, ℕ, zero, suc, [], length, Option, Some, None, inl, refl, replicate, sym}
 use Rattle.std.specs.Prelude.{slice_get}
 use Rattle.std.proofs.lemmas.List.{length-replicate}
 use Rattle.std.proofs.lemmas.Option.{none-some, same_Some}
@@ -22,7 +22,7 @@ none_typed b t = record {
   entries = λ n d found. absurd (none_stands (length t.types) n d found);
 }
 
--- so it is with both lists
+-- so it is with all lists
 pub none_converted : (b : Types) (t : TypeTable) → AreConverted b t (none_done (length t.types))
 none_converted b t = record {
   all = none_typed b t;
@@ -31,4 +31,11 @@ none_converted b t = record {
     form = λ n e done at. absurd (none_stands (length t.types) n done.0 done.1);
     closed = λ n e done at. absurd (none_stands (length t.types) n done.0 done.1);
   };
+  layered = record {
+    own_room = refl;
+    users_room = length-replicate (length t.types) [] ∙ sym (length-replicate (length t.types) None);
+    front = λ n d found. found;
+    either = λ n d found. inl found;
+  };
+  noted = record { noted = λ k p e done at among. absurd (none_stands (length t.types) k done.0 done.1) };
 }

@@ -15,8 +15,8 @@ use Rattle.pc_types.specs.Table.{table_fault}
 use Rattle.pc_types.specs.TypeTree.{Identity, TypeTree, declared, earlier_tree, entry_tree, trees_from}
 use Rattle.pc_types_lists.specs.Types.{Types}
 use Rattle.pc_types_builder.specs.Trees.{IsEntry, identities}
-use Rattle.pc_types_convert.specs.Plain.{Layers, is_plain_entry}
-use Rattle.pc_types_builder.specs.Converted.{AreConverted, ArePlain, AreTyped, IsOfKind}
+use Rattle.pc_types_convert.specs.Plain.{AreLayered, IsNoted, Layers, NotesMore, PutsOwn, PutsPlain, is_plain_entry}
+use Rattle.pc_types_builder.specs.Converted.{AreConverted, AreNoted, ArePlain, AreTyped, IsOfKind, IsPlainEntry}
 use Rattle.pc_types_builder.specs.Depends.{depends}
 use Rattle.pc_types_builder.proofs.PlainLemmas.{plain_entry}
 use Rattle.pc_types_convert.specs.Entries.{EntryIs}
@@ -242,25 +242,84 @@ module _ (t : TypeTable) (sound : table_fault t ≡ None) where
             ];
       }
 
+  -- where the same entries have a type of this component instance, what is noted may be more
+  noted_same : (c new : Layers) → new.own ≡ c.own → ((p m : ℕ) → IsNoted c.users p m → IsNoted new.users p m)
+      → AreNoted t c → AreNoted t new
+  noted_same c new own users are = record {
+    noted = λ m p g is at among.
+        elim (are.noted m p g (subst (λ l. IsDone l m) own is) at among) as
+        (λ _. (IsDone new.own p × IsNoted new.users p m) ⊎ IsPlainEntry t p) [
+          | inl it ↦ inl (subst (λ l. IsDone l p) (sym own) it.0, users p m it.1)
+          | inr its ↦ inr its
+        ];
+  }
+
+  -- nothing else is to be shown where no type has changed
+  pub notes_keep : (b : Types) (c new : Layers) → NotesMore c new → AreConverted b t c → AreConverted b t new
+  notes_keep b c new more are = record {
+    all = subst (AreTyped b t) (sym more.all) are.all;
+    plain = subst (AreTyped b t) (sym more.plain) are.plain;
+    same = subst (ArePlain t) (sym more.plain) are.same;
+    layered = more.layered;
+    noted = noted_same c new more.own more.users are.noted;
+  }
+
+  -- what an entry names is noted where it gets a type of this component instance, or is the same in each
+  own_noted : (c new : Layers) (k : ℕ) (e : DeclType) (d : TypeDef) → slice_get t.types k ≡ Some e → ArePlain t c.plain
+      → AreLayered c → Each (IsDone c.all) (parts_of e) → AreNoted t c → PutsOwn k d (parts_of e) c new → AreNoted t new
+  own_noted c new k e d at same layered parts are puts =
+      let kept = kept_put c.own new.own k d puts.own in
+      record {
+        noted = λ m p g is at_m among.
+            elim (set_found c.own k m (Some d) (Some is.0) (subst (λ l. slice_get l m ≡ Some (Some is.0)) puts.own is.1))
+            as (λ _. (IsDone new.own p × IsNoted new.users p m) ⊎ IsPlainEntry t p) [
+              | inl here ↦ (
+                  let of_k : slice_get t.types k ≡ Some g = subst (λ i. slice_get t.types i ≡ Some g) here.0 at_m in
+                  let named : IsAmong p (parts_of e) =
+                  subst (λ h. IsAmong p (parts_of h)) (sym (same_Some e g (sym at ∙ of_k))) among in
+                  let done = each_among (IsDone c.all) (parts_of e) p parts named in
+                  elim (layered.either p done.0 done.1) as
+                  (λ _. (IsDone new.own p × IsNoted new.users p m) ⊎ IsPlainEntry t p) [
+                    | inl own ↦ inl (
+                      kept p (done.0, own),
+                      subst (IsNoted new.users p) (sym here.0) (puts.noted p named (done.0, own)),
+                    )
+                    | inr its ↦ inr (c.plain, same, (done.0, its))
+                  ])
+              | inr old ↦ elim (are.noted m p g (is.0, old) at_m among) as
+                  (λ _. (IsDone new.own p × IsNoted new.users p m) ⊎ IsPlainEntry t p) [
+                    | inl own ↦ inl (kept p own.0, puts.users p m own.1)
+                    | inr its ↦ inr its
+                  ]
+            ];
+      }
+
   -- the same of the lists that a step reads and leaves
   pub put_more : (b : Types) (c new : Layers) (front : List (Option TypeDef)) (k : ℕ) (e : DeclType) (d : TypeDef)
-      → slice_get t.types k ≡ Some e → AreConverted b t c → front ≡ take k c.all → EntryIs b front t k e d
-      → (is_plain : Bool) → is_plain ≡ is_plain_entry c.plain e → new.all ≡ slice_set c.all k (Some d)
-      → ((new.plain ≡ c.plain) ⊎ ((is_plain ≡ true) × (new.plain ≡ slice_set c.plain k (Some d))))
-      → AreConverted b t new
-  put_more b c new front k e d at are before is is_plain plain all_put put =
+      → slice_get t.types k ≡ Some e → Each (IsDone c.all) (parts_of e) → AreConverted b t c → front ≡ take k c.all
+      → EntryIs b front t k e d → (is_plain : Bool) → is_plain ≡ is_plain_entry c.plain e
+      → (parts : List ℕ) → parts ≡ parts_of e → new.all ≡ slice_set c.all k (Some d)
+      → (((is_plain ≡ true) × PutsPlain k d c new) ⊎ PutsOwn k d parts c new) → AreLayered new → AreConverted b t new
+  put_more b c new front k e d at done are before is is_plain plain parts named all_put put layered =
       let here = subst (λ f. EntryIs b f t k e d) before is in
       let kind = kind_of_entry b (take k c.all) t k e d here in
       let entry = converted_entry b c.all k e d at are.all here in
       record {
         all = subst (AreTyped b t) (sym all_put) (typed_put b c.all k e d at are.all kind entry);
         plain = elim put as (λ _. AreTyped b t new.plain) [
-          | inl same ↦ subst (AreTyped b t) (sym same) are.plain
-          | inr more ↦ subst (AreTyped b t) (sym more.1) (typed_put b c.plain k e d at are.plain kind entry)
+          | inl more ↦ subst (AreTyped b t) (sym more.1.plain) (typed_put b c.plain k e d at are.plain kind entry)
+          | inr same ↦ subst (AreTyped b t) (sym same.plain) are.plain
         ];
         same = elim put as (λ _. ArePlain t new.plain) [
-          | inl same ↦ subst (ArePlain t) (sym same) are.same
-          | inr more ↦ subst (ArePlain t) (sym more.1) (plain_put c.plain k e d at (sym plain ∙ more.0) are.same)
+          | inl more ↦ subst (ArePlain t) (sym more.1.plain)
+              (plain_put c.plain k e d at (sym plain ∙ more.0) are.same)
+          | inr same ↦ subst (ArePlain t) (sym same.plain) are.same
+        ];
+        layered = layered;
+        noted = elim put as (λ _. AreNoted t new) [
+          | inl more ↦ noted_same c new more.1.own (λ p m h. subst (λ l. IsNoted l p m) (sym more.1.users) h) are.noted
+          | inr own ↦ own_noted c new k e d at are.same are.layered done are.noted
+              (subst (λ ns. PutsOwn k d ns c new) named own)
         ];
       }
 

@@ -183,6 +183,8 @@ converted_grows old new g t c are = record {
   all = typed_grows old new g t c.all are.all;
   plain = typed_grows old new g t c.plain are.plain;
   same = are.same;
+  layered = are.layered;
+  noted = are.noted;
 }
 
 -- the number of a function type that has a tree is held

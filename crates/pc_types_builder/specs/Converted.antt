@@ -1,5 +1,5 @@
 -- The entries of a table that were converted so far, and what they are in the builder.
-use Rattle.std.specs.Prelude.{◌≡◌, ℕ, false, List, length, Option, Some, slice_get}
+use Rattle.std.specs.Prelude.{◌≡◌, ◌⊎◌, ℕ, false, List, length, Option, Some, slice_get}
 use Rattle.pc_types.specs.declared.parsed.DeclType.{DeclType}
 use Rattle.pc_types.specs.declared.parsed.DeclType.TheVariants as entry
 use Rattle.pc_types.specs.declared.parsed.TypeTable.{TypeTable}
@@ -12,8 +12,8 @@ use Rattle.pc_types.specs.declared.types.InterfaceType.{InterfaceType}
 use Rattle.pc_types.specs.declared.types.TypeDef.{TypeDef}
 use Rattle.pc_types.specs.declared.types.TypeDef.TheVariants as def
 use Rattle.pc_types_lists.specs.Types.{Types}
-use Rattle.pc_types_convert.specs.Needed.{Each, IsDone, parts_of}
-use Rattle.pc_types_convert.specs.Plain.{Layers}
+use Rattle.pc_types_convert.specs.Needed.{Each, IsAmong, IsDone, parts_of}
+use Rattle.pc_types_convert.specs.Plain.{AreLayered, IsNoted, Layers}
 use Rattle.pc_types_builder.specs.Depends.{depends}
 use Rattle.pc_types_builder.specs.Trees.{IsEntry}
 
@@ -39,8 +39,19 @@ pub record ArePlain (t : TypeTable) (plain : List (Option TypeDef)) : Type 0 whe
   pub form : (n : ℕ) (e : DeclType) → IsDone plain n → slice_get t.types n ≡ Some e → depends e ≡ false
   pub closed : (n : ℕ) (e : DeclType) → IsDone plain n → slice_get t.types n ≡ Some e → Each (IsDone plain) (parts_of e)
 
--- what was converted, and what of it is the same in each component instance
+-- the entry is one of those that depend on no component instance and on no known resource
+abbrev pub IsPlainEntry : TypeTable → ℕ → Type 0
+IsPlainEntry t n = (plain : List (Option TypeDef)) × ArePlain t plain × IsDone plain n
+
+-- each entry that has a type of this component instance is noted for what it names, but for what is the same in each
+pub record AreNoted (t : TypeTable) (c : Layers) : Type 0 where
+  pub noted : (k p : ℕ) (e : DeclType) → IsDone c.own k → slice_get t.types k ≡ Some e → IsAmong p (parts_of e)
+      → (IsDone c.own p × IsNoted c.users p k) ⊎ IsPlainEntry t p
+
+-- what was converted, what of it is the same in each component instance, and what names what of the rest
 pub record AreConverted (b : Types) (t : TypeTable) (c : Layers) : Type 0 where
   pub all : AreTyped b t c.all
   pub plain : AreTyped b t c.plain
   pub same : ArePlain t c.plain
+  pub layered : AreLayered c
+  pub noted : AreNoted t c

@@ -1,11 +1,13 @@
 //! What was converted already.
 
-ghost use Rattle.std.specs.Prelude.{◌≡◌, ◌<◌, ◌⊎◌, OnErr, OnOk, None, Some, length, slice_get, slice_set, take, true};
+ghost use Rattle.std.specs.Prelude.{◌≡◌, ◌<◌, ◌⊎◌, ℕ, OnErr, OnOk, None, Some, length, slice_get, slice_set, take};
+ghost use Rattle.std.specs.Prelude.{true};
 ghost use Rattle.pc_types.specs.declared.parsed.TypeTable.{TypeTable};
 ghost use Rattle.pc_types.specs.declared.types.TypeDef.{TypeDef};
 ghost use Rattle.pc_types.specs.Table.{table_fault};
 ghost use Rattle.pc_types_lists.specs.Types.{KeepsTypes, Types};
-ghost use Rattle.pc_types_convert.specs.Plain.{none_done};
+ghost use Rattle.pc_types_lists.specs.Known.{resource_of};
+ghost use Rattle.pc_types_convert.specs.Plain.{AreLayered, NotesMore, PutsOwn, PutsPlain, none_done};
 ghost use Rattle.pc_types_builder.specs.Converted.{AreConverted};
 
 use pc_entity::NoMemory;
@@ -18,8 +20,9 @@ use std::marker::Model;
 /// converted once, whatever is asked for. A contract sees the list of them, by number, and the list of those that are
 /// the same in each component instance: no resource, stream, future or error context stands in them.
 ///
-/// It is of one table and one builder, and lasts while the builder's resources stay; what is the same in each component
-/// instance lasts as long as the builder. It takes the memory of what was converted, whatever the table's length.
+/// It is of one table and one builder, and lasts while the builder's resources stay, or while those that change are
+/// forgotten (`forget`); what is the same in each component instance lasts as long as the builder. It takes the memory
+/// of what was ever converted, whatever the table's length.
 #[derive(Drop)]
 pub struct Converted {
     done: Done,
@@ -44,13 +47,16 @@ impl Converted {
         }
     }
 
-    /// The types stay that are the same in each component instance, and only they: a resource becomes known, or types
-    /// are converted in another component instance.
-    pub fn keep_plain(&mut self)
+    /// The types go that lead to the resource of table number `n`: it becomes known, or is another one from now on.
+    ///
+    /// All calls together take the time of a search for each part of what was converted between them.
+    pub fn forget(&mut self, n: u32)
         ensures { (t : TypeTable) (old new : Types) → table_fault t ≡ None → KeepsTypes old new
+            → new.resources.current ≡ old.resources.current
+            → ((q : ℕ) → ¬ (q ≡ n) → resource_of new.resources.known q ≡ resource_of old.resources.known q)
             → AreConverted old t self.old → AreConverted new t self.new }
     {
-        self.done.keep_plain();
+        self.done.forget(n);
     }
 
     /// Two exchange the types that are the same in each component instance. So one that begins has them from one that
@@ -87,15 +93,22 @@ impl Converted {
         self.done.type_at(n)
     }
 
-    /// An entry gets its type, which may be the same in each component instance. Only memory may be wanting, and then
-    /// nothing has changed.
-    pub(crate) fn put(&mut self, k: u32, type_: TypeDef, plain: bool) -> Result<(), NoMemory>
+    /// An entry gets its type, which may be the same in each component instance; if it isn't, the entry is noted among
+    /// those that name its parts. Only memory may be wanting, and then no type has changed.
+    pub(crate) fn put(
+        &mut self,
+        k: u32,
+        type_: TypeDef,
+        plain: bool,
+        parts: &[u32],
+    ) -> Result<(), NoMemory>
         requires { k < length self.old.all }
         ensures all { OnOk result (self.new.all ≡ slice_set self.old.all k (Some type_)) }
-        ensures plain { OnOk result ((self.new.plain ≡ self.old.plain)
-            ⊎ ((plain ≡ true) × (self.new.plain ≡ slice_set self.old.plain k (Some type_)))) }
-        ensures err { OnErr result (self.new ≡ self.old) }
+        ensures put { OnOk result (((plain ≡ true) × PutsPlain k type_ self.old self.new)
+            ⊎ PutsOwn k type_ parts.now self.old self.new) }
+        ensures layered { OnOk result (AreLayered self.new) }
+        ensures err { OnErr result (NotesMore self.old self.new) }
     {
-        self.done.put(k, type_, plain)
+        self.done.put(k, type_, plain, parts)
     }
 }

@@ -19,7 +19,7 @@ ghost use Rattle.pc_types_convert.specs.Needed.{AreNeeded, Each, IsDone, parts_o
 
 use crate::Converted;
 use pc_types::{TypeDef, TypeTable};
-use pc_types_convert::{convert, entry_at, is_plain, needed};
+use pc_types_convert::{convert, entry_at, entry_parts, is_plain, needed};
 use pc_types_lists::{InternedTypes, NoPlace};
 
 /// Entry `n`, which is there, with all that it leads to.
@@ -120,6 +120,7 @@ fn step(
     let entry = entry_at(table, k);
     let type_ = convert(interned, table, &converted.in_front(k), k, entry)?;
     let plain = is_plain(converted.done(), entry);
-    converted.put(k, type_, plain)?;
+    let named = entry_parts(interned.alloc(), entry)?;
+    converted.put(k, type_, plain, named.as_slice())?;
     Ok(())
 }

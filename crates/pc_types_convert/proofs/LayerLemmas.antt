@@ -1,45 +1,64 @@
--- What is done, by number, against the two maps that hold it.
-use Rattle.std.proofs.Common.{◌≡◌, ◌⊎◌, ℕ, Bool, true, false, [], length, Option, Some, None, refl, sym, ap, ◌∙◌}
-use Rattle.std.proofs.Common.{subst, arith, inl, inr, if◌then◌else◌, ◌==◌, true≢false}
+-- What is done, by number, against the maps that hold it.
+use Rattle.std.proofs.Common.{◌≡◌, ◌⊎◌, ◌<◌, ℕ, Bool, true, false, List, [], length, Option, Some, None, refl}
+use Rattle.std.proofs.Common.{sym, ap, ◌∙◌, subst, arith, inl, inr, if◌then◌else◌, ◌==◌, true≢false, Result, Ok, Err}
+use Rattle.std.proofs.Common.{OnErr}
 use Rattle.std.specs.Borrow.{Bor}
-use Rattle.std.specs.Prelude.{is_some, slice_get, slice_set}
+use Rattle.std.specs.Prelude.{Vec, is_some, slice_set}
 use Rattle.std.specs.Ordering.{nat_cmp}
 use Rattle.std.specs.Option.{option_copied, option_or}
 use Rattle.std.specs.BTreeMap.{BTreeMap, Updates, get, is_at}
 use Rattle.std.specs.Map.{lookup}
+use Rattle.std.specs.declared.alloc.Global.{Global}
 use Rattle.std.proofs.lemmas.Bool.{eqb-true}
 use Rattle.pc_types.specs.declared.types.TypeDef.{TypeDef}
-use Rattle.pc_types_convert.specs.Plain.{Layers, Takes, none_done}
+use Rattle.pc_types_convert.specs.Needed.{IsAmong}
+use Rattle.pc_types_convert.specs.Plain.{AreLayered, IsNoted, Layers, NotesMore, PutsOwn, PutsPlain, StandsAt, Takes}
+use Rattle.pc_types_convert.specs.Plain.{none_done}
 use Rattle.pc_types_convert.specs.Tabulated.{tabulated}
-use Rattle.pc_types_convert.proofs.TabulatedLemmas.{set_in_map, tabulated_found, tabulated_here, tabulated_length}
-use Rattle.pc_types_convert.proofs.TabulatedLemmas.{tabulated_none, tabulated_put}
+use Rattle.pc_types_convert.specs.Users.{KeepsUsers, numbers_in, users_of}
+use Rattle.pc_types_convert.proofs.TabulatedLemmas.{set_in_map, tabulated_alike, tabulated_found, tabulated_here}
+use Rattle.pc_types_convert.proofs.TabulatedLemmas.{tabulated_length, tabulated_put}
 
 -- what a number has in the first of two maps, or else in the other
 abbrev pub in_either : (own plain : BTreeMap ℕ TypeDef) → ℕ → Option TypeDef
 in_either own plain n = option_or (get nat_cmp own n) (get nat_cmp plain n)
 
--- what a contract sees of the two maps
-abbrev pub layers : (own plain : BTreeMap ℕ TypeDef) → (room : ℕ) → Layers
-layers own plain room = record {
+-- what a contract sees of the maps
+abbrev pub layers : (own plain : BTreeMap ℕ TypeDef) → (users : BTreeMap ℕ (Vec ℕ Global)) → (room : ℕ) → Layers
+layers own plain users room = record {
   all = tabulated (in_either own plain) 0 room;
   plain = tabulated (get nat_cmp plain) 0 room;
+  own = tabulated (get nat_cmp own) 0 room;
+  users = tabulated (users_of users) 0 room;
 }
 
--- nothing is done where both are empty
-pub both_empty : (own plain : BTreeMap ℕ TypeDef) → own.entries ≡ [] → plain.entries ≡ [] → (room : ℕ)
-    → layers own plain room ≡ none_done room
-both_empty own plain no_own no_plain room =
+-- nothing is done where all are empty
+pub all_empty : (own plain : BTreeMap ℕ TypeDef) (users : BTreeMap ℕ (Vec ℕ Global)) → own.entries ≡ []
+    → plain.entries ≡ [] → users.entries ≡ [] → (room : ℕ) → layers own plain users room ≡ none_done room
+all_empty own plain users no_own no_plain no_users room =
     (λ i. record {
       all = tabulated (λ n. option_or (lookup (is_at (nat_cmp n)) (no_own i)) (lookup (is_at (nat_cmp n)) (no_plain i)))
           0 room;
       plain = tabulated (λ n. lookup (is_at (nat_cmp n)) (no_plain i)) 0 room;
+      own = tabulated (λ n. lookup (is_at (nat_cmp n)) (no_own i)) 0 room;
+      users = tabulated (λ n. numbers_in (lookup (is_at (nat_cmp n)) (no_users i))) 0 room;
     })
-    ∙ (λ i. record { all = tabulated_none 0 room i; plain = tabulated_none 0 room i })
+    ∙ (λ i. record {
+      all = tabulated_alike {A = Option TypeDef} None 0 room i;
+      plain = tabulated_alike {A = Option TypeDef} None 0 room i;
+      own = tabulated_alike {A = Option TypeDef} None 0 room i;
+      users = tabulated_alike {A = List ℕ} [] 0 room i;
+    })
 
 -- what has nothing is nothing
 pub none_there : {A : Type 0} (o : Option A) → is_some o ≡ false → o ≡ None
 none_there None h = refl
 none_there (Some x) h = absurd (true≢false h)
+
+-- what holds, holds after an error
+pub after_error : {T E P : Type 0} (r : Result T E) → P → OnErr r P
+after_error (Ok x) p = tt
+after_error (Err e) p = p
 
 -- a copy of one of two is one of their copies
 pub copied_or : {A : Type 0} (a b : Option (Bor A))
@@ -55,6 +74,42 @@ either_has (Some x) b d h = inl h
 -- what the first has stands in front
 front_has : (a b : Option TypeDef) (d : TypeDef) → a ≡ Some d → option_or a b ≡ Some d
 front_has a b d h = ap (λ x. option_or x b) h
+
+-- a type stands in a map's list where the map has it
+pub stands_in : (m : BTreeMap ℕ TypeDef) (room n : ℕ) (d : TypeDef) → n < room → get nat_cmp m n ≡ Some d
+    → StandsAt (tabulated (get nat_cmp m) 0 room) n d
+stands_in m room n d within has = tabulated_here (get nat_cmp m) room n within ∙ ap Some has
+
+-- a number is noted where it is in the map of them
+pub noted_in : (users : BTreeMap ℕ (Vec ℕ Global)) (room p k : ℕ) → p < room → IsAmong k (users_of users p)
+    → IsNoted (tabulated (users_of users) 0 room) p k
+noted_in users room p k within among = (users_of users p, tabulated_here (users_of users) room p within, among)
+
+-- and nowhere else
+pub noted_from : (users : BTreeMap ℕ (Vec ℕ Global)) (room p k : ℕ)
+    → IsNoted (tabulated (users_of users) 0 room) p k → (p < room) × IsAmong k (users_of users p)
+noted_from users room p k noted =
+    let there = tabulated_found (users_of users) room p noted.0 noted.1 in
+    (there.0, subst (IsAmong k) (sym there.1) noted.2)
+
+-- the maps are layers
+pub are_layered : (own plain : BTreeMap ℕ TypeDef) (users : BTreeMap ℕ (Vec ℕ Global)) (room : ℕ)
+    → AreLayered (layers own plain users room)
+are_layered own plain users room = record {
+  own_room = tabulated_length (get nat_cmp own) 0 room ∙ sym (tabulated_length (in_either own plain) 0 room);
+  users_room = tabulated_length (users_of users) 0 room ∙ sym (tabulated_length (in_either own plain) 0 room);
+  front = λ n d found.
+      let there = tabulated_found (get nat_cmp own) room n (Some d) found in
+      tabulated_here (in_either own plain) room n there.0
+      ∙ ap Some (front_has (get nat_cmp own n) (get nat_cmp plain n) d there.1);
+  either = λ n d found.
+      let there = tabulated_found (in_either own plain) room n (Some d) found in
+      elim (either_has (get nat_cmp own n) (get nat_cmp plain n) d there.1) as
+      (λ _. StandsAt (layers own plain users room).own n d ⊎ StandsAt (layers own plain users room).plain n d) [
+        | inl is ↦ inl (stands_in own room n d there.0 is)
+        | inr is ↦ inr (stands_in plain room n d there.0 is)
+      ];
+}
 
 -- a change of the first is one of both together
 pub own_changed : (own new plain : BTreeMap ℕ TypeDef) (k : ℕ) (d : TypeDef) → Updates nat_cmp own new k (Some d)
@@ -86,18 +141,66 @@ plain_changed own plain new k d updates none room =
         ap (λ x. option_or x (Some d)) (subst (λ m. get nat_cmp own m ≡ None) (sym (same refl)) none)
     by q false same = refl
 
--- and one of the plain ones alone
-pub plain_put : (plain new : BTreeMap ℕ TypeDef) (k : ℕ) (d : TypeDef) → Updates nat_cmp plain new k (Some d)
-    → (room : ℕ)
-    → tabulated (get nat_cmp new) 0 room ≡ slice_set (tabulated (get nat_cmp plain) 0 room) k (Some d)
-plain_put plain new k d updates room =
-    tabulated_put (get nat_cmp plain) (get nat_cmp new) k (Some d) (set_in_map plain new k (Some d) updates) room
+-- and one of a map alone
+map_put : (m new : BTreeMap ℕ TypeDef) (k : ℕ) (d : TypeDef) → Updates nat_cmp m new k (Some d) → (room : ℕ)
+    → tabulated (get nat_cmp new) 0 room ≡ slice_set (tabulated (get nat_cmp m) 0 room) k (Some d)
+map_put m new k d updates room =
+    tabulated_put (get nat_cmp m) (get nat_cmp new) k (Some d) (set_in_map m new k (Some d) updates) room
+
+-- an entry gets a type that is the same everywhere
+pub puts_plain : (own plain new : BTreeMap ℕ TypeDef) (users : BTreeMap ℕ (Vec ℕ Global)) (room k : ℕ) (d : TypeDef)
+    (old : Layers) → layers own plain users room ≡ old → Updates nat_cmp plain new k (Some d)
+    → PutsPlain k d old (layers own new users room)
+puts_plain own plain new users room k d old is updates = record {
+  plain = map_put plain new k d updates room ∙ ap (λ (l : Layers). slice_set l.plain k (Some d)) is;
+  own = ap (λ (l : Layers). l.own) is;
+  users = ap (λ (l : Layers). l.users) is;
+}
+
+-- what was noted is noted in the list
+pub kept_noted : (users new : BTreeMap ℕ (Vec ℕ Global)) (room p m : ℕ) → KeepsUsers users new
+    → IsNoted (tabulated (users_of users) 0 room) p m → IsNoted (tabulated (users_of new) 0 room) p m
+kept_noted users new room p m kept noted =
+    let there = noted_from users room p m noted in
+    noted_in new room p m there.0 (kept p m there.1)
+
+-- no type has changed where the maps have the entries that they had, and more is noted
+pub notes_more : (own own' plain plain' : BTreeMap ℕ TypeDef) (users users' : BTreeMap ℕ (Vec ℕ Global)) (room : ℕ)
+    (old : Layers) → layers own plain users room ≡ old → own'.entries ≡ own.entries → plain'.entries ≡ plain.entries
+    → KeepsUsers users users' → NotesMore old (layers own' plain' users' room)
+notes_more own own' plain plain' users users' room old is same_own same_plain kept =
+    subst (λ c. NotesMore c (layers own' plain' users' room)) is (record {
+      all = λ i. tabulated
+          (λ n. option_or (lookup (is_at (nat_cmp n)) (same_own i)) (lookup (is_at (nat_cmp n)) (same_plain i))) 0 room;
+      plain = λ i. tabulated (λ n. lookup (is_at (nat_cmp n)) (same_plain i)) 0 room;
+      own = λ i. tabulated (λ n. lookup (is_at (nat_cmp n)) (same_own i)) 0 room;
+      users = λ p m noted. kept_noted users users' room p m kept noted;
+      layered = are_layered own' plain' users' room;
+    })
+
+-- an entry gets a type of this component instance, and was noted for its parts
+pub puts_own : (own plain new : BTreeMap ℕ TypeDef) (users noted : BTreeMap ℕ (Vec ℕ Global)) (room k : ℕ)
+    (d : TypeDef) (parts : List ℕ) (old : Layers) → layers own plain users room ≡ old
+    → Updates nat_cmp own new k (Some d) → KeepsUsers users noted
+    → ((p : ℕ) → IsAmong p parts → is_some (get nat_cmp own p) ≡ true → IsAmong k (users_of noted p))
+    → PutsOwn k d parts old (layers new plain noted room)
+puts_own own plain new users noted room k d parts old is updates kept notes =
+    subst (λ c. PutsOwn k d parts c (layers new plain noted room)) is (record {
+      plain = refl;
+      own = map_put own new k d updates room;
+      users = λ p m before. kept_noted users noted room p m kept before;
+      noted = λ p among done.
+          let there = tabulated_found (get nat_cmp own) room p (Some done.0) done.1 in
+          noted_in noted room p k there.0 (notes p among (ap is_some there.1));
+    })
 
 -- where the plain ones are others, the lists are those after an exchange
-pub exchanged : (own plain other_own other_plain : BTreeMap ℕ TypeDef) (room room' : ℕ)
-    → length (layers own plain room).all ≡ length (layers other_own other_plain room').all
-    → Takes (layers own plain room) (layers other_own other_plain room') (layers own other_plain room)
-exchanged own plain other_own other_plain room room' same =
+pub exchanged : (own plain : BTreeMap ℕ TypeDef) (users : BTreeMap ℕ (Vec ℕ Global))
+    (other_own other_plain : BTreeMap ℕ TypeDef) (other_users : BTreeMap ℕ (Vec ℕ Global)) (room room' : ℕ)
+    → length (layers own plain users room).all ≡ length (layers other_own other_plain other_users room').all
+    → Takes (layers own plain users room) (layers other_own other_plain other_users room')
+    (layers own other_plain users room)
+exchanged own plain users other_own other_plain other_users room room' same =
     let rooms : room ≡ room' = omega (
       arith,
       same,
@@ -107,25 +210,21 @@ exchanged own plain other_own other_plain room room' same =
     record {
       room = tabulated_length (in_either own other_plain) 0 room
           ∙ sym (tabulated_length (in_either own plain) 0 room);
-      all = λ n d found.
-          let there = tabulated_found (in_either own other_plain) room n (Some d) found in
-          elim (either_has (get nat_cmp own n) (get nat_cmp other_plain n) d there.1) as
-          (λ _. (slice_get (layers own plain room).all n ≡ Some (Some d))
-          ⊎ (slice_get (layers other_own other_plain room').plain n ≡ Some (Some d))) [
-            | inl is ↦ inl (tabulated_here (in_either own plain) room n there.0
-                ∙ ap Some (front_has (get nat_cmp own n) (get nat_cmp plain n) d is))
-            | inr is ↦ inr (tabulated_here (get nat_cmp other_plain) room' n (omega (arith, there.0, rooms)) ∙ ap Some is)
-          ];
       plain = ap (tabulated (get nat_cmp other_plain) 0) rooms;
+      own = refl;
+      users = refl;
+      layered = are_layered own other_plain users room;
     }
 
 -- the same of what a contract sees of them
-pub exchanged_as : (own plain other_own other_plain new : BTreeMap ℕ TypeDef) (room room' : ℕ) (here there : Layers)
-    → layers own plain room ≡ here → layers other_own other_plain room' ≡ there → new ≡ other_plain
-    → length here.all ≡ length there.all → Takes here there (layers own new room)
-exchanged_as own plain other_own other_plain new room room' here there is other swapped same =
-    subst (λ x. Takes here there (layers own x room)) (sym swapped)
-    (subst (λ h. Takes h there (layers own other_plain room)) is
-    (subst (λ h. Takes (layers own plain room) h (layers own other_plain room)) other
-    (exchanged own plain other_own other_plain room room'
+pub exchanged_as : (own plain : BTreeMap ℕ TypeDef) (users : BTreeMap ℕ (Vec ℕ Global))
+    (other_own other_plain : BTreeMap ℕ TypeDef) (other_users : BTreeMap ℕ (Vec ℕ Global))
+    (new : BTreeMap ℕ TypeDef) (room room' : ℕ) (here there : Layers) → layers own plain users room ≡ here
+    → layers other_own other_plain other_users room' ≡ there → new ≡ other_plain
+    → length here.all ≡ length there.all → Takes here there (layers own new users room)
+exchanged_as own plain users other_own other_plain other_users new room room' here there is other swapped same =
+    subst (λ x. Takes here there (layers own x users room)) (sym swapped)
+    (subst (λ h. Takes h there (layers own other_plain users room)) is
+    (subst (λ h. Takes (layers own plain users room) h (layers own other_plain users room)) other
+    (exchanged own plain users other_own other_plain other_users room room'
     (ap (λ (l : Layers). length l.all) is ∙ same ∙ sym (ap (λ (l : Layers). length l.all) other)))))

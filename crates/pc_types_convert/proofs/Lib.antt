@@ -6,10 +6,12 @@ pub mod OneTree
 pub mod PartLemmas
 pub mod SoundLemmas
 -- What the functions of this crate rest on.
+mod ForgetLemmas
 mod FuncLemmas
 mod HeldLemmas
 mod KindAdds
 mod LayerLemmas
 mod NeededLemmas
+mod NotedLemmas
 mod TabulatedLemmas
 mod ThereLemmas

@@ -42,7 +42,7 @@ abbrev pub set_at : {A : Type 0} → (ℕ → Option A) → ℕ → Option A →
 set_at f n x q = if q == n then x else f q
 
 -- another number keeps its value
-other_kept : {A : Type 0} (f : ℕ → Option A) (n : ℕ) (x : Option A) (q : ℕ) → (q ≡ n → ⊥) → set_at f n x q ≡ f q
+pub other_kept : {A : Type 0} (f : ℕ → Option A) (n : ℕ) (x : Option A) (q : ℕ) → (q ≡ n → ⊥) → set_at f n x q ≡ f q
 other_kept f n x q differs = by (q == n) (λ same. differs (eqb-true q n same))
   where
     by : (b : Bool) → (b ≡ true → ⊥) → (if b then x else f q) ≡ f q
@@ -87,10 +87,10 @@ tabulated_found f n k x found =
     let within : k < n = omega (arith, slice_get_within (tabulated f 0 n) k x found, tabulated_length f 0 n) in
     (within, same_Some (f k) x (sym (tabulated_here f n k within) ∙ found))
 
--- nothing stands where no number has a value
-pub tabulated_none : {A : Type 0} (i n : ℕ) → tabulated {A = Option A} (λ q. None) i n ≡ replicate n None
-tabulated_none i zero = refl
-tabulated_none i (suc n) = ap (λ l. None ∷ l) (tabulated_none (i + 1) n)
+-- the same value stands everywhere where each number has it
+pub tabulated_alike : {A : Type 0} (x : A) (i n : ℕ) → tabulated (λ q. x) i n ≡ replicate n x
+tabulated_alike x i zero = refl
+tabulated_alike x i (suc n) = ap (λ l. x ∷ l) (tabulated_alike x (i + 1) n)
 
 -- an item in front of a place is found among those in front
 pub front_at : {A : Type 0} (xs : List A) (k n : ℕ) → n < k → slice_get (take k xs) n ≡ slice_get xs n

@@ -1,5 +1,6 @@
 -- What the public contracts rest on.
 pub mod Tabulated
+pub mod Users
 pub mod Plain
 pub mod Needed
 pub mod Parts

@@ -1,7 +1,7 @@
 -- The types that are the same in each component instance, whatever resources are known: no resource, stream, future or
 -- error context stands in them.
-use Rattle.std.specs.Prelude.{◌≡◌, ◌⊎◌, ◌&&◌, ℕ, Bool, true, false, List, length, replicate, Option, None, Some}
-use Rattle.std.specs.Prelude.{is_some, option_and_then, slice_get}
+use Rattle.std.specs.Prelude.{◌≡◌, ◌⊎◌, ◌&&◌, ℕ, Bool, true, false, List, [], length, replicate, Option, None, Some}
+use Rattle.std.specs.Prelude.{is_some, option_and_then, slice_get, slice_set}
 use Rattle.std.specs.List.{list_all}
 use Rattle.pc_types.specs.declared.parsed.DeclType.{DeclType}
 use Rattle.pc_types.specs.declared.parsed.DeclType.TheVariants as entry
@@ -12,26 +12,79 @@ use Rattle.pc_types.specs.declared.parsed.ValType.TheVariants as val
 use Rattle.pc_types.specs.declared.types.TypeDef.{TypeDef}
 use Rattle.pc_types.specs.Table.{is_none_or}
 use Rattle.pc_types_lists.specs.Primitive.{plain_type}
+use Rattle.pc_types_convert.specs.Needed.{IsAmong, IsDone}
 
--- the types of the entries that are done, by number, and of those the ones that are the same in each component instance
+-- the types of the entries that are done, by number: all, those that are the same in each component instance, and those
+-- of this one; and which entries with such a type name an entry that has one
 pub record Layers : Type 0 where
   pub all : List (Option TypeDef)
   pub plain : List (Option TypeDef)
+  pub own : List (Option TypeDef)
+  pub users : List (List ℕ)
 
 -- no entry of so many is done
 abbrev pub none_done : (room : ℕ) → Layers
-none_done room = record { all = replicate room None; plain = replicate room None }
+none_done room = record {
+  all = replicate room None;
+  plain = replicate room None;
+  own = replicate room None;
+  users = replicate room [];
+}
 
--- what is done where only these are
-abbrev pub only_plain : List (Option TypeDef) → Layers
-only_plain plain = record { all = plain; plain = plain }
+-- the type stands at number `n`
+abbrev pub StandsAt : List (Option TypeDef) → ℕ → TypeDef → Type 0
+StandsAt done n d = slice_get done n ≡ Some (Some d)
+
+-- entry `k` is noted among those that name entry `p`
+abbrev pub IsNoted : List (List ℕ) → (p k : ℕ) → Type 0
+IsNoted users p k = (ks : List ℕ) × (slice_get users p ≡ Some ks) × IsAmong k ks
+
+-- the type of an entry is that which this component instance has for itself, or else the one that is the same in each
+pub record AreLayered (c : Layers) : Type 0 where
+  pub own_room : length c.own ≡ length c.all
+  pub users_room : length c.users ≡ length c.all
+  pub front : (n : ℕ) (d : TypeDef) → StandsAt c.own n d → StandsAt c.all n d
+  pub either : (n : ℕ) (d : TypeDef) → StandsAt c.all n d → StandsAt c.own n d ⊎ StandsAt c.plain n d
 
 -- the lists after those that are the same everywhere were exchanged with others
 pub record Takes (old from new : Layers) : Type 0 where
   pub room : length new.all ≡ length old.all
-  pub all : (n : ℕ) (d : TypeDef) → slice_get new.all n ≡ Some (Some d)
-      → (slice_get old.all n ≡ Some (Some d)) ⊎ (slice_get from.plain n ≡ Some (Some d))
   pub plain : new.plain ≡ from.plain
+  pub own : new.own ≡ old.own
+  pub users : new.users ≡ old.users
+  pub layered : AreLayered new
+
+-- the same entries have their types, and what was noted is noted
+pub record NotesMore (old new : Layers) : Type 0 where
+  pub all : new.all ≡ old.all
+  pub plain : new.plain ≡ old.plain
+  pub own : new.own ≡ old.own
+  pub users : (p m : ℕ) → IsNoted old.users p m → IsNoted new.users p m
+  pub layered : AreLayered new
+
+-- entry `k` has a type that is the same in each component instance
+pub record PutsPlain (k : ℕ) (d : TypeDef) (old new : Layers) : Type 0 where
+  pub plain : new.plain ≡ slice_set old.plain k (Some d)
+  pub own : new.own ≡ old.own
+  pub users : new.users ≡ old.users
+
+-- entry `k` has a type of this component instance, and is noted where it names one that has such a type
+pub record PutsOwn (k : ℕ) (d : TypeDef) (parts : List ℕ) (old new : Layers) : Type 0 where
+  pub plain : new.plain ≡ old.plain
+  pub own : new.own ≡ slice_set old.own k (Some d)
+  pub users : (p m : ℕ) → IsNoted old.users p m → IsNoted new.users p m
+  pub noted : (p : ℕ) → IsAmong p parts → IsDone old.own p → IsNoted new.users p k
+
+-- Entry `n` is forgotten, and so is each that leads to it as far as was noted: where an entry stays, each stays that it
+-- was noted for.
+pub record Forgets (n : ℕ) (old new : Layers) : Type 0 where
+  pub room : length new.all ≡ length old.all
+  pub plain : new.plain ≡ old.plain
+  pub own : (k : ℕ) (d : TypeDef) → StandsAt new.own k d → StandsAt old.own k d
+  pub gone : IsDone new.own n → ⊥
+  pub users : (p k : ℕ) → IsDone new.own k → IsDone old.own p → IsNoted old.users p k
+      → IsDone new.own p × IsNoted new.users p k
+  pub layered : AreLayered new
 
 module _ (plain : List (Option TypeDef)) where
   -- whether the type of an entry is among the plain ones

@@ -1,12 +1,17 @@
-//! The types of those entries of a table that are done, by number, in two maps: those that are the same in each component
-//! instance, and the others. A table of which little is converted costs little, and what is the same everywhere can be
-//! handed on alone, without a copy.
+//! The types of those entries of a table that are done, by number, in two maps: those that are the same in each
+//! component instance, and the others. A table of which little is converted costs little, and what is the same
+//! everywhere can be handed on alone, without a copy.
+//!
+//! Of the others it is noted which of them name which. So where one is to be forgotten, since it will be another type,
+//! those are found that lead to it, and nothing else is looked at.
 
 ghost use Rattle.std.specs.Prelude.{◌≡◌, ◌<◌, ◌⊎◌, OnOk, OnErr, true, Some, None, is_some, length, option_and_then};
 ghost use Rattle.std.specs.Prelude.{slice_get, slice_set, take};
 ghost use Rattle.pc_types.specs.declared.types.TypeDef.{TypeDef};
-ghost use Rattle.pc_types_convert.specs.Plain.{Takes, is_plain_at, none_done, only_plain};
+ghost use Rattle.pc_types_convert.specs.Plain.{AreLayered, Forgets, NotesMore, PutsOwn, PutsPlain, Takes, is_plain_at};
+ghost use Rattle.pc_types_convert.specs.Plain.{none_done};
 
+use crate::users::note_parts;
 use pc_entity::NoMemory;
 use pc_types::TypeDef;
 use std::alloc::Global;
@@ -14,13 +19,16 @@ use std::collections::BTreeMap;
 use std::marker::Model;
 use std::mem;
 
-/// The types of those entries that are done. A contract sees a list with a place for each entry of the table, and one of
-/// those types that are the same in each component instance.
+/// The types of those entries that are done. A contract sees a list with a place for each entry of the table, one of
+/// those types that are the same in each component instance, one of the others, and for each entry those that name it.
 #[derive(Drop)]
 pub struct Done {
+    alloc: Global,
     room: usize,
     plain: BTreeMap<u32, TypeDef>,
     own: BTreeMap<u32, TypeDef>,
+    /// For an entry of `own`, those of `own` that name it.
+    users: BTreeMap<u32, Vec<u32>>,
 }
 
 impl Model for Done {
@@ -29,12 +37,15 @@ impl Model for Done {
     ghost use Rattle.std.specs.BTreeMap.{get};
     ghost use Rattle.pc_types_convert.specs.Plain.{Layers};
     ghost use Rattle.pc_types_convert.specs.Tabulated.{tabulated};
+    ghost use Rattle.pc_types_convert.specs.Users.{users_of};
 
     ghost Value = { Layers };
 
     ghost view = { λ s. record {
       all = tabulated (λ n. option_or (get nat_cmp s.own n) (get nat_cmp s.plain n)) 0 s.room;
       plain = tabulated (get nat_cmp s.plain) 0 s.room;
+      own = tabulated (get nat_cmp s.own) 0 s.room;
+      users = tabulated (users_of s.users) 0 s.room;
     } };
 }
 
@@ -44,9 +55,11 @@ impl Done {
         ensures { result ≡ none_done room }
     {
         Done {
+            alloc,
             room,
             plain: BTreeMap::new(alloc),
             own: BTreeMap::new(alloc),
+            users: BTreeMap::new(alloc),
         }
     }
 
@@ -93,29 +106,68 @@ impl Done {
         }
     }
 
-    /// An entry gets its type, which may be the same in each component instance. Only memory may be wanting, and then
-    /// nothing has changed.
-    pub fn put(&mut self, k: u32, type_: TypeDef, plain: bool) -> Result<(), NoMemory>
+    /// An entry gets its type, which may be the same in each component instance; if it isn't, the entry is noted among
+    /// those that name its parts. Only memory may be wanting, and then no type has changed.
+    ///
+    /// The time is that of a search for each part.
+    pub fn put(
+        &mut self,
+        k: u32,
+        type_: TypeDef,
+        plain: bool,
+        parts: &[u32],
+    ) -> Result<(), NoMemory>
         requires { k < length self.old.all }
         ensures all { OnOk result (self.new.all ≡ slice_set self.old.all k (Some type_)) }
-        ensures plain { OnOk result ((self.new.plain ≡ self.old.plain)
-            ⊎ ((plain ≡ true) × (self.new.plain ≡ slice_set self.old.plain k (Some type_)))) }
-        ensures err { OnErr result (self.new ≡ self.old) }
+        ensures put { OnOk result (((plain ≡ true) × PutsPlain k type_ self.old self.new)
+            ⊎ PutsOwn k type_ parts.now self.old self.new) }
+        ensures layered { OnOk result (AreLayered self.new) }
+        ensures err { OnErr result (NotesMore self.old self.new) }
     {
         // A type of its own that the entry already has stays in front of any other.
         if plain && !self.own.contains_key(&k) {
             self.plain.insert(k, type_)?;
             return Ok(());
         }
+        note_parts(self.alloc, &self.own, &mut self.users, k, parts)?;
         self.own.insert(k, type_)?;
         Ok(())
     }
 
-    /// Only the types stay that are the same in each component instance.
-    pub fn keep_plain(&mut self)
-        ensures { self.new ≡ only_plain self.old.plain }
+    /// An entry is forgotten whose type is of this component instance, and so are those that lead to it, as far as they
+    /// were noted. What is the same in each component instance stays. Where memory is wanting for that, all goes that
+    /// isn't.
+    ///
+    /// Each entry that goes was put since it last went, and each note is taken once, which was made for a part that was
+    /// put: so the time of all calls together is that of a search for each part that was ever put.
+    pub fn forget(&mut self, n: u32)
+        ensures { Forgets n self.old self.new }
     {
-        self.own.clear();
+        if self.forget_users(n).is_err() {
+            self.own.clear();
+            self.users.clear();
+        }
+    }
+
+    /// An entry goes from the types of this component instance, and each goes that was noted for one that went. Where
+    /// none was noted for the entry, no memory is taken.
+    fn forget_users(&mut self, n: u32) -> Result<(), NoMemory>
+        ensures forgets { OnOk result (Forgets n self.old self.new) }
+        ensures plain { self.new.plain ≡ self.old.plain }
+        ensures room { length self.new.all ≡ length self.old.all }
+    {
+        self.own.remove(&n);
+        let Some(mut left) = self.users.remove(&n) else {
+            return Ok(());
+        };
+        while let Some(m) = left.pop() {
+            if self.own.remove(&m).is_some() {
+                if let Some(mut users) = self.users.remove(&m) {
+                    left.append(&mut users)?;
+                }
+            }
+        }
+        Ok(())
     }
 
     /// Two exchange the types that are the same in each component instance.

@@ -9,11 +9,12 @@ mod extern_type;
 mod kinds;
 mod parts;
 mod plain;
+mod users;
 mod value;
 
 pub use done::{Done, Earlier};
 pub use extern_type::signature_at;
 pub use kinds::convert;
-pub use parts::{entry_at, needed};
+pub use parts::{entry_at, entry_parts, needed};
 pub use plain::is_plain;
 pub use value::{error_contexts, primitive};

@@ -30,7 +30,7 @@ pub fn needed(alloc: Global, table: &TypeTable, done: &Done, n: u32) -> Result<V
     open_entry(&mut opened, done, n)?;
     while let Some(k) = opened.pop_last() {
         order.push(k)?;
-        let named = parts(alloc, entry_at(table, k))?;
+        let named = entry_parts(alloc, entry_at(table, k))?;
         open_entries(&mut opened, done, named.as_slice())?;
     }
     order.reverse();
@@ -80,7 +80,7 @@ fn open_entries(opened: &mut BTreeSet<u32>, done: &Done, ns: &[u32]) -> Result<(
 }
 
 /// The entries that an entry names.
-fn parts(alloc: Global, entry: &DeclType) -> Result<Vec<u32>, NoMemory>
+pub fn entry_parts(alloc: Global, entry: &DeclType) -> Result<Vec<u32>, NoMemory>
     ensures { IfOk result (λ ns. ns.items ≡ parts_of entry.now) }
 {
     let mut ns = Vec::new(alloc);

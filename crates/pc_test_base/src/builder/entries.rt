@@ -19,6 +19,9 @@ pub enum Shape {
     /// 60 pairs, each of the one before it twice, then a stream that no other entry names, and an option of the last
     /// pair.
     Diamond,
+
+    /// A resource, a handle of it and 200,000 lists, each of the one before it, then another resource.
+    Handles,
 }
 
 impl Shape {
@@ -28,6 +31,7 @@ impl Shape {
             Shape::EachKind => 18,
             Shape::Chain => 200_000,
             Shape::Diamond => 63,
+            Shape::Handles => 200_003,
         }
     }
 
@@ -37,6 +41,7 @@ impl Shape {
             Shape::EachKind => entry(rt, alloc, n),
             Shape::Chain => DeclType::List(before(n)),
             Shape::Diamond => diamond_entry(rt, alloc, n),
+            Shape::Handles => handle_entry(n),
         }
     }
 }
@@ -82,6 +87,15 @@ fn diamond_entry(rt: &impl Abort, alloc: Global, n: u32) -> DeclType {
         61 => DeclType::Stream(None),
         62 => DeclType::Option(ValType::Type_(60)),
         _ => pair_of(rt, alloc, before(n), before(n)),
+    }
+}
+
+/// An entry of the table of two resources.
+fn handle_entry(n: u32) -> DeclType {
+    match n {
+        0 | 200_002 => DeclType::Resource,
+        1 => DeclType::Own(0),
+        _ => DeclType::List(before(n)),
     }
 }
 

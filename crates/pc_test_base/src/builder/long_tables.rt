@@ -1,5 +1,7 @@
 //! Tables that are long, or whose trees are large: what no clause says of them is time.
 
+ghost use Rattle.std.specs.Prelude.{◌≡◌, None};
+ghost use Rattle.pc_types.specs.Table.{table_fault};
 ghost use Rattle.pc_types_builder.specs.Converted.{AreConverted};
 
 use crate::builder::converts;
@@ -65,4 +67,52 @@ pub fn converts_diamond(
     holds(rt, "option", top == Ok(option));
     holds(rt, "tuples", types.held(TypeKind::Tuple) == 60);
     holds(rt, "streams", types.held(TypeKind::StreamTable) == 0);
+}
+
+/// To convert what doesn't lead to a resource anew each time that this is forgotten would take minutes.
+#[test]
+fn what_leads_to_another_resource_stays(rt: HostRuntime) {
+    converts(&rt, rt.alloc(), Shape::Handles);
+}
+
+/// Forgets one of two resources over and over, and converts the last list, which leads to the other.
+pub fn forgets_a_resource(
+    rt: &impl Abort,
+    alloc: Global,
+    types: &mut ComponentTypesBuilder,
+    table: &TypeTable,
+) {
+    let same = is_same_list(alloc, types, table);
+    holds(rt, "same", same);
+    holds(rt, "lists", types.held(TypeKind::List) == 200_000);
+}
+
+/// Whether the last list is the same type each time.
+fn is_same_list(alloc: Global, types: &mut ComponentTypesBuilder, table: &TypeTable) -> bool {
+    if !is_sound(alloc, table) {
+        return false;
+    }
+    let mut converted = Converted::new(alloc, table);
+    for _round in 0..1_000 {
+        if !is_last_list(types, table, &mut converted) {
+            return false;
+        }
+    }
+    true
+}
+
+/// Whether the last list is the type that it is at first. Then the last resource is converted, and forgotten.
+fn is_last_list(
+    types: &mut ComponentTypesBuilder,
+    table: &TypeTable,
+    converted: &mut Converted,
+) -> bool
+    requires sound { table_fault table.now ≡ None }
+    requires converted { AreConverted types.old table.now converted.old }
+    ensures { AreConverted types.new table.now converted.new }
+{
+    let list = types.convert_type_with(table, 200_001, converted);
+    let resource = types.convert_type_with(table, 200_002, converted);
+    converted.forget(200_002);
+    list == Ok(TypeDef::Interface(InterfaceType::List(TypeListIndex(199_999)))) && resource.is_ok()
 }

@@ -3,7 +3,7 @@ use Rattle.pc_types_lists.specs.Known.{resource_of}
 use Rattle.pc_types_lists.specs.Types.{Resources}
 use Rattle.pc_types_lists.proofs.KeptTypes.{keeps_same, keeps_whatever}
 use Rattle.pc_inline_state.proofs.RefusedLemmas.{memory_lacks}
-use Rattle.pc_inline_resources.proofs.KnownLemmas.{noted_trail, put_trail}
+use Rattle.pc_inline_resources.proofs.KnownLemmas.{noted_trail, others_known, put_trail}
 use Rattle.pc_inline_resources.proofs.known.make_known.Goals as goal
 
 pub returns-in_err-push-clause-err : goal.returns-in_err-push-clause-err
@@ -17,10 +17,12 @@ returns-in_err-register_resource-clause-trail c =
 
 pub returns-in_err-register_resource-clause-converted : goal.returns-in_err-register_resource-clause-converted
 returns-in_err-register_resource-clause-converted c =
-    c.keep_plain.ensures _ c.args.state.now.types _ c.requires.sound
+    let same = c.in_err-register_resource.ensures.err ∙ c.resources_mut.ensures.value in
+    c.forget.ensures _ c.args.state.now.types _ c.requires.sound
     (keeps_whatever c.args.state.now.types c.args.state.now.types c.args.state.now.types.resources
     c.register_resource.new.self
     (keeps_same c.args.state.now.types))
+    (ap (λ (k : Resources). k.current) same) (λ q other. ap (λ (k : Resources). resource_of k.known q) same)
     c.requires.converted
 
 pub returns-in_err-register_resource-clause-err : goal.returns-in_err-register_resource-clause-err
@@ -35,8 +37,11 @@ returns-clause-trail c =
 
 pub returns-clause-converted : goal.returns-clause-converted
 returns-clause-converted c =
-    c.keep_plain.ensures _ c.args.state.now.types _ c.requires.sound
+    c.forget.ensures _ c.args.state.now.types _ c.requires.sound
     (keeps_whatever c.args.state.now.types c.args.state.now.types c.args.state.now.types.resources
     c.register_resource.new.self
     (keeps_same c.args.state.now.types))
+    (c.register_resource.ensures.current ∙ ap (λ (k : Resources). k.current) c.resources_mut.ensures.value)
+    (others_known c.args.state.now.types.resources c.register_resource.new.self c.args.n (Some c.args.r) _
+    c.resources_mut.ensures.value c.in_ok-register_resource.ensures.ok)
     c.requires.converted

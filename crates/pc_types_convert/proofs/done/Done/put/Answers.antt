@@ -1,8 +1,16 @@
-use Rattle.std.proofs.Common.{◌∙◌, ap, inr, sym, Some}
+use Rattle.std.proofs.Common.{◌∙◌, ap, inl, inr, refl, sym, Some}
 use Rattle.std.specs.Prelude.{slice_set}
 use Rattle.pc_types_convert.specs.Plain.{Layers}
-use Rattle.pc_types_convert.proofs.LayerLemmas.{none_there, own_changed, plain_changed, plain_put}
+use Rattle.pc_types_convert.proofs.LayerLemmas.{after_error, are_layered, none_there, notes_more, own_changed}
+use Rattle.pc_types_convert.proofs.LayerLemmas.{plain_changed, puts_own, puts_plain}
 use Rattle.pc_types_convert.proofs.done.Done.put.Goals as goal
+
+pub returns-in_err-insert-clause-err : goal.returns-in_err-insert-clause-err
+returns-in_err-insert-clause-err c =
+    let was = c.self.inside in
+    after_error c.from_residual.result
+    (notes_more was.own was.own was.plain c.insert.new.self was.users was.users was.room _ c.self.view_is refl
+    c.in_err-insert.ensures.err (λ p k among. among))
 
 pub returns-then-not-contains_key-clause-all : goal.returns-then-not-contains_key-clause-all
 returns-then-not-contains_key-clause-all c =
@@ -11,17 +19,47 @@ returns-then-not-contains_key-clause-all c =
     c.self.inside.room
     ∙ ap (λ (l : Layers). slice_set l.all c.args.k (Some c.args.type_)) c.self.view_is
 
-pub returns-then-not-contains_key-clause-plain : goal.returns-then-not-contains_key-clause-plain
-returns-then-not-contains_key-clause-plain c =
-    inr (
+pub returns-then-not-contains_key-clause-put : goal.returns-then-not-contains_key-clause-put
+returns-then-not-contains_key-clause-put c =
+    let was = c.self.inside in
+    inl (
       c.if-plain.true,
-      plain_put c.self.inside.plain c.insert.new.self c.args.k c.args.type_ c.in_ok-insert.ensures.updates
-          c.self.inside.room
-          ∙ ap (λ (l : Layers). slice_set l.plain c.args.k (Some c.args.type_)) c.self.view_is,
+      puts_plain was.own was.plain c.insert.new.self was.users was.room c.args.k c.args.type_ _ c.self.view_is
+          c.in_ok-insert.ensures.updates,
     )
+
+pub returns-then-not-contains_key-clause-layered : goal.returns-then-not-contains_key-clause-layered
+returns-then-not-contains_key-clause-layered c =
+    are_layered c.self.inside.own c.insert.new.self c.self.inside.users c.self.inside.room
+
+pub returns-in_err-note_parts-clause-err : goal.returns-in_err-note_parts-clause-err
+returns-in_err-note_parts-clause-err c =
+    let was = c.self.inside in
+    after_error c.from_residual-in_err-note_parts.result
+    (notes_more was.own was.own was.plain was.plain was.users c.note_parts.new.users was.room _ c.self.view_is refl refl
+    c.in_err-note_parts.ensures.kept)
+
+pub returns-in_err-insert-2-clause-err : goal.returns-in_err-insert-2-clause-err
+returns-in_err-insert-2-clause-err c =
+    let was = c.self.inside in
+    after_error c.from_residual-in_err-insert-2.result
+    (notes_more was.own c.insert-2.new.self was.plain was.plain was.users c.note_parts.new.users was.room _
+    c.self.view_is c.in_err-insert-2.ensures.err refl c.in_ok-note_parts.ensures.kept)
 
 pub returns-clause-all : goal.returns-clause-all
 returns-clause-all c =
     own_changed c.self.inside.own c.insert-2.new.self c.self.inside.plain c.args.k c.args.type_
     c.in_ok-insert-2.ensures.updates c.self.inside.room
     ∙ ap (λ (l : Layers). slice_set l.all c.args.k (Some c.args.type_)) c.self.view_is
+
+pub returns-clause-put : goal.returns-clause-put
+returns-clause-put c =
+    let was = c.self.inside in
+    inr
+    (puts_own was.own was.plain c.insert-2.new.self was.users c.note_parts.new.users was.room c.args.k c.args.type_
+    c.args.parts.now _ c.self.view_is c.in_ok-insert-2.ensures.updates c.in_ok-note_parts.ensures.kept
+    c.in_ok-note_parts.ensures.noted)
+
+pub returns-clause-layered : goal.returns-clause-layered
+returns-clause-layered c =
+    are_layered c.insert-2.new.self c.self.inside.plain c.note_parts.new.users c.self.inside.room
