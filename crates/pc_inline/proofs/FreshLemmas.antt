@@ -32,6 +32,7 @@ use Rattle.pc_inline_state.specs.Worlds.{AreUsed, HasItems, HoldsTypes, IsPlain,
 use Rattle.pc_spec_reading.specs.Asked.{paths_needed}
 use Rattle.pc_inline_state.proofs.IntrinsicLemmas.{intrinsics_kept, no_intrinsics}
 use Rattle.pc_inline_state.proofs.MembersLemmas.{none_earlier}
+use Rattle.pc_inline_state.proofs.PlacedLemmas.{none_placed}
 use Rattle.pc_inline_state.proofs.StateLemmas.{types_refl}
 use Rattle.pc_inline.proofs.RootLemmas.{first_moment, first_world}
 
@@ -159,6 +160,7 @@ first_sound t ms old fresh bodies names g graph ordered = record {
       (first_instances ms (tables_of (record old { graph = g })) graph);
   widths = subst (HaveWidths t ms old.runtime_instances.items) (sym graph)
       (first_widths t ms old.runtime_instances.items);
+  placed = none_placed t ms (record old { graph = g }) fresh.places;
 }
 
 -- and is where the reading begins

@@ -6,6 +6,7 @@ use Rattle.std.specs.List.{AllZip}
 use Rattle.std.proofs.lemmas.List.{append-nil}
 use Rattle.std.proofs.lemmas.List.Elements.{Contains-push, filter_map-append}
 use Rattle.std.proofs.lemmas.Option.{slice_get_within}
+use Rattle.pc_entity.proofs.Growing.{kept_refl}
 use Rattle.pc_numbers.specs.declared.module_entity.ModuleInternedTypeIndex.{ModuleInternedTypeIndex}
 use Rattle.pc_numbers.specs.declared.runtime.RuntimeComponentInstanceIndex.{RuntimeComponentInstanceIndex}
 use Rattle.pc_numbers.specs.declared.runtime.RuntimeImportIndex.{RuntimeImportIndex}
@@ -55,6 +56,7 @@ use Rattle.pc_inline_state.specs.Worlds.{EffectStands, HasTrampoline, IsDeclared
 use Rattle.pc_inline_state.proofs.AddsPushLemmas.{changes_few}
 use Rattle.pc_inline_state.proofs.InstanceLemmas.{instances_kept, widths_kept}
 use Rattle.pc_inline_state.proofs.KnowsLemmas.{knows_grown}
+use Rattle.pc_inline_state.proofs.PlacedLemmas.{placed_kept}
 use Rattle.pc_inline_state.proofs.StateLemmas.{types_refl}
 use Rattle.pc_inline_state.proofs.ZipLemmas.{zip_more}
 use Rattle.pc_inline_canon.proofs.ItemLemmas.{items_same, types_held, used_kept}
@@ -147,6 +149,7 @@ module _ (t : TypeTable) (ms : List ModuleRecord) (st : State) (ts : List Signed
         instances = instances_kept ms (tables_of st) (tables_of next) keeps refl st.runtime_instances.items
             point.sound.instances;
         widths = widths_kept t ms st.runtime_instances.items st.graph with_it refl point.sound.widths;
+        placed = placed_kept t ms st next keeps (kept_refl st.runtime_instances.items) refl point.sound.placed;
       };
       here = knows_grown st.graph st.types.resources now.scope point.here with_it keeps.fits;
       converted = point.converted;

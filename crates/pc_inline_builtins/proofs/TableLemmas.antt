@@ -2,6 +2,7 @@
 use Rattle.std.proofs.Common.{◌≡◌, ◌⊎◌, inl, inr, ◌≤◌, ℕ, List, length, map, Some, refl, sym, ap, subst, true, arith, ◌∙◌}
 use Rattle.std.specs.Prelude.{slice_get}
 use Rattle.std.proofs.lemmas.List.{length-map}
+use Rattle.pc_entity.proofs.Growing.{kept_refl}
 use Rattle.pc_info.specs.declared.core_def.ExportItem.TheVariants as item
 use Rattle.pc_numbers.specs.declared.entity_index.EntityIndex.{EntityIndex}
 use Rattle.pc_numbers.specs.declared.entity_index.EntityIndex.TheVariants as entity
@@ -27,19 +28,21 @@ use Rattle.pc_dfg.specs.Pushed.{IsPut}
 use Rattle.pc_inline_state.specs.declared.definition.CoreId.{CoreId}
 use Rattle.pc_inline_state.specs.declared.state.State.{State}
 use Rattle.pc_inline_state.specs.AddsEach.{AddsEach, in_options}
+use Rattle.pc_inline_state.specs.Placed.{InSlot}
 use Rattle.pc_inline_state.specs.Points.{IsFullSomewhere}
 use Rattle.pc_inline_state.specs.Prepares.{Prepares}
 use Rattle.pc_inline_state.specs.Stands.{ItemStands, some_stands}
-use Rattle.pc_inline_state.specs.Tables.{IsItem, is_entity, is_named, tables_of}
+use Rattle.pc_inline_state.specs.Tables.{IsItem, Keeps, Tables, is_entity, is_named, tables_of}
 use Rattle.pc_inline_state.specs.Worlds.{slot_kind}
 use Rattle.pc_inline_state.proofs.AddsPushLemmas.{Lists, changes_few, from_rest}
 use Rattle.pc_inline_state.proofs.FitsLemmas.{fits_grown}
 use Rattle.pc_inline_state.proofs.GrowthLemmas.{graph_crowded, graph_grown}
 use Rattle.pc_inline_state.proofs.InstanceLemmas.{instances_kept, widths_kept}
+use Rattle.pc_inline_state.proofs.PlacedLemmas.{placed_kept}
 use Rattle.pc_inline_canon.proofs.CoreInstanceLemmas.{item_held}
 use Rattle.pc_inline_canon.proofs.ItemLemmas.{items_kept, types_held, used_kept}
 use Rattle.pc_inline_canon.proofs.MemoryLemmas.{map_at, map_from}
-use Rattle.pc_inline_canon.proofs.SlotLemmas.{found_in_put, slot_held, slot_keeps, slot_some}
+use Rattle.pc_inline_canon.proofs.SlotLemmas.{found_in_put, slot_held, slot_some}
 use Rattle.pc_inline_builtins.specs.Made.{PartStands, is_table, is_table_item}
 use Rattle.pc_inline_builtins.proofs.PartLemmas.{table_stands}
 
@@ -109,6 +112,8 @@ module _ (t : TypeTable) (ms : List ModuleRecord) (st : State) (h : ComponentDfg
           instances = instances_kept ms (tables_of st) (tables_of (record st { graph = tabled }))
               (graph_grown (tables_of st) tabled tabled_grows fits) refl st.runtime_instances.items s.instances;
           widths = widths_kept t ms st.runtime_instances.items st.graph tabled refl s.widths;
+          placed = placed_kept t ms st (record st { graph = tabled })
+              (graph_grown (tables_of st) tabled tabled_grows fits) (kept_refl st.runtime_instances.items) refl s.placed;
         };
         resources = refl;
         side_effects = refl;
@@ -146,17 +151,21 @@ module _ (t : TypeTable) (ms : List ModuleRecord) (st : State) (h : ComponentDfg
       graph_crowded (tables_of (record st { graph = h })) st.graph grows (list.slots plan.table)
       (subst (λ n. 4294967295 ≤ n) (sym (length-map st.graph.tables table_def)) full)
 
-  -- it is in its slot
-  pub table_part_stands : (n : TableId) → slice_get h.tables n.0 ≡ Some x → (id : CoreId) (d : CoreDef)
-      → slice_get st.cores id.0 ≡ Some d → table_def x ≡ d → (v : CoreValue Mark)
-      → ItemStands ms (tables_of st) core.Table id v
-      → PartStands (tables_of (record st { graph = h })) (part.Table n) (value_part (a_value v))
-  unfolding slots_of
-  table_part_stands n at id d held is v stands =
-      let b = tables_of (record st { graph = h }) in
-      let fits = fits_grown st.graph h grows (λ i. (rest i).imported_resources) (λ i. (rest i).resources) in
-      let here = map_at table_def h.tables n.0 x at ∙ ap Some is in
-      table_stands b n (a_value v)
-      (slot_some ms (tables_of st) b core.Table plan.table id d n.0 held here
-      (slot_keeps ms st h grows fits id d n.0 held) (Some id) refl (a_value v) (some_stands stands))
-      (slot_held h plan.table n.0 d here)
+-- a core item is in its table slot
+pub in_table : (b : Tables) (id n : ℕ) (x : CoreExport TableIndex) (d : CoreDef) → slice_get b.cores id ≡ Some d
+    → table_def x ≡ d → slice_get b.graph.tables n ≡ Some x → InSlot b plan.table id n
+unfolding slots_of
+in_table b id n x d held is at = record {
+  definition = d;
+  held = held;
+  slotted = map_at table_def b.graph.tables n x at ∙ ap Some is;
+}
+
+-- and it is the part that it is by that slot
+pub table_part_stands : (ms : List ModuleRecord) (b c : Tables) → Keeps b c → (n : TableId) (id : CoreId)
+    → InSlot c plan.table id.0 n.0 → (v : CoreValue Mark) → ItemStands ms b core.Table id v
+    → PartStands c (part.Table n) (value_part (a_value v))
+table_part_stands ms b c keeps n id there v stands =
+    table_stands c n (a_value v)
+    (slot_some ms b c keeps core.Table plan.table id n.0 there (Some id) refl (a_value v) (some_stands stands))
+    (slot_held c plan.table id.0 n.0 there)

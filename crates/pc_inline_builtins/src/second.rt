@@ -5,13 +5,15 @@ ghost use Rattle.pc_types.specs.declared.parsed.CoreFuncSig.{CoreFuncSig};
 ghost use Rattle.pc_types.specs.declared.parsed.CoreKind.TheVariants as core;
 ghost use Rattle.pc_spec_plan.specs.CoreValue.{CoreValue, a_value, value_part};
 ghost use Rattle.pc_spec_plan.specs.CoreValue as value;
+ghost use Rattle.pc_spec_plan.specs.PlanView as plan;
 ghost use Rattle.pc_trampoline.specs.Shape.{part_shape};
 ghost use Rattle.pc_trampoline.specs.Shape as shape;
 ghost use Rattle.pc_parsed.specs.Mark.{Mark};
 ghost use Rattle.pc_spec_reading.specs.Scope.{Moment};
 ghost use Rattle.pc_dfg.specs.Numbers.{table_def};
 ghost use Rattle.pc_inline_state.specs.AddsEach.{AddsEach, in_options};
-ghost use Rattle.pc_inline_state.specs.Points.{IsPoint, PointStands};
+ghost use Rattle.pc_inline_state.specs.Placed.{InSlot};
+ghost use Rattle.pc_inline_state.specs.Points.{IsPoint, IsSoundState, PointStands};
 ghost use Rattle.pc_inline_state.specs.Prepares.{Prepares};
 ghost use Rattle.pc_inline_state.specs.Refused.{LacksRoom};
 ghost use Rattle.pc_inline_state.specs.Slots.{IsThere, OptionsThere};
@@ -23,7 +25,7 @@ ghost use Rattle.pc_inline_builtins.specs.Written.{second_shape};
 
 use crate::builtin::Second;
 use crate::declared::Part;
-use pc_dfg::{CoreDef, CoreExport, ExportItem};
+use pc_dfg::{CoreDef, CoreExport, ExportItem, TableId};
 use pc_entity::{EntityIndex, ModuleInternedTypeIndex, NoMemory, TableIndex, TryClone};
 use pc_inline_canon::{options_entry, options_in};
 use pc_inline_state::{
@@ -53,12 +55,35 @@ fn table_of(alloc: Global, def: &CoreDef) -> Result<CoreExport<TableIndex>, NoMe
     }
 }
 
+/// The slot of a table. It gets one the first time.
+fn table_slot(
+    context: &Context<'_>,
+    state: &mut State<'_>,
+    id: CoreId,
+) -> Result<TableId, ItemError>
+    requires sound { IsSoundState context.now.table.now context.now.modules state.old }
+    requires there { IsThere context.now.modules (tables_of state.old) core.Table id }
+    ensures prepares { Prepares context.now.table.now context.now.modules state.old state.new }
+    ensures adds { AddsEach in_options 0 0 (tables_of state.old) (tables_of state.new) }
+    ensures slot { IfOk result (λ slot. InSlot (tables_of state.new) plan.table id.0 slot.0) }
+    ensures err { IfErr result (LacksRoom state.new) }
+{
+    if let Some(slot) = state.places.tables.get(id) {
+        return Ok(slot);
+    }
+    let table = table_of(context.alloc, &state.cores[id])?;
+    let slot = state.graph.push_table(table)?;
+    state.places.tables.set(id, Some(slot))?;
+    Ok(slot)
+}
+
 /// A table of the table of core items, in a slot of the graph.
 fn table_part(
     context: &Context<'_>,
     state: &mut State<'_>,
     table: CoreId,
 ) -> Result<Part, ItemError>
+    requires sound { IsSoundState context.now.table.now context.now.modules state.old }
     requires there { IsThere context.now.modules (tables_of state.old) core.Table table }
     ensures prepares { Prepares context.now.table.now context.now.modules state.old state.new }
     ensures adds { AddsEach in_options 0 0 (tables_of state.old) (tables_of state.new) }
@@ -68,8 +93,7 @@ fn table_part(
         → PartStands (tables_of state.new) p (value_part (a_value v))) }
     ensures err { IfErr result (LacksRoom state.new) }
 {
-    let table = table_of(context.alloc, &state.cores[table])?;
-    Ok(Part::Table(state.graph.push_table(table)?))
+    Ok(Part::Table(table_slot(context, state, table)?))
 }
 
 /// Options, as an entry of the graph.
@@ -78,6 +102,7 @@ fn options_part(
     state: &mut State<'_>,
     options: Options,
 ) -> Result<Part, ItemError>
+    requires sound { IsSoundState context.now.table.now context.now.modules state.old }
     requires there { OptionsThere context.now.modules (tables_of state.old) options }
     ensures prepares { Prepares context.now.table.now context.now.modules state.old state.new }
     ensures adds { AddsEach in_options 0 0 (tables_of state.old) (tables_of state.new) }

@@ -6,7 +6,7 @@ use Rattle.std.specs.List.{AllZip}
 use Rattle.std.proofs.lemmas.List.{append-nil}
 use Rattle.std.proofs.lemmas.List.Elements.{filter_map-append}
 use Rattle.std.proofs.lemmas.Option.{slice_get_within}
-use Rattle.pc_entity.proofs.Growing.{slice_get-append_seam}
+use Rattle.pc_entity.proofs.Growing.{kept_refl, slice_get-append_seam}
 use Rattle.pc_numbers.specs.declared.module_entity.MemoryIndex.{MemoryIndex}
 use Rattle.pc_types.specs.declared.module_record.ModuleRecord.{ModuleRecord}
 use Rattle.pc_types.specs.declared.parsed.CoreKind.TheVariants as core
@@ -46,6 +46,7 @@ use Rattle.pc_inline_state.proofs.FitsLemmas.{fits_grown}
 use Rattle.pc_inline_state.proofs.GrowthLemmas.{graph_grown}
 use Rattle.pc_inline_state.proofs.InstanceLemmas.{instances_kept}
 use Rattle.pc_inline_state.proofs.KnowsLemmas.{knows_grown}
+use Rattle.pc_inline_state.proofs.PlacedLemmas.{placed_kept}
 use Rattle.pc_inline_state.proofs.StateLemmas.{core_prepares, types_refl}
 use Rattle.pc_inline_state.proofs.ZipLemmas.{zip_more}
 use Rattle.pc_inline_canon.proofs.AdapterKeptLemmas.{holds_items_kept}
@@ -164,6 +165,7 @@ module _ (t : TypeTable) (ms : List ModuleRecord) (st : State) (adapters : List 
         instances = instances_kept ms (tables_of st) (tables_of adapted_to) keeps refl st.runtime_instances.items
             s.instances;
         widths = widths s.widths;
+        placed = placed_kept t ms st adapted_to keeps (kept_refl st.runtime_instances.items) refl s.placed;
       }
 
       -- the builder tells its types apart, and the graph its entries; the adapter has a value

@@ -1,6 +1,7 @@
 -- An unsafe intrinsic that becomes a core function: its signature in the graph, and where that leaves the reading.
 use Rattle.std.proofs.Common.{◌≡◌, ◌<◌, ℕ, List, length, Some, Result, Ok, Err, arith, refl, sym, subst}
 use Rattle.std.specs.Prelude.{IfOk, slice_get}
+use Rattle.pc_entity.proofs.Growing.{kept_refl}
 use Rattle.pc_numbers.specs.declared.module_entity.ModuleInternedTypeIndex.{ModuleInternedTypeIndex}
 use Rattle.pc_types.specs.declared.intrinsic.UnsafeIntrinsic.{UnsafeIntrinsic}
 use Rattle.pc_types.specs.declared.intrinsic.UnsafeIntrinsic.TheVariants as intrinsic
@@ -32,6 +33,7 @@ use Rattle.pc_inline_state.specs.Tables.{Keeps, is_intrinsic, tables_of}
 use Rattle.pc_inline_state.proofs.InstanceLemmas.{instances_kept, widths_kept}
 use Rattle.pc_inline_state.proofs.IntrinsicLemmas.{intrinsics_added}
 use Rattle.pc_inline_state.proofs.KnowsLemmas.{knows_grown}
+use Rattle.pc_inline_state.proofs.PlacedLemmas.{placed_kept}
 use Rattle.pc_inline_state.proofs.StateLemmas.{types_refl}
 use Rattle.pc_inline_canon.specs.Callees.{AddsIntrinsic}
 use Rattle.pc_inline_canon.proofs.FrameLemmas.{core_framed, framed_point}
@@ -95,6 +97,7 @@ module _ (st : State) (i : UnsafeIntrinsic) (s : ModuleInternedTypeIndex) (cores
         instances = instances_kept ms (tables_of st) (tables_of signed_to) keeps refl st.runtime_instances.items
             at.sound.instances;
         widths = widths_kept t ms st.runtime_instances.items st.graph signing refl at.sound.widths;
+        placed = placed_kept t ms st signed_to keeps (kept_refl st.runtime_instances.items) refl at.sound.placed;
       };
       here = knows_grown st.graph st.types.resources now.scope at.here signing keeps.fits;
       converted = at.converted;

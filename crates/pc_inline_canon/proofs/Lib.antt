@@ -43,3 +43,4 @@ mod SideMeansLemmas
 mod MakingLemmas
 mod AdapterLemmas
 mod LiftedLemmas
+mod GottenLemmas

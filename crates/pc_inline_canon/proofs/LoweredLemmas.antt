@@ -6,7 +6,7 @@ use Rattle.std.specs.List.{AllZip}
 use Rattle.std.proofs.lemmas.List.{append-nil}
 use Rattle.std.proofs.lemmas.List.Elements.{Contains-push, filter_map-append}
 use Rattle.std.proofs.lemmas.Option.{slice_get_within}
-use Rattle.pc_entity.proofs.Growing.{slice_get-append_seam}
+use Rattle.pc_entity.proofs.Growing.{kept_refl, slice_get-append_seam}
 use Rattle.pc_entity.proofs.LookupLemmas.{kept_within}
 use Rattle.pc_types_lists.specs.Types.{Types}
 use Rattle.pc_types_builder.proofs.TreeLemmas.{tree_keeps}
@@ -69,6 +69,7 @@ use Rattle.pc_inline_canon.proofs.KeptLemmas.{options_kept as options_still}
 use Rattle.pc_inline_canon.proofs.LogLemmas.{declared_on, none_more, paths-push, trace-push, world_on}
 use Rattle.pc_inline_canon.proofs.OptionsEntryLemmas.{there_kept}
 use Rattle.pc_inline_canon.proofs.SlotLemmas.{found_in_put}
+use Rattle.pc_inline_state.proofs.PlacedLemmas.{placed_kept}
 use Rattle.pc_inline_state.proofs.StateLemmas.{core_prepares, keeps_trans, types_refl}
 use Rattle.pc_inline_canon.proofs.WorldLemmas.{effect_still, point_kept}
 use Rattle.pc_inline_state.proofs.ZipLemmas.{zip_more}
@@ -230,6 +231,8 @@ module _ (t : TypeTable) (ms : List ModuleRecord) (st : State) (ts : List Signed
         instances = instances_kept ms (tables_of st) (tables_of lowered_to) lowered_keeps refl
             st.runtime_instances.items point.sound.instances;
         widths = widths_kept t ms st.runtime_instances.items st.graph lowered_in refl point.sound.widths;
+        placed = placed_kept t ms st lowered_to lowered_keeps (kept_refl st.runtime_instances.items) refl
+            point.sound.placed;
       };
       here = knows_grown st.graph st.types.resources now.scope point.here lowered_in fits;
       converted = point.converted;

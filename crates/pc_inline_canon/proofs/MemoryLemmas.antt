@@ -12,30 +12,26 @@ use Rattle.pc_types.specs.declared.module_record.ModuleRecord.{ModuleRecord}
 use Rattle.pc_types.specs.declared.parsed.CoreKind.TheVariants as core
 use Rattle.pc_types.specs.declared.parsed.TypeTable.{TypeTable}
 use Rattle.pc_types.specs.Record.{index_kind}
-use Rattle.pc_spec_plan.specs.CoreValue.{MaybeValue}
 use Rattle.pc_spec_plan.specs.PlanView as plan
-use Rattle.pc_parsed.specs.Mark.{Mark}
 use Rattle.pc_dfg.specs.declared.core_def.CoreDef.{CoreDef}
 use Rattle.pc_dfg.specs.declared.core_def.CoreExport.{CoreExport}
 use Rattle.pc_dfg.specs.declared.dfg.ComponentDfg.{ComponentDfg}
 use Rattle.pc_dfg.specs.Grows as graph
-use Rattle.pc_dfg.specs.Held.{HeldSlot, IsHeld}
+use Rattle.pc_dfg.specs.Held.{IsHeld}
 use Rattle.pc_dfg.specs.Lists as list
 use Rattle.pc_dfg.specs.Numbers.{memory_def, slots_of}
 use Rattle.pc_dfg.specs.Ordered.{IsOrdered}
 use Rattle.pc_dfg.specs.Pushed.{IsPut}
-use Rattle.pc_inline_state.specs.Fits.{FitsBefore}
-use Rattle.pc_inline_state.specs.declared.definition.CoreId.{CoreId}
 use Rattle.pc_inline_state.specs.declared.state.State.{State}
+use Rattle.pc_inline_state.specs.Placed.{InSlot}
 use Rattle.pc_inline_state.specs.Points.{IsFullSomewhere}
 use Rattle.pc_inline_state.specs.Prepares.{Prepares}
-use Rattle.pc_inline_state.specs.Slots.{SlotStands, is_memory, is_memory_item}
-use Rattle.pc_inline_state.specs.Stands.{MaybeStands}
+use Rattle.pc_inline_state.specs.Slots.{is_memory, is_memory_item}
 use Rattle.pc_inline_state.specs.Tables.{IsItem, Tables, is_entity, is_named, tables_of}
 use Rattle.pc_inline_state.specs.Worlds.{slot_kind}
 use Rattle.pc_inline_canon.proofs.CoreInstanceLemmas.{item_held}
 use Rattle.pc_inline_state.proofs.GrowthLemmas.{graph_crowded}
-use Rattle.pc_inline_canon.proofs.SlotLemmas.{found_in_put, slot_held, slot_keeps, slot_some, slots_prepare}
+use Rattle.pc_inline_canon.proofs.SlotLemmas.{found_in_put, slots_prepare}
 
 -- a look-up in images finds the image
 pub map_at : {A B : Type 0} (f : A → B) (xs : List A) (n : ℕ) (x : A) → slice_get xs n ≡ Some x
@@ -79,17 +75,15 @@ module _ (t : TypeTable) (ms : List ModuleRecord) (st : State) (h : ComponentDfg
       slots plan.callback n d at = inl at
       slots plan.post_return n d at = inl at
 
--- it is in its memory slot
-pub memory_stands : (ms : List ModuleRecord) (st : State) (h : ComponentDfg) → graph.Grows st.graph h
-    → FitsBefore st.graph h → (id : CoreId) (d : CoreDef) (n : ℕ) (x : CoreExport MemoryIndex)
-    → slice_get st.cores id.0 ≡ Some d → memory_def x ≡ d
-    → slice_get h.memories n ≡ Some x → (o : Option CoreId) → o ≡ Some id → (v : MaybeValue Mark)
-    → MaybeStands ms (tables_of st) core.Memory o v
-    → SlotStands (tables_of (record st { graph = h })) plan.memory (Some n) v
+-- a core item is in its memory slot
+pub in_memory : (b : Tables) (id n : ℕ) (x : CoreExport MemoryIndex) (d : CoreDef) → slice_get b.cores id ≡ Some d
+    → memory_def x ≡ d → slice_get b.graph.memories n ≡ Some x → InSlot b plan.memory id n
 unfolding slots_of
-memory_stands ms st h grows fits id d n x held is at =
-    slot_some ms (tables_of st) (tables_of (record st { graph = h })) core.Memory plan.memory id d n held
-    (map_at memory_def h.memories n x at ∙ ap Some is) (slot_keeps ms st h grows fits id d n held)
+in_memory b id n x d held is at = record {
+  definition = d;
+  held = held;
+  slotted = map_at memory_def b.graph.memories n x at ∙ ap Some is;
+}
 
 -- there is no room for one more memory
 pub memory_crowded : (b : Tables) (g : ComponentDfg) → graph.Grows g b.graph → 4294967295 ≤ length g.memories
@@ -98,12 +92,6 @@ unfolding slots_of
 memory_crowded b g grows full =
     graph_crowded b g grows (list.slots plan.memory)
     (subst (λ n. 4294967295 ≤ n) (sym (length-map g.memories memory_def)) full)
-
--- a memory slot in which something is is held
-pub memory_held : (g : ComponentDfg) (n : ℕ) (x : CoreExport MemoryIndex) → slice_get g.memories n ≡ Some x
-    → HeldSlot g plan.memory (Some n)
-unfolding slots_of
-memory_held g n x at = slot_held g plan.memory n (memory_def x) (map_at memory_def g.memories n x at)
 
 -- a memory may be one
 pub memory_fits : (ms : List ModuleRecord) (g : ComponentDfg) (d : CoreDef) → IsItem ms g core.Memory d

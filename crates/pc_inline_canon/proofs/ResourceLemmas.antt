@@ -5,7 +5,7 @@ use Rattle.std.specs.Prelude.{slice_get}
 use Rattle.std.specs.List.{AllZip}
 use Rattle.std.proofs.lemmas.List.{append-nil, length-append}
 use Rattle.std.proofs.lemmas.List.Elements.{filter_map-append}
-use Rattle.pc_entity.proofs.Growing.{slice_get-append_seam}
+use Rattle.pc_entity.proofs.Growing.{kept_refl, slice_get-append_seam}
 use Rattle.pc_numbers.specs.declared.runtime.ResourceIndex.{ResourceIndex}
 use Rattle.pc_numbers.specs.declared.runtime.RuntimeComponentInstanceIndex.{RuntimeComponentInstanceIndex}
 use Rattle.pc_types.specs.declared.module_record.ModuleRecord.{ModuleRecord}
@@ -46,6 +46,7 @@ use Rattle.pc_inline_state.specs.Worlds.{EffectStands, HasItems, WorldStands, sl
 use Rattle.pc_inline_state.proofs.InstanceLemmas.{instances_kept, widths_kept}
 use Rattle.pc_inline_state.proofs.GrowthLemmas.{graph_grown}
 use Rattle.pc_inline_state.proofs.KnowsLemmas.{knows_grown}
+use Rattle.pc_inline_state.proofs.PlacedLemmas.{placed_kept}
 use Rattle.pc_inline_state.proofs.StateLemmas.{types_refl}
 use Rattle.pc_inline_state.proofs.ZipLemmas.{zip_more, zip_push}
 use Rattle.pc_inline_canon.proofs.CoreInstanceLemmas.{found_in_push, item_held}
@@ -193,6 +194,7 @@ module _ (t : TypeTable) (ms : List ModuleRecord) (st : State) (x : Resource)
       instances = instances_kept ms (tables_of st) (tables_of declaring) resource_keeps refl st.runtime_instances.items
           s.instances;
       widths = widths_kept t ms st.runtime_instances.items st.graph after refl s.widths;
+      placed = placed_kept t ms st declaring resource_keeps (kept_refl st.runtime_instances.items) refl s.placed;
     }
 
     module _ (v : MaybeValue Mark) (means : DestructorMeans st.types st.graph x.dtor v) where

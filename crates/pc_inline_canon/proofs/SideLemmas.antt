@@ -30,7 +30,7 @@ use Rattle.pc_inline_state.specs.Points.{IsSoundState}
 use Rattle.pc_inline_state.specs.Slots.{IsThere, MaybeThere, ModelThere, OptionsThere}
 use Rattle.pc_inline_state.specs.Tables.{IsItem, tables_of}
 use Rattle.pc_inline_state.specs.Worlds.{HoldsItems, MaybeItem, ModelItems, SideItems}
-use Rattle.pc_inline_canon.specs.Sides.{IsDefinition, IsMemory, IsModel, IsSide}
+use Rattle.pc_inline_state.specs.Sides.{IsDefinition, IsMemory, IsModel, IsSide}
 use Rattle.pc_inline_canon.proofs.CoreInstanceLemmas.{item_held}
 use Rattle.pc_inline_canon.proofs.SlotLemmas.{there_usable}
 

@@ -42,7 +42,7 @@ use Rattle.pc_inline_state.specs.Stands.{CoreStands, MaybeStands, ModelStands, O
 use Rattle.pc_inline_state.specs.Stands.{linear_stands, none_stands, options_stand, some_stands}
 use Rattle.pc_inline_state.specs.Tables.{tables_of}
 use Rattle.pc_inline_state.proofs.StateLemmas.{types_refl}
-use Rattle.pc_inline_canon.specs.Sides.{IsDefinition, IsModel, IsSide}
+use Rattle.pc_inline_state.specs.Sides.{IsDefinition, IsModel, IsSide}
 use Rattle.pc_inline_canon.proofs.MarkLemmas.{still, value_twice}
 use Rattle.pc_inline_canon.proofs.SideLemmas.{memory_definition, memory_held}
 

@@ -3,6 +3,7 @@ use Rattle.std.proofs.Common.{◌≡◌, ◌⊎◌, inl, inr, ◌≤◌, ◌<◌
 use Rattle.std.proofs.Common.{subst, ◌∙◌}
 use Rattle.std.specs.Prelude.{slice_get}
 use Rattle.std.proofs.lemmas.Option.{same_Some, slice_get_within}
+use Rattle.pc_entity.proofs.Growing.{kept_refl}
 use Rattle.pc_numbers.specs.declared.module_entity.MemoryIndex.{MemoryIndex}
 use Rattle.pc_types.specs.declared.module_record.ModuleRecord.{ModuleRecord}
 use Rattle.pc_types.specs.declared.parsed.CoreKind.{CoreKind}
@@ -24,21 +25,24 @@ use Rattle.pc_dfg.specs.Numbers.{slots_of}
 use Rattle.pc_dfg.specs.Ordered.{IsOrdered}
 use Rattle.pc_dfg.specs.Pushed.{IsPut}
 use Rattle.pc_inline_state.specs.declared.definition.CoreId.{CoreId}
+use Rattle.pc_inline_state.specs.declared.places.Places.{Places}
 use Rattle.pc_inline_state.specs.declared.state.State.{State}
+use Rattle.pc_inline_state.specs.Placed.{InSlot}
+use Rattle.pc_inline_state.specs.Places.{NotesSlot}
 use Rattle.pc_inline_state.specs.Points.{IsFullSomewhere}
 use Rattle.pc_inline_state.specs.Prepares.{Prepares}
 use Rattle.pc_inline_state.specs.Slots.{IsThere, SlotStands}
 use Rattle.pc_inline_state.specs.Stands.{CoreStands, MaybeStands, none_stands, some_stands}
-use Rattle.pc_inline_state.specs.Tables.{IsItem, Tables, tables_of}
+use Rattle.pc_inline_state.specs.Tables.{IsItem, Keeps, Tables, tables_of}
 use Rattle.pc_inline_state.specs.Worlds.{HoldsTypes, slot_kind}
 use Rattle.pc_inline_canon.proofs.CoreInstanceLemmas.{found_in_push, item_held}
-use Rattle.pc_inline_state.specs.Fits.{FitsBefore}
 use Rattle.pc_inline_state.proofs.InstanceLemmas.{instances_kept, widths_kept}
 use Rattle.pc_inline_state.proofs.FitsLemmas.{fits_grown}
 use Rattle.pc_inline_state.proofs.GrowthLemmas.{graph_crowded, graph_grown}
 use Rattle.pc_inline_canon.proofs.ItemLemmas.{items_kept, modules_held, used_kept}
 use Rattle.pc_inline_canon.proofs.KeptLemmas.{core_kept}
-use Rattle.pc_inline_state.proofs.StateLemmas.{types_refl}
+use Rattle.pc_inline_state.proofs.PlacedLemmas.{placed_kept}
+use Rattle.pc_inline_state.proofs.StateLemmas.{prepares_trans, slot_prepares}
 
 -- what is found in a list into which an entry was put was there, or is the entry
 pub found_in_put : {A : Type 0} (old new : List A) (x : A) → IsPut old new x → (n : ℕ) (y : A)
@@ -57,24 +61,29 @@ slot_none ms b j k o is v m = by v (subst (λ x. MaybeStands ms b j x v) is m)
     by : (v : MaybeValue Mark) → MaybeStands ms b j None v → SlotStands b k None v
     by v none_stands = record { numbered = value.no_value; means = means_no_slot; is = refl }
 
-module _ (ms : List ModuleRecord) (b c : Tables) (j : CoreKind) (k : plan.SlotKind) (id : CoreId) (d : CoreDef) (n : ℕ)
+-- a core item that has a slot is in it, whatever it stood for before it got the slot
+pub slot_some : (ms : List ModuleRecord) (b c : Tables) → Keeps b c → (j : CoreKind) (k : plan.SlotKind) (id : CoreId)
+    (n : ℕ) → InSlot c k id.0 n → (o : Option CoreId) → o ≡ Some id → (v : MaybeValue Mark) → MaybeStands ms b j o v
+    → SlotStands c k (Some n) v
+slot_some ms b c keeps j k id n there o is v m = by v (subst (λ x. MaybeStands ms b j x v) is m)
   where
-    -- a core item whose definition is in a slot is in it
-    pub slot_some : slice_get b.cores id.0 ≡ Some d → slice_get (slots_of c.graph k) n ≡ Some d
-        → ((v : CoreValue Mark) → CoreStands b.types b.graph d v → CoreStands c.types c.graph d v)
-        → (o : Option CoreId) → o ≡ Some id → (v : MaybeValue Mark) → MaybeStands ms b j o v → SlotStands c k (Some n) v
-    slot_some held at kept o is v m = by v (subst (λ x. MaybeStands ms b j x v) is m)
-      where
-        by : (v : MaybeValue Mark) → MaybeStands ms b j (Some id) v → SlotStands c k (Some n) v
-        by v (some_stands {v = w} item) =
-            let s = kept w
-            (subst (λ x. CoreStands b.types b.graph x w) (same_Some item.definition d (sym item.held ∙ held))
-            item.stands) in
-            record {
-              numbered = value.a_value s.numbered;
-              means = means_slot at s.means;
-              is = ap value.a_value s.is;
-            }
+    by : (v : MaybeValue Mark) → MaybeStands ms b j (Some id) v → SlotStands c k (Some n) v
+    by v (some_stands {v = w} item) =
+        let d = there.definition in
+        let same : item.definition ≡ d = same_Some item.definition d
+        (sym (keeps.cores id.0 item.definition item.held) ∙ there.held) in
+        let s = core_kept b.types c.types b.graph c.graph keeps.types keeps.graph keeps.fits d w
+        (subst (λ x. CoreStands b.types b.graph x w) same item.stands) in
+        record {
+          numbered = value.a_value s.numbered;
+          means = means_slot there.slotted s.means;
+          is = ap value.a_value s.is;
+        }
+
+-- and the slot is held
+pub slot_held : (b : Tables) (k : plan.SlotKind) (id n : ℕ) → InSlot b k id n → HeldSlot b.graph k (Some n)
+unfolding HeldSlot
+slot_held b k id n there = slice_get_within (slots_of b.graph k) n there.definition there.slotted
 
 -- the definition of a core item of the table is an item of its kind
 pub there_usable : (ms : List ModuleRecord) (b : Tables) (k : CoreKind) (id : CoreId) (d : CoreDef) → IsThere ms b k id
@@ -125,6 +134,9 @@ module _ (t : TypeTable) (ms : List ModuleRecord) (st : State) (memories : List 
           (graph_grown (tables_of st) slotted grows (fits_grown st.graph slotted grows refl refl)) refl
           st.runtime_instances.items s.instances;
       widths = widths_kept t ms st.runtime_instances.items st.graph slotted refl s.widths;
+      placed = placed_kept t ms st (record st { graph = slotted })
+          (graph_grown (tables_of st) slotted grows (fits_grown st.graph slotted grows refl refl))
+          (kept_refl st.runtime_instances.items) refl s.placed;
     };
     resources = refl;
     side_effects = refl;
@@ -218,37 +230,35 @@ module _ (t : TypeTable) (ms : List ModuleRecord) (st : State) (h : ComponentDfg
       slots plan.realloc n x at = inl at
       slots plan.callback n x at = inl at
 
-module _ (ms : List ModuleRecord) (st : State) (h : ComponentDfg) (grows : graph.Grows st.graph h)
-    (fits : FitsBefore st.graph h) (id : CoreId) (d : CoreDef) (n : ℕ) (held : slice_get st.cores id.0 ≡ Some d) where
-  -- a definition keeps its value in the graph with one more slot
-  pub slot_keeps : (v : CoreValue Mark) → CoreStands st.types st.graph d v → CoreStands st.types h d v
-  slot_keeps v = core_kept st.types st.types st.graph h (types_refl st.types) grows fits d v
+-- a core item got a slot of a graph that does what it did, and was noted with it
+pub noted_prepares : (t : TypeTable) (ms : List ModuleRecord) (st : State) (h : ComponentDfg) (p : Places)
+    (k : plan.SlotKind) (id n : ℕ) → Prepares t ms st (record st { graph = h }) → NotesSlot k id n st.places p
+    → InSlot (tables_of (record st { graph = h })) k id n → Prepares t ms st (record st { graph = h; places = p })
+noted_prepares t ms st h p k id n more notes there =
+    prepares_trans t ms st (record st { graph = h }) (record st { graph = h; places = p }) more
+    (slot_prepares t ms (record st { graph = h }) p k id n notes there)
 
-  -- it is in its realloc slot
-  pub realloc_stands : slice_get h.reallocs n ≡ Some d → (o : Option CoreId) → o ≡ Some id → (v : MaybeValue Mark)
-      → MaybeStands ms (tables_of st) core.Func o v
-      → SlotStands (tables_of (record st { graph = h })) plan.realloc (Some n) v
-  unfolding slots_of
-  realloc_stands at =
-      slot_some ms (tables_of st) (tables_of (record st { graph = h })) core.Func plan.realloc id d n held at slot_keeps
+-- the same where there was no memory to note it
+pub unnoted_prepares : (t : TypeTable) (ms : List ModuleRecord) (st : State) (h : ComponentDfg) (p : Places)
+    → p ≡ st.places → Prepares t ms st (record st { graph = h }) → Prepares t ms st (record st { graph = h; places = p })
+unnoted_prepares t ms st h p same =
+    subst (λ (q : Places). Prepares t ms st (record st { graph = h; places = q })) (sym same)
 
-  -- it is in its callback slot
-  pub callback_stands : slice_get h.callbacks n ≡ Some d → (o : Option CoreId) → o ≡ Some id → (v : MaybeValue Mark)
-      → MaybeStands ms (tables_of st) core.Func o v
-      → SlotStands (tables_of (record st { graph = h })) plan.callback (Some n) v
+module _ (b : Tables) (id n : ℕ) (d : CoreDef) (held : slice_get b.cores id ≡ Some d) where
+  -- a core item is in its realloc slot
+  pub in_realloc : slice_get b.graph.reallocs n ≡ Some d → InSlot b plan.realloc id n
   unfolding slots_of
-  callback_stands at =
-      slot_some ms (tables_of st) (tables_of (record st { graph = h })) core.Func plan.callback id d n held at
-      slot_keeps
+  in_realloc at = record { definition = d; held = held; slotted = at }
 
-  -- it is in its post-return slot
-  pub post_return_stands : slice_get h.post_returns n ≡ Some d → (o : Option CoreId) → o ≡ Some id
-      → (v : MaybeValue Mark) → MaybeStands ms (tables_of st) core.Func o v
-      → SlotStands (tables_of (record st { graph = h })) plan.post_return (Some n) v
+  -- in its callback slot
+  pub in_callback : slice_get b.graph.callbacks n ≡ Some d → InSlot b plan.callback id n
   unfolding slots_of
-  post_return_stands at =
-      slot_some ms (tables_of st) (tables_of (record st { graph = h })) core.Func plan.post_return id d n held at
-      slot_keeps
+  in_callback at = record { definition = d; held = held; slotted = at }
+
+  -- in its post-return slot
+  pub in_post_return : slice_get b.graph.post_returns n ≡ Some d → InSlot b plan.post_return id n
+  unfolding slots_of
+  in_post_return at = record { definition = d; held = held; slotted = at }
 
 module _ (b : Tables) (g : ComponentDfg) (grows : graph.Grows g b.graph) where
   -- there is no room for one more realloc
@@ -270,27 +280,3 @@ module _ (b : Tables) (g : ComponentDfg) (grows : graph.Grows g b.graph) where
 pub none_held : (g : ComponentDfg) (k : plan.SlotKind) → HeldSlot g k None
 unfolding HeldSlot
 none_held g k = tt
-
--- a slot in which something is is held
-pub slot_held : (g : ComponentDfg) (k : plan.SlotKind) (n : ℕ) (d : CoreDef) → slice_get (slots_of g k) n ≡ Some d
-    → HeldSlot g k (Some n)
-unfolding HeldSlot
-slot_held g k n d at = slice_get_within (slots_of g k) n d at
-
--- that of a realloc
-pub realloc_held : (g : ComponentDfg) (n : ℕ) (d : CoreDef) → slice_get g.reallocs n ≡ Some d
-    → HeldSlot g plan.realloc (Some n)
-unfolding slots_of
-realloc_held g n d at = slot_held g plan.realloc n d at
-
--- that of a callback
-pub callback_held : (g : ComponentDfg) (n : ℕ) (d : CoreDef) → slice_get g.callbacks n ≡ Some d
-    → HeldSlot g plan.callback (Some n)
-unfolding slots_of
-callback_held g n d at = slot_held g plan.callback n d at
-
--- that of a post-return
-pub post_return_held : (g : ComponentDfg) (n : ℕ) (d : CoreDef) → slice_get g.post_returns n ≡ Some d
-    → HeldSlot g plan.post_return (Some n)
-unfolding slots_of
-post_return_held g n d at = slot_held g plan.post_return n d at

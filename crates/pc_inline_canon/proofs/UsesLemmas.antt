@@ -3,7 +3,7 @@ use Rattle.std.proofs.Common.{◌≡◌, ◌<◌, ℕ, List, [], ◌∷◌, ◌+
 use Rattle.std.proofs.Common.{subst, ◌∙◌}
 use Rattle.std.specs.Prelude.{slice_get, slice_set}
 use Rattle.std.proofs.lemmas.Option.{same_Some}
-use Rattle.pc_entity.proofs.Growing.{slice_get-append_seam}
+use Rattle.pc_entity.proofs.Growing.{kept_refl, slice_get-append_seam}
 use Rattle.pc_numbers.specs.declared.runtime.ImportIndex.{ImportIndex}
 use Rattle.pc_numbers.specs.declared.runtime.RuntimeImportIndex.{RuntimeImportIndex}
 use Rattle.pc_types.specs.declared.module_record.ModuleRecord.{ModuleRecord}
@@ -27,6 +27,7 @@ use Rattle.pc_inline_state.proofs.InstanceLemmas.{instances_kept, widths_kept}
 use Rattle.pc_inline_state.proofs.FitsLemmas.{fits_grown, fits_refl}
 use Rattle.pc_inline_state.proofs.GrowthLemmas.{graph_grown}
 use Rattle.pc_inline_state.proofs.KnowsLemmas.{knows_grown}
+use Rattle.pc_inline_state.proofs.PlacedLemmas.{placed_kept}
 use Rattle.pc_inline_canon.proofs.ItemLemmas.{items_same, types_held}
 use Rattle.pc_inline_canon.proofs.KeptLemmas.{frame_kept}
 use Rattle.pc_inline_canon.proofs.UsedLemmas.{needed_world, path_known, path_new, used_more}
@@ -110,6 +111,8 @@ module _ (t : TypeTable) (ms : List ModuleRecord) (st : State) (n : ℕ) (r : Ru
             instances = instances_kept ms (tables_of st) (tables_of using_it)
                 (graph_grown (tables_of st) imported grows fits) refl st.runtime_instances.items s.instances;
             widths = widths_kept t ms st.runtime_instances.items st.graph imported refl s.widths;
+            placed = placed_kept t ms st using_it (graph_grown (tables_of st) imported grows fits)
+                (kept_refl st.runtime_instances.items) refl s.placed;
           } in
           record {
             path = ap (slice_get imported.imports) number ∙ slice_get-append_seam st.graph.imports i [];

@@ -1,5 +1,5 @@
 -- What the contracts of this crate say.
+pub mod Adapters
 pub mod Callees
 pub mod Hosts
-pub mod Sides
 pub mod Written

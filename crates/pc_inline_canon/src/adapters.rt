@@ -1,20 +1,22 @@
 //! Lifted functions, lowered: the adapters between them.
 
-ghost use Rattle.std.specs.Prelude.{◌≡◌, ◌≤◌, IfErr, IfOk};
+ghost use Rattle.std.specs.Prelude.{◌≡◌, IfErr, IfOk};
 ghost use Rattle.pc_types.specs.declared.parsed.CoreKind.TheVariants as core;
 ghost use Rattle.pc_inline_state.specs.Adds.{Adds};
+ghost use Rattle.pc_inline_state.specs.AddsEach.{AddsEach, in_adapters};
 ghost use Rattle.pc_inline_state.specs.Points.{IsSoundState};
 ghost use Rattle.pc_inline_state.specs.Refused.{LacksRoom};
+ghost use Rattle.pc_inline_state.specs.Sides.{IsDefinition, IsMemory, IsModel, IsSide};
 ghost use Rattle.pc_inline_state.specs.Slots.{IsThere, MaybeThere, ModelThere, OptionsThere};
 ghost use Rattle.pc_inline_state.specs.Tables.{Keeps, tables_of};
+ghost use Rattle.pc_inline_canon.specs.Adapters.{GetsAdapter};
 ghost use Rattle.pc_inline_canon.specs.Callees.{LowersTo};
-ghost use Rattle.pc_inline_canon.specs.Sides.{IsDefinition, IsMemory, IsModel, IsSide};
 ghost use Rattle.pc_inline_canon.specs.declared.callee.Callee.TheVariants as callee;
 
 use crate::slots::{definition, memory_of};
-use pc_dfg::{Adapter, AdapterOptions, CoreDef, CoreExport, DataModel as SideModel};
+use pc_dfg::{Adapter, AdapterId, AdapterOptions, CoreDef, CoreExport, DataModel as SideModel};
 use pc_entity::{MemoryIndex, NoMemory};
-use pc_inline_state::{Context, CoreId, DataModel, ItemError, Options, State};
+use pc_inline_state::{AdapterKey, Context, CoreId, DataModel, ItemError, Options, State};
 use pc_types::TypeFuncIndex;
 
 /// The definition of a core item that may be left out.
@@ -93,6 +95,40 @@ fn side_options(
     })
 }
 
+/// The adapter of a key, which is made the first time. Another key may make the same one.
+fn adapter_of(
+    context: &Context<'_>,
+    state: &mut State<'_>,
+    key: AdapterKey,
+) -> Result<AdapterId, ItemError>
+    requires sound { IsSoundState context.now.table.now context.now.modules state.old }
+    requires there { IsThere context.now.modules (tables_of state.old) core.Func key.func }
+    requires lift { OptionsThere context.now.modules (tables_of state.old) key.lift }
+    requires lower { OptionsThere context.now.modules (tables_of state.old) key.lower }
+    ensures keeps { Keeps (tables_of state.old) (tables_of state.new) }
+    ensures adds { AddsEach in_adapters 0 0 (tables_of state.old) (tables_of state.new) }
+    ensures rest { state.new ≡ record state.old {
+      graph = record state.old.graph { adapters = state.new.graph.adapters };
+      places = state.new.places;
+    } }
+    ensures has { IfOk result (GetsAdapter context.now.table.now context.now.modules state.old state.new key) }
+    ensures err { IfErr result (LacksRoom state.new) }
+{
+    if let Some(number) = state.places.adapters.get(key) {
+        return Ok(number);
+    }
+    let adapter = Adapter {
+        lift_ty: key.lift_ty,
+        lift_options: side_options(context, state, key.lift)?,
+        lower_ty: key.lower_ty,
+        lower_options: side_options(context, state, key.lower)?,
+        func: definition(context, state, key.func)?,
+    };
+    let number = state.graph.push_adapter(adapter)?;
+    state.places.adapters.insert(key, number)?;
+    Ok(number)
+}
+
 /// The core function that a lifted function is lowered to: the adapter between its options and these, which is the one
 /// that was made before, if there is one.
 pub(crate) fn lower_lifted(
@@ -114,14 +150,14 @@ pub(crate) fn lower_lifted(
     ensures err { IfErr result (LacksRoom state.new) }
 {
     let (lift_ty, func, lift) = lifted;
-    let adapter = Adapter {
+    let key = AdapterKey {
         lift_ty,
-        lift_options: side_options(context, state, lift)?,
+        func,
+        lift,
         lower_ty: ty,
-        lower_options: side_options(context, state, options)?,
-        func: definition(context, state, func)?,
+        lower: options,
     };
-    let number = state.graph.push_adapter(adapter)?;
+    let number = adapter_of(context, state, key)?;
     state.graph.entries_are_distinct();
     state.types.types_are_distinct();
     state.types.numbers_are_trees();

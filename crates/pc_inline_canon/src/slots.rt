@@ -10,10 +10,12 @@ ghost use Rattle.pc_parsed.specs.Mark.{Mark};
 ghost use Rattle.pc_dfg.specs.Held.{HeldModel, HeldSlot};
 ghost use Rattle.pc_dfg.specs.Numbers.{memory_def, model_entry};
 ghost use Rattle.pc_inline_state.specs.AddsEach.{AddsEach, in_options, in_slots};
+ghost use Rattle.pc_inline_state.specs.Placed.{InSlot};
+ghost use Rattle.pc_inline_state.specs.Points.{IsSoundState};
 ghost use Rattle.pc_inline_state.specs.Prepares.{Prepares};
 ghost use Rattle.pc_inline_state.specs.Refused.{LacksRoom};
-ghost use Rattle.pc_inline_state.specs.Slots.{EntryStands, IsThere, MaybeThere, ModelThere, OptionsThere, SlotModelStands};
-ghost use Rattle.pc_inline_state.specs.Slots.{SlotStands, is_memory};
+ghost use Rattle.pc_inline_state.specs.Slots.{EntryStands, IsThere, MaybeThere, ModelThere, OptionsThere};
+ghost use Rattle.pc_inline_state.specs.Slots.{SlotModelStands, SlotStands, is_memory};
 ghost use Rattle.pc_inline_state.specs.Stands.{MaybeStands, ModelStands, OptionsStand};
 ghost use Rattle.pc_inline_state.specs.Tables.{tables_of};
 
@@ -58,12 +60,35 @@ pub(crate) fn definition(
     state.cores[id].try_clone(context.alloc)
 }
 
-/// The slot of a memory that may be left out.
+/// The slot of a memory. It gets one the first time.
 fn memory_slot(
+    context: &Context<'_>,
+    state: &mut State<'_>,
+    id: CoreId,
+) -> Result<MemoryId, ItemError>
+    requires sound { IsSoundState context.now.table.now context.now.modules state.old }
+    requires there { IsThere context.now.modules (tables_of state.old) core.Memory id }
+    ensures prepares { Prepares context.now.table.now context.now.modules state.old state.new }
+    ensures adds { AddsEach (in_slots 1) 0 0 (tables_of state.old) (tables_of state.new) }
+    ensures slot { IfOk result (λ slot. InSlot (tables_of state.new) plan.memory id.0 slot.0) }
+    ensures err { IfErr result (LacksRoom state.new) }
+{
+    if let Some(slot) = state.places.memories.get(id) {
+        return Ok(slot);
+    }
+    let memory = memory_of(context.alloc, &state.cores[id])?;
+    let slot = state.graph.push_memory(memory)?;
+    state.places.memories.set(id, Some(slot))?;
+    Ok(slot)
+}
+
+/// The slot of a memory that may be left out.
+fn maybe_memory_slot(
     context: &Context<'_>,
     state: &mut State<'_>,
     memory: Option<CoreId>,
 ) -> Result<Option<MemoryId>, ItemError>
+    requires sound { IsSoundState context.now.table.now context.now.modules state.old }
     requires there { MaybeThere context.now.modules (tables_of state.old) core.Memory memory }
     ensures prepares { Prepares context.now.table.now context.now.modules state.old state.new }
     ensures adds { AddsEach (in_slots 1) 0 0 (tables_of state.old) (tables_of state.new) }
@@ -74,20 +99,40 @@ fn memory_slot(
     ensures err { IfErr result (LacksRoom state.new) }
 {
     match memory {
-        Some(id) => {
-            let memory = memory_of(context.alloc, &state.cores[id])?;
-            Ok(Some(state.graph.push_memory(memory)?))
-        }
+        Some(id) => Ok(Some(memory_slot(context, state, id)?)),
         None => Ok(None),
     }
 }
 
-/// The slot of a realloc that may be left out.
+/// The slot of a realloc. It gets one the first time.
 fn realloc_slot(
+    context: &Context<'_>,
+    state: &mut State<'_>,
+    id: CoreId,
+) -> Result<ReallocId, ItemError>
+    requires sound { IsSoundState context.now.table.now context.now.modules state.old }
+    requires there { IsThere context.now.modules (tables_of state.old) core.Func id }
+    ensures prepares { Prepares context.now.table.now context.now.modules state.old state.new }
+    ensures adds { AddsEach (in_slots 1) 0 0 (tables_of state.old) (tables_of state.new) }
+    ensures slot { IfOk result (λ slot. InSlot (tables_of state.new) plan.realloc id.0 slot.0) }
+    ensures err { IfErr result (LacksRoom state.new) }
+{
+    if let Some(slot) = state.places.reallocs.get(id) {
+        return Ok(slot);
+    }
+    let def = definition(context, state, id)?;
+    let slot = state.graph.push_realloc(def)?;
+    state.places.reallocs.set(id, Some(slot))?;
+    Ok(slot)
+}
+
+/// The slot of a realloc that may be left out.
+fn maybe_realloc_slot(
     context: &Context<'_>,
     state: &mut State<'_>,
     realloc: Option<CoreId>,
 ) -> Result<Option<ReallocId>, ItemError>
+    requires sound { IsSoundState context.now.table.now context.now.modules state.old }
     requires there { MaybeThere context.now.modules (tables_of state.old) core.Func realloc }
     ensures prepares { Prepares context.now.table.now context.now.modules state.old state.new }
     ensures adds { AddsEach (in_slots 1) 0 0 (tables_of state.old) (tables_of state.new) }
@@ -98,20 +143,40 @@ fn realloc_slot(
     ensures err { IfErr result (LacksRoom state.new) }
 {
     match realloc {
-        Some(id) => {
-            let def = definition(context, state, id)?;
-            Ok(Some(state.graph.push_realloc(def)?))
-        }
+        Some(id) => Ok(Some(realloc_slot(context, state, id)?)),
         None => Ok(None),
     }
 }
 
-/// The slot of a callback that may be left out.
+/// The slot of a callback. It gets one the first time.
 fn callback_slot(
+    context: &Context<'_>,
+    state: &mut State<'_>,
+    id: CoreId,
+) -> Result<CallbackId, ItemError>
+    requires sound { IsSoundState context.now.table.now context.now.modules state.old }
+    requires there { IsThere context.now.modules (tables_of state.old) core.Func id }
+    ensures prepares { Prepares context.now.table.now context.now.modules state.old state.new }
+    ensures adds { AddsEach (in_slots 1) 0 0 (tables_of state.old) (tables_of state.new) }
+    ensures slot { IfOk result (λ slot. InSlot (tables_of state.new) plan.callback id.0 slot.0) }
+    ensures err { IfErr result (LacksRoom state.new) }
+{
+    if let Some(slot) = state.places.callbacks.get(id) {
+        return Ok(slot);
+    }
+    let def = definition(context, state, id)?;
+    let slot = state.graph.push_callback(def)?;
+    state.places.callbacks.set(id, Some(slot))?;
+    Ok(slot)
+}
+
+/// The slot of a callback that may be left out.
+fn maybe_callback_slot(
     context: &Context<'_>,
     state: &mut State<'_>,
     callback: Option<CoreId>,
 ) -> Result<Option<CallbackId>, ItemError>
+    requires sound { IsSoundState context.now.table.now context.now.modules state.old }
     requires there { MaybeThere context.now.modules (tables_of state.old) core.Func callback }
     ensures prepares { Prepares context.now.table.now context.now.modules state.old state.new }
     ensures adds { AddsEach (in_slots 1) 0 0 (tables_of state.old) (tables_of state.new) }
@@ -122,20 +187,40 @@ fn callback_slot(
     ensures err { IfErr result (LacksRoom state.new) }
 {
     match callback {
-        Some(id) => {
-            let def = definition(context, state, id)?;
-            Ok(Some(state.graph.push_callback(def)?))
-        }
+        Some(id) => Ok(Some(callback_slot(context, state, id)?)),
         None => Ok(None),
     }
 }
 
-/// The slot of a post-return function that may be left out.
+/// The slot of a post-return function. It gets one the first time.
 fn post_return_slot(
+    context: &Context<'_>,
+    state: &mut State<'_>,
+    id: CoreId,
+) -> Result<PostReturnId, ItemError>
+    requires sound { IsSoundState context.now.table.now context.now.modules state.old }
+    requires there { IsThere context.now.modules (tables_of state.old) core.Func id }
+    ensures prepares { Prepares context.now.table.now context.now.modules state.old state.new }
+    ensures adds { AddsEach (in_slots 1) 0 0 (tables_of state.old) (tables_of state.new) }
+    ensures slot { IfOk result (λ slot. InSlot (tables_of state.new) plan.post_return id.0 slot.0) }
+    ensures err { IfErr result (LacksRoom state.new) }
+{
+    if let Some(slot) = state.places.post_returns.get(id) {
+        return Ok(slot);
+    }
+    let def = definition(context, state, id)?;
+    let slot = state.graph.push_post_return(def)?;
+    state.places.post_returns.set(id, Some(slot))?;
+    Ok(slot)
+}
+
+/// The slot of a post-return function that may be left out.
+fn maybe_post_return_slot(
     context: &Context<'_>,
     state: &mut State<'_>,
     post_return: Option<CoreId>,
 ) -> Result<Option<PostReturnId>, ItemError>
+    requires sound { IsSoundState context.now.table.now context.now.modules state.old }
     requires there { MaybeThere context.now.modules (tables_of state.old) core.Func post_return }
     ensures prepares { Prepares context.now.table.now context.now.modules state.old state.new }
     ensures adds { AddsEach (in_slots 1) 0 0 (tables_of state.old) (tables_of state.new) }
@@ -146,10 +231,7 @@ fn post_return_slot(
     ensures err { IfErr result (LacksRoom state.new) }
 {
     match post_return {
-        Some(id) => {
-            let def = definition(context, state, id)?;
-            Ok(Some(state.graph.push_post_return(def)?))
-        }
+        Some(id) => Ok(Some(post_return_slot(context, state, id)?)),
         None => Ok(None),
     }
 }
@@ -160,6 +242,7 @@ fn data_model(
     state: &mut State<'_>,
     model: DataModel,
 ) -> Result<CanonicalOptionsDataModel, ItemError>
+    requires sound { IsSoundState context.now.table.now context.now.modules state.old }
     requires there { ModelThere context.now.modules (tables_of state.old) model }
     ensures prepares { Prepares context.now.table.now context.now.modules state.old state.new }
     ensures adds { AddsEach (in_slots 2) 0 0 (tables_of state.old) (tables_of state.new) }
@@ -172,8 +255,8 @@ fn data_model(
     match model {
         DataModel::Gc {} => Ok(CanonicalOptionsDataModel::Gc {}),
         DataModel::LinearMemory { memory, realloc } => {
-            let memory = memory_slot(context, state, memory)?;
-            let realloc = realloc_slot(context, state, realloc)?;
+            let memory = maybe_memory_slot(context, state, memory)?;
+            let realloc = maybe_realloc_slot(context, state, realloc)?;
             Ok(CanonicalOptionsDataModel::LinearMemory { memory, realloc })
         }
     }
@@ -185,6 +268,7 @@ pub fn options_entry(
     state: &mut State<'_>,
     options: Options,
 ) -> Result<OptionsId, ItemError>
+    requires sound { IsSoundState context.now.table.now context.now.modules state.old }
     requires there { OptionsThere context.now.modules (tables_of state.old) options }
     ensures prepares { Prepares context.now.table.now context.now.modules state.old state.new }
     ensures adds { AddsEach in_options 0 0 (tables_of state.old) (tables_of state.new) }
@@ -195,8 +279,8 @@ pub fn options_entry(
     ensures err { IfErr result (LacksRoom state.new) }
 {
     let data_model = data_model(context, state, options.data_model)?;
-    let callback = callback_slot(context, state, options.callback)?;
-    let post_return = post_return_slot(context, state, options.post_return)?;
+    let callback = maybe_callback_slot(context, state, options.callback)?;
+    let post_return = maybe_post_return_slot(context, state, options.post_return)?;
     Ok(
         state.graph.push_options(CanonicalOptions {
             instance: options.instance,

@@ -97,15 +97,6 @@ module _ (t : TypeTable) (ms : List ModuleRecord) (st : State) where
         subst (λ l. AreDistinct (numbers_of l))
         (same_Some es fs (sym some ∙ got ∙ ap (λ (k : ExportsId). slice_get st.instances k.0) one ∙ held)) apart)
 
-    -- one that isn't there
-    pub apart_missing : (n : ExportsId) (ty : TypeComponentInstanceIndex) → d ≡ definition.Instance n ty
-        → (o : Option (List (Atom × Member))) → o ≡ slice_get st.instances n.0 → o ≡ None → IsApart t ms st d
-    apart_missing n ty is o got none =
-        parts_apart still_sound names d (λ m u fs same held.
-        let one : n ≡ m = (let both = sym is ∙ same in cc) in
-        absurd (none-some fs
-        (sym none ∙ got ∙ ap (λ (k : ExportsId). slice_get st.instances k.0) one ∙ held)))
-
     -- one of the host
     pub apart_other : ((n : ExportsId) (ty : TypeComponentInstanceIndex) → d ≡ definition.Instance n ty → ⊥)
         → IsApart t ms st d

@@ -14,7 +14,7 @@ use Rattle.pc_types.specs.declared.type_index.TypeComponentInstanceIndex.{TypeCo
 use Rattle.pc_types.specs.declared.types.TypeDef.TheVariants as type
 use Rattle.pc_types.specs.TypeTree.{TypeTree}
 use Rattle.pc_spec_plan.specs.ExportNode as node
-use Rattle.pc_spec_plan.specs.ExportNode.{ExportNode, ExportNodes, NamedNode}
+use Rattle.pc_spec_plan.specs.ExportNode.{ExportNode, NamedNode}
 use Rattle.pc_parsed.specs.Mark.{Mark, of_type}
 use Rattle.pc_spec_reading.specs.Nodes.{Reached, then_reach, within_total}
 use Rattle.pc_spec_reading.specs.World.{World, grown}

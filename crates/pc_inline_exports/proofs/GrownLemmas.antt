@@ -27,7 +27,7 @@ use Rattle.pc_inline_state.specs.Tables.{Keeps, Tables, tables_of}
 use Rattle.pc_types_builder.proofs.TreeLemmas.{tree_keeps}
 use Rattle.pc_types.specs.declared.types.TypeDef.{TypeDef}
 use Rattle.pc_inline_state.proofs.ZipLemmas.{zip_more}
-use Rattle.pc_inline_canon.proofs.KeptLemmas.{core_kept, definition_kept, members_kept, table_tree_kept, type_kept}
+use Rattle.pc_inline_canon.proofs.KeptLemmas.{core_kept, members_kept, table_tree_kept, type_kept}
 use Rattle.pc_inline_canon.proofs.MarkLemmas.{options_twice, still}
 use Rattle.pc_inline_hosts.specs.declared.member.HostMember.{HostMember}
 use Rattle.pc_inline_hosts.specs.HostStands.{HostMemberStands, IsInstanceType, component_member, func_member}
@@ -38,8 +38,8 @@ use Rattle.pc_inline_exports.specs.Exports.{IsHeldAs, NameStands, NestedStand, N
 use Rattle.pc_inline_exports.specs.Exports.{host_module_stands, imported_stands, instance_stands, lifted_stands}
 use Rattle.pc_inline_exports.specs.Exports.{no_nested}
 use Rattle.pc_inline_exports.specs.Exports.{static_stands, type_stands}
-use Rattle.pc_inline_exports.specs.Reaching.{HasParts, SubjectStands, host_has, made_has, stands_at, stands_value}
-use Rattle.pc_inline_exports.specs.Subjects.{Part, Reader, Subject}
+use Rattle.pc_inline_exports.specs.Reaching.{HasParts, host_has, made_has}
+use Rattle.pc_inline_exports.specs.Subjects.{Part, Reader}
 
 module _ (t : TypeTable) (old new : Types) (g h : ComponentDfg) (types : builder.KeepsTypes old new)
     (grows : graph.Grows g h) (fits : FitsBefore g h) where
@@ -118,12 +118,6 @@ module _ (ms : List ModuleRecord) (b c : Tables) (keeps : Keeps b c) where
       (table_tree_kept ms b c keeps is_module entry (module_of is es) tabled)
   member_kept m tree component_member = component_member
   member_kept m tree (type_member {d = d} kind is) = type_member kind (type_kept ms b c keeps d tree is)
-
-  -- what is exported
-  pub subject_kept : (d : Definition) (x : Subject) → SubjectStands ms b d x → SubjectStands ms c d x
-  subject_kept d x (stands_value {v = v} is) = stands_value (definition_kept ms b c keeps d v is)
-  subject_kept d x (stands_at {path = path} {tree = tree} p m held is at) =
-      stands_at p m (keeps.paths p.0 path held) (member_kept m tree is) at
 
   -- the parts of an instance
   pub parts_kept : (d : Definition) (ps : List Part) (tree : TypeTree) → HasParts ms b d ps tree

@@ -7,7 +7,7 @@ use Rattle.pc_numbers.specs.declared.runtime.ExportIndex.{ExportIndex}
 use Rattle.pc_types.specs.declared.module_record.ModuleRecord.{ModuleRecord}
 use Rattle.pc_types.specs.declared.parsed.TypeTable.{TypeTable}
 use Rattle.pc_spec_plan.specs.ExportNode as node
-use Rattle.pc_spec_plan.specs.ExportNode.{ExportNode, NamedNode}
+use Rattle.pc_spec_plan.specs.ExportNode.{ExportNode}
 use Rattle.pc_parsed.specs.Mark.{Mark, of_type}
 use Rattle.pc_spec_reading.specs.Nodes.{reached, within_total}
 use Rattle.pc_spec_reading.specs.World.{World, grown}

@@ -4,7 +4,7 @@ use Rattle.std.proofs.Common.{sym}
 use Rattle.std.proofs.Common.{ap, subst, ◌∙◌, arith}
 use Rattle.std.specs.Prelude.{slice_get}
 use Rattle.std.proofs.lemmas.List.{length-append}
-use Rattle.pc_entity.proofs.Growing.{slice_get-append_seam}
+use Rattle.pc_entity.proofs.Growing.{kept_refl, slice_get-append_seam}
 use Rattle.pc_numbers.specs.declared.runtime.ExportIndex.{ExportIndex}
 use Rattle.pc_types.specs.declared.module_record.ModuleRecord.{ModuleRecord}
 use Rattle.pc_types.specs.declared.parsed.CoreKind.TheVariants as core
@@ -18,7 +18,6 @@ use Rattle.pc_dfg.specs.declared.export.Export.{Export}
 use Rattle.pc_dfg.specs.declared.export.Export.TheVariants as export
 use Rattle.pc_dfg.specs.Grows as graph
 use Rattle.pc_dfg.specs.Lists as list
-use Rattle.pc_dfg.specs.Lists.{ListName}
 use Rattle.pc_dfg.specs.Numbers.{slots_of}
 use Rattle.pc_dfg.specs.Ordered.{IsOrdered}
 use Rattle.std.specs.Result.{IsErr, IsErrAnd}
@@ -26,6 +25,7 @@ use Rattle.pc_dfg.specs.declared.push_error.PushError.{PushError}
 use Rattle.pc_dfg.specs.declared.push_error.PushError.TheVariants as push_error
 use Rattle.pc_dfg.specs.Held.{HeldExport}
 use Rattle.pc_inline_state.specs.Faults.{of_push_error}
+use Rattle.pc_inline_state.proofs.PlacedLemmas.{placed_kept}
 use Rattle.pc_inline_state.proofs.RefusedLemmas.{push_lacks}
 use Rattle.pc_inline_state.specs.declared.error.ItemError.{ItemError}
 use Rattle.pc_inline_state.specs.declared.state.State.{State}
@@ -125,6 +125,7 @@ module _ (t : TypeTable) (ms : List ModuleRecord) (st : State) (e : Export) wher
           instances = instances_kept ms (tables_of st) (tables_of after) after_keeps refl st.runtime_instances.items
               s.sound.instances;
           widths = widths_kept t ms st.runtime_instances.items st.graph exported refl s.sound.widths;
+          placed = placed_kept t ms st after after_keeps (kept_refl st.runtime_instances.items) refl s.sound.placed;
         };
         world =
             world_still st.types st.types st.graph exported (types_refl st.types) grows fits refl refl refl refl refl

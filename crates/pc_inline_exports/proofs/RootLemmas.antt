@@ -7,6 +7,7 @@ use Rattle.std.specs.Prelude.{slice_get}
 use Rattle.std.specs.List.{AllZip}
 use Rattle.std.proofs.lemmas.List.{length-append}
 use Rattle.std.proofs.lemmas.Option.{none-some, same_Some, slice_get_within}
+use Rattle.pc_entity.proofs.Growing.{kept_refl}
 use Rattle.pc_types_builder.specs.Plain.{Layers}
 use Rattle.pc_types.specs.declared.module_record.ModuleRecord.{ModuleRecord}
 use Rattle.pc_types.specs.declared.parsed.TypeTable.{TypeTable}
@@ -31,6 +32,7 @@ use Rattle.pc_inline_state.proofs.FitsLemmas.{fits_grown}
 use Rattle.pc_inline_state.proofs.GrowthLemmas.{graph_grown}
 use Rattle.pc_inline_state.proofs.InstanceLemmas.{instances_kept, widths_kept}
 use Rattle.pc_inline_state.proofs.KnowsLemmas.{converted_kept, knows_grown}
+use Rattle.pc_inline_state.proofs.PlacedLemmas.{placed_kept}
 use Rattle.pc_inline_state.proofs.StateLemmas.{converts_prepares, types_refl}
 use Rattle.pc_inline_state.proofs.ZipLemmas.{zip_push}
 use Rattle.pc_inline_canon.proofs.FrameLemmas.{converted_framed}
@@ -145,6 +147,8 @@ module _ (t : TypeTable) (ms : List ModuleRecord) (st : State) (e : NamedExport)
         instances = instances_kept ms (tables_of st) (tables_of after_name) name_keeps refl st.runtime_instances.items
             root.sound.instances;
         widths = widths_kept t ms st.runtime_instances.items st.graph named refl root.sound.widths;
+        placed = placed_kept t ms st after_name name_keeps (kept_refl st.runtime_instances.items) refl
+            root.sound.placed;
       };
       here = knows_grown st.graph st.types.resources s root.here named name_fits;
       converted = root.converted;

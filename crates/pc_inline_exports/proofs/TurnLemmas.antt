@@ -290,10 +290,6 @@ module _ (t : TypeTable) (ms : List ModuleRecord) (old : State) (d : Definition)
               climb_in t ms old x w st s c.0 c.1 c.2 f c.3 is apart s' callers enters.1 enters.2;
         }
 
-    -- there is no memory for it to wait
-    pub enters_fails : Reaches t ms old d st (Err item_error.NoMemory)
-    enters_fails = fails_memory st s k
-
     module _ (new : State) (made : Result ExportIndex ItemError) (one : ReachesOne t ms st f.definition new made) where
       keeps_on : Keeps (tables_of old) (tables_of new)
       keeps_on = keeps_trans (tables_of old) (tables_of st) (tables_of new) k.keeps one.keeps

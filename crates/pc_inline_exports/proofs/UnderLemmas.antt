@@ -62,15 +62,6 @@ under_either items xs ys n (is_inside {e = e} k at is under) =
       | inr second ↦ inr (is_inside second.0 second.1 is under)
     ]
 
--- items are among more
-pub among_front : (xs ys : List NamedExport) → AreAmong xs (xs ++ ys)
-among_front xs ys k e at = (k, slice_get-append xs ys k e at)
-
-get_behind : {A : Type 0} (xs ys : List A) (k : ℕ) (x : A) → slice_get ys k ≡ Some x
-    → (j : ℕ) × (slice_get (xs ++ ys) j ≡ Some x)
-get_behind [] ys k x at = (k, at)
-get_behind (y ∷ xs) ys k x at = let later = get_behind xs ys k x at in (suc later.0, later.1)
-
 -- with one item more in the middle all are there
 pub among_more : (xs ys : List NamedExport) (e : NamedExport) → AreAmong (xs ++ ys) ((xs ++ e ∷ []) ++ ys)
 among_more [] ys e k f at = (suc k, at)

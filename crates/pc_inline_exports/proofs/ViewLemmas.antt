@@ -15,7 +15,7 @@ use Rattle.pc_types.specs.declared.types.TypeDef.{TypeDef}
 use Rattle.pc_types.specs.declared.types.TypeDef.TheVariants as type
 use Rattle.pc_types.specs.Table.{is_module}
 use Rattle.pc_types.specs.TypeTree as tree
-use Rattle.pc_types.specs.TypeTree.{Fields, Path, TypeTree, func_of, instance_of, module_of}
+use Rattle.pc_types.specs.TypeTree.{Path, TypeTree, func_of, instance_of, module_of}
 use Rattle.pc_types_convert.proofs.OneTree.{one_tree}
 use Rattle.pc_spec_plan.specs.CoreValue as value
 use Rattle.pc_spec_plan.specs.CoreValue.{CoreValue}

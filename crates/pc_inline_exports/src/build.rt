@@ -18,7 +18,7 @@ use crate::part::{Found, nests, part_at};
 use pc_dfg::Export;
 use pc_entity::{ExportIndex, NoMemory, Text, TextMap};
 use pc_inline_state::{Context, Definition, ItemError, State};
-use pc_types::{ComponentExternData, TypeComponentInstanceIndex};
+use pc_types::ComponentExternData;
 use std::mem;
 
 /// The most nodes of one export: more have no numbers.

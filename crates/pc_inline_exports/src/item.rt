@@ -1,6 +1,6 @@
 //! One item of the graph that something is exported by.
 
-ghost use Rattle.std.specs.Prelude.{◌≡◌, false, true};
+ghost use Rattle.std.specs.Prelude.{◌≡◌, false};
 ghost use Rattle.pc_inline_state.specs.declared.definition.Definition.TheVariants as definition;
 ghost use Rattle.pc_inline_state.specs.declared.error.ItemError.TheVariants as item_error;
 ghost use Rattle.pc_inline_state.specs.declared.error.ItemFault.TheVariants as item_fault;

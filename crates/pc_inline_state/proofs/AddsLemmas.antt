@@ -10,7 +10,7 @@ use Rattle.pc_types_lists.proofs.KeptTypes.{grows_keeps, keeps_same, keeps_trans
 use Rattle.pc_types_builder.specs.Asked.{AddsAsked}
 use Rattle.pc_dfg.specs.Lists as list
 use Rattle.pc_dfg.specs.Lists.{ListName, entries_of}
-use Rattle.pc_inline_state.specs.Adds.{Adds, most_converted, most_lowered, with_modules}
+use Rattle.pc_inline_state.specs.Adds.{Adds, most_converted, with_modules}
 use Rattle.pc_inline_state.specs.AddsEach.{AddsEach, everywhere, in_adapters, in_imports, in_options, in_slots}
 use Rattle.pc_inline_state.specs.AddsEach.{in_trampolines, nowhere}
 use Rattle.pc_inline_state.specs.Gained.{AddsTables}
@@ -71,10 +71,6 @@ each_weaken v w c1 d1 c2 d2 a b le lec led h = record {
   begun = h.begun;
   resources = let le1 = le list.resources in let le2 = h.resources in omega (arith, le1, le2);
 }
-
--- a state of the same tables
-pub each_same : (w : ListName → ℕ) (c d : ℕ) (a b x : Tables) → x ≡ b → AddsEach w c d a b → AddsEach w c d a x
-each_same w c d a b x same h = subst (AddsEach w c d a) (sym same) h
 
 module _ (t : TypeTable) where
   -- no more in any list, with what modules of adapters add to it, than a bound
@@ -223,10 +219,6 @@ module _ (t : TypeTable) where
       → Adds t (most_converted t 1) a x
   adds_then m a b x le h k = adds_both (most_types t) m (most_converted t 1) a b x (omega (arith, le)) h k
 
-  -- types, and after that what a lowering of a lifted function adds
-  pub adds_lowered : (a b x : Tables) → Adds t (most_types t) a b → Adds t 36 b x → Adds t (most_lowered t) a x
-  adds_lowered a b x h k = adds_both (most_types t) 36 (most_lowered t) a b x (omega arith) h k
-
   -- one conversion
   pub converted_one : (a b : Tables) → Adds t (most_types t) a b → Adds t (1 * (1 + most_types t)) a b
   converted_one a b h = adds_weaken (most_types t) (1 * (1 + most_types t)) a b (omega arith) h
@@ -237,12 +229,6 @@ module _ (t : TypeTable) where
   converted_both n m a b x h k =
       subst (λ w. Adds t w a x) (sym (add-mul n m (1 + most_types t)))
       (adds_trans (n * (1 + most_types t)) (m * (1 + most_types t)) a b x h k)
-
-  -- some conversions, and after that entries in some lists
-  pub converted_then : (n m : ℕ) (a b x : Tables) → m ≤ 4 → Adds t (n * (1 + most_types t)) a b → Adds t m b x
-      → Adds t (most_converted t n) a x
-  converted_then n m a b x le h k =
-      adds_both (n * (1 + most_types t)) m (most_converted t n) a b x (omega (arith, le)) h k
 
 -- what the slots of a memory and of the function that makes room add
 pub model_adds : (a b x : Tables) → AddsEach (in_slots 1) 0 0 a b → AddsEach (in_slots 1) 0 0 b x
@@ -323,12 +309,3 @@ module _ (t : TypeTable) (a b : Tables) where
   everywhere_few h =
       adds_each t everywhere 0 0 4 a b (λ l. let one = everywhere_one l in omega (arith, one)) (omega arith)
       (omega arith) h
-
--- what an import of the root adds: a function type, an import, and a definition
-pub prepared_adds : (t : TypeTable) (a b x y : Tables) → Adds t (most_types t) a b → AddsEach everywhere 0 0 b x
-    → AddsEach nowhere 0 1 x y → Adds t (most_converted t 1) a y
-prepared_adds t a b x y h k m =
-    adds_then t 4 a b y (omega arith) h
-    (adds_each t (λ l. everywhere l + nowhere l) 0 1 4 b y (λ l. let one = everywhere_one l in omega (arith, one))
-    (omega arith) (omega arith)
-    (each_trans everywhere nowhere 0 0 0 1 b x y k m))

@@ -6,7 +6,6 @@ use Rattle.pc_entity.specs.declared.string_pool.Atom.{Atom}
 use Rattle.pc_numbers.specs.declared.module_entity.MemoryIndex.{MemoryIndex}
 use Rattle.pc_numbers.specs.declared.runtime.ImportIndex.{ImportIndex}
 use Rattle.pc_numbers.specs.declared.runtime.RuntimeComponentInstanceIndex.{RuntimeComponentInstanceIndex}
-use Rattle.pc_types.specs.declared.types.ComponentExtern.{ComponentExtern}
 use Rattle.pc_spec_plan.specs.PlanView as plan
 use Rattle.pc_dfg.specs.declared.adapter.Adapter.{Adapter}
 use Rattle.pc_dfg.specs.declared.core_def.CoreDef.{CoreDef}
@@ -119,13 +118,6 @@ module _ (b : Tables) where
   import_lists ys few (list.slots plan.memory) = same_few _
   import_lists ys few l = same_few _
 
-  import_type_lists : (ys : List (List ℕ × ComponentExtern)) → length ys ≤ length b.graph.import_types + 1
-      → Lists everywhere (record b.graph { import_types = ys })
-  unfolding slots_of
-  import_type_lists ys few list.import_types = few
-  import_type_lists ys few (list.slots plan.memory) = omega arith
-  import_type_lists ys few l = omega arith
-
   instance_lists : (x : Instance) (owner : RuntimeComponentInstanceIndex)
       → Lists everywhere (with_instance b.graph x owner)
   unfolding slots_of
@@ -210,21 +202,6 @@ module _ (b : Tables) where
         where
           err_at : (s : Result A E) → (g ≡ b.graph → g.imports ≡ b.graph.imports) → OnErr s (g ≡ b.graph)
               → OnErr s (g.imports ≡ b.graph.imports)
-          err_at (Ok y) f h = h
-          err_at (Err e) f h = f h
-
-      -- an import of the root
-      pub import_type_adds : (x : List ℕ × ComponentExtern) → g ≡ record b.graph { import_types = g.import_types }
-          → OnOk r (g.import_types ≡ b.graph.import_types ++ x ∷ []) → OnErr r (g ≡ b.graph)
-          → AddsEach everywhere 0 0 b (record b { graph = g })
-      import_type_adds x rest ok err =
-          from_rest everywhere (record b.graph { import_types = g.import_types }) rest
-          (import_type_lists g.import_types (changes_few b.graph.import_types g.import_types x
-          (result_changes r b.graph.import_types g.import_types x ok
-          (err_at r (λ e. ap (λ (h : ComponentDfg). h.import_types) e) err)))) refl refl
-        where
-          err_at : (s : Result A E) → (g ≡ b.graph → g.import_types ≡ b.graph.import_types) → OnErr s (g ≡ b.graph)
-              → OnErr s (g.import_types ≡ b.graph.import_types)
           err_at (Ok y) f h = h
           err_at (Err e) f h = f h
 

@@ -4,6 +4,8 @@ pub mod FitsLemmas
 mod LookupLemmas
 mod NumberLemmas
 pub mod MembersLemmas
+mod KeyLemmas
+pub mod PlacedLemmas
 pub mod StateLemmas
 pub mod TypeKeptLemmas
 pub mod InstanceLemmas

@@ -24,6 +24,7 @@ use Rattle.pc_inline_state.specs.Tables.{Keeps, Tables, tables_of}
 use Rattle.pc_inline_state.specs.TakesPath.{NotesPath, SoundWithPaths}
 use Rattle.pc_inline_state.specs.Worlds.{AreUsed, path_of}
 use Rattle.pc_inline_state.proofs.InstanceLemmas.{instances_kept}
+use Rattle.pc_inline_state.proofs.PlacedLemmas.{placed_kept}
 use Rattle.pc_inline_state.proofs.StateLemmas.{keeps_refl}
 
 -- a path that isn't among some is none of these host items, whose paths are among them
@@ -153,4 +154,6 @@ sound_with old new ps same rest kept used t ms s = subst (IsSoundState t ms) (sy
   instances = instances_kept ms (tables_of old) (record (tables_of old) { paths = ps.held })
       (paths_grown (tables_of old) ps.held kept) refl old.runtime_instances.items s.instances;
   widths = s.widths;
+  placed = placed_kept t ms old (record old { paths = ps; used = new.used }) (paths_grown (tables_of old) ps.held kept)
+      (kept_refl old.runtime_instances.items) refl s.placed;
 })

@@ -82,10 +82,6 @@ module _ {T : Type 0} (r : Result T ItemError) (st : State) where
   push_lacks x is full =
       if_err r (λ e. e ≡ of_push_error x) (LacksRoom st) is (λ e same. push_lacks_at st x e same full)
 
-  -- an error that is handed on
-  pub same_lacks : (x : ItemError) → IsErrAnd r (λ e. e ≡ x) → LacksRoom st x → IfErr r (LacksRoom st)
-  same_lacks x is h = if_err r (λ e. e ≡ x) (LacksRoom st) is (λ e same. subst (LacksRoom st) (sym same) h)
-
   -- want of memory
   pub memory_lacks : IsErrAnd r (λ e. e ≡ item_error.NoMemory) → IfErr r (LacksRoom st)
   unfolding LacksRoom

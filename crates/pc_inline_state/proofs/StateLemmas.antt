@@ -13,15 +13,19 @@ use Rattle.pc_types_lists.proofs.Growth as builder_growth
 use Rattle.pc_types_lists.proofs.KeptTypes as kept_types
 use Rattle.pc_types_builder.specs.Plain.{Layers}
 use Rattle.pc_types_builder.proofs.TreeLemmas.{tree_keeps}
+use Rattle.pc_spec_plan.specs.PlanView as plan
 use Rattle.pc_dfg.specs.declared.core_def.CoreDef.{CoreDef}
 use Rattle.pc_dfg.specs.declared.dfg.ComponentDfg.{ComponentDfg}
 use Rattle.pc_dfg.proofs.GrowLemmas as graph_growth
 use Rattle.pc_inline_state.specs.declared.closure.Closure.{Closure}
 use Rattle.pc_inline_state.specs.declared.definition.Definition.{Definition}
 use Rattle.pc_inline_state.specs.declared.definition.ExportsId.{ExportsId}
+use Rattle.pc_inline_state.specs.declared.places.Places.{Places}
 use Rattle.pc_inline_state.specs.declared.state.Member.{Member}
 use Rattle.pc_inline_state.specs.Definitions.{exports_of}
 use Rattle.pc_inline_state.specs.declared.state.State.{State}
+use Rattle.pc_inline_state.specs.Placed.{InSlot}
+use Rattle.pc_inline_state.specs.Places.{NotesSlot}
 use Rattle.pc_inline_state.specs.Prepares.{Converts, Prepares}
 use Rattle.pc_inline_state.specs.Tables.{Keeps, Tables, tables_of}
 use Rattle.pc_inline_state.specs.Fits.{FitsBefore}
@@ -29,6 +33,7 @@ use Rattle.pc_inline_state.specs.Worlds.{HoldsModule, HoldsTypes}
 use Rattle.pc_inline_state.proofs.FitsLemmas.{fits_refl}
 use Rattle.pc_inline_state.proofs.InstanceLemmas.{instances_kept}
 use Rattle.pc_inline_state.proofs.MembersLemmas.{definition_earlier, members_earlier}
+use Rattle.pc_inline_state.proofs.PlacedLemmas.{placed_kept, places_sound, slot_placed}
 
 -- a builder keeps its types where it is as it was
 pub types_refl : (b : Types) → builder.KeepsTypes b b
@@ -163,6 +168,7 @@ module _ (t : TypeTable) (ms : List ModuleRecord) where
           instances = instances_kept ms (tables_of st) (tables_of next) keeps refl st.runtime_instances.items
               s.instances;
           widths = s.widths;
+          placed = placed_kept t ms st next keeps (kept_refl st.runtime_instances.items) refl s.placed;
         };
         resources = refl;
         side_effects = refl;
@@ -216,6 +222,7 @@ module _ (t : TypeTable) (ms : List ModuleRecord) where
           instances = instances_kept ms (tables_of st) (tables_of next) keeps refl st.runtime_instances.items
               s.instances;
           widths = s.widths;
+          placed = placed_kept t ms st next keeps (kept_refl st.runtime_instances.items) refl s.placed;
         };
         resources = refl;
         side_effects = refl;
@@ -269,6 +276,7 @@ module _ (t : TypeTable) (ms : List ModuleRecord) where
           instances = instances_kept ms (tables_of st) (tables_of next) keeps refl st.runtime_instances.items
               s.instances;
           widths = s.widths;
+          placed = placed_kept t ms st next keeps (kept_refl st.runtime_instances.items) refl s.placed;
         };
         resources = refl;
         side_effects = refl;
@@ -321,6 +329,7 @@ module _ (t : TypeTable) (ms : List ModuleRecord) where
           instances = instances_kept ms (tables_of st) (tables_of next) keeps refl st.runtime_instances.items
               s.instances;
           widths = s.widths;
+          placed = placed_kept t ms st next keeps (kept_refl st.runtime_instances.items) refl s.placed;
         };
         resources = refl;
         side_effects = refl;
@@ -373,6 +382,7 @@ module _ (t : TypeTable) (ms : List ModuleRecord) where
           instances = instances_kept ms (tables_of old) (tables_of next) keeps refl old.runtime_instances.items
               s.instances;
           widths = s.widths;
+          placed = placed_kept t ms old next keeps (kept_refl old.runtime_instances.items) refl s.placed;
         };
         resources = c.grows.resources;
         side_effects = refl;
@@ -413,6 +423,29 @@ module _ (t : TypeTable) (ms : List ModuleRecord) where
     used = refl;
   }
 
+  -- the slot of a core item was noted
+  pub slot_prepares : (st : State) (p : Places) (k : plan.SlotKind) (id n : ℕ) → NotesSlot k id n st.places p
+      → InSlot (tables_of st) k id n → Prepares t ms st (record st { places = p })
+  slot_prepares st p k id n notes here = record {
+    keeps = keeps_refl (tables_of st);
+    sound = places_sound t ms st p (slot_placed t ms st p k id n notes here);
+    resources = refl;
+    side_effects = refl;
+    instances = refl;
+    trampolines = refl;
+    adapters = refl;
+    imports = refl;
+    imported_resources = refl;
+    declared_resources = refl;
+    import_types = refl;
+    unsafe_intrinsics = refl;
+    begun = refl;
+    exports = refl;
+    export_items = refl;
+    paths = refl;
+    used = refl;
+  }
+
   -- where a state is what it was, or another that is prepared
   pushed : {A E : Type 0} (r : Result A E) (old new next : State) → Prepares t ms old next → OnOk r (new ≡ next)
       → OnErr r (new ≡ old) → Prepares t ms old new
@@ -424,23 +457,3 @@ module _ (t : TypeTable) (ms : List ModuleRecord) where
     pub core_pushed : (d : CoreDef) → OnOk r (new ≡ record old { cores = old.cores ++ d ∷ [] })
         → OnErr r (new ≡ old) → Prepares t ms old new
     core_pushed d = pushed r old new (record old { cores = old.cores ++ d ∷ [] }) (core_prepares old d)
-
-    -- a definition
-    pub definition_pushed : (d : Definition) → ((k : ExportsId) → exports_of d ≡ Some k → k.0 < length old.instances)
-        → OnOk r (new ≡ record old { definitions = old.definitions ++ d ∷ [] })
-        → OnErr r (new ≡ old) → Prepares t ms old new
-    definition_pushed d known =
-        pushed r old new (record old { definitions = old.definitions ++ d ∷ [] }) (definition_prepares old d known)
-
-    -- what a component captured
-    pub closure_pushed : (d : Closure) → OnOk r (new ≡ record old { closures = old.closures ++ d ∷ [] })
-        → OnErr r (new ≡ old) → Prepares t ms old new
-    closure_pushed d = pushed r old new (record old { closures = old.closures ++ d ∷ [] }) (closure_prepares old d)
-
-    -- what an instance exports: definitions that are there
-    pub instance_pushed : (es : List (Atom × Member))
-        → ((e : Atom × Member) → Contains es e → e.1.item.0 < length old.definitions)
-        → OnOk r (new ≡ record old { instances = old.instances ++ es ∷ [] })
-        → OnErr r (new ≡ old) → Prepares t ms old new
-    instance_pushed es held =
-        pushed r old new (record old { instances = old.instances ++ es ∷ [] }) (instance_prepares old es held)

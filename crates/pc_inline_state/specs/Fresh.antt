@@ -5,6 +5,7 @@ use Rattle.pc_types.specs.declared.parsed.TypeTable.{TypeTable}
 use Rattle.pc_dfg.specs.declared.dfg.ComponentDfg.{ComponentDfg}
 use Rattle.pc_dfg.specs.Empty.{empty_graph}
 use Rattle.pc_inline_state.specs.declared.state.State.{State}
+use Rattle.pc_inline_state.specs.Places.{no_places}
 use Rattle.pc_inline_state.specs.Typed.{AreNumbers, no_resources}
 
 -- nothing was read yet, and no resource is known; paths are written in the names
@@ -18,6 +19,7 @@ pub record IsFresh (t : TypeTable) (st : State) : Type 0 where
   pub path_names : st.paths.names ≡ st.names.now.texts
   pub used : st.used.items ≡ []
   pub runtime_instances : st.runtime_instances.items ≡ []
+  pub places : st.places ≡ no_places
   pub table : st.table.now ≡ t
   pub resources : st.types.resources ≡ no_resources
   pub numbers : AreNumbers st.types t st.numbers

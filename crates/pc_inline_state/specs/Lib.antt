@@ -18,6 +18,9 @@ pub mod TakesPath
 pub mod Index
 pub mod Frames
 pub mod KnowsSame
+pub mod Places
+pub mod Sides
+pub mod Placed
 pub mod Points
 pub mod Lists
 pub mod Prepares

@@ -26,6 +26,7 @@ use Rattle.pc_inline_state.specs.Instances.{HaveWidths, InstancesStand}
 use Rattle.pc_inline_state.specs.Frames.{FrameStands}
 use Rattle.pc_inline_state.specs.KnowsSame.{KnowsSame}
 use Rattle.pc_inline_state.specs.Members.{AreEarlier}
+use Rattle.pc_inline_state.specs.Placed.{ArePlaced}
 use Rattle.pc_inline_state.specs.Tables.{Tables, tables_of}
 use Rattle.pc_inline_state.specs.Typed.{AreNumbers}
 use Rattle.pc_inline_state.specs.Worlds.{AreUsed, HasItems, HasNoExports, HoldsTypes, IsPlain, WorldStands}
@@ -70,6 +71,7 @@ module _ (t : TypeTable) (ms : List ModuleRecord) where
     pub members : AreEarlier st.definitions st.instances
     pub instances : InstancesStand ms (tables_of st) st.runtime_instances.items
     pub widths : HaveWidths t ms st.runtime_instances.items st.graph
+    pub placed : ArePlaced t ms st
 
   -- a component instance in the code at a moment of the reading: the types builder knows what the scope knows, and what
   -- the component instance has converted is so

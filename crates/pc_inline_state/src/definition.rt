@@ -200,7 +200,7 @@ impl Definition {
 
 /// The options of a lifted or lowered function, with core items by number. They become options of the graph where they
 /// are needed there.
-#[derive(Clone, Copy)]
+#[derive(Clone, Copy, PartialEq, Eq, Hash)]
 pub struct Options {
     pub instance: RuntimeComponentInstanceIndex,
     pub string_encoding: StringEncoding,
@@ -212,7 +212,7 @@ pub struct Options {
 }
 
 /// Where a function's values lie: in the managed heap, or in a memory, with the function that makes room in it.
-#[derive(Clone, Copy)]
+#[derive(Clone, Copy, PartialEq, Eq, Hash)]
 pub enum DataModel {
     Gc {},
     LinearMemory {

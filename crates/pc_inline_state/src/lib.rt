@@ -6,6 +6,7 @@
 //! them: types, core modules and core items.
 #![tactic(auto)]
 
+mod adapters;
 mod closure;
 mod context;
 mod core_item;
@@ -16,10 +17,12 @@ mod frame;
 mod instance_module;
 mod lookup;
 mod numbers;
+mod places;
 mod state;
 mod types;
 mod widths;
 
+pub use adapters::{AdapterKey, Adapters};
 pub use closure::Closure;
 pub use context::Context;
 pub use core_item::CoreItem;
@@ -30,5 +33,6 @@ pub use frame::{Change, CoreInstance, Frame};
 pub use instance_module::InstanceModule;
 pub use lookup::at;
 pub use numbers::Numbers;
+pub use places::Places;
 pub use state::{Member, State};
 pub use types::{is_func_type, is_instance_type, is_module_type};

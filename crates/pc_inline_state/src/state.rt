@@ -30,6 +30,7 @@ use crate::definition::{ClosureId, CoreId, Definition, DefinitionId, ExportsId};
 use crate::error::ItemError;
 use crate::instance_module::InstanceModule;
 use crate::numbers::Numbers;
+use crate::places::Places;
 use pc_dfg::{ComponentDfg, CoreDef, Trampoline};
 use pc_entity::{
     Atom, EntityRef, ImportIndex, ModuleInternedTypeIndex, NoMemory, PrimaryMap,
@@ -83,6 +84,8 @@ pub struct State<'a> {
     pub used: Vec<Option<RuntimeImportIndex>>,
     /// The module of each core instance of the graph.
     pub runtime_instances: Vec<InstanceModule>,
+    /// The slots of core items in the graph, and its adapters.
+    pub places: Places,
     pub numbers: Numbers,
     pub bodies: &'a PrimaryMap<StaticComponentIndex, Translation>,
     pub table: &'a TypeTable,
@@ -116,6 +119,7 @@ impl<'a> State<'a> {
             paths: Paths::new(alloc, seed, names.texts()),
             used: Vec::new(alloc),
             runtime_instances: Vec::new(alloc),
+            places: Places::new(alloc, seed),
             numbers,
             bodies,
             table,
@@ -218,6 +222,9 @@ impl<'a> State<'a> {
         ensures lacks { IfErr result (LacksRoom self.new) }
         ensures err { OnErr result (self.new ≡ self.old) }
     {
+        // There are as many such maps as instances, and most have few entries.
+        let mut exports = exports;
+        exports.shrink_to_fit();
         append(&mut self.instances, exports)
     }
 
@@ -320,6 +327,7 @@ impl<'a> Drop for State<'a> {
             paths,
             used,
             runtime_instances,
+            places,
             numbers,
             bodies: _,
             table: _,
@@ -329,7 +337,7 @@ impl<'a> Drop for State<'a> {
         drop_tables(cores, definitions);
         drop_named(closures, instances);
         drop_numbers(paths, used, numbers);
-        drop_instances(runtime_instances);
+        drop_instances(runtime_instances, places);
     }
 }
 
@@ -347,4 +355,4 @@ fn drop_named(
 
 fn drop_numbers(_paths: Paths<'_>, _used: Vec<Option<RuntimeImportIndex>>, _numbers: Numbers) {}
 
-fn drop_instances(_runtime_instances: Vec<InstanceModule>) {}
+fn drop_instances(_runtime_instances: Vec<InstanceModule>, _places: Places) {}

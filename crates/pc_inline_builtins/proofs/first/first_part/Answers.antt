@@ -1,7 +1,7 @@
 use Rattle.pc_inline_builtins.proofs.TypeLemmas.{contexts_hold, contexts_now}
 use Rattle.pc_inline_builtins.proofs.YieldLemmas.{contexts_first, handle_first, handle_stuck, nothing_first, number_first}
 use Rattle.pc_inline_builtins.proofs.YieldLemmas.{part_lacks, results_first, results_stuck}
-use Rattle.std.proofs.Common.{[]}
+use Rattle.pc_types_builder.specs.Plain.{none_done}
 use Rattle.pc_inline_builtins.proofs.first.first_part.Goals as goal
 
 pub returns-in_err-ty-in-Handle-clause-yields : goal.returns-in_err-ty-in-Handle-clause-yields
@@ -35,7 +35,7 @@ returns-in_ok-table-in-ErrorContexts-clause-yields c s knows =
     contexts_first _ _ s _ _ c.in-ErrorContexts.is
     (contexts_hold c.error_contexts.new.state c.args.context.now.table.now s knows _
     (contexts_now c.error_contexts.new.state c.args.context.now.table.now s knows _
-    (c.error_contexts.ensures.converts (record { all = []; plain = [] })).grows.resources _
+    (c.error_contexts.ensures.converts (none_done 0)).grows.resources _
     c.in_ok-table-in-ErrorContexts.ensures.is))
 
 pub returns-in-Number-clause-yields : goal.returns-in-Number-clause-yields

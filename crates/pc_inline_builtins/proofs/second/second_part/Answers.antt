@@ -16,6 +16,7 @@ returns-in-Flag-clause-yields c now s at signed = flag_second _ now.scope s _ _ 
 
 pub options_part-requires : goal.options_part-requires
 options_part-requires c = record {
+  sound = c.requires.here.1.sound;
   there = options_ready _ _ c.args.state.now c.args.frame.now _ _ _ c.requires.here.1 c.requires.signed.1 _ _ _
       c.in-Options.is c.as_slice.ensures _ (sym c.options_in.ensures ∙ c.in-Some.is);
 }
@@ -36,6 +37,7 @@ returns-in-None-clause-yields c now s at signed =
 
 pub options_part-requires-in-Some-at : goal.options_part-requires-in-Some-at
 options_part-requires-in-Some-at c = record {
+  sound = c.requires.here.1.sound;
   there = subst (OptionsThere c.args.context.now.modules (tables_of c.args.state.now))
       (sym c.memory_options-options.ensures)
       (memory_ready _ _ c.args.state.now c.args.frame.now _ _ _ c.requires.here.1 c.requires.signed.1 _ _
@@ -62,6 +64,7 @@ returns-in-None-at-clause-yields c now s at signed =
 
 pub table_part-requires : goal.table_part-requires
 table_part-requires c = record {
+  sound = c.requires.here.1.sound;
   there = table_ready _ _ c.args.state.now c.args.frame.now _ _ _ c.requires.here.1 c.requires.signed.1 _ _
       c.in-Table.is _ (got_by _ _ _ c.as_slice-in-Table.ensures _ _ c.at-in-Table.ensures c.in-Some-at-2.is);
 }

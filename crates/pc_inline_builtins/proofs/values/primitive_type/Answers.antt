@@ -1,7 +1,8 @@
-use Rattle.std.proofs.Common.{[], sym, ◌∙◌}
+use Rattle.std.proofs.Common.{sym, ◌∙◌}
 use Rattle.std.proofs.lemmas.Option.{slice_get_within}
 use Rattle.pc_types_lists.proofs.HeldLemmas.{plain_held}
 use Rattle.pc_inline_builtins.proofs.TypeLemmas.{context_answer, contexts_now, plain_answer, prim_lacks}
+use Rattle.pc_types_builder.specs.Plain.{none_done}
 use Rattle.pc_inline_builtins.proofs.values.primitive_type.Goals as goal
 
 pub returns-in_err-error_contexts-in-None-clause-answers :
@@ -19,7 +20,7 @@ pub returns-in_ok-error_contexts-in-None-clause-answers :
 returns-in_ok-error_contexts-in-None-clause-answers c s knows =
     context_answer c.error_contexts.new.state _ s knows _ (sym c.plain_type.ensures ∙ c.in-None.is) _
     (contexts_now c.error_contexts.new.state c.args.context.now.table.now s knows _
-    (c.error_contexts.ensures.converts (record { all = []; plain = [] })).grows.resources _
+    (c.error_contexts.ensures.converts (none_done 0)).grows.resources _
     c.in_ok-error_contexts-in-None.ensures.is)
 
 pub returns-in-Some-clause-held : goal.returns-in-Some-clause-held

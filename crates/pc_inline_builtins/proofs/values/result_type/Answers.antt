@@ -1,4 +1,4 @@
-use Rattle.std.proofs.Common.{[], sym, subst}
+use Rattle.std.proofs.Common.{sym, subst}
 use Rattle.std.specs.Prelude.{All, IfOk}
 use Rattle.pc_dfg.proofs.AllLemmas.{all_one}
 use Rattle.pc_types_lists.specs.Held.{IsHeld}
@@ -6,6 +6,7 @@ use Rattle.pc_inline_state.proofs.StateLemmas.{converts_trans}
 use Rattle.pc_inline_builtins.specs.Made.{IsTuple}
 use Rattle.pc_inline_builtins.proofs.TupleLemmas.{for_result, no_result, one_after, result_adds, result_lacks}
 use Rattle.pc_inline_builtins.proofs.TypeLemmas.{unfed_answer}
+use Rattle.pc_types_builder.specs.Plain.{none_done}
 use Rattle.pc_inline_builtins.proofs.values.result_type.Goals as goal
 
 pub returns-in_err-ty-in-Some-clause-answers : goal.returns-in_err-ty-in-Some-clause-answers
@@ -43,7 +44,7 @@ pub returns-in_ok-one-in-Some-clause-answers : goal.returns-in_ok-one-in-Some-cl
 returns-in_ok-one-in-Some-clause-answers c s knows =
     for_result _ _ s _ _ c.in-Some.is _
     (one_after c.value_type.new.state c.tuple_type-in-Some.new.state _ s c.in-Some.v c.in_ok-ty-in-Some.ty _
-    (c.tuple_type-in-Some.ensures.converts (record { all = []; plain = [] })) (c.in_ok-ty-in-Some.ensures.answers s)
+    (c.tuple_type-in-Some.ensures.converts (none_done 0)) (c.in_ok-ty-in-Some.ensures.answers s)
     knows _
     (subst (λ xs. IfOk c.tuple_type-in-Some.result (IsTuple c.tuple_type-in-Some.new.state.types xs))
     c.in_ok-one-in-Some.ensures c.tuple_type-in-Some.ensures.is) c.tuple_type-in-Some.ensures.err)

@@ -1,4 +1,5 @@
 use Rattle.std.proofs.Common.{ap, refl, ◌∙◌}
+use Rattle.pc_entity.proofs.LookupLemmas.{found_at}
 use Rattle.pc_types_lists.specs.Types.{Types}
 use Rattle.pc_dfg.specs.Lists as list
 use Rattle.pc_inline_canon.proofs.LowerHostLemmas.{import_few, lowered_few, lowered_keeps, options_few, trampoline_few}
@@ -10,6 +11,9 @@ use Rattle.pc_inline_canon.proofs.lower.lower_host.Goals as goal
 
 pub options_entry-requires : goal.options_entry-requires
 options_entry-requires c = record {
+  sound =
+      let held = found_at c.args.state.now.paths.held c.args.path.0 c.requires.there in
+      (c.in_ok-index.ensures.uses held.0 held.1).sound c.requires.sound;
   there = options_there_kept _ _ _ c.use_host.ensures.keeps c.args.options c.requires.options;
 }
 

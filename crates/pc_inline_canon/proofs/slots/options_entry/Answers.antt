@@ -6,11 +6,17 @@ use Rattle.pc_inline_canon.proofs.OptionsEntryLemmas.{entry_after, entry_held}
 use Rattle.pc_inline_canon.proofs.RoomLemmas.{list_lacks}
 use Rattle.pc_inline_canon.proofs.slots.options_entry.Goals as goal
 
-pub callback_slot-requires : goal.callback_slot-requires
-callback_slot-requires c = record { there = there_then c.data_model.ensures.prepares _ _ c.requires.there.callback }
+pub maybe_callback_slot-requires : goal.maybe_callback_slot-requires
+maybe_callback_slot-requires c = record {
+  sound = c.data_model.ensures.prepares.sound c.requires.sound;
+  there = there_then c.data_model.ensures.prepares _ _ c.requires.there.callback;
+}
 
-pub post_return_slot-requires : goal.post_return_slot-requires
-post_return_slot-requires c = record { there = search (there_later) }
+pub maybe_post_return_slot-requires : goal.maybe_post_return_slot-requires
+maybe_post_return_slot-requires c = record {
+  sound = c.maybe_callback_slot.ensures.prepares.sound (c.data_model.ensures.prepares.sound c.requires.sound);
+  there = search (there_later);
+}
 
 pub returns-in_err-callback-clause-prepares : goal.returns-in_err-callback-clause-prepares
 returns-in_err-callback-clause-prepares c = search (both_prepare)
@@ -20,8 +26,8 @@ returns-in_err-post_return-clause-prepares c = search (all_prepare)
 
 pub returns-in_err-push_options-clause-prepares : goal.returns-in_err-push_options-clause-prepares
 returns-in_err-push_options-clause-prepares c =
-    let e = c.push_options.ensures in entry_prepare e.put e.grows e.rest e.ordered c.post_return_slot.ensures.prepares
-    c.callback_slot.ensures.prepares c.data_model.ensures.prepares c.requires.there refl refl
+    let e = c.push_options.ensures in entry_prepare e.put e.grows e.rest e.ordered c.maybe_post_return_slot.ensures.prepares
+    c.maybe_callback_slot.ensures.prepares c.data_model.ensures.prepares c.requires.there refl refl
     c.in_ok-data_model.ensures.held c.in_ok-callback.ensures.held c.in_ok-post_return.ensures.held
 
 pub returns-in_err-push_options-clause-err : goal.returns-in_err-push_options-clause-err
@@ -31,14 +37,14 @@ returns-in_err-push_options-clause-err c =
 
 pub returns-clause-prepares : goal.returns-clause-prepares
 returns-clause-prepares c =
-    let e = c.push_options.ensures in entry_prepare e.put e.grows e.rest e.ordered c.post_return_slot.ensures.prepares
-    c.callback_slot.ensures.prepares c.data_model.ensures.prepares c.requires.there refl refl
+    let e = c.push_options.ensures in entry_prepare e.put e.grows e.rest e.ordered c.maybe_post_return_slot.ensures.prepares
+    c.maybe_callback_slot.ensures.prepares c.data_model.ensures.prepares c.requires.there refl refl
     c.in_ok-data_model.ensures.held c.in_ok-callback.ensures.held c.in_ok-post_return.ensures.held
 
 pub returns-clause-entry : goal.returns-clause-entry
 returns-clause-entry c =
-    entry_after _ _ _ _ _ _ c.data_model.ensures.prepares c.callback_slot.ensures.prepares
-    c.post_return_slot.ensures.prepares _ _ _ c.push_options.ensures.grows c.push_options.ensures.rest _
+    entry_after _ _ _ _ _ _ c.data_model.ensures.prepares c.maybe_callback_slot.ensures.prepares
+    c.maybe_post_return_slot.ensures.prepares _ _ _ c.push_options.ensures.grows c.push_options.ensures.rest _
     c.in_ok-push_options.ensures.held refl refl refl refl c.in_ok-data_model.ensures.model
     c.in_ok-callback.ensures.slot c.in_ok-post_return.ensures.slot
 
@@ -49,7 +55,7 @@ pub returns-in_err-data_model-clause-adds : goal.returns-in_err-data_model-claus
 returns-in_err-data_model-clause-adds c = model_options c.data_model.ensures.adds
 
 pub returns-in_err-callback-clause-adds : goal.returns-in_err-callback-clause-adds
-returns-in_err-callback-clause-adds c = callback_options c.data_model.ensures.adds c.callback_slot.ensures.adds
+returns-in_err-callback-clause-adds c = callback_options c.data_model.ensures.adds c.maybe_callback_slot.ensures.adds
 
 pub returns-in_err-post_return-clause-adds : goal.returns-in_err-post_return-clause-adds
 returns-in_err-post_return-clause-adds c = search (post_return_options)

@@ -3,8 +3,8 @@ use Rattle.pc_inline_exports.proofs.ItemLemmas.{lifted_held, lifted_options, opt
 use Rattle.pc_inline_exports.proofs.LeafLemmas.{lacks_leaf, lifted_counts, lifted_leaf, no_memory_leaf}
 use Rattle.pc_inline_exports.proofs.item.lifted_item.Goals as goal
 
-pub options_entry-requires : goal.options_entry-requires
-options_entry-requires c = record { there = lifted_options _ _ _ _ _ _ c.requires.is }
+pub options_entry-requires-clause-there : goal.options_entry-requires-clause-there
+options_entry-requires-clause-there c = lifted_options _ _ _ _ _ _ c.requires.is
 
 pub returns-in_err-options : goal.returns-in_err-options
 returns-in_err-options c =

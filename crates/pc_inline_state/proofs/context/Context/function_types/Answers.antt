@@ -1,9 +1,10 @@
-use Rattle.std.proofs.Common.{[], inl, inr}
+use Rattle.std.proofs.Common.{inl, inr}
 use Rattle.pc_types_builder.proofs.TreeLemmas.{entry_grows}
 use Rattle.pc_inline_state.proofs.RefusedLemmas.{cause_lacks}
 use Rattle.pc_inline_state.proofs.StateLemmas.{converts_trans}
 use Rattle.pc_types.specs.declared.types.TypeDef.TheVariants as def
 use Rattle.pc_inline_state.proofs.AddsLemmas.{adds_function}
+use Rattle.pc_types_builder.specs.Plain.{none_done}
 use Rattle.pc_inline_state.proofs.context.Context.function_types.Goals as goal
 
 pub returns-in_err-ty-clause-err : goal.returns-in_err-ty-clause-err
@@ -27,7 +28,7 @@ pub returns-clause-are : goal.returns-clause-are
 returns-clause-are c = record {
   there = c.in_ok-ty.ensures.is.0;
   entry = entry_grows c.func_type.new.state.types c.signature.new.state.types
-      (c.in_ok-core_type.ensures.converts (record { all = []; plain = [] })).grows
+      (c.in_ok-core_type.ensures.converts (none_done 0)).grows
       c.args.self.now.table.now c.args.ty (def.ComponentFunc c.in_ok-ty.ty) c.in_ok-ty.ensures.is.1;
   signature = c.in_ok-core_type.ensures.is;
 }

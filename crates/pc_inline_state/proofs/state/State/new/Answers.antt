@@ -13,6 +13,7 @@ returns-clause-fresh c resources numbers = record {
   path_names = ap (λ (p : HeldPaths). p.names) c.new-6.ensures ∙ c.texts.ensures;
   used = c.new-7.ensures.items;
   runtime_instances = c.new-8.ensures.items;
+  places = c.new-9.ensures;
   table = refl;
   resources = resources;
   numbers = numbers;

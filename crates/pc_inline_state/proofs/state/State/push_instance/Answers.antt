@@ -7,11 +7,11 @@ use Rattle.pc_inline_state.proofs.state.State.push_instance.Goals as goal
 pub returns-clause-keeps : goal.returns-clause-keeps
 returns-clause-keeps c =
     instances_grown (tables_of c.args.self.now) _
-    (push_kept c.append.result _ _ c.args.exports c.append.ensures.ok c.append.ensures.err)
+    (push_kept c.append.result _ _ c.shrink_to_fit.new.self c.append.ensures.ok c.append.ensures.err)
 
 pub returns-clause-adds : goal.returns-clause-adds
 returns-clause-adds c =
-    instance_exports_adds (tables_of c.args.self.now) c.append.result _ c.args.exports c.append.ensures.ok
+    instance_exports_adds (tables_of c.args.self.now) c.append.result _ c.shrink_to_fit.new.self c.append.ensures.ok
     c.append.ensures.err
 
 pub returns-clause-lacks : goal.returns-clause-lacks

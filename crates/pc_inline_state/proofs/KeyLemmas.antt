@@ -1,0 +1,151 @@
+-- Adapters under their keys: where `==` of keys answers true, the two are one.
+use Rattle.std.proofs.Common.{◌≡◌, ◌⊎◌, inl, inr, ℕ, zero, suc, Bool, true, false, List, [], ◌∷◌, None, Some, refl}
+use Rattle.std.proofs.Common.{if◌then◌else◌, sym, ap, subst, ◌∙◌, true≢false}
+use Rattle.std.specs.Prelude.{◌==◌, ◌&&◌, IfSome, Option, slice_get}
+use Rattle.std.specs.Cmp.{booleans_Decides}
+use Rattle.std.specs.Map.{lookup}
+use Rattle.std.specs.Option.{option_eq}
+use Rattle.std.proofs.lemmas.Option.{none-some, same_Some}
+use mathlib.Core.Bool.{beq}
+use Rattle.indexmap.specs.IndexMap.{insert_entry}
+use Rattle.pc_entity.specs.Exact.{same_options}
+use Rattle.pc_entity.proofs.Elements.{and_true}
+use Rattle.pc_types.specs.contracts.encoding.StringEncodingPartialEq.TheImpl as eq_StringEncoding
+use Rattle.pc_types.specs.EqualWords.{encoding_exact}
+use Rattle.pc_dfg.specs.declared.ids.AdapterId.{AdapterId}
+use Rattle.pc_dfg.specs.Exact.{same_number}
+use Rattle.pc_inline_state.specs.contracts.adapters.AdapterKeyPartialEq.TheImpl as eq_AdapterKey
+use Rattle.pc_inline_state.specs.contracts.definition.CoreIdPartialEq.TheImpl as eq_CoreId
+use Rattle.pc_inline_state.specs.contracts.definition.DataModelPartialEq.TheImpl as eq_DataModel
+use Rattle.pc_inline_state.specs.contracts.definition.OptionsPartialEq.TheImpl as eq_Options
+use Rattle.pc_inline_state.specs.declared.adapters.AdapterKey.{AdapterKey}
+use Rattle.pc_inline_state.specs.declared.definition.CoreId.{CoreId}
+use Rattle.pc_inline_state.specs.declared.definition.DataModel.{DataModel}
+use Rattle.pc_inline_state.specs.declared.definition.DataModel.TheVariants as model
+use Rattle.pc_inline_state.specs.declared.definition.Options.{Options}
+
+-- `==` of numbers of core items is equality of values
+core_exact : (a b : CoreId) → eq_CoreId.ghosts.eq a b ≡ true → a ≡ b
+core_exact a b h = ap (λ n. record { 0 = n }) (same_number a.0 b.0 h)
+
+-- `==` of data models is equality of values
+model_exact : (a b : DataModel) → eq_DataModel.ghosts.eq a b ≡ true → a ≡ b
+model_exact model.Gc model.Gc h = refl
+model_exact (model.LinearMemory m r) (model.LinearMemory n s) h =
+    let both = and_true (option_eq eq_CoreId.ghosts.eq m n) (option_eq eq_CoreId.ghosts.eq r s) h in
+    let memory = same_options core_exact m n both.0 in
+    let realloc = same_options core_exact r s both.1 in
+    λ i. model.LinearMemory (memory i) (realloc i)
+model_exact a b h = absurd (true≢false (sym h))
+
+-- `==` of options is equality of values
+options_exact : (a b : Options) → eq_Options.ghosts.eq a b ≡ true → a ≡ b
+options_exact a b h =
+    let same_model = eq_DataModel.ghosts.eq a.data_model b.data_model in
+    let same_type = a.core_type.0 == b.core_type.0 in
+    let same_async = beq a.async_ b.async_ in
+    let same_post = option_eq eq_CoreId.ghosts.eq a.post_return b.post_return in
+    let same_callback = option_eq eq_CoreId.ghosts.eq a.callback b.callback in
+    let same_encoding = eq_StringEncoding.ghosts.eq a.string_encoding b.string_encoding in
+    let first = and_true (a.instance.0 == b.instance.0)
+    (same_encoding && (same_callback && (same_post && (same_async && (same_type && same_model))))) h in
+    let second = and_true same_encoding (same_callback && (same_post && (same_async && (same_type && same_model))))
+    first.1 in
+    let third = and_true same_callback (same_post && (same_async && (same_type && same_model))) second.1 in
+    let fourth = and_true same_post (same_async && (same_type && same_model)) third.1 in
+    let fifth = and_true same_async (same_type && same_model) fourth.1 in
+    let sixth = and_true same_type same_model fifth.1 in
+    let instance = same_number a.instance.0 b.instance.0 first.0 in
+    let encoding = encoding_exact a.string_encoding b.string_encoding second.0 in
+    let callback = same_options core_exact a.callback b.callback third.0 in
+    let post_return = same_options core_exact a.post_return b.post_return fourth.0 in
+    let is_async = (booleans_Decides a.async_ b.async_).0 fifth.0 in
+    let core_type = same_number a.core_type.0 b.core_type.0 sixth.0 in
+    let model = model_exact a.data_model b.data_model sixth.1 in
+    λ i. record {
+      instance = record { 0 = instance i };
+      string_encoding = encoding i;
+      callback = callback i;
+      post_return = post_return i;
+      async_ = is_async i;
+      core_type = record { 0 = core_type i };
+      data_model = model i;
+    }
+
+-- `==` of keys is equality of values
+pub key_exact : (a b : AdapterKey) → eq_AdapterKey.ghosts.eq a b ≡ true → a ≡ b
+key_exact a b h =
+    let same_lower = eq_Options.ghosts.eq a.lower b.lower in
+    let same_lower_type = a.lower_ty.0 == b.lower_ty.0 in
+    let same_lift = eq_Options.ghosts.eq a.lift b.lift in
+    let same_func = a.func.0 == b.func.0 in
+    let first = and_true (a.lift_ty.0 == b.lift_ty.0) (same_func && (same_lift && (same_lower_type && same_lower))) h in
+    let second = and_true same_func (same_lift && (same_lower_type && same_lower)) first.1 in
+    let third = and_true same_lift (same_lower_type && same_lower) second.1 in
+    let fourth = and_true same_lower_type same_lower third.1 in
+    let lift_type = same_number a.lift_ty.0 b.lift_ty.0 first.0 in
+    let func = same_number a.func.0 b.func.0 second.0 in
+    let lift = options_exact a.lift b.lift third.0 in
+    let lower_type = same_number a.lower_ty.0 b.lower_ty.0 fourth.0 in
+    let lower = options_exact a.lower b.lower fourth.1 in
+    λ i. record {
+      lift_ty = record { 0 = lift_type i };
+      func = record { 0 = func i };
+      lift = lift i;
+      lower_ty = record { 0 = lower_type i };
+      lower = lower i;
+    }
+
+module _ {K V : Type 0} (eq : K → K → Bool) (exact : (a b : K) → eq a b ≡ true → a ≡ b) where
+  -- what a look-up finds under a key stands among the entries
+  pub found_under : (k : K) (es : List (K × V)) (v : V) → lookup (eq k) es ≡ Some v
+      → (i : ℕ) × (slice_get es i ≡ Some (k, v))
+  found_under k [] v is = absurd (none-some v is)
+  found_under k (e ∷ es) v is = by (eq k e.0) refl (found_under k es v) is
+    where
+      by : (b : Bool) → eq k e.0 ≡ b → (lookup (eq k) es ≡ Some v → (i : ℕ) × (slice_get es i ≡ Some (k, v)))
+          → (if b then Some e.1 else lookup (eq k) es) ≡ Some v → (i : ℕ) × (slice_get (e ∷ es) i ≡ Some (k, v))
+      by true same rest is =
+          let key = exact k e.0 same in
+          let value = same_Some e.1 v is in
+          (zero, λ j. Some (sym key j, value j))
+      by false apart rest is = let found = rest is in (suc found.0, found.1)
+
+  -- an entry after an insertion stood there before, or is what was inserted
+  pub inserted_at : (k : K) (v : V) (es : List (K × V)) (i : ℕ) (e : K × V)
+      → slice_get (insert_entry eq es k v) i ≡ Some e → (slice_get es i ≡ Some e) ⊎ (e ≡ (k, v))
+  inserted_at k v [] zero e at = inr (sym (same_Some (k, v) e at))
+  inserted_at k v [] (suc i) e at = absurd (none-some e at)
+  inserted_at k v (x ∷ xs) zero e at = by (eq k x.0) refl at
+    where
+      by : (b : Bool) → eq k x.0 ≡ b
+          → slice_get (if b then (x.0, v) ∷ xs else x ∷ insert_entry eq xs k v) zero ≡ Some e
+          → (slice_get (x ∷ xs) zero ≡ Some e) ⊎ (e ≡ (k, v))
+      by true same at =
+          let key = exact k x.0 same in
+          inr (sym (same_Some (x.0, v) e at) ∙ (λ j. (sym key j, v)))
+      by false apart at = inl at
+  inserted_at k v (x ∷ xs) (suc i) e at = by (eq k x.0) (inserted_at k v xs i e) at
+    where
+      by : (b : Bool) → (slice_get (insert_entry eq xs k v) i ≡ Some e → (slice_get xs i ≡ Some e) ⊎ (e ≡ (k, v)))
+          → slice_get (if b then (x.0, v) ∷ xs else x ∷ insert_entry eq xs k v) (suc i) ≡ Some e
+          → (slice_get (x ∷ xs) (suc i) ≡ Some e) ⊎ (e ≡ (k, v))
+      by true rest at = inl at
+      by false rest at = rest at
+
+-- so an adapter that is found stands under its key
+pub key_found : (es now : List (AdapterKey × AdapterId)) → es ≡ now → (key : AdapterKey) (o : Option AdapterId)
+    → o ≡ lookup (eq_AdapterKey.ghosts.eq key) es → IfSome o (λ a. (i : ℕ) × (slice_get now i ≡ Some (key, a)))
+key_found es now same key None is = tt
+key_found es now same key (Some a) is =
+    subst (λ (l : List (AdapterKey × AdapterId)). (i : ℕ) × (slice_get l i ≡ Some (key, a))) same
+    (found_under eq_AdapterKey.ghosts.eq key_exact key es a (sym is))
+
+-- and after a key is noted it stands there with its adapter, or stood there
+pub key_inserted : (es now after : List (AdapterKey × AdapterId)) → es ≡ now → (key : AdapterKey) (a : AdapterId)
+    → after ≡ insert_entry eq_AdapterKey.ghosts.eq es key a → (i : ℕ) (e : AdapterKey × AdapterId)
+    → slice_get after i ≡ Some e → (slice_get now i ≡ Some e) ⊎ (e ≡ (key, a))
+key_inserted es now after same key a is i e at =
+    subst (λ (l : List (AdapterKey × AdapterId)). (slice_get l i ≡ Some e) ⊎ (e ≡ (key, a))) same
+    (inserted_at eq_AdapterKey.ghosts.eq key_exact key a es i e
+    (ap (λ (l : List (AdapterKey × AdapterId)). slice_get l i) (sym is) ∙ at))
