@@ -3,10 +3,9 @@ use Rattle.std.proofs.Common.{◌≡◌, ◌<◌, ℕ, true, List, ◌∷◌, Co
 use Rattle.std.proofs.Common.{Option, None, Some}
 use Rattle.std.proofs.Common.{refl, sym, ap, subst, ◌∙◌, arith}
 use Rattle.std.specs.Prelude.{slice_get, option_and_then}
-use Rattle.std.proofs.lemmas.Option.{none-some, same_Some, slice_get_within}
 use Rattle.pc_entity.specs.declared.string_pool.Atom.{Atom}
 use Rattle.pc_entity.specs.Lists.{Kept}
-use Rattle.pc_entity.proofs.Growing.{kept_refl, kept_trans}
+use Rattle.pc_entity.proofs.Growing.{kept_refl}
 use Rattle.pc_types.specs.declared.error.Unsupported.TheVariants.{ExportedComponent, ReexportedIntrinsic}
 use Rattle.pc_types.specs.declared.error.Unsupported.TheVariants.{ReexportedIntrinsics}
 use Rattle.pc_types.specs.declared.module_record.ModuleRecord.{ModuleRecord}
@@ -15,7 +14,7 @@ use Rattle.pc_types.specs.Table.{table_fault}
 use Rattle.pc_types.specs.TypeTree.{TypeTree}
 use Rattle.pc_types_convert.proofs.OneTree.{one_tree}
 use Rattle.pc_spec_plan.specs.ExportNode as node
-use Rattle.pc_spec_plan.specs.ExportNode.{ExportNode, and_node}
+use Rattle.pc_spec_plan.specs.ExportNode.{and_node}
 use Rattle.pc_parsed.specs.Mark.{of_type}
 use Rattle.pc_spec_reading.specs.HostTypes.{tree_along, type_at}
 use Rattle.pc_spec_reading.specs.Nodes.{extern_data, host_function_node, instance_value_node, more, then_reach}
@@ -33,7 +32,7 @@ use Rattle.pc_inline_state.specs.Stands.{DefinitionStands, IsType, MembersStand,
 use Rattle.pc_inline_state.specs.Stands.{stands, stands_component, stands_host, stands_host_instance}
 use Rattle.pc_inline_state.specs.Stands.{stands_host_module, stands_instance, stands_intrinsic, stands_intrinsics}
 use Rattle.pc_inline_state.specs.Stands.{stands_lifted, stands_static, stands_type}
-use Rattle.pc_inline_state.specs.Tables.{Keeps, Tables, tables_of}
+use Rattle.pc_inline_state.specs.Tables.{Tables, tables_of}
 use Rattle.pc_inline_state.specs.Worlds.{ImportStands, WorldStands}
 use Rattle.pc_inline_state.proofs.FitsLemmas.{who_fits, who_of}
 use Rattle.pc_inline_state.proofs.ZipLemmas.{both_there, zip_at}
@@ -212,19 +211,6 @@ counts_made b counts are made = record {
   table = refl;
 }
 
--- they still are as the tables grow
-pub counts_stay : (old new : Tables) (counts : NodeCounts) → Keeps old new → AreStillCounts old counts
-    → AreStillCounts new counts
-counts_stay old new counts keeps still = record {
-  made_of = still.made_of;
-  made = still.made;
-  earlier = still.earlier;
-  definitions = kept_trans still.made_of.definitions old.definitions new.definitions still.definitions
-      keeps.definitions;
-  instances = kept_trans still.made_of.instances old.instances new.instances still.instances keeps.instances;
-  table = keeps.table ∙ still.table;
-}
-
 -- a definition that was there was counted
 pub counted_before : (b : Tables) (counts : NodeCounts) → AreEarlier b.definitions b.instances → AreCounts b counts
     → (n : ℕ) (d : Definition) → slice_get b.definitions n ≡ Some d → IsCounted counts d
@@ -232,30 +218,6 @@ counted_before b counts are made n d held j exported =
     let below = are.there n j (d, held, exported) in
     let many = counts_many b counts made in
     omega (arith, below, many)
-
--- and so was each one, where no list of members was added since
-pub counted_since : (ms : List ModuleRecord) (old b : Tables) (counts : NodeCounts) → AreCounts old counts
-    → b.instances ≡ old.instances → (d : Definition) (v : Value) → DefinitionStands ms b d v → IsCounted counts d
-counted_since ms old b counts made same d v is j exported =
-    let many = counts_many old counts made in
-    let as_many = ap (λ (xs : List (List (Atom × Member))). length xs) same in
-    let below = by d v is j exported in
-    omega (arith, below, many, as_many)
-  where
-    by : (e : Definition) (x : Value) → DefinitionStands ms b e x → (k : ExportsId) → exports_of e ≡ Some k
-        → k.0 < length b.instances
-    by e x (stands_host held given typed) k found = absurd (none-some k found)
-    by e x (stands_lifted typed func options) k found = absurd (none-some k found)
-    by e x stands_intrinsic k found = absurd (none-some k found)
-    by e x (stands_static handed_in tabled i typed) k found = absurd (none-some k found)
-    by e x (stands_host_module held given tabled typed) k found = absurd (none-some k found)
-    by e x (stands_component there body leaving held modules components) k found = absurd (none-some k found)
-    by e x (stands_host_instance held given tabled typed) k found = absurd (none-some k found)
-    by e x (stands_instance {n = n} {es = es} held stand typed) k found =
-        subst (λ (i : ExportsId). i.0 < length b.instances) (same_Some n k found)
-        (slice_get_within b.instances n.0 es held)
-    by e x stands_intrinsics k found = absurd (none-some k found)
-    by e x (stands_type typed) k found = absurd (none-some k found)
 
 module _ (ms : List ModuleRecord) (st : State) where
   -- an import of the root has the type that the reading gave it

@@ -21,7 +21,7 @@ use Rattle.pc_types.specs.TypeTree.{Fields, Identity, Path, TypeTree, and_field,
 use Rattle.pc_types.specs.TypeTree.{instance_of, module_of, no_fields, tree_of}
 use Rattle.pc_types_convert.proofs.SoundLemmas.{found_by, sound_at}
 use Rattle.pc_spec_plan.specs.ExportNode as node
-use Rattle.pc_spec_plan.specs.ExportNode.{ExportNode, and_node}
+use Rattle.pc_spec_plan.specs.ExportNode.{and_node}
 use Rattle.pc_parsed.specs.Mark.{of_type}
 use Rattle.pc_spec_reading.specs.Member.{further}
 use Rattle.pc_spec_reading.specs.Nodes.{host_node, host_nodes, more, no_data, then_reach}

@@ -8,7 +8,6 @@ use Rattle.pc_types.specs.declared.types.TypeComponentInstance.{TypeComponentIns
 use Rattle.pc_types.specs.declared.types.TypeDef.{TypeDef}
 use Rattle.pc_types.specs.declared.types.TypeDef.TheVariants as type
 use Rattle.pc_types_lists.specs.Types.{Types}
-use Rattle.pc_types_walk.specs.Names.{export_place}
 use Rattle.pc_types_walk.specs.Walks.{export_at}
 use Rattle.pc_inline_paths.specs.declared.path_id.PathId.{PathId}
 use Rattle.pc_inline_state.specs.declared.definition.Definition.{Definition}
@@ -47,11 +46,6 @@ member_at t b ty n place =
     option_and_then
     (λ (e : List ℕ × Entity). option_map (λ (d : TypeDef). member_of d (entry_of e.1)) (export_type b ty place))
     (export_at t n place)
-
--- what it has under a name: at the first place of the name
-abbrev pub member_named : TypeTable → Types → TypeComponentInstanceIndex → (entry : ℕ) → (name : List ℕ)
-    → Option HostMember
-member_named t b ty n name = option_and_then (member_at t b ty n) (export_place t n name)
 
 -- the definition of what stands at the end of a path; a component of the host has none
 abbrev pub definition_at : PathId → HostMember → Option Definition

@@ -7,6 +7,7 @@ use Rattle.std.proofs.lemmas.List.{append-nil, append_assoc, length_push, map_mo
 use Rattle.std.proofs.lemmas.List.Sums.{fold_push}
 use Rattle.std.proofs.lemmas.Option.{get_or_from_slice_get, slice_get_within}
 use Rattle.pc_entity.proofs.LookupLemmas.{found_at}
+use Rattle.pc_entity.proofs.Growing.{kept_refl}
 use Rattle.pc_numbers.specs.declared.runtime.RuntimeImportIndex.{RuntimeImportIndex}
 use Rattle.pc_types.specs.declared.module_record.ModuleRecord.{ModuleRecord}
 use Rattle.pc_types.specs.declared.parsed.TypeTable.{TypeTable}
@@ -34,6 +35,7 @@ use Rattle.pc_inline_state.specs.Tables.{Keeps, Tables, tables_of}
 use Rattle.pc_inline_state.proofs.AddsLemmas.{each_refl, each_trans, each_weaken}
 use Rattle.pc_inline_state.proofs.GrowthLemmas.{graph_grown}
 use Rattle.pc_inline_state.proofs.InstanceLemmas.{instances_kept, widths_kept}
+use Rattle.pc_inline_state.proofs.PlacedLemmas.{placed_kept}
 use Rattle.pc_inline_state.proofs.StateLemmas.{keeps_refl, keeps_trans}
 use Rattle.pc_inline_state.proofs.ZipLemmas.{zip_more}
 use Rattle.pc_inline_imports.specs.Brings.{AllHeld, Brings, in_brought, path_at}
@@ -90,6 +92,8 @@ module _ (t : TypeTable) (ms : List ModuleRecord) (st : State) (is : List (List 
       instances = instances_kept ms (tables_of st) (tables_of (record st { graph = other }))
           (graph_grown (tables_of st) other grows fits) refl st.runtime_instances.items sound.instances;
       widths = widths_kept t ms st.runtime_instances.items st.graph other refl sound.widths;
+      placed = placed_kept t ms st (record st { graph = other }) (graph_grown (tables_of st) other grows fits)
+          (kept_refl st.runtime_instances.items) refl sound.placed;
     }
 
 -- a host item is used, and a resource comes by it

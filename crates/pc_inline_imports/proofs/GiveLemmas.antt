@@ -1,13 +1,12 @@
 -- An import that comes into the graph, with its resources behind it.
 use Rattle.std.proofs.Common.{◌≡◌, ◌<◌, ◌≤◌, ◌+◌, ℕ, zero, suc, List, [], ◌∷◌, ◌++◌, length, map, get_or, refl}
 use Rattle.std.proofs.Common.{sym, ap, subst, ◌∙◌, Some, None, arith, ◌⊎◌, inl, inr, Result, Ok, Err}
-use Rattle.std.specs.Prelude.{slice_get, option_and_then, Option, OnOk, OnErr, IfOk}
+use Rattle.std.specs.Prelude.{slice_get, OnOk, OnErr, IfOk}
 use Rattle.std.specs.List.{AllZip, fold}
 use Rattle.std.proofs.lemmas.List.{length_push}
 use Rattle.std.proofs.lemmas.Option.{none-some, same_Some, slice_get-get_or, slice_get_within}
 use Rattle.pc_entity.proofs.Growing.{slice_get-append_seam}
 use Rattle.pc_entity.proofs.LookupLemmas.{found_at}
-use Rattle.pc_entity.specs.declared.string_pool.Atom.{Atom}
 use Rattle.pc_entity.specs.Lists.{Kept}
 use Rattle.pc_numbers.specs.declared.runtime.ImportIndex.{ImportIndex}
 use Rattle.pc_numbers.specs.declared.runtime.RuntimeImportIndex.{RuntimeImportIndex}
@@ -21,7 +20,6 @@ use Rattle.pc_types.specs.declared.types.TypeDef.TheVariants as type
 use Rattle.pc_types.specs.TypeTree.{Path}
 use Rattle.pc_types_walk.specs.declared.walk.Found.{Found}
 use Rattle.pc_types_walk.specs.declared.walk.Place.{Place}
-use Rattle.pc_types_walk.specs.Names.{export_names}
 use Rattle.pc_types_walk.specs.Walks.{AreNamed, export_at}
 use Rattle.pc_parsed.specs.declared.payload.ExternName.{ExternName}
 use Rattle.pc_spec_plan.specs.PlanView as plan
@@ -35,7 +33,6 @@ use Rattle.pc_dfg.specs.Numbers.{slots_of}
 use Rattle.pc_dfg.specs.Ordered.{IsOrdered}
 use Rattle.pc_inline_paths.specs.declared.path_id.PathId.{PathId}
 use Rattle.pc_inline_paths.specs.Paths.{at_import, further}
-use Rattle.pc_inline_names.specs.Numbers.{IsNumber}
 use Rattle.pc_inline_state.specs.declared.definition.Definition.{Definition}
 use Rattle.pc_inline_state.specs.declared.definition.DefinitionId.{DefinitionId}
 use Rattle.pc_inline_state.specs.declared.error.ItemError.{ItemError}
@@ -43,7 +40,6 @@ use Rattle.pc_inline_state.specs.declared.state.State.{State}
 use Rattle.pc_inline_state.specs.AddsEach.{AddsEach, nowhere}
 use Rattle.pc_inline_state.specs.Definitions.{exports_of}
 use Rattle.pc_inline_state.specs.Fits.{FitsBefore, path_of}
-use Rattle.pc_inline_state.specs.Frames.{Both}
 use Rattle.pc_inline_state.specs.Points.{IsSoundState}
 use Rattle.pc_inline_state.specs.Tables.{Keeps, Tables, tables_of}
 use Rattle.pc_inline_state.specs.TakesPath.{SoundWithPaths, TakesPath}
@@ -52,7 +48,6 @@ use Rattle.pc_inline_state.proofs.FitsLemmas.{fits_grown}
 use Rattle.pc_inline_state.proofs.GrowthLemmas.{graph_grown}
 use Rattle.pc_inline_state.proofs.MembersLemmas.{no_instance}
 use Rattle.pc_inline_state.proofs.StateLemmas.{definition_prepares, keeps_trans}
-use Rattle.pc_inline_resources.proofs.PlaceLemmas.{export_number_is}
 use Rattle.pc_inline_imports.specs.declared.learn.Learnt.{Learnt}
 use Rattle.pc_inline_imports.specs.Given.{host_definition, import_of}
 use Rattle.pc_inline_imports.specs.Brings.{AllBelow, AllHeld, ArePaths, Brings, Gives, GoesFurther, in_brought, in_given}
@@ -189,39 +184,6 @@ module _ (t : TypeTable) (places : List Place) (import : ImportIndex) (old : Sta
                   ))
             ]
 
--- a path goes one name further, by the number of the name of an export
-module _ (t : TypeTable) (ms : List ModuleRecord) (place : Place) (st : State) (sound : IsSoundState t ms st)
-    (o : Option Atom)
-    (has : Both (λ (name : List ℕ) (k : Atom). IsNumber st.names.now.texts k name)
-    (option_and_then (λ e. slice_get (export_names e) place.export) (slice_get st.names.now.table.types place.entry)) o)
-    (k : Atom) (is : o ≡ Some k) where
-  -- the number is that of the name among the names in which paths are written
-  written : (x : List ℕ × Entity) → export_at t place.entry place.export ≡ Some x
-      → slice_get st.paths.names k.0 ≡ Some x.0
-  written x at =
-      ap (λ names. slice_get names k.0) sound.names.paths
-      ∙ export_number_is place.export x st.names.now.texts t st.names.now.table place.entry o has sound.names.table at k
-      is
-
-  -- so it is one of their numbers
-  pub number_held : (x : List ℕ × Entity) × (export_at t place.entry place.export ≡ Some x)
-      → k.0 < length st.paths.names
-  number_held there = slice_get_within st.paths.names k.0 there.0.0 (written there.0 there.1)
-
-  -- and the path is that of the place
-  pub taken_further : (st' : State) (before after : List PathId) (parent id : PathId)
-      → slice_get before place.parent ≡ Some parent
-      → ((p : Path) (name : List ℕ) → slice_get st.paths.held parent.0 ≡ Some p
-      → slice_get st.paths.names k.0 ≡ Some name → TakesPath (further p name) st st' id)
-      → after ≡ before ++ id ∷ [] → GoesFurther t place st.paths.held before st'.paths.held after
-  taken_further st' before after parent id at takes pushed = (
-    id,
-    pushed,
-    λ other p x there held export.
-        (takes p x.0 (subst (λ (y : PathId). slice_get st.paths.held y.0 ≡ Some p)
-        (same_Some other parent (sym there ∙ at)) held) (written x export)).held,
-  )
-
 -- what the host gives isn't made of exports
 host_exports : (p : PathId) (e : Entity) (d : TypeDef) → exports_of (host_definition p e d) ≡ None
 host_exports p (entity.Func n) d = by d
@@ -275,13 +237,6 @@ module _ (t : TypeTable) (ms : List ModuleRecord) (st : State) (g : ComponentDfg
   typed_undeclared none = ap (λ (x : ComponentDfg). x.resources) rest ∙ none
 
   module _ (x : List ℕ × ComponentExtern) (ok : g.import_types ≡ st.graph.import_types ++ x ∷ []) where
-    long : length g.import_types ≡ length st.graph.import_types + 1
-    long = ap length ok ∙ length_push st.graph.import_types x
-
-    -- the next import is one
-    pub typed_there : (n : ImportIndex) → n.0 ≡ length st.graph.import_types → n.0 < length g.import_types
-    typed_there n is = let two = long in omega (arith, is, two)
-
     -- and the state is sound
     pub typed_sound : IsSoundState t ms st → (IsOrdered st.graph → IsOrdered g) → IsSoundState t ms typed
     typed_sound sound ordered =

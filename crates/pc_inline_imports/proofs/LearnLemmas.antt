@@ -43,6 +43,7 @@ use Rattle.pc_inline_state.proofs.AddsLemmas.{adds_both}
 use Rattle.pc_inline_state.proofs.FitsLemmas.{fits_refl}
 use Rattle.pc_inline_state.proofs.GainedLemmas.{tables_aside, tables_none}
 use Rattle.pc_inline_state.proofs.InstanceLemmas.{instances_kept}
+use Rattle.pc_inline_state.proofs.PlacedLemmas.{placed_kept}
 use Rattle.pc_inline_state.proofs.StateLemmas.{converts_prepares, keeps_trans}
 use Rattle.pc_inline_state.proofs.ZipLemmas.{zip_length}
 use Rattle.pc_inline_imports.specs.Given.{IsEntityType}
@@ -181,6 +182,7 @@ module _ (t : TypeTable) (a : State) (k : Resources) where
     instances = instances_kept ms (tables_of a) (tables_of knowing_so) known_keeps refl a.runtime_instances.items
         s.instances;
     widths = s.widths;
+    placed = placed_kept t ms a knowing_so known_keeps (kept_refl a.runtime_instances.items) refl s.placed;
   }
 
 module _ (t : TypeTable) (a : State) (f : Frame) (b : State) (g : Frame) (r : Registers t a f b g) where
@@ -200,14 +202,6 @@ module _ (t : TypeTable) (a : State) (f : Frame) (b : State) (g : Frame) (r : Re
   -- the component instance is the same
   pub registers_same : g.component_instance ≡ f.component_instance
   registers_same = ap (λ (x : Frame). x.component_instance) r.frame
-
-  -- it has begun still
-  pub registers_begun : a.types.resources.current.0 < a.graph.num_runtime_component_instances
-      → b.types.resources.current.0 < b.graph.num_runtime_component_instances
-  registers_begun below =
-      let one : b.types.resources.current.0 ≡ a.types.resources.current.0 = λ i. (r.current i).0 in
-      let two = ap (λ (s : State). s.graph.num_runtime_component_instances) r.state in
-      omega (arith, below, one, two)
 
 -- a number has no identity where none is known
 absent_identity : (known : List (ℕ × Identity)) (n : ℕ)

@@ -22,7 +22,7 @@ use Rattle.pc_types.specs.Table.{is_instance, is_module, table_fault}
 use Rattle.pc_types.specs.TypeTree.{Identity, TypeTree, identity_of, imported, tree_of}
 use Rattle.pc_types_lists.specs.Adds.{AddsTypes, most_types}
 use Rattle.pc_types_lists.specs.Known.{resource_of}
-use Rattle.pc_types_lists.specs.Types.{Resources, Types}
+use Rattle.pc_types_lists.specs.Types.{Types}
 use Rattle.pc_types_lists.specs.Types as builder
 use Rattle.pc_types_lists.proofs.FewLemmas.{few_more}
 use Rattle.pc_types_builder.specs.Plain.{Layers}

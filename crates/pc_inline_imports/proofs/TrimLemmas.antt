@@ -240,9 +240,6 @@ kept_next places marks k kept numbers far p at true is kept' numbers' step = rec
     further_more t kept kept_names named p n prefix x prefix_there export j q at = by (push_cases kept (with_parent p n) j
         q at)
       where
-        last_one : List (List (List ℕ))
-        last_one = (prefix ++ x.0 ∷ []) ∷ []
-
         by : (slice_get kept j ≡ Some q) ⊎ ((j ≡ length kept) × (with_parent p n ≡ q))
             → (pre : List (List ℕ)) × (y : List ℕ × Entity) × (q.parent ≤ j)
             × (slice_get (kept_names ++ (prefix ++ x.0 ∷ []) ∷ []) q.parent ≡ Some pre)

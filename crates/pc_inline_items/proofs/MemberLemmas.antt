@@ -127,11 +127,6 @@ absent : {A : Type 0} (o : Option A) (b : Bool) → (is_some o ≡ true → b �
 absent None b has none = refl
 absent (Some x) b has none = absurd (true≢false (sym (has refl) ∙ none))
 
--- nothing is there
-none_is : {A : Type 0} (o : Option A) → is_some o ≡ false → o ≡ None
-none_is None h = refl
-none_is (Some x) h = absurd (true≢false h)
-
 -- a value under a number that has none goes last
 first_new : {A : Type 0} (es : List (Atom × A)) (n : Atom) (x : A) → is_some (numbered_value n es) ≡ false
     → with_first_number es n x ≡ es ++ (n, x) ∷ []

@@ -1,6 +1,6 @@
 //! The unsafe intrinsics as an instance, and as what it exports.
 
-ghost use Rattle.std.specs.Prelude.{◌≡◌, List, None, Ok};
+ghost use Rattle.std.specs.Prelude.{◌≡◌, List, None};
 ghost use Rattle.pc_types.specs.declared.module_record.ModuleRecord.{ModuleRecord};
 ghost use Rattle.pc_types.specs.declared.parsed.TypeTable.{TypeTable};
 ghost use Rattle.pc_spec_reading.specs.Instances.{alias_in};

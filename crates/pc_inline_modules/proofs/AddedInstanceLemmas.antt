@@ -5,7 +5,8 @@ use Rattle.std.specs.Prelude.{slice_get}
 use Rattle.std.specs.List.{AllZip}
 use Rattle.std.proofs.lemmas.List.{length-append}
 use Rattle.std.proofs.lemmas.List.Elements.{filter_map-append}
-use Rattle.pc_entity.proofs.Growing.{slice_get-append_seam}
+use Rattle.pc_entity.specs.Lists.{Kept}
+use Rattle.pc_entity.proofs.Growing.{append_kept, slice_get-append_seam}
 use Rattle.pc_types_lists.specs.Types.{Types}
 use Rattle.pc_numbers.specs.declared.component_entity.StaticModuleIndex.{StaticModuleIndex}
 use Rattle.pc_numbers.specs.declared.runtime.RuntimeComponentInstanceIndex.{RuntimeComponentInstanceIndex}
@@ -40,6 +41,7 @@ use Rattle.pc_inline_state.proofs.FitsLemmas.{fits_grown}
 use Rattle.pc_inline_state.proofs.GrowthLemmas.{graph_grown}
 use Rattle.pc_inline_state.proofs.InstanceLemmas.{instances_pushed, widths_kept, widths_more}
 use Rattle.pc_inline_state.proofs.KnowsLemmas.{knows_grown}
+use Rattle.pc_inline_state.proofs.PlacedLemmas.{placed_kept}
 use Rattle.pc_inline_state.proofs.StateLemmas.{types_refl}
 use Rattle.pc_inline_state.proofs.ZipLemmas.{zip_more, zip_push}
 use Rattle.pc_inline_canon.proofs.AdapterKeptLemmas.{adapters_items_kept}
@@ -131,6 +133,9 @@ module _ (t : TypeTable) (ms : List ModuleRecord) (st : State) (x : Instance) (o
     widths = subst (λ is. HaveWidths t ms is after) (sym more)
         (widths_more t ms st.runtime_instances.items (m ∷ []) after
         (widths_kept t ms st.runtime_instances.items st.graph after refl sound.widths));
+    placed = placed_kept t ms st (added modules) (graph_grown (tables_of st) after grows added_fits)
+        (subst (Kept st.runtime_instances.items) (sym more) (append_kept st.runtime_instances.items (m ∷ []))) refl
+        sound.placed;
   }
 
   -- and does what the log says with the instantiation

@@ -178,10 +178,6 @@ module _ (names : List (List ℕ)) where
       differ h = h ∙ sym (apart m n a b distinct is_a is_b h)
 
 module _ {V : Type 0} (names : List (List ℕ)) where
-  -- nothing has a number where nothing has a name
-  pub no_numbers : HasNumbers names {V = V} [] []
-  no_numbers n name is = refl
-
   module _ (es : List (List ℕ × V)) (ns : List (Atom × V)) (name : List ℕ) (v : V) (has : HasNumbers names es ns) where
     -- a value at the end of the entries is put under the number of its name
     pub numbered_next : (n : Atom) → AreDistinct names → IsNumber names n name

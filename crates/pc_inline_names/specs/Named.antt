@@ -21,10 +21,14 @@ pub record Named : Type 0 where
   pub root : Translation
   pub bodies : List Translation
 
+-- the nested body of this number; the root has none
+abbrev pub nested_at : List Translation → Option StaticComponentIndex → Option Translation
+nested_at bodies None = None
+nested_at bodies (Some s) = slice_get bodies s.0
+
 -- the body of this number, that of the root where there is none
 abbrev pub body_at : List Translation → (root : Translation) → Option StaticComponentIndex → Translation
-body_at bodies root None = root
-body_at bodies root (Some s) = unwrap_or (slice_get bodies s.0) root
+body_at bodies root s = unwrap_or (nested_at bodies s) root
 
 -- the imports of a module type; another type has none
 abbrev pub imports_of : DeclType → Option (List (List ℕ × List ℕ × CoreEntity))

@@ -60,6 +60,13 @@ impl<V> AtomMap<V> {
         let _entries = &self.entries;
     }
 
+    /// Gives back the memory that is more than its entries take.
+    pub fn shrink_to_fit(&mut self)
+        ensures { self.new ≡ self.old }
+    {
+        self.entries.shrink_to_fit();
+    }
+
     /// The number at a place, with its value.
     pub fn get_index(&self, place: usize) -> Option<(Atom, &V)>
         ensures { option_map (λ e. (e.0, e.1.now)) result ≡ slice_get self.now place }

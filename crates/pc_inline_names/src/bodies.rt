@@ -1,6 +1,6 @@
 //! The numbers of the names in the bodies of components: of each item, and of what a body exports.
 
-ghost use Rattle.std.specs.Prelude.{◌≡◌, ◌∷◌, ℕ, List, [], map, IfOk, OnOk};
+ghost use Rattle.std.specs.Prelude.{◌≡◌, ◌∷◌, [], map, IfOk, OnOk};
 ghost use Rattle.std.specs.List.{AllZip};
 ghost use Rattle.pc_inline_names.specs.Named.{item_names};
 ghost use Rattle.pc_inline_names.specs.Tables.{AddsNames, AreBodyNumbers, AreItemNumbers, AreNames, IsMade};

@@ -1,6 +1,6 @@
 //! What core modules import and export by the numbers of names.
 
-ghost use Rattle.std.specs.Prelude.{◌≡◌, ◌++◌, ◌∷◌, ℕ, List, [], IfOk, OnOk};
+ghost use Rattle.std.specs.Prelude.{◌++◌, ◌∷◌, ℕ, List, [], IfOk, OnOk};
 ghost use Rattle.std.specs.List.{AllZip};
 ghost use Rattle.pc_inline_names.specs.Numbers.{HasNumbers};
 ghost use Rattle.pc_inline_names.specs.Tables.{AddsNames, AreNames, AreRecordNumbers, HasExports};

@@ -5,14 +5,13 @@ ghost use Rattle.std.specs.Option.{option_copied};
 ghost use Rattle.pc_entity.specs.declared.string_pool.Atom.{Atom};
 ghost use Rattle.pc_entity.specs.Lists.{AreDistinct};
 ghost use Rattle.pc_types.specs.declared.module_record.ModuleRecord.{ModuleRecord};
-ghost use Rattle.pc_types.specs.declared.parsed.TypeTable.{TypeTable};
 ghost use Rattle.pc_types.specs.Record.{export_of};
 ghost use Rattle.pc_types_walk.specs.Names.{export_names, export_place};
 ghost use Rattle.pc_local.specs.declared.item.LocalInitializer.{LocalInitializer};
 ghost use Rattle.pc_local.specs.declared.item.Translation.{Translation};
 ghost use Rattle.pc_local.specs.Sound.{export_name};
 ghost use Rattle.pc_inline_names.specs.Both.{Both};
-ghost use Rattle.pc_inline_names.specs.Named.{body_at, imports_of, item_names};
+ghost use Rattle.pc_inline_names.specs.Named.{body_at, imports_of, item_names, nested_at};
 ghost use Rattle.pc_inline_names.specs.Numbers.{AreImportNumbers, AreNumbersOf, IsNumber};
 ghost use Rattle.pc_inline_names.specs.Tables.{AreBodyNumbers, AreItemNumbers, AreNames, AreTables, EntryHas};
 
@@ -184,10 +183,13 @@ impl<'a> ProgramNames<'a> {
     }
 
     /// The numbers of a nested body.
-    fn nested(&self, body: StaticComponentIndex) -> Option<&BodyNumbers>
-        ensures { Both (AreBodyNumbers self.now.texts) (slice_get self.now.bodies body.0) (option_copied result) }
+    fn nested(&self, body: Option<StaticComponentIndex>) -> Option<&BodyNumbers>
+        ensures { Both (AreBodyNumbers self.now.texts) (nested_at self.now.bodies body) (option_copied result) }
     {
-        at(self.tables.bodies.as_slice(), body.0 as usize)
+        match body {
+            Some(body) => at(self.tables.bodies.as_slice(), body.0 as usize),
+            None => None,
+        }
     }
 
     /// The numbers of the items of a body; of the root where there is none of this number.
@@ -195,11 +197,8 @@ impl<'a> ProgramNames<'a> {
         ensures { AreItemNumbers self.now.texts (body_at self.now.bodies self.now.root body).initializers
             result.now.ended }
     {
-        match body {
-            Some(body) => match self.nested(body) {
-                Some(numbers) => &numbers.items,
-                None => &self.tables.root,
-            },
+        match self.nested(body) {
+            Some(numbers) => &numbers.items,
             None => &self.tables.root,
         }
     }
@@ -223,9 +222,9 @@ impl<'a> ProgramNames<'a> {
         list_at(self.lists(body), item)
     }
 
-    /// The numbers of the names of the exports of a nested body, in order.
-    pub fn body_exports(&self, body: StaticComponentIndex) -> &[Atom]
-        ensures { (tr : Translation) → slice_get self.now.bodies body.0 ≡ Some tr
+    /// The numbers of the names of the exports of a nested body, in order. For the root there are none.
+    pub fn body_exports(&self, body: Option<StaticComponentIndex>) -> &[Atom]
+        ensures { (tr : Translation) → nested_at self.now.bodies body ≡ Some tr
             → AreNumbersOf self.now.texts (map export_name tr.exports) result.now }
     {
         match self.nested(body) {

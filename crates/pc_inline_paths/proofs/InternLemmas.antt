@@ -34,7 +34,8 @@ pub no_memory_only : {T : Type 0} (r : Result T PathError) (e : PathError) → r
     → r ≡ Err refusal.TooMany → ⊥
 no_memory_only r e is memory full = not_full (cc)
 
-module _ (names : List (List ℕ)) (ss : List Step) (ps : List Path) (is : paths_of names ss ≡ ps) (are : AreSteps names ss) where
+module _ (names : List (List ℕ)) (ss : List Step) (ps : List Path) (is : paths_of names ss ≡ ps)
+    (are : AreSteps names ss) where
   -- there are as many paths as steps
   pub as_many : length ps ≡ length ss
   as_many = ap length (sym is) ∙ length_paths names ss
@@ -67,13 +68,16 @@ module _ (names : List (List ℕ)) (ss : List Step) (ps : List Path) (is : paths
         let within : there.0 < length ps = slice_get_within ps there.0 (path_at names ps s) there.1 in
         let earlier : IsBefore names (length ps) b.0 =
         before_more names there.0 (length ps) b.0 (are.before there.0 b.0 b.1) within in
-        let path : path_at names ps b.0 ≡ path_at names ps s = subst (λ qs. path_at names qs b.0 ≡ path_at names ps s) is b.2 in
-        let same : b.0 ≡ s = same_step names are.apart ps (subst AreDistinct is are.distinct) b.0 s earlier before path in
+        let path : path_at names ps b.0 ≡ path_at names ps s =
+        subst (λ qs. path_at names qs b.0 ≡ path_at names ps s) is b.2 in
+        let same : b.0 ≡ s =
+        same_step names are.apart ps (subst AreDistinct is are.distinct) b.0 s earlier before path in
         absent (contains_at ss there.0 s (b.1 ∙ ap Some same))
 
     -- it comes to a path at the end
     pub pushed_paths : paths_of names (ss ++ s ∷ []) ≡ ps ++ path_at names ps s ∷ []
-    pushed_paths = subst (λ qs. paths_of names (ss ++ s ∷ []) ≡ qs ++ path_at names qs s ∷ []) is (paths_push names ss s)
+    pushed_paths =
+        subst (λ qs. paths_of names (ss ++ s ∷ []) ≡ qs ++ path_at names qs s ∷ []) is (paths_push names ss s)
 
     -- the steps are still those of distinct paths
     pub pushed_steps : length ss < 4294967295 → AreSteps names (ss ++ s ∷ [])
@@ -92,11 +96,12 @@ module _ (names : List (List ℕ)) (ss : List Step) (ps : List Path) (is : paths
     pub pushed_taken : (id : PathId) → slice_get (ss ++ s ∷ []) id.0 ≡ Some s
         → TakesIn (path_at names ps s) ps (ps ++ path_at names ps s ∷ []) id
     pushed_taken id at = record {
-      held = elim (push_place ss s id.0 s at) as (λ _. slice_get (ps ++ path_at names ps s ∷ []) id.0 ≡ Some (path_at names ps s)) [
-        | inl there ↦ absurd (absent (contains_at ss id.0 s there))
-        | inr last ↦ ap (slice_get (ps ++ path_at names ps s ∷ [])) (last.0 ∙ sym as_many)
-            ∙ slice_get-append_seam ps (path_at names ps s) []
-      ];
+      held = elim (push_place ss s id.0 s at)
+          as (λ _. slice_get (ps ++ path_at names ps s ∷ []) id.0 ≡ Some (path_at names ps s)) [
+            | inl there ↦ absurd (absent (contains_at ss id.0 s there))
+            | inr last ↦ ap (slice_get (ps ++ path_at names ps s ∷ [])) (last.0 ∙ sym as_many)
+                ∙ slice_get-append_seam ps (path_at names ps s) []
+          ];
       grows = inr (absent_path, refl);
     }
 

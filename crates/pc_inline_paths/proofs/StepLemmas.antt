@@ -24,7 +24,8 @@ module _ (names : List (List ℕ)) where
   after_push ps (r ∷ ss) s = after_push (ps ++ path_at names ps r ∷ []) ss s
 
   -- the same from the first step on
-  pub paths_push : (ss : List Step) (s : Step) → paths_of names (ss ++ s ∷ []) ≡ paths_of names ss ++ path_at names (paths_of names ss) s ∷ []
+  pub paths_push : (ss : List Step) (s : Step)
+      → paths_of names (ss ++ s ∷ []) ≡ paths_of names ss ++ path_at names (paths_of names ss) s ∷ []
   paths_push ss s = after_push [] ss s
 
   -- each step comes to one path
@@ -45,7 +46,8 @@ module _ (names : List (List ℕ)) where
       kept_trans ps qs (paths_after names qs ss) (append_kept ps (path_at names ps s ∷ [])) (kept_after qs ss)
 
   -- a step comes to the same path where the paths before it stay
-  pub path_kept : (ps qs : List Path) (s : Step) → Kept ps qs → IsBefore names (length ps) s → path_at names ps s ≡ path_at names qs s
+  pub path_kept : (ps qs : List Path) (s : Step) → Kept ps qs → IsBefore names (length ps) s
+      → path_at names ps s ≡ path_at names qs s
   path_kept ps qs (step.Import i) kept before = refl
   path_kept ps qs (step.Member p n) kept before =
       let f = found_at ps p.0 before.0 in
@@ -59,15 +61,18 @@ module _ (names : List (List ℕ)) where
       let qs = ps ++ path_at names ps r ∷ [] in
       let same : r ≡ s = same_Some r s at in
       let here : n ≡ length ps = omega (arith, is) in
-      let seam : slice_get qs (length ps) ≡ Some (path_at names ps r) = slice_get-append_seam ps (path_at names ps r) [] in
-      let first : IsBefore names (length ps) r = subst (λ m. IsBefore names m r) here (subst (IsBefore names n) (sym same) before) in
+      let seam : slice_get qs (length ps) ≡ Some (path_at names ps r) =
+      slice_get-append_seam ps (path_at names ps r) [] in
+      let first : IsBefore names (length ps) r =
+      subst (λ m. IsBefore names m r) here (subst (IsBefore names n) (sym same) before) in
       let path : path_at names ps r ≡ path_at names (paths_after names qs ss) r =
       path_kept ps (paths_after names qs ss) r (kept_after ps (r ∷ ss)) first in
       ap (slice_get (paths_after names qs ss)) here
       ∙ kept_after qs ss (length ps) (path_at names ps r) seam
       ∙ ap Some (path ∙ ap (path_at names (paths_after names qs ss)) same)
   after_at ps (r ∷ ss) (suc k) n s at is before =
-      after_at (ps ++ path_at names ps r ∷ []) ss k n s at (omega (arith, is, length_push ps (path_at names ps r))) before
+      after_at (ps ++ path_at names ps r ∷ []) ss k n s at (omega (arith, is, length_push ps (path_at names ps r)))
+      before
 
   -- the path of a step stands at its place
   pub path_there : (ss : List Step) (k : ℕ) (s : Step) → slice_get ss k ≡ Some s → IsBefore names k s

@@ -4,7 +4,6 @@ use Rattle.std.specs.Prelude.{slice_get}
 use Rattle.std.proofs.lemmas.List.{append-nil, append_assoc, reverse-append}
 use Rattle.std.proofs.lemmas.Option.{same_Some, slice_get_within}
 use Rattle.pc_entity.proofs.LookupLemmas.{found_at}
-use Rattle.pc_numbers.specs.declared.runtime.ImportIndex.{ImportIndex}
 use Rattle.pc_entity.specs.declared.string_pool.Atom.{Atom}
 use Rattle.pc_types.specs.TypeTree.{Path}
 use Rattle.pc_inline_paths.specs.declared.path_id.PathId.{PathId}
@@ -54,11 +53,3 @@ module _ (texts : List (List ℕ)) (ps : List Path) (id : PathId) where
               ∙ ap (λ ns. Some (record { import = f.0.import; names = ns }))
               (append_assoc f.0.names (name ∷ []) (reverse names) ∙ ap (λ ns. f.0.names ++ ns) backwards);
         }
-
-    -- all names are written
-    pub all_written : (i : ImportIndex) → slice_get ps at.0 ≡ Some (path_at texts ps (step.Import i))
-        → slice_get ps id.0 ≡ Some (record { import = i.0; names = reverse names })
-    all_written i there =
-        let front = same_Some so_far.front (record { import = i.0; names = [] }) (sym so_far.held ∙ there) in
-        so_far.whole
-        ∙ ap (λ (q : Path). Some (record { import = q.import; names = q.names ++ reverse names })) front

@@ -1,14 +1,15 @@
 //! The paths to host items, each with an id of its own.
 //!
-//! Many host items come from one import, and their paths begin alike. So of a path its last step alone is kept: it ends
-//! at an import of the root, or it goes one name further than a path with an earlier id, by the number of the name. So a
-//! member of a host instance costs the same however long its name is, and however far the instance is from the import.
-//! The names of a whole path are written out where its host item is used: from the last step back to the import.
+//! Many host items come from one import, and their paths begin alike. So of a path its last step alone is kept: it
+//! ends at an import of the root, or it goes one name further than a path with an earlier id, by the number of the
+//! name. So a member of a host instance costs the same however long its name is, and however far the instance is from
+//! the import. The names of a whole path are written out where its host item is used: from the last step back to the
+//! import.
 //!
 //! Equal steps share an id. As a step names the path before it by id, equal paths do too.
 
-ghost use Rattle.std.specs.Prelude.{◌≡◌, ◌<◌, ◌≤◌, ◌↔◌, ℕ, List, [], Err, IfOk, OnErr, Some, Contains, length, nat_eq, nat_lt};
-ghost use Rattle.std.specs.Prelude.{slice_get};
+ghost use Rattle.std.specs.Prelude.{◌≡◌, ◌<◌, ◌≤◌, ◌↔◌, ℕ, List, [], Err, IfOk, OnErr, Some, Contains, length, nat_eq};
+ghost use Rattle.std.specs.Prelude.{nat_lt, slice_get};
 ghost use Rattle.pc_entity.specs.Lists.{AreDistinct, Kept};
 ghost use Rattle.pc_types.specs.TypeTree.{Path};
 ghost use Rattle.pc_inline_paths.specs.Paths.{IsFull, TakesIn, at_import, further};
@@ -23,8 +24,8 @@ use std::marker::Model;
 /// The most paths.
 const MAX_PATHS: usize = 4294967295;
 
-/// Paths to host items. A contract sees the names that they are written in, and the list of the paths, each at the place
-/// that its id says. No path stands there twice.
+/// Paths to host items. A contract sees the names that they are written in, and the list of the paths, each at the
+/// place that its id says. No path stands there twice.
 #[derive(Drop)]
 pub struct Paths<'a> {
     names: &'a Interner<Text>,

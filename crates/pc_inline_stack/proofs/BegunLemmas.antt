@@ -1,6 +1,7 @@
 -- A state in which one more component instance has begun.
 use Rattle.std.proofs.Common.{◌≡◌, ℕ, ◌+◌, List, Option, Some, length, refl, ap, arith}
 use Rattle.std.specs.Prelude.{slice_get}
+use Rattle.pc_entity.proofs.Growing.{kept_refl}
 use Rattle.pc_types.specs.declared.module_record.ModuleRecord.{ModuleRecord}
 use Rattle.pc_types.specs.declared.parsed.CoreKind.{CoreKind}
 use Rattle.pc_types.specs.declared.parsed.TypeTable.{TypeTable}
@@ -33,6 +34,7 @@ use Rattle.pc_inline_state.proofs.IntrinsicLemmas.{intrinsics_kept}
 use Rattle.pc_inline_state.proofs.InstanceLemmas.{instances_kept, widths_kept}
 use Rattle.pc_inline_canon.proofs.AdapterKeptLemmas.{adapters_items_kept, adapters_still}
 use Rattle.pc_inline_canon.proofs.KeptLemmas.{is_item_kept}
+use Rattle.pc_inline_state.proofs.PlacedLemmas.{placed_kept}
 use Rattle.pc_inline_state.proofs.StateLemmas.{module_grows, types_refl}
 use Rattle.pc_inline_canon.proofs.WorldLemmas.{declared_still, effect_still, import_still, imported_same}
 use Rattle.pc_inline_canon.proofs.WorldLemmas.{trampoline_still}
@@ -166,6 +168,8 @@ begun_sound t ms st grows ordered s = record {
   instances = instances_kept ms (tables_of st) (tables_of (record st { graph = begun_graph st.graph }))
       (begun_keeps st grows) refl st.runtime_instances.items s.instances;
   widths = widths_kept t ms st.runtime_instances.items st.graph (begun_graph st.graph) refl s.widths;
+  placed = placed_kept t ms st (record st { graph = begun_graph st.graph }) (begun_keeps st grows)
+      (kept_refl st.runtime_instances.items) refl s.placed;
 }
 
 begun_lists : (g : ComponentDfg) (l : ListName) → length (entries_of (begun_graph g) l) ≡ length (entries_of g l)

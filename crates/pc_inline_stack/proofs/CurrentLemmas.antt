@@ -1,5 +1,6 @@
 -- Other resources are known, or types are converted for another component instance: what waits knows what it knew.
 use Rattle.std.proofs.Common.{◌≡◌, ℕ, List, refl, sym, ◌∙◌}
+use Rattle.pc_entity.proofs.Growing.{kept_refl}
 use Rattle.pc_types.specs.declared.module_record.ModuleRecord.{ModuleRecord}
 use Rattle.pc_types.specs.declared.parsed.TypeTable.{TypeTable}
 use Rattle.pc_types_lists.specs.Known.{resource_of}
@@ -22,6 +23,7 @@ use Rattle.pc_inline_state.specs.Trails.{Trails}
 use Rattle.pc_inline_state.specs.Worlds.{WorldStands}
 use Rattle.pc_inline_state.proofs.GainedLemmas.{tables_aside}
 use Rattle.pc_inline_state.proofs.InstanceLemmas.{instances_kept}
+use Rattle.pc_inline_state.proofs.PlacedLemmas.{placed_kept}
 use Rattle.pc_inline_state.proofs.StateLemmas.{keeps_refl, module_grows}
 use Rattle.pc_inline_canon.proofs.WorldLemmas.{world_still}
 
@@ -89,6 +91,8 @@ current_sound t ms st r s = record {
   instances = instances_kept ms (tables_of st) (record (tables_of st) { types = going_on_with st.types r })
       (current_keeps (tables_of st) r) refl st.runtime_instances.items s.instances;
   widths = s.widths;
+  placed = placed_kept t ms st (record st { types = going_on_with st.types r }) (current_keeps (tables_of st) r)
+      (kept_refl st.runtime_instances.items) refl s.placed;
 }
 
 -- the graph does what it did

@@ -48,11 +48,6 @@ undone_same (c ∷ cs) known other same n =
     let rest = undone_same cs known other same n in
     λ i. if n == c.number then c.was else rest i
 
--- what an error makes of what is said of a success: nothing
-pub on_error : {A E : Type 0} (r : Result A E) (P : E → Type 0) (X : Type 0) → IsErrAnd r P → OnOk r X
-on_error (Ok x) P X is = absurd is
-on_error (Err e) P X is = tt
-
 -- what holds of it whatever happens
 pub on_ok : {A E X : Type 0} (r : Result A E) → X → OnOk r X
 on_ok (Ok x) h = h

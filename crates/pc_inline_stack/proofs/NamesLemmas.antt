@@ -1,7 +1,6 @@
 -- The numbers that are looked up are those of the names that are read.
 use Rattle.std.proofs.Common.{◌≡◌, ℕ, List, ◌∷◌, Option, Some, map, sym, ap, subst, ◌∙◌}
 use Rattle.std.specs.Prelude.{slice_get, unwrap_or}
-use Rattle.pc_numbers.specs.declared.component_entity.StaticComponentIndex.{StaticComponentIndex}
 use Rattle.pc_entity.specs.declared.string_pool.Atom.{Atom}
 use Rattle.pc_entity.proofs.LookupLemmas.{found_at}
 use Rattle.pc_types.specs.declared.module_record.ModuleRecord.{ModuleRecord}
@@ -12,7 +11,7 @@ use Rattle.pc_local.specs.declared.item.LocalInitializer.{LocalInitializer}
 use Rattle.pc_local.specs.declared.item.LocalInitializer.TheVariants as local
 use Rattle.pc_local.specs.declared.item.Translation.{Translation}
 use Rattle.pc_local.specs.Sound.{export_name}
-use Rattle.pc_inline_names.specs.Named.{Named, argument_name, item_names}
+use Rattle.pc_inline_names.specs.Named.{Named, argument_name, item_names, nested_at}
 use Rattle.pc_inline_names.specs.Numbers.{AreNumbersOf}
 use Rattle.pc_inline_state.specs.declared.state.State.{State}
 use Rattle.pc_inline_stack.specs.declared.driver.Open.{Open}
@@ -59,8 +58,7 @@ module _ (t : TypeTable) (ms : List ModuleRecord) (limit : ℕ) (root : Translat
   pub exports_numbered : (st : State) (caller : Open) (ks : List Open) (o : Open) (total : ℕ)
       → AreUnderway t ms limit root st (caller ∷ ks) o total → (child : Open) → child ≡ o
       → (es : List (ExternName × ItemKind × ℕ)) → es ≡ its_exports root st child → (ns : List Atom)
-      → ((index : StaticComponentIndex) (tr : Translation) → child.body ≡ Some index
-      → slice_get st.names.now.bodies index.0 ≡ Some tr
+      → ((tr : Translation) → nested_at st.names.now.bodies child.body ≡ Some tr
       → AreNumbersOf st.names.now.texts (map export_name tr.exports) ns)
       → AreNumbersOf st.names.now.texts (map export_name es) ns
   exports_numbered st caller ks o total under child was es are ns found =
@@ -73,4 +71,4 @@ module _ (t : TypeTable) (ms : List ModuleRecord) (limit : ℕ) (root : Translat
       let there = subst (λ bs. slice_get bs has.index.0 ≡ Some body.0)
       (sym (named_bodies st (caller ∷ ks) o total under)) body.1 in
       subst (λ xs. AreNumbersOf st.names.now.texts (map export_name xs) ns) (sym same)
-      (found has.index body.0 is there)
+      (found body.0 (ap (nested_at st.names.now.bodies) is ∙ there))

@@ -12,11 +12,10 @@ use Rattle.pc_inline_state.specs.declared.frame.Frame.{Frame}
 use Rattle.pc_inline_stack.specs.Stacks.{AllStand, Grew, OpenStands, Reader, Waiting, child_stands, root_stands}
 use Rattle.pc_inline_state.specs.Tables.{Keeps, Tables}
 use Rattle.pc_inline_state.specs.Trails.{Trails}
-use Rattle.pc_types_lists.specs.Known.{resource_of}
 use Rattle.pc_types_lists.specs.Types.{Resources}
-use Rattle.pc_inline_stack.proofs.CurrentLemmas.{converted_again, converted_still, waits_again}
+use Rattle.pc_inline_stack.proofs.CurrentLemmas.{converted_still, waits_again}
 use Rattle.pc_inline_stack.proofs.EnclosedLemmas.{HasClosure, enclosed_kept}
-use Rattle.pc_inline_state.proofs.KnowsLemmas.{knows_as, knows_grown}
+use Rattle.pc_inline_state.proofs.KnowsLemmas.{knows_grown}
 use Rattle.pc_inline_canon.proofs.KeptLemmas.{frame_kept}
 
 -- what a component instance captured is in the table
@@ -50,20 +49,6 @@ module _ (t : TypeTable) (ms : List ModuleRecord) (bodies : List Translation) (r
     as_deep k ks o ws r (child_stands {j = j} {os = os} {caller = c} {ws = vs} {w = w} h has caller waits
         all) =
         let same = as_deep j os c vs w.reader all in omega (arith, same)
-
-    -- it goes on with resources among which the same ones are known, where types are converted for the same component
-    -- instance
-    pub open_again : (k l : Resources) → ((n : ℕ) → resource_of l.known n ≡ resource_of k.known n)
-        → l.current ≡ k.current → (o : Open) (r : Reader) → OpenStands t ms bodies root b k o r
-        → OpenStands t ms bodies root b l o r
-    open_again k l same current o r h = record {
-      frame = h.frame;
-      here = knows_as b.graph k r.scope h.here l same current;
-      converted = converted_again k l same current b.types t o.frame.converted h.converted;
-      enclosed = h.enclosed;
-      closed = h.closed;
-      items = h.items;
-    }
 
   module _ (b c : Tables) (keeps : Keeps b c) where
     -- a component instance stands when the tables have grown

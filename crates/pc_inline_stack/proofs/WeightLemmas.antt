@@ -59,11 +59,6 @@ types_named xs = sym (types_counted xs) ∙ by xs
     by [] = refl
     by (x ∷ xs) = let rest = by xs in λ i. type_count x.1 + rest i
 
--- an item is an export at the most
-one_export : (i : Item.Item) (is : Items) → length (exports_in (and_item i is)) ≤ length (exports_in is) + 1
-one_export (Item.export_item e) is = omega arith
-one_export i is = omega arith
-
 module _ (t : TypeTable) (ms : List ModuleRecord) where
   -- what a conversion adds at the most
   abbrev one : ℕ

@@ -3,7 +3,6 @@
 
 ghost use Rattle.std.specs.Prelude.{◌≡◌, ◌<◌, ◌≤◌, ◌+◌, ◌*◌, ◌++◌, ◌∷◌, ℕ, List, [], false, true, length, map, reverse};
 ghost use Rattle.std.specs.Prelude.{None, Some, slice_get, option_and_then, OnOk, unwrap_or};
-ghost use Rattle.pc_entity.specs.declared.string_pool.Atom.{Atom};
 ghost use Rattle.pc_types.specs.Names.{distinct_names};
 ghost use Rattle.pc_types.specs.declared.parsed.TypeTable.{TypeTable};
 ghost use Rattle.pc_types.specs.Table.{is_instance, table_fault};
@@ -15,8 +14,6 @@ ghost use Rattle.pc_spec_reading.specs.Section.{argument_of};
 ghost use Rattle.pc_spec_reading.specs.Types.{has_entry};
 ghost use Rattle.pc_spec_reading.specs.Value.{NamedValue, pack_values};
 ghost use Rattle.pc_local.specs.Sound.{IsSoundBody, export_name};
-ghost use Rattle.pc_numbers.specs.declared.component_entity.StaticComponentIndex.{StaticComponentIndex};
-ghost use Rattle.pc_local.specs.declared.item.Translation.{Translation};
 ghost use Rattle.pc_local.specs.declared.item.LocalInitializer.TheVariants as local;
 ghost use Rattle.pc_inline_names.specs.Named.{argument_name, item_names};
 ghost use Rattle.pc_inline_names.specs.Numbers.{AreNumbersOf};
@@ -40,7 +37,7 @@ use pc_entity::{
     Atom, NoMemory, PrimaryMap, RuntimeComponentInstanceIndex, StaticComponentIndex, Text,
 };
 use pc_inline_items::{add_instance, are_there, are_typed, argument_values, export_members, step};
-use pc_inline_names::{AtomMap, ProgramNames};
+use pc_inline_names::AtomMap;
 use pc_inline_resources::return_resources;
 use pc_inline_state::{
     Change, ClosureId, Context, Definition, DefinitionId, Frame, ItemError, ItemFault, Member,
@@ -386,19 +383,6 @@ fn type_at(
     }
 }
 
-/// The numbers of the names of what a child exports, which has the body of this number.
-fn export_numbers<'b>(names: &'b ProgramNames<'_>, body: Option<StaticComponentIndex>) -> &'b [Atom]
-    ensures { (index : StaticComponentIndex) (tr : Translation) → body ≡ Some index
-        → slice_get names.now.bodies index.0 ≡ Some tr
-        → AreNumbersOf names.now.texts (map export_name tr.exports) result.now }
-{
-    match body {
-        Some(index) => names.body_exports(index),
-        // Never nothing: a child has one of the bodies, which the contract knows.
-        None => &[],
-    }
-}
-
 /// The items of a child have been read: the component instance that waits for it goes on.
 fn leave(
     context: &Context<'_>,
@@ -422,7 +406,7 @@ fn leave(
     let ty = type_at(state.bodies, root, &caller).unwrap_or(0);
     let mut child = mem::replace(&mut stack.top, caller);
     let exports = body_at(state.bodies, root, child.body).exports.as_slice();
-    let numbers = export_numbers(state.names, child.body);
+    let numbers = state.names.body_exports(child.body);
     let ended = end_child(
         context,
         state,

@@ -2,9 +2,8 @@
 
 use crate::shapes::{Shape, table_of};
 use crate::support::{found_together, holds, walk_from};
-use pc_entity::Seed;
 use pc_types::TypeTable;
-use pc_types_walk::{Place, TableNames, Walk};
+use pc_types_walk::{Place, Walk};
 use std::test::*;
 
 /// Resource 3 is found at `x`, and resource 0 at `y`, `b`; that it is at `z` too doesn't count.
@@ -54,16 +53,6 @@ fn named(table: &TypeTable, walk: &Walk, place: usize, name: &str) -> bool {
         },
         None => false,
     }
-}
-
-/// An export stands at its place, and a name that no export has at none.
-#[test]
-fn each_name_has_its_place(rt: HostRuntime) {
-    let table = table_of(&rt, rt.alloc(), Shape::Small);
-    let names = TableNames::new(rt.alloc(), Seed::fixed(), &table).expect(&rt, "no memory");
-    holds(&rt, "y", names.place(4, "y") == Some(1));
-    holds(&rt, "b", names.place(4, "b") == None);
-    holds(&rt, "resource", names.place(0, "y") == None);
 }
 
 /// There are 2 ^ 40 paths.

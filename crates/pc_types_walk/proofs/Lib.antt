@@ -4,7 +4,6 @@ pub mod NewlyLemmas
 mod FreshLemmas
 mod KeptLemmas
 mod ListLemmas
-mod NameLemmas
 mod PathLemmas
 mod StepLemmas
 mod WalkLemmas

@@ -70,9 +70,3 @@ pub past_none : {A : Type 0} (xs : List A) (n : ℕ) → length xs ≤ n → sli
 past_none [] n past = refl
 past_none (x ∷ xs) zero past = absurd (omega (arith, past))
 past_none (x ∷ xs) (suc n) past = past_none xs n (omega (arith, past))
-
--- where nothing stands is past a list
-pub none_within : {A : Type 0} (xs : List A) (n : ℕ) → slice_get xs n ≡ None → length xs ≤ n
-none_within [] n at = omega arith
-none_within (x ∷ xs) zero at = absurd (none-some x (sym at))
-none_within (x ∷ xs) (suc n) at = omega (arith, none_within xs n at)

@@ -1,6 +1,6 @@
 -- Where the exports of a type stand, by their names.
-use Rattle.std.specs.Prelude.{◌≡◌, ℕ, List, [], length, Option, Some, slice_get, option_and_then}
-use Rattle.pc_entity.specs.Lists.{names_of, value_of}
+use Rattle.std.specs.Prelude.{ℕ, List, [], Option, slice_get, option_and_then}
+use Rattle.pc_entity.specs.Lists.{names_of}
 use Rattle.pc_types.specs.declared.parsed.DeclType.{DeclType}
 use Rattle.pc_types.specs.declared.parsed.DeclType.TheVariants as entry
 use Rattle.pc_types.specs.declared.parsed.TypeTable.{TypeTable}
@@ -15,9 +15,3 @@ export_names _ = []
 -- the first place of a name among the exports of an entry
 abbrev pub export_place : TypeTable → (n : ℕ) → (name : List ℕ) → Option ℕ
 export_place t n name = option_and_then (λ e. place_from 0 name (export_names e)) (slice_get t.types n)
-
--- for each entry of a table the first places of names among its exports
-pub record AreTableNames (t : TypeTable) (names : List (List (List ℕ × ℕ))) : Type 0 where
-  pub count : length names ≡ length t.types
-  pub first : (n : ℕ) (places : List (List ℕ × ℕ)) → slice_get names n ≡ Some places → (name : List ℕ)
-      → value_of name places ≡ export_place t n name

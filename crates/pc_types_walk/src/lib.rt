@@ -5,9 +5,7 @@
 #![tactic(auto)]
 
 pub mod leads;
-pub mod names;
 pub mod walk;
 
 pub use leads::Leads;
-pub use names::TableNames;
 pub use walk::{Found, Place, Walk};

@@ -1,4 +1,4 @@
-use Rattle.std.proofs.Common.{[], Some, refl, ap, sym, ◌∙◌}
+use Rattle.std.proofs.Common.{[], ap, sym, ◌∙◌}
 use Rattle.std.specs.Prelude.{get_or, option_and_then}
 use Rattle.std.proofs.lemmas.Option.{slice_get-get_or}
 use Rattle.pc_inline_state.specs.declared.frame.Frame.{Frame}

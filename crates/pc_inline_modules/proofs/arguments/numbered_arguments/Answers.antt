@@ -1,4 +1,4 @@
-use Rattle.std.proofs.Common.{◌<◌, [], Some, None, length, refl, ap, sym, subst, ◌∙◌, arith}
+use Rattle.std.proofs.Common.{◌<◌, [], Some, None, length, ap, sym, subst, ◌∙◌, arith}
 use Rattle.std.proofs.lemmas.List.{length-map, take_all}
 use Rattle.std.proofs.lemmas.Option.{slice_get-get_or}
 use Rattle.pc_entity.specs.Lists.{map_all, names_of}

@@ -2,7 +2,7 @@ use Rattle.std.proofs.Common.{◌<◌, ℕ, List, [], ◌∷◌, ◌++◌, Some,
 use Rattle.std.proofs.lemmas.Option.{slice_get-get_or, slice_get_past, slice_get_read}
 use Rattle.std.proofs.lemmas.List.{take_all}
 use Rattle.pc_entity.specs.declared.string_pool.Atom.{Atom}
-use Rattle.pc_entity.specs.Lists.{map_all, names_of}
+use Rattle.pc_entity.specs.Lists.{map_all}
 use Rattle.pc_entity.proofs.LookupLemmas.{done_here}
 use Rattle.pc_numbers.specs.declared.entity_index.EntityIndex.{EntityIndex}
 use Rattle.pc_spec_reading.specs.Modules.{bag_entry}

@@ -21,7 +21,7 @@ end_child-ended-requires-clause-numbered c =
     exports_numbered _ _ _ c.args.root.now c.args.state.now c.args.caller _ c.args.stack.now.top _ c.requires.here _
     c.replace-child.ensures.value _
     (c.as_slice-exports.ensures ∙ ap (λ (tr : Translation). tr.exports) c.body_at.ensures) _
-    c.export_numbers-numbers.ensures
+    c.body_exports-numbers.ensures
 
 pub end_child-ended-requires-clause-typed : goal.end_child-ended-requires-clause-typed
 end_child-ended-requires-clause-typed c =

@@ -5,9 +5,15 @@ use Rattle.pc_inline_paths.proofs.paths.Paths.len.Goals as goal
 
 pub returns-clause-value : goal.returns-clause-value
 returns-clause-value c =
-    c.len.ensures ∙ sym (as_many c.self.inside.names.now c.self.inside.steps c.args.self.now.held (ap (λ (v : HeldPaths). v.held) c.self.view_is) c.self.invariant)
+    c.len.ensures
+    ∙ sym (as_many c.self.inside.names.now c.self.inside.steps c.args.self.now.held
+    (ap (λ (v : HeldPaths). v.held) c.self.view_is) c.self.invariant)
 
 pub returns-clause-bound : goal.returns-clause-bound
 returns-clause-bound c =
-    omega
-    (arith, c.self.invariant.few, as_many c.self.inside.names.now c.self.inside.steps c.args.self.now.held (ap (λ (v : HeldPaths). v.held) c.self.view_is) c.self.invariant)
+    omega (
+      arith,
+      c.self.invariant.few,
+      as_many c.self.inside.names.now c.self.inside.steps c.args.self.now.held
+          (ap (λ (v : HeldPaths). v.held) c.self.view_is) c.self.invariant,
+    )

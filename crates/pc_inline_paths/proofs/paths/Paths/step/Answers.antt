@@ -13,7 +13,8 @@ bounds-as_slice-id c =
       arith,
       c.requires.held,
       ap length c.as_slice.ensures.values,
-      as_many c.self.inside.names.now c.self.inside.steps c.args.self.now.held (ap (λ (v : HeldPaths). v.held) c.self.view_is) c.self.invariant,
+      as_many c.self.inside.names.now c.self.inside.steps c.args.self.now.held
+          (ap (λ (v : HeldPaths). v.held) c.self.view_is) c.self.invariant,
     )
 
 pub returns-clause-path : goal.returns-clause-path
