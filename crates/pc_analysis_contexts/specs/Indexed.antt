@@ -3,15 +3,11 @@ use Rattle.std.specs.Prelude.{◌≡◌, ℕ, ◌-◌, Bool, ◌&&◌, nat_le, n
 use Rattle.pc_numbers.specs.declared.entity_index.EntityIndex.{EntityIndex}
 use Rattle.pc_types.specs.declared.by_kind.ByKind.{ByKind}
 use Rattle.pc_types.specs.declared.module_record.ModuleRecord.{ModuleRecord}
-use Rattle.pc_types.specs.declared.parsed.CoreEntity.{CoreEntity}
 use Rattle.pc_types.specs.declared.parsed.CoreKind.{CoreKind}
 use Rattle.pc_types.specs.ByKind.{of_kind}
-use Rattle.pc_types.specs.Record.{defined, index_kind, index_number, places_from}
+use Rattle.pc_types.specs.Record.{defined, index_kind, index_number}
+use Rattle.pc_types_record.specs.Places.{ArePlacesOf}
 use Rattle.pc_analysis_contexts.specs.declared.import_index.ImportIndex.{ImportIndex}
-
--- they are the places of these imports, by kind
-abbrev pub ArePlacesOf : List (List ℕ × List ℕ × CoreEntity) → ByKind (List ℕ) → Type 0
-ArePlacesOf imports places = (k : CoreKind) → of_kind places k ≡ places_from k 0 imports
 
 -- so many entities of each kind a module defines
 abbrev pub AreDefinedOf : ModuleRecord → ByKind ℕ → Type 0

@@ -21,13 +21,13 @@ use std::alloc::Global;
 fn keys_at(
     alloc: Global,
     keys: &[Option<Key>],
-    places: &[usize],
+    places: &[u32],
 ) -> Result<Vec<Option<Key>>, NoMemory>
     ensures { IfOk result (λ found. found.items ≡ map (key_at keys.now) places.now) }
 {
     let mut found = Vec::with_capacity(alloc, places.len())?;
     for place in places {
-        found.push(key_at(keys, *place))?;
+        found.push(key_at(keys, *place as usize))?;
     }
     Ok(found)
 }

@@ -1,9 +1,8 @@
--- A graph that has let go of its exports has its definitions as before.
+-- Exports are taken from the end of a list, and a graph that has let go of its exports has its definitions as before.
 use Rattle.std.proofs.Common.{◌≡◌, List, [], ◌∷◌, ◌++◌, length, All, get_or, Option, None, Some, refl, sym, ap, subst}
-use Rattle.std.proofs.Common.{◌∙◌, ℕ}
+use Rattle.std.proofs.Common.{◌∙◌, ℕ, append-nil, append_assoc, arith}
 use Rattle.std.specs.Prelude.{IfSome}
 use Rattle.std.specs.List.{AllZip}
-use Rattle.std.proofs.lemmas.List.Elements.{All-head, All-tail}
 use Rattle.pc_types.specs.declared.type_index.TypeModuleIndex.{TypeModuleIndex}
 use Rattle.pc_info.specs.declared.export.Export.{Export as PlanItem}
 use Rattle.pc_info.specs.declared.export.Export.TheVariants as item
@@ -21,15 +20,29 @@ use Rattle.pc_dfg_linearize.specs.Ready.{IsReadyDef}
 use Rattle.pc_dfg_finish.specs.Exports.{CanExport, CanLift, IsConverted, IsExportable, IsLiftable, function_of}
 use Rattle.pc_dfg_finish.specs.ModuleTypes.{IsTyped}
 use Rattle.pc_dfg_finish.specs.Taken.{CanConvert, without_exports}
-use Rattle.pc_dfg_finish.proofs.ItemLemmas.{zip_weaker}
+use Rattle.pc_dfg_finish.proofs.ItemLemmas.{zip_push, zip_weaker}
 
--- the next item of a list has what all have
-pub next_has : {A : Type 0} (P : A → Type 0) (ys zs xs : List A) (x : A) → ys ++ x ∷ zs ≡ xs → All P xs → P x
-next_has {A} P ys zs xs x is all = inside ys (subst (All P) (sym is) all)
-  where
-    inside : (ws : List A) → All P (ws ++ x ∷ zs) → P x
-    inside [] these = All-head P x zs these
-    inside (w ∷ ws) these = inside ws (All-tail P w (ws ++ x ∷ zs) these)
+module _ {A B : Type 0} (R : A → B → Type 0) (xs : List A) where
+  -- behind the items for what is left of a list, these are the items for the rest of it
+  abbrev pub Completes : List A → List B → Type 0
+  Completes left ys = (front : List B) → AllZip R left front → AllZip R xs (front ++ ys)
+
+  -- at the beginning
+  pub completes_none : Completes xs []
+  completes_none front zip = subst (AllZip R xs) (sym (append-nil front)) zip
+
+  -- one is taken from the end
+  pub completes_next : (left rest : List A) (x : A) (ys : List B) (y : B) → left ≡ rest ++ x ∷ [] → R x y
+      → Completes left ys → Completes rest (y ∷ ys)
+  completes_next left rest x ys y popped is completes front zip =
+      subst (AllZip R xs) (append_assoc front (y ∷ []) ys)
+      (completes (front ++ y ∷ [])
+      (subst (λ l. AllZip R l (front ++ y ∷ [])) (sym popped) (zip_push R rest front x y zip is)))
+
+  -- in the end
+  pub completes_all : (left : List A) (ys : List B) → length left ≡ 0 → Completes left ys → AllZip R xs ys
+  completes_all [] ys none completes = completes [] tt
+  completes_all (x ∷ left) ys none completes = absurd (omega (arith, none))
 
 module _ (g : ComponentDfg) (f : Finish) where
   ready_still : (made : ℕ) (d : CoreDef) → IsReadyDef g made d → IsReadyDef (without_exports g) made d

@@ -1,7 +1,8 @@
 //! The exports of a plan. Each item of the graph becomes the item of the same number, so those within an instance stand
 //! before it. All that the functions among them depend on is made first; then nothing changes any more, and the items
-//! are looked up. The graph's own exports are taken out of it for that, each of which goes once the plan has it: names
-//! are the most of what a component with many exports consists of, and aren't to be there twice.
+//! are looked up. The graph's own exports are taken out of it for that. Each of them goes once the plan has it, and the
+//! memory of their list is given back: names and items are the most of what a component with many exports consists of,
+//! and aren't to be there twice.
 
 ghost use Rattle.std.specs.Prelude.{◌≡◌, ◌++◌, ◌∷◌, [], None, Some, All, Err, IfOk, OnOk, length};
 ghost use Rattle.std.specs.List.{AllZip};
@@ -216,7 +217,17 @@ fn push_item(items: &mut Vec<pc_info::Export>, item: pc_info::Export) -> Result<
     Ok(items.push(item)?)
 }
 
-/// Exports as the plan has them, in their order.
+/// Gives back the memory of exports that were taken, once less than half of it is in use. While a list is emptied this
+/// moves no more exports in all than there were.
+fn give_back_half(exports: &mut Vec<Export>)
+    ensures { exports.new.items ≡ exports.old.items }
+{
+    if exports.len() < exports.capacity() / 2 {
+        exports.shrink_to_fit();
+    }
+}
+
+/// Exports as the plan has them, in their order. They are taken from the end, so that their memory can be given back.
 fn items_of(
     alloc: Global,
     graph: &ComponentDfg,
@@ -227,11 +238,14 @@ fn items_of(
     requires can { All (CanConvert graph.now types.now finish.now) exports.items }
     ensures { IfOk result (λ items. AllZip (IsConverted graph.now types.now finish.now) exports.items items) }
 {
-    let mut items = Vec::with_capacity(alloc, exports.len())?;
-    for export in exports {
+    let mut left = exports;
+    let mut items = Vec::with_capacity(alloc, left.len())?;
+    while let Some(export) = left.pop() {
         let item = item_of(alloc, graph, finish, types, export)?;
         push_item(&mut items, item)?;
+        give_back_half(&mut left);
     }
+    items.reverse();
     Ok(PrimaryMap::from_vec(items))
 }
 
