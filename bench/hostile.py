@@ -117,6 +117,13 @@ def many_exports_of_form_two(room):
     return of_form_two(names, PLAIN_TYPES, payloads)
 
 
+def aliases_of_a_long_name_of_form_two(room):
+    """Half of the bytes are one name, under which a function is aliased over and over, by the number of the name: the
+    product."""
+    payloads = BASE_BY_NUMBER[:-1] + list(repeated(lambda n: BASE_BY_NUMBER[-1], room // 2)) + ['"end"']
+    return of_form_two(['"%s"' % name_of(room, 2)], PLAIN_TYPES, payloads)
+
+
 def an_export_twice(room):
     """The last of all names is the first one again."""
     tail = '{"exports":[["e0","func",0]]}'
@@ -1207,14 +1214,29 @@ def then_lowered(room, types, root, lower):
 
 
 def lowerings_over_a_long_host_memory(room):
-    """One function is lowered over and over with an imported module's memory of a very long name: the product."""
+    """One function is lowered over and over with an imported module's memory of a very long name."""
     return then_lowered(room, *long_host_item(room, '["memory",false]'), '["lower",0,1,0,[["memory",0]]]')
 
 
 def equal_adapters_of_a_long_host_function(room):
-    """An imported module's function of a very long name is lifted, and that is lowered over and over: the product."""
+    """An imported module's function of a very long name is lifted, and that is lowered over and over: one adapter."""
     types, root = long_host_item(room, '["func",0]')
     return then_lowered(room, types, root + [LIFTS], '["lower",1,1,0,[]]')
+
+
+def equal_adapters_of_many_aliases(room):
+    """A function and a memory of an imported module have long names and many aliases each. The functions are lifted, and
+    each is lowered with each of the memories: one adapter, which is looked up by its names for each pair."""
+    lower = '["lower",1000,1,0,[["memory",1000]]],'
+    count = int((room // 2 // len(lower)) ** 0.5) + 1
+    names = [kind + "n" * (room // 4 // count) for kind in ("f", "m")]
+    types = NEST_TYPES[:-2] + ',{"module":[[],[["%s",["func",0]],["%s",["memory",false]]]]}]}' % tuple(names)
+    aliases = ['["func",0,"%s"]' % names[0], '["memory",0,"%s"]' % names[1]]
+    taken = [fill('{"aliases":[', lambda n: '{"core-export":%s}' % alias, "]}", count) for alias in aliases]
+    lifted = fill('{"canon":[', lambda n: '["lift",%d,1,0,[]]' % n, "]}", count)
+    pairs = '["lower",%d,1,0,[["memory",%d]]]'
+    lowered = fill('{"canon":[', lambda n: pairs % (n // count, n % count), "]}", count * count)
+    return over(types, '{"imports":[["m",["module",4]]]}', INSTANCE, *taken, lifted, lowered)
 
 
 def many_resources(room):
@@ -1256,17 +1278,24 @@ def children_given_a_resource(room):
     return over(resources(2), '{"imports":[["r",["type",4]]]}', child, begins)
 
 
-def resources_between(room, first, front, known):
-    """Imports of resources, each its own, and after each one of a function over the last of very many lists."""
+def resources_between(room, first, front, known, width=1, declared=lambda r: '"resource"', used=lambda n, r: ""):
+    """Imports of resources, each its own, and after each one of a function over the last of very many lists.
+
+    `declared` gives `width` entries for each, of which it is the first, and `used` imports in front of its own.
+    """
     entries = room // 4 // len('{"list":1000000},')
-    count = room // 2 // len('"resource",["r0000000",["type",1000000]],["f0000000",["func",1000000]],')
+    pair = '["r%07d",["type",%d]],["f%07d",["func",%d]]'
+    count = room // 2 // len("%s,%s%s," % (declared(1000000), used(0, 1000000), pair % (0, 1000000, 0, 1000000)))
     last = entries + 3 + len(front)
     lists = fill("".join([NEST_TYPES[:-2] + ",", *front]),
                  lambda n: '{"list":%s}' % first if n == 0 else '{"list":%d}' % (n + 3 + len(front)), "", entries)
     long_type = ',{"func":{"params":[["a",%d]],"result":null,"async":false}}' % last
-    types = [*lists, long_type, *fill(",", lambda n: '"resource"', "]}", count)]
-    pair = '["r%07d",["type",%d]],["f%07d",["func",%d]]'
-    imports = fill('{"imports":[' + known, lambda n: pair % (n, n + last + 2, n, last + 1), "]}", count)
+
+    def number(n):
+        return last + 2 + width * n
+    types = [*lists, long_type, *fill(",", lambda n: declared(number(n)), "]}", count)]
+    imports = fill('{"imports":[' + known,
+                   lambda n: used(n, number(n)) + pair % (n, number(n), n, last + 1), "]}", count)
     return over(types, imports)
 
 
@@ -1275,9 +1304,21 @@ def resources_between_long_types(room):
     return resources_between(room, '"u8"', [], "")
 
 
+# entries that lead to a resource, which is imported first
+LONG_HANDLES = ["5", ['"resource",', '{"own":4},'], '["h",["type",4]],']
+
+
 def resources_between_long_handles(room):
-    """The same where these entries lead to a resource, and are forgotten as another becomes known: the product."""
-    return resources_between(room, "5", ['"resource",', '{"own":4},'], '["h",["type",4]],')
+    """The same where these entries lead to a resource, so that they are of this component instance."""
+    return resources_between(room, *LONG_HANDLES)
+
+
+def resources_known_after_use(room):
+    """The same where in front of each resource a function that takes it is imported: its type is another one then."""
+    return resources_between(
+        room, *LONG_HANDLES, 3,
+        lambda r: '"resource",{"own":%d},{"func":{"params":[["a",%d]],"result":null,"async":false}}' % (r, r + 1),
+        lambda n, r: '["g%07d",["func",%d]],' % (n, r + 2))
 
 
 def doubling_instance(room, depth):
@@ -1420,7 +1461,8 @@ def not_utf8(room):
 
 # the status that a run on each family has
 FAMILIES = {
-    many_lifts: 0, many_exports: 0, many_lifts_of_form_two: 0, many_exports_of_form_two: 0, an_export_twice: 1,
+    many_lifts: 0, many_exports: 0, many_lifts_of_form_two: 0, many_exports_of_form_two: 0,
+    aliases_of_a_long_name_of_form_two: 0, an_export_twice: 1,
     small_payloads: 0, empty_sections: 0, many_modules: 0,
     chain_of_modules: 0, chain_of_functions: 0, chain_of_memories: 0, records_of_many_globals: 0, wide_module: 0,
     wide_imports: 0, many_arguments: 0, long_signature: 0, long_function_type: 0,
@@ -1448,10 +1490,12 @@ FAMILIES = {
     children_with_a_long_alias: 0, children_with_a_long_bag: 0, children_with_a_long_core_export: 0,
     children_with_a_long_host_name: 0, children_with_a_long_resource: 0, children_with_a_long_label: 0,
     lowerings_over_a_long_host_memory: 0, equal_adapters_of_a_long_host_function: 0,
+    equal_adapters_of_many_aliases: 0,
     children_of_many_instances: 0, children_of_many_builtins: 0, captures_in_children: 0,
     many_resources: 0, resources_with_destructors: 0,
     imported_resources: 0, one_resource_imported_often: 0, children_with_a_resource: 0, children_given_a_resource: 0,
-    resources_between_long_types: 0, resources_between_long_handles: 0, doubling_instance_imported: 0,
+    resources_between_long_types: 0, resources_between_long_handles: 0, resources_known_after_use: 0,
+    doubling_instance_imported: 0,
     deep_doubling_instance_imported: 1,
     functions_of_a_host_instance: 0, instances_of_a_host_instance: 0, chain_of_host_instances: 0, host_modules: 0, wide_host_module: 0, exported_instance: 0, exported_instances: 0,
     exported_host_instance: 0, refusal_in_a_tree: 1, refusal_behind_a_tree: 1, refusal_in_a_host_tree: 1,
@@ -1469,7 +1513,7 @@ MOST_MIB = {
     reads_of_a_long_type: 1.5, used_waits: 11, long_result_in_children: 1, types_that_hash_alike: 4,
     long_result_of_handles_in_children: 1.5, children_of_many_instances: 0.6, children_of_many_builtins: 1.1,
     children_over_a_long_table: 1, children_with_a_long_type: 1, many_resources: 1.5, imported_resources: 1,
-    resources_between_long_types: 1.5, resources_between_long_handles: 1.5,
+    resources_between_long_types: 1.5, resources_between_long_handles: 1.5, resources_known_after_use: 1.5,
 }
 
 
