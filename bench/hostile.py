@@ -1225,8 +1225,8 @@ def equal_adapters_of_a_long_host_function(room):
 
 
 def equal_adapters_of_many_aliases(room):
-    """A function and a memory of an imported module have long names and many aliases each. The functions are lifted, and
-    each is lowered with each of the memories: one adapter, which is looked up by its names for each pair."""
+    """A function and a memory of an imported module have long names and many aliases each. The functions are lifted,
+    and each is lowered with each of the memories: one adapter, which is looked up by its names for each pair."""
     lower = '["lower",1000,1,0,[["memory",1000]]],'
     count = int((room // 2 // len(lower)) ** 0.5) + 1
     names = [kind + "n" * (room // 4 // count) for kind in ("f", "m")]
