@@ -1,7 +1,7 @@
 //! A list of distinct values, in which equal values share a number.
 
-ghost use Rattle.std.specs.Prelude.{◌≡◌, ◌++◌, ◌∷◌, ◌<◌, ◌≤◌, ◌⊎◌, IfSome, IfNone, [], length, slice_get, Contains};
-ghost use Rattle.std.specs.Prelude.{Some, IfOk, OnOk, OnErr};
+ghost use Rattle.std.specs.Prelude.{◌≡◌, ◌++◌, ◌∷◌, ◌<◌, ◌≤◌, ◌⊎◌, IfSome, IfNone, [], length, slice_get, take};
+ghost use Rattle.std.specs.Prelude.{Some, IfOk, OnOk, OnErr, Contains};
 ghost use Rattle.std.specs.Option.{option_copied};
 ghost use Rattle.std.specs.Iterator.Runs.{EveryRun, ItemsMapTo};
 ghost use Rattle.std.specs.Slice.Iter.{iter_rest, iter_steps};
@@ -100,5 +100,12 @@ impl<V: ExactEq + Drop> Interner<V> {
     {
         let (place, _) = self.values.insert_full(value)?;
         Ok(place as u32)
+    }
+
+    /// Only the first `n` values stay.
+    pub fn truncate(&mut self, n: usize)
+        ensures { self.new ≡ take n self.old }
+    {
+        self.values.truncate(n);
     }
 }

@@ -156,8 +156,8 @@ fn call_of(
     })
 }
 
-/// What a child has converted when it begins: the types that are the same in each component instance. Its caller has
-/// none of them while it waits.
+/// What a child has converted when it begins: the types that are the same in each component instance, and those that
+/// the other entries had. Its caller has none of them while it waits.
 fn child_types(context: &Context<'_>, frame: &mut Frame) -> Converted
     requires sound { table_fault context.now.table.now ≡ None }
     requires converted { (b : Types) × AreConverted b context.now.table.now frame.old.converted }
@@ -173,7 +173,7 @@ fn child_types(context: &Context<'_>, frame: &mut Frame) -> Converted
 }
 
 /// A child that has ended gives back the types that are the same in each component instance, with those that it
-/// converted.
+/// converted, and those that the other entries had.
 fn take_back(frame: &mut Frame, child: &mut Frame)
     requires room { length frame.old.converted.all ≡ length child.old.converted.all }
     ensures same { frame.new ≡ record frame.old { converted = frame.new.converted } }

@@ -26,6 +26,14 @@ fn a_value_has_a_number(rt: HostRuntime) {
     holds(&rt, "number", is_first && is_five(&numbers));
 }
 
+#[test]
+fn what_is_cut_off_has_no_number(rt: HostRuntime) {
+    let mut numbers = Interner::new(rt.alloc(), Seed::fixed());
+    let are_two = numbers.push(5u32) == Ok(0) && numbers.push(7) == Ok(1);
+    numbers.truncate(1);
+    holds(&rt, "cut", are_two && is_five(&numbers) && numbers.find(&7) == None);
+}
+
 /// Whether `a` alone is held.
 fn is_a(pool: &StringPool) -> bool {
     pool.len() == 1 && pool.text(Atom(0)) == "a" && pool.get_atom("a") == Some(Atom(0))

@@ -38,4 +38,5 @@ none_converted b t = record {
     either = λ n d found. inl found;
   };
   noted = record { noted = λ k p e done at among. absurd (none_stands (length t.types) k done.0 done.1) };
+  like = record { each = λ n d e found at. absurd (none_stands (length t.types) n d found) };
 }

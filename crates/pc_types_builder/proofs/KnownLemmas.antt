@@ -18,12 +18,12 @@ use Rattle.pc_types_convert.specs.Needed.{Each, IsAmong, IsDone, parts_of}
 use Rattle.pc_types_convert.proofs.AmongLemmas.{each_more}
 use Rattle.pc_types_convert.proofs.SoundLemmas.{names_earlier}
 use Rattle.pc_types_convert.specs.Plain.{AreLayered, Forgets, IsNoted, Layers, StandsAt, Takes}
-use Rattle.pc_types_builder.specs.Converted.{AreConverted, ArePlain, AreTyped, IsOfKind, IsPlainEntry}
+use Rattle.pc_types_builder.specs.Converted.{AreConverted, AreLike, ArePlain, AreTyped, IsOfKind, IsPlainEntry}
 use Rattle.pc_types_builder.specs.Trees.{IsEntry, identities}
 use Rattle.pc_types_builder.proofs.SameTrees.{same_tree, trees_same}
 pub use Rattle.pc_types_builder.proofs.Simulation.{known_identity}
 use Rattle.pc_types_builder.proofs.StepLemmas.{each_both}
-use Rattle.pc_types_builder.proofs.TreeLemmas.{tree_keeps}
+use Rattle.pc_types_builder.proofs.TreeLemmas.{likes_keep, tree_keeps}
 
 -- a number that is the same resource has the same identity
 pub identity_same : (who : ResourceIndex → Identity) (a b : List (ℕ × ResourceIndex)) (n : ℕ)
@@ -97,6 +97,7 @@ module _ (old new : Types) (keeps : KeepsTypes old new) (current : new.resources
     same = are.same;
     layered = are.layered;
     noted = are.noted;
+    like = likes_keep old new keeps t c.like are.like;
   }
 
 -- A builder that keeps the types, whatever resources are known, and whatever the current component instance is.
@@ -145,6 +146,7 @@ module _ (old new : Types) (keeps : KeepsTypes old new) (t : TypeTable) (sound :
                 | inr its ↦ inr its
               ];
         };
+        like = subst (AreLike new t) (sym takes.like) (likes_keep old new keeps t from.like given.like);
       }
 
   -- What is left where an entry is forgotten, and what is the same in each component instance: what they lead to is
@@ -223,4 +225,5 @@ module _ (old new : Types) (keeps : KeepsTypes old new) (t : TypeTable) (sound :
           same = subst (ArePlain t) (sym forgets.plain) are.same;
           layered = forgets.layered;
           noted = record { noted = noted_left };
+          like = subst (AreLike new t) (sym forgets.like) (likes_keep old new keeps t was.like are.like);
         }

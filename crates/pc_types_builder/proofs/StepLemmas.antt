@@ -1,7 +1,7 @@
 -- A step of a conversion: an entry gets its type, once what it names has.
 use Rattle.std.proofs.Common.{◌≡◌, ℕ, ◌<◌, ◌≤◌, ◌+◌, List, [], ◌∷◌, get_or, length, take, zero, suc, Option, Some, None}
 use Rattle.std.proofs.Common.{refl, sym, ap, ◌∙◌, subst, arith, inl, inr, ◌⊎◌, Bool, true, false}
-use Rattle.std.specs.Prelude.{slice_get, slice_set, option_and_then}
+use Rattle.std.specs.Prelude.{IfSome, slice_get, slice_set, option_and_then}
 use Rattle.std.proofs.lemmas.List.{length-set, length-take}
 use Rattle.std.proofs.lemmas.Option.{none-some, same_Some, slice_get-get_or, slice_get_within}
 use Rattle.pc_entity.specs.Lists.{Kept}
@@ -15,8 +15,11 @@ use Rattle.pc_types.specs.Table.{table_fault}
 use Rattle.pc_types.specs.TypeTree.{Identity, TypeTree, declared, earlier_tree, entry_tree, trees_from}
 use Rattle.pc_types_lists.specs.Types.{Types}
 use Rattle.pc_types_builder.specs.Trees.{IsEntry, identities}
-use Rattle.pc_types_convert.specs.Plain.{AreLayered, IsNoted, Layers, NotesMore, PutsOwn, PutsPlain, is_plain_entry}
-use Rattle.pc_types_builder.specs.Converted.{AreConverted, AreNoted, ArePlain, AreTyped, IsOfKind, IsPlainEntry}
+use Rattle.pc_types_convert.specs.Labels.{IsLike}
+use Rattle.pc_types_convert.specs.Plain.{AreLayered, HadOnce, IsNoted, Layers, NotesMore, PutsOwn, PutsPlain}
+use Rattle.pc_types_convert.specs.Plain.{is_plain_entry}
+use Rattle.pc_types_builder.specs.Converted.{AreConverted, AreLike, AreNoted, ArePlain, AreTyped, IsOfKind}
+use Rattle.pc_types_builder.specs.Converted.{IsPlainEntry}
 use Rattle.pc_types_builder.specs.Depends.{depends}
 use Rattle.pc_types_builder.proofs.PlainLemmas.{plain_entry}
 use Rattle.pc_types_convert.specs.Entries.{EntryIs}
@@ -27,6 +30,7 @@ use Rattle.pc_types_lists.proofs.HeldLemmas.{value_held}
 use Rattle.pc_numbers.specs.declared.runtime.ResourceIndex.{ResourceIndex}
 use Rattle.pc_entity.proofs.LookupLemmas.{found_at}
 use Rattle.pc_types_convert.proofs.AmongLemmas.{each_among, each_append, each_more}
+use Rattle.pc_types_convert.proofs.LikeLemmas.{entry_like}
 use Rattle.pc_types_builder.proofs.Simulation.{entry_has, tree_at}
 use Rattle.pc_types_convert.proofs.SoundLemmas.{parts_below, sound_at}
 use Rattle.pc_types_builder.proofs.ReadyLemmas.{IsDonePart, ready_entry}
@@ -154,6 +158,18 @@ front_held b t done front k are before =
     subst (AreHeld b) (sym before)
     (λ n w found. converted_held b t done are n w (take_found done k n (Some (def.Interface w)) found))
 
+-- a type that is found stands there
+found_once : (o : Option (Option TypeDef)) (d : TypeDef) → option_and_then (λ x. x) o ≡ Some d → o ≡ Some (Some d)
+found_once None d h = absurd (none-some d h)
+found_once (Some x) d h = ap Some h
+
+-- the type that an entry had once, if it had one, has its labels
+pub like_ready : (b : Types) (t : TypeTable) (once : List (Option TypeDef)) (k : ℕ) (e : DeclType)
+    (like : Option TypeDef) → AreLike b t once → slice_get t.types k ≡ Some e
+    → like ≡ option_and_then (λ d. d) (slice_get once k) → IfSome like (IsLike b e)
+like_ready b t once k e None are at is = tt
+like_ready b t once k e (Some d) are at is = are.each k d e (found_once (slice_get once k) d (sym is)) at
+
 module _ (t : TypeTable) (sound : table_fault t ≡ None) where
   -- what a needed entry names is ready
   pub ready_step : (b : Types) (done : List (Option TypeDef)) (k : ℕ) (e : DeclType) → AreTyped b t done
@@ -254,53 +270,79 @@ module _ (t : TypeTable) (sound : table_fault t ≡ None) where
         ];
   }
 
+  -- where an entry may have had one more type once, that has its labels too
+  like_put : (b : Types) (old new : List (Option TypeDef)) (k : ℕ) (e : DeclType) (d : TypeDef)
+      → slice_get t.types k ≡ Some e → IsLike b e d → HadOnce k d old new → AreLike b t old → AreLike b t new
+  like_put b old new k e d at is had are = record {
+    each = λ n f g found at_n.
+        elim (had n f found) as (λ _. IsLike b g f) [
+          | inl once ↦ are.each n f g once at_n
+          | inr here ↦ (
+              let same = same_Some e g (sym at ∙ subst (λ m. slice_get t.types m ≡ Some g) here.0 at_n) in
+              subst (λ h. IsLike b h f) same (subst (λ x. IsLike b e x) (sym here.1) is))
+        ];
+  }
+
   -- nothing else is to be shown where no type has changed
-  pub notes_keep : (b : Types) (c new : Layers) → NotesMore c new → AreConverted b t c → AreConverted b t new
-  notes_keep b c new more are = record {
+  pub notes_keep : (b : Types) (c new : Layers) (front : List (Option TypeDef)) (k : ℕ) (e : DeclType) (d : TypeDef)
+      → slice_get t.types k ≡ Some e → EntryIs b front t k e d → NotesMore k d c new → AreConverted b t c
+      → AreConverted b t new
+  notes_keep b c new front k e d at is more are = record {
     all = subst (AreTyped b t) (sym more.all) are.all;
     plain = subst (AreTyped b t) (sym more.plain) are.plain;
     same = subst (ArePlain t) (sym more.plain) are.same;
     layered = more.layered;
     noted = noted_same c new more.own more.users are.noted;
+    like = like_put b c.like new.like k e d at (entry_like b front t k e d is) more.like are.like;
   }
 
-  -- what an entry names is noted where it gets a type of this component instance, or is the same in each
-  own_noted : (c new : Layers) (k : ℕ) (e : DeclType) (d : TypeDef) → slice_get t.types k ≡ Some e → ArePlain t c.plain
-      → AreLayered c → Each (IsDone c.all) (parts_of e) → AreNoted t c → PutsOwn k d (parts_of e) c new → AreNoted t new
-  own_noted c new k e d at same layered parts are puts =
-      let kept = kept_put c.own new.own k d puts.own in
-      record {
-        noted = λ m p g is at_m among.
-            elim (set_found c.own k m (Some d) (Some is.0) (subst (λ l. slice_get l m ≡ Some (Some is.0)) puts.own is.1))
-            as (λ _. (IsDone new.own p × IsNoted new.users p m) ⊎ IsPlainEntry t p) [
-              | inl here ↦ (
-                  let of_k : slice_get t.types k ≡ Some g = subst (λ i. slice_get t.types i ≡ Some g) here.0 at_m in
-                  let named : IsAmong p (parts_of e) =
-                  subst (λ h. IsAmong p (parts_of h)) (sym (same_Some e g (sym at ∙ of_k))) among in
-                  let done = each_among (IsDone c.all) (parts_of e) p parts named in
-                  elim (layered.either p done.0 done.1) as
-                  (λ _. (IsDone new.own p × IsNoted new.users p m) ⊎ IsPlainEntry t p) [
-                    | inl own ↦ inl (
-                      kept p (done.0, own),
-                      subst (IsNoted new.users p) (sym here.0) (puts.noted p named (done.0, own)),
-                    )
-                    | inr its ↦ inr (c.plain, same, (done.0, its))
-                  ])
-              | inr old ↦ elim (are.noted m p g (is.0, old) at_m among) as
-                  (λ _. (IsDone new.own p × IsNoted new.users p m) ⊎ IsPlainEntry t p) [
-                    | inl own ↦ inl (kept p own.0, puts.users p m own.1)
-                    | inr its ↦ inr its
-                  ]
-            ];
-      }
+  -- where an entry gets a type of this component instance, what it names is noted, or is the same in each: all is that
+  -- of an entry that is, of which nothing need be noted
+  part_noted : (c new : Layers) (k : ℕ) (e : DeclType) (d : TypeDef) → ArePlain t c.plain → AreLayered c
+      → Each (IsDone c.all) (parts_of e) → (is_plain : Bool) → is_plain ≡ is_plain_entry c.plain e → (named : List ℕ)
+      → (is_plain ≡ false → named ≡ parts_of e) → PutsOwn k d named c new → (p : ℕ) → IsAmong p (parts_of e)
+      → (IsDone new.own p × IsNoted new.users p k) ⊎ IsPlainEntry t p
+  part_noted c new k e d same layered parts true plain named all puts p among =
+      inr (c.plain, same, each_among (IsDone c.plain) (parts_of e) p (plain_entry c.plain e (sym plain)).1 among)
+  part_noted c new k e d same layered parts false plain named all puts p among =
+      let done = each_among (IsDone c.all) (parts_of e) p parts among in
+      elim (layered.either p done.0 done.1) as (λ _. (IsDone new.own p × IsNoted new.users p k) ⊎ IsPlainEntry t p) [
+        | inl own ↦ inl (
+          kept_put c.own new.own k d puts.own p (done.0, own),
+          puts.noted p (subst (IsAmong p) (sym (all refl)) among) (done.0, own),
+        )
+        | inr its ↦ inr (c.plain, same, (done.0, its))
+      ]
+
+  -- so it is of each entry
+  own_noted : (c new : Layers) (k : ℕ) (e : DeclType) (d : TypeDef) (named : List ℕ) → slice_get t.types k ≡ Some e
+      → PutsOwn k d named c new → AreNoted t c
+      → ((p : ℕ) → IsAmong p (parts_of e) → (IsDone new.own p × IsNoted new.users p k) ⊎ IsPlainEntry t p)
+      → AreNoted t new
+  own_noted c new k e d named at puts are here = record {
+    noted = λ m p g is at_m among.
+        elim (set_found c.own k m (Some d) (Some is.0) (subst (λ l. slice_get l m ≡ Some (Some is.0)) puts.own is.1)) as
+        (λ _. (IsDone new.own p × IsNoted new.users p m) ⊎ IsPlainEntry t p) [
+          | inl last ↦ (
+              let of_k : slice_get t.types k ≡ Some g = subst (λ i. slice_get t.types i ≡ Some g) last.0 at_m in
+              let part : IsAmong p (parts_of e) =
+              subst (λ h. IsAmong p (parts_of h)) (sym (same_Some e g (sym at ∙ of_k))) among in
+              subst (λ i. (IsDone new.own p × IsNoted new.users p i) ⊎ IsPlainEntry t p) (sym last.0) (here p part))
+          | inr old ↦ elim (are.noted m p g (is.0, old) at_m among) as
+              (λ _. (IsDone new.own p × IsNoted new.users p m) ⊎ IsPlainEntry t p) [
+                | inl own ↦ inl (kept_put c.own new.own k d puts.own p own.0, puts.users p m own.1)
+                | inr its ↦ inr its
+              ]
+        ];
+  }
 
   -- the same of the lists that a step reads and leaves
   pub put_more : (b : Types) (c new : Layers) (front : List (Option TypeDef)) (k : ℕ) (e : DeclType) (d : TypeDef)
       → slice_get t.types k ≡ Some e → Each (IsDone c.all) (parts_of e) → AreConverted b t c → front ≡ take k c.all
       → EntryIs b front t k e d → (is_plain : Bool) → is_plain ≡ is_plain_entry c.plain e
-      → (parts : List ℕ) → parts ≡ parts_of e → new.all ≡ slice_set c.all k (Some d)
-      → (((is_plain ≡ true) × PutsPlain k d c new) ⊎ PutsOwn k d parts c new) → AreLayered new → AreConverted b t new
-  put_more b c new front k e d at done are before is is_plain plain parts named all_put put layered =
+      → (named : List ℕ) → (is_plain ≡ false → named ≡ parts_of e) → new.all ≡ slice_set c.all k (Some d)
+      → (((is_plain ≡ true) × PutsPlain k d c new) ⊎ PutsOwn k d named c new) → AreLayered new → AreConverted b t new
+  put_more b c new front k e d at done are before is is_plain plain named all_named all_put put layered =
       let here = subst (λ f. EntryIs b f t k e d) before is in
       let kind = kind_of_entry b (take k c.all) t k e d here in
       let entry = converted_entry b c.all k e d at are.all here in
@@ -318,8 +360,12 @@ module _ (t : TypeTable) (sound : table_fault t ≡ None) where
         layered = layered;
         noted = elim put as (λ _. AreNoted t new) [
           | inl more ↦ noted_same c new more.1.own (λ p m h. subst (λ l. IsNoted l p m) (sym more.1.users) h) are.noted
-          | inr own ↦ own_noted c new k e d at are.same are.layered done are.noted
-              (subst (λ ns. PutsOwn k d ns c new) named own)
+          | inr own ↦ own_noted c new k e d named at own are.noted
+              (part_noted c new k e d are.same are.layered done is_plain plain named all_named own)
+        ];
+        like = elim put as (λ _. AreLike b t new.like) [
+          | inl more ↦ subst (AreLike b t) (sym more.1.like) are.like
+          | inr own ↦ like_put b c.like new.like k e d at (entry_like b front t k e d is) own.like are.like
         ];
       }
 

@@ -18,7 +18,8 @@ use Rattle.pc_types.specs.TypeTree.{resource_of, no_fields, and_field, no_cases,
 use Rattle.pc_types.specs.TypeTree.{a_tree, tree_of}
 use Rattle.pc_types_lists.specs.Types.{Types, Grows, KeepsTypes}
 use Rattle.pc_types_convert.specs.Plain.{Layers}
-use Rattle.pc_types_builder.specs.Converted.{AreConverted, AreTyped}
+use Rattle.pc_types_convert.proofs.LikeLemmas.{like_keeps}
+use Rattle.pc_types_builder.specs.Converted.{AreConverted, AreLike, AreTyped}
 use Rattle.pc_types_lists.specs.Trees.{NumbersHandlesOf, CoreHasTree, ImportHasTree, ExportHasTree, HasTree}
 use Rattle.pc_types_lists.specs.Trees.{FieldsHaveTrees, CasesHaveTrees, ValsHaveTrees, MaybeHasTree, ParamsHaveTrees}
 use Rattle.pc_types_lists.specs.Trees.{ResultsHaveTree, ExternsHaveTrees}
@@ -176,6 +177,13 @@ typed_grows old new g t done are = record {
   entries = λ n d found. entry_grows old new g t n d (are.entries n d found);
 }
 
+-- the types that entries had once keep their labels, whichever resources are known
+pub likes_keep : (old new : Types) → KeepsTypes old new → (t : TypeTable) (like : List (Option TypeDef))
+    → AreLike old t like → AreLike new t like
+likes_keep old new keeps t like are = record {
+  each = λ n d e found at. like_keeps old new keeps e d (are.each n d e found at);
+}
+
 -- so does all that was converted
 pub converted_grows : (old new : Types) → Grows old new → (t : TypeTable) (c : Layers)
     → AreConverted old t c → AreConverted new t c
@@ -185,6 +193,7 @@ converted_grows old new g t c are = record {
   same = are.same;
   layered = are.layered;
   noted = are.noted;
+  like = likes_keep old new (grows_keeps old new g) t c.like are.like;
 }
 
 -- the number of a function type that has a tree is held

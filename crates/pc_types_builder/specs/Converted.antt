@@ -13,7 +13,8 @@ use Rattle.pc_types.specs.declared.types.TypeDef.{TypeDef}
 use Rattle.pc_types.specs.declared.types.TypeDef.TheVariants as def
 use Rattle.pc_types_lists.specs.Types.{Types}
 use Rattle.pc_types_convert.specs.Needed.{Each, IsAmong, IsDone, parts_of}
-use Rattle.pc_types_convert.specs.Plain.{AreLayered, IsNoted, Layers}
+use Rattle.pc_types_convert.specs.Labels.{IsLike}
+use Rattle.pc_types_convert.specs.Plain.{AreLayered, IsNoted, Layers, StandsAt}
 use Rattle.pc_types_builder.specs.Depends.{depends}
 use Rattle.pc_types_builder.specs.Trees.{IsEntry}
 
@@ -48,6 +49,10 @@ pub record AreNoted (t : TypeTable) (c : Layers) : Type 0 where
   pub noted : (k p : ℕ) (e : DeclType) → IsDone c.own k → slice_get t.types k ≡ Some e → IsAmong p (parts_of e)
       → (IsDone c.own p × IsNoted c.users p k) ⊎ IsPlainEntry t p
 
+-- each type that an entry had once has its labels
+pub record AreLike (b : Types) (t : TypeTable) (like : List (Option TypeDef)) : Type 0 where
+  pub each : (n : ℕ) (d : TypeDef) (e : DeclType) → StandsAt like n d → slice_get t.types n ≡ Some e → IsLike b e d
+
 -- what was converted, what of it is the same in each component instance, and what names what of the rest
 pub record AreConverted (b : Types) (t : TypeTable) (c : Layers) : Type 0 where
   pub all : AreTyped b t c.all
@@ -55,3 +60,4 @@ pub record AreConverted (b : Types) (t : TypeTable) (c : Layers) : Type 0 where
   pub same : ArePlain t c.plain
   pub layered : AreLayered c
   pub noted : AreNoted t c
+  pub like : AreLike b t c.like

@@ -1,7 +1,7 @@
 //! What was converted already.
 
 ghost use Rattle.std.specs.Prelude.{◌≡◌, ◌<◌, ◌⊎◌, ℕ, OnErr, OnOk, None, Some, length, slice_get, slice_set, take};
-ghost use Rattle.std.specs.Prelude.{true};
+ghost use Rattle.std.specs.Prelude.{option_and_then, true};
 ghost use Rattle.pc_types.specs.declared.parsed.TypeTable.{TypeTable};
 ghost use Rattle.pc_types.specs.declared.types.TypeDef.{TypeDef};
 ghost use Rattle.pc_types.specs.Table.{table_fault};
@@ -59,8 +59,9 @@ impl Converted {
         self.done.forget(n);
     }
 
-    /// Two exchange the types that are the same in each component instance. So one that begins has them from one that
-    /// waits for it, and gives them back with those that it converted, and none is copied.
+    /// Two exchange the types that are the same in each component instance, and those that the other entries had once.
+    /// So one that begins has them from one that waits for it, and gives them back with those that it converted, and
+    /// none is copied.
     pub fn exchange_plain(&mut self, other: &mut Converted)
         requires { length self.old.all ≡ length other.old.all }
         ensures here { (t : TypeTable) (old new : Types) → table_fault t ≡ None → KeepsTypes old new
@@ -76,6 +77,13 @@ impl Converted {
         ensures { result.now ≡ self.now }
     {
         &self.done
+    }
+
+    /// A type that an entry had once, in whatever component instance.
+    pub(crate) fn like(&self, n: u32) -> Option<TypeDef>
+        ensures { result ≡ option_and_then (λ d. d) (slice_get self.now.like n) }
+    {
+        self.done.like(n)
     }
 
     /// Those of the entries in front of a number.
@@ -107,7 +115,7 @@ impl Converted {
         ensures put { OnOk result (((plain ≡ true) × PutsPlain k type_ self.old self.new)
             ⊎ PutsOwn k type_ parts.now self.old self.new) }
         ensures layered { OnOk result (AreLayered self.new) }
-        ensures err { OnErr result (NotesMore self.old self.new) }
+        ensures err { OnErr result (NotesMore k type_ self.old self.new) }
     {
         self.done.put(k, type_, plain, parts)
     }

@@ -3,7 +3,7 @@
 //! What an entry needs is found first (`parts`), and then converted in ascending order: what an entry names has its
 //! type before it.
 
-ghost use Rattle.std.specs.Prelude.{◌≡◌, ◌<◌, ℕ, None, Some, Err, IfOk, OnOk, length, take};
+ghost use Rattle.std.specs.Prelude.{◌≡◌, ◌<◌, ℕ, None, Some, Err, IfOk, OnOk, false, length, take};
 ghost use Rattle.std.specs.Prelude.{slice_get};
 ghost use Rattle.pc_types.specs.declared.parsed.DeclType.{DeclType};
 ghost use Rattle.pc_types.specs.declared.types.TypeDef.{TypeDef};
@@ -18,9 +18,11 @@ ghost use Rattle.pc_types_builder.specs.Asked.{AddsAsked};
 ghost use Rattle.pc_types_convert.specs.Needed.{AreNeeded, Each, IsDone, parts_of};
 
 use crate::Converted;
-use pc_types::{TypeDef, TypeTable};
+use pc_entity::NoMemory;
+use pc_types::{DeclType, TypeDef, TypeTable};
 use pc_types_convert::{convert, entry_at, entry_parts, is_plain, needed};
 use pc_types_lists::{InternedTypes, NoPlace};
+use std::alloc::Global;
 
 /// Entry `n`, which is there, with all that it leads to.
 pub(crate) fn entry_type(
@@ -118,9 +120,22 @@ fn step(
         × EntryIs b (take k converted.old.all) table.now k e d) }
 {
     let entry = entry_at(table, k);
-    let type_ = convert(interned, table, &converted.in_front(k), k, entry)?;
+    let like = converted.like(k);
+    let type_ = convert(interned, table, &converted.in_front(k), k, entry, like)?;
     let plain = is_plain(converted.done(), entry);
-    let named = entry_parts(interned.alloc(), entry)?;
+    let named = noted_parts(interned.alloc(), entry, plain)?;
     converted.put(k, type_, plain, named.as_slice())?;
     Ok(())
+}
+
+/// The entries for which an entry is noted. Those that an entry names are the same in each component instance where it
+/// is the same itself, so nothing of them is noted.
+fn noted_parts(alloc: Global, entry: &DeclType, plain: bool) -> Result<Vec<u32>, NoMemory>
+    ensures { IfOk result (λ named. plain ≡ false → named.items ≡ parts_of entry.now) }
+{
+    if plain {
+        Ok(Vec::new(alloc))
+    } else {
+        entry_parts(alloc, entry)
+    }
 }

@@ -25,6 +25,7 @@ use Rattle.pc_types_convert.proofs.TabulatedLemmas.{other_kept, set_in_map, tabu
 pub record Forgetting (n : ℕ) (old new : Layers) (left : List ℕ) : Type 0 where
   pub room : length new.all ≡ length old.all
   pub plain : new.plain ≡ old.plain
+  pub like : new.like ≡ old.like
   pub own : (k : ℕ) (d : TypeDef) → StandsAt new.own k d → StandsAt old.own k d
   pub asked : IsDone new.own n → IsAmong n left
   pub users : (p k : ℕ) → IsDone new.own k → IsDone old.own p → IsNoted old.users p k
@@ -34,6 +35,7 @@ pub record Forgetting (n : ℕ) (old new : Layers) (left : List ℕ) : Type 0 wh
 pub record Drops (m : ℕ) (ks : List ℕ) (old new : Layers) : Type 0 where
   pub room : length new.all ≡ length old.all
   pub plain : new.plain ≡ old.plain
+  pub like : new.like ≡ old.like
   pub own : (k : ℕ) (d : TypeDef) → StandsAt new.own k d → StandsAt old.own k d × (k ≡ m → ⊥)
   pub others : (p : ℕ) → (p ≡ m → ⊥) → IsDone old.own p → IsDone new.own p
   pub noted : (p k : ℕ) → (p ≡ m → ⊥) → IsNoted old.users p k → IsNoted new.users p k
@@ -44,6 +46,7 @@ pub forgetting_end : (n : ℕ) (old new : Layers) → Forgetting n old new [] �
 forgetting_end n old new on layered = record {
   room = on.room;
   plain = on.plain;
+  like = on.like;
   own = on.own;
   gone = on.asked;
   users = λ p k done was noted.
@@ -62,6 +65,7 @@ forgetting_next n m old middle new left rest moved left' on was is drops =
     subst (Forgetting n old new) (sym is) (record {
       room = drops.room ∙ on.room;
       plain = drops.plain ∙ on.plain;
+      like = drops.like ∙ on.like;
       own = λ k d stands. on.own k d (drops.own k d stands).0;
       asked = λ done.
           let before = drops.own n done.0 done.1 in
@@ -94,14 +98,15 @@ forgetting_next n m old middle new left rest moved left' on was is drops =
         inl (drops.others p differs stays.0, drops.noted p k differs stays.1)
 
 -- the maps after one entry went, where the numbers of the others are kept
-pub dropped : (own new plain : BTreeMap ℕ TypeDef) (users left : BTreeMap ℕ (Vec ℕ Global)) (room m : ℕ)
-    (moved : List ℕ) → Updates nat_cmp own new m None
+pub dropped : (own new plain : BTreeMap ℕ TypeDef) (users left : BTreeMap ℕ (Vec ℕ Global))
+    (like : BTreeMap ℕ TypeDef) (room m : ℕ) (moved : List ℕ) → Updates nat_cmp own new m None
     → ((q : ℕ) → (q ≡ m → ⊥) → get nat_cmp left q ≡ get nat_cmp users q)
     → ((k : ℕ) → is_some (get nat_cmp own m) ≡ true → IsAmong k (users_of users m) → IsAmong k moved)
-    → Drops m moved (layers own plain users room) (layers new plain left room)
-dropped own new plain users left room m moved updates kept moves = record {
+    → Drops m moved (layers own plain users like room) (layers new plain left like room)
+dropped own new plain users left like room m moved updates kept moves = record {
   room = tabulated_length (in_either new plain) 0 room ∙ sym (tabulated_length (in_either own plain) 0 room);
   plain = refl;
+  like = refl;
   own = λ k d stands.
       let there = tabulated_found (get nat_cmp new) room k (Some d) stands in
       let differs : (k ≡ m → ⊥) = λ same.
@@ -122,40 +127,42 @@ dropped own new plain users left room m moved updates kept moves = record {
     other q differs = set_in_map own new m None updates q ∙ other_kept (get nat_cmp own) m None q differs
 
 -- the numbers of the entry went too
-pub dropped_users : (own new plain : BTreeMap ℕ TypeDef) (users left : BTreeMap ℕ (Vec ℕ Global)) (room m : ℕ)
-    (ns : Option (Vec ℕ Global)) → Updates nat_cmp own new m None → Updates nat_cmp users left m None
-    → ns ≡ get nat_cmp users m
-    → Drops m (numbers_in ns) (layers own plain users room) (layers new plain left room)
-dropped_users own new plain users left room m ns updates gone there =
-    dropped own new plain users left room m (numbers_in ns) updates
+pub dropped_users : (own new plain : BTreeMap ℕ TypeDef) (users left : BTreeMap ℕ (Vec ℕ Global))
+    (like : BTreeMap ℕ TypeDef) (room m : ℕ) (ns : Option (Vec ℕ Global)) → Updates nat_cmp own new m None
+    → Updates nat_cmp users left m None → ns ≡ get nat_cmp users m
+    → Drops m (numbers_in ns) (layers own plain users like room) (layers new plain left like room)
+dropped_users own new plain users left like room m ns updates gone there =
+    dropped own new plain users left like room m (numbers_in ns) updates
     (λ q differs. set_in_map users left m None gone q ∙ other_kept (get nat_cmp users) m None q differs)
     (λ k has among. subst (λ o. IsAmong k (numbers_in o)) (sym there) among)
 
 -- it begins with the numbers of the entry that is asked for, where that and its numbers went
-pub forgetting_start : (own new plain : BTreeMap ℕ TypeDef) (users left : BTreeMap ℕ (Vec ℕ Global)) (room n : ℕ)
-    (ns : Option (Vec ℕ Global)) (old : Layers) → layers own plain users room ≡ old → Updates nat_cmp own new n None
-    → Updates nat_cmp users left n None → ns ≡ get nat_cmp users n
-    → Forgetting n old (layers new plain left room) (numbers_in ns)
-forgetting_start own new plain users left room n ns old is updates gone there =
-    forgetting_next n n old old (layers new plain left room) (n ∷ []) [] (numbers_in ns) (numbers_in ns) asked refl refl
-    (subst (λ was. Drops n (numbers_in ns) was (layers new plain left room)) is
-    (dropped_users own new plain users left room n ns updates gone there))
+pub forgetting_start : (own new plain : BTreeMap ℕ TypeDef) (users left : BTreeMap ℕ (Vec ℕ Global))
+    (like : BTreeMap ℕ TypeDef) (room n : ℕ) (ns : Option (Vec ℕ Global)) (old : Layers)
+    → layers own plain users like room ≡ old → Updates nat_cmp own new n None → Updates nat_cmp users left n None
+    → ns ≡ get nat_cmp users n → Forgetting n old (layers new plain left like room) (numbers_in ns)
+forgetting_start own new plain users left like room n ns old is updates gone there =
+    forgetting_next n n old old (layers new plain left like room) (n ∷ []) [] (numbers_in ns) (numbers_in ns) asked refl
+    refl
+    (subst (λ was. Drops n (numbers_in ns) was (layers new plain left like room)) is
+    (dropped_users own new plain users left like room n ns updates gone there))
   where
     asked : Forgetting n old old (n ∷ [])
     asked = record {
       room = refl;
       plain = refl;
+      like = refl;
       own = λ k d stands. stands;
       asked = λ done. inl refl;
       users = λ p k done was noted. inl (was, noted);
     }
 
 -- the entry wasn't there
-pub dropped_none : (own new plain : BTreeMap ℕ TypeDef) (users : BTreeMap ℕ (Vec ℕ Global)) (room m : ℕ)
-    → Updates nat_cmp own new m None → is_some (get nat_cmp own m) ≡ false
-    → Drops m [] (layers own plain users room) (layers new plain users room)
-dropped_none own new plain users room m updates none =
-    dropped own new plain users users room m [] updates (λ q differs. refl)
+pub dropped_none : (own new plain : BTreeMap ℕ TypeDef) (users : BTreeMap ℕ (Vec ℕ Global)) (like : BTreeMap ℕ TypeDef)
+    (room m : ℕ) → Updates nat_cmp own new m None → is_some (get nat_cmp own m) ≡ false
+    → Drops m [] (layers own plain users like room) (layers new plain users like room)
+dropped_none own new plain users like room m updates none =
+    dropped own new plain users users like room m [] updates (λ q differs. refl)
     (λ k has among. absurd (true≢false (sym has ∙ none)))
 
 -- the lists stay as long as they are
@@ -165,19 +172,21 @@ same_room own new plain room =
     tabulated_length (in_either new plain) 0 room ∙ sym (tabulated_length (in_either own plain) 0 room)
 
 -- the maps after they lost all but the plain ones
-pub forgets_all : (own new plain : BTreeMap ℕ TypeDef) (users none : BTreeMap ℕ (Vec ℕ Global)) (room n : ℕ)
-    (old middle : Layers) → layers own plain users room ≡ middle → middle.plain ≡ old.plain
-    → length middle.all ≡ length old.all → new.entries ≡ [] → Forgets n old (layers new plain none room)
-forgets_all own new plain users none room n old middle is same rooms empty = record {
+pub forgets_all : (own new plain : BTreeMap ℕ TypeDef) (users none : BTreeMap ℕ (Vec ℕ Global))
+    (like : BTreeMap ℕ TypeDef) (room n : ℕ) (old middle : Layers) → layers own plain users like room ≡ middle
+    → middle.plain ≡ old.plain → middle.like ≡ old.like → length middle.all ≡ length old.all → new.entries ≡ []
+    → Forgets n old (layers new plain none like room)
+forgets_all own new plain users none like room n old middle is same same_like rooms empty = record {
   room = same_room own new plain room ∙ ap (λ (l : Layers). length l.all) is ∙ rooms;
   plain = ap (λ (l : Layers). l.plain) is ∙ same;
+  like = ap (λ (l : Layers). l.like) is ∙ same_like;
   own = λ k d stands. absurd (gone k (d, stands));
   gone = gone n;
   users = λ p k done was noted. absurd (gone k done);
-  layered = are_layered new plain none room;
+  layered = are_layered new plain none like room;
 }
   where
-    gone : (k : ℕ) → IsDone (layers new plain none room).own k → ⊥
+    gone : (k : ℕ) → IsDone (layers new plain none like room).own k → ⊥
     gone k done =
         let there = tabulated_found (get nat_cmp new) room k (Some done.0) done.1 in
         none-some done.0 (sym (ap (lookup (is_at (nat_cmp k))) empty) ∙ there.1)

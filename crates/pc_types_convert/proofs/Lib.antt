@@ -1,6 +1,7 @@
 -- Laws of the words of `specs/`, for the layer above too.
 pub mod AddsLemmas
 pub mod AmongLemmas
+pub mod LikeLemmas
 pub mod OneNumber
 pub mod OneTree
 pub mod PartLemmas

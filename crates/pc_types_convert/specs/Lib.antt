@@ -5,5 +5,6 @@ pub mod Plain
 pub mod Needed
 pub mod Parts
 pub mod Entries
+pub mod Labels
 pub mod Steps
 pub mod Adds

@@ -15,12 +15,14 @@ use Rattle.pc_types_lists.specs.Primitive.{plain_type}
 use Rattle.pc_types_convert.specs.Needed.{IsAmong, IsDone}
 
 -- the types of the entries that are done, by number: all, those that are the same in each component instance, and those
--- of this one; and which entries with such a type name an entry that has one
+-- of this one; which entries with such a type name an entry that has one; and types that entries had once, in whatever
+-- component instance
 pub record Layers : Type 0 where
   pub all : List (Option TypeDef)
   pub plain : List (Option TypeDef)
   pub own : List (Option TypeDef)
   pub users : List (List ℕ)
+  pub like : List (Option TypeDef)
 
 -- no entry of so many is done
 abbrev pub none_done : (room : ℕ) → Layers
@@ -29,6 +31,7 @@ none_done room = record {
   plain = replicate room None;
   own = replicate room None;
   users = replicate room [];
+  like = replicate room None;
 }
 
 -- the type stands at number `n`
@@ -46,16 +49,22 @@ pub record AreLayered (c : Layers) : Type 0 where
   pub front : (n : ℕ) (d : TypeDef) → StandsAt c.own n d → StandsAt c.all n d
   pub either : (n : ℕ) (d : TypeDef) → StandsAt c.all n d → StandsAt c.own n d ⊎ StandsAt c.plain n d
 
--- the lists after those that are the same everywhere were exchanged with others
+-- no type is among those that entries had once but one that was, or this one of entry `k`
+abbrev pub HadOnce : (k : ℕ) → TypeDef → (old new : List (Option TypeDef)) → Type 0
+HadOnce k d old new = (n : ℕ) (e : TypeDef) → StandsAt new n e → StandsAt old n e ⊎ ((n ≡ k) × (e ≡ d))
+
+-- the lists after those that are the same everywhere, and those that entries had once, were exchanged with others
 pub record Takes (old from new : Layers) : Type 0 where
   pub room : length new.all ≡ length old.all
   pub plain : new.plain ≡ from.plain
+  pub like : new.like ≡ from.like
   pub own : new.own ≡ old.own
   pub users : new.users ≡ old.users
   pub layered : AreLayered new
 
--- the same entries have their types, and what was noted is noted
-pub record NotesMore (old new : Layers) : Type 0 where
+-- the same entries have their types, and what was noted is noted; entry `k` may have had this type
+pub record NotesMore (k : ℕ) (d : TypeDef) (old new : Layers) : Type 0 where
+  pub like : HadOnce k d old.like new.like
   pub all : new.all ≡ old.all
   pub plain : new.plain ≡ old.plain
   pub own : new.own ≡ old.own
@@ -64,12 +73,15 @@ pub record NotesMore (old new : Layers) : Type 0 where
 
 -- entry `k` has a type that is the same in each component instance
 pub record PutsPlain (k : ℕ) (d : TypeDef) (old new : Layers) : Type 0 where
+  pub like : new.like ≡ old.like
   pub plain : new.plain ≡ slice_set old.plain k (Some d)
   pub own : new.own ≡ old.own
   pub users : new.users ≡ old.users
 
--- entry `k` has a type of this component instance, and is noted where it names one that has such a type
+-- entry `k` has a type of this component instance, which may be noted as one that it had, and is noted where it names
+-- one that has such a type
 pub record PutsOwn (k : ℕ) (d : TypeDef) (parts : List ℕ) (old new : Layers) : Type 0 where
+  pub like : HadOnce k d old.like new.like
   pub plain : new.plain ≡ old.plain
   pub own : new.own ≡ slice_set old.own k (Some d)
   pub users : (p m : ℕ) → IsNoted old.users p m → IsNoted new.users p m
@@ -80,6 +92,7 @@ pub record PutsOwn (k : ℕ) (d : TypeDef) (parts : List ℕ) (old new : Layers)
 pub record Forgets (n : ℕ) (old new : Layers) : Type 0 where
   pub room : length new.all ≡ length old.all
   pub plain : new.plain ≡ old.plain
+  pub like : new.like ≡ old.like
   pub own : (k : ℕ) (d : TypeDef) → StandsAt new.own k d → StandsAt old.own k d
   pub gone : IsDone new.own n → ⊥
   pub users : (p k : ℕ) → IsDone new.own k → IsDone old.own p → IsNoted old.users p k

@@ -1,6 +1,6 @@
 //! Entries of a table that are defined types, converted kind by kind.
 
-ghost use Rattle.std.specs.Prelude.{◌≡◌, ◌&&◌, ℕ, false, List, Option, Some, Err, IfOk, slice_get};
+ghost use Rattle.std.specs.Prelude.{◌≡◌, ◌&&◌, ℕ, false, List, Option, Some, Err, IfOk, IfSome, slice_get};
 ghost use Rattle.std.specs.List.{All, AllZip, list_all};
 ghost use Rattle.pc_types.specs.declared.types.InterfaceType.{InterfaceType};
 ghost use Rattle.pc_types.specs.declared.types.TypeDef.{TypeDef};
@@ -9,10 +9,13 @@ ghost use Rattle.pc_types_lists.specs.Types.{Grows, IsTooFullFor};
 ghost use Rattle.pc_types_convert.specs.Parts.{AreHeld, ValIs, MaybeIs, FieldIs, CaseIs, IsReady, MayBeReady, HasHandles};
 ghost use Rattle.pc_types_convert.specs.Entries.{DefinedIs, RecordIs, VariantIs, ListIs, TupleIs, FlagsAre, EnumIs, OptionIs};
 ghost use Rattle.pc_types_convert.specs.Entries.{ResultIs, OwnIs, BorrowIs, StreamIs, FutureIs};
+ghost use Rattle.pc_types_convert.specs.Labels.{IsLike};
+ghost use Rattle.pc_types.specs.declared.parsed.DeclType.TheVariants as entry;
 ghost use Rattle.pc_types_convert.specs.Adds.{AddsContexts, AddsType, no_context_in_case, no_context_in_field};
 ghost use Rattle.pc_types_convert.specs.Adds.{no_context_in_maybe, no_context_in_val};
 
 use crate::done::Earlier;
+use crate::like::{record_number, variant_number};
 use crate::value::value;
 use pc_entity::{Seq, Text, TryClone};
 use pc_types::{
@@ -42,9 +45,11 @@ pub(crate) fn record_entry(
     interned: &mut InternedTypes,
     done: &Earlier<'_>,
     fields: &[(Text, ValType)],
+    like: Option<TypeDef>,
 ) -> Result<TypeDef, NoPlace>
     requires ready { All (λ f. IsReady done.now f.1) fields.now }
     requires held { AreHeld interned.old done.now }
+    requires like { IfSome like (IsLike interned.old (entry.Record fields.now)) }
     ensures is { IfOk result (λ d. RecordIs interned.new done.now fields.now d) }
     ensures grows { Grows interned.old interned.new }
     ensures adds { AddsType (list_all no_context_in_field fields.now ≡ false)
@@ -53,7 +58,8 @@ pub(crate) fn record_entry(
         (λ b. (d : TypeDef) × RecordIs b done.now fields.now d) }
 {
     let fields = field_types(interned, done, fields)?;
-    Ok(TypeDef::Interface(InterfaceType::Record(interned.put_record_type(TypeRecord { fields })?)))
+    let number = interned.put_record_type(TypeRecord { fields }, record_number(like))?;
+    Ok(TypeDef::Interface(InterfaceType::Record(number)))
 }
 
 /// The type of an entry that is a variant.
@@ -61,9 +67,11 @@ pub(crate) fn variant_entry(
     interned: &mut InternedTypes,
     done: &Earlier<'_>,
     cases: &[(Text, Option<ValType>)],
+    like: Option<TypeDef>,
 ) -> Result<TypeDef, NoPlace>
     requires ready { All (λ c. MayBeReady done.now c.1) cases.now }
     requires held { AreHeld interned.old done.now }
+    requires like { IfSome like (IsLike interned.old (entry.Variant cases.now)) }
     ensures is { IfOk result (λ d. VariantIs interned.new done.now cases.now d) }
     ensures grows { Grows interned.old interned.new }
     ensures adds { AddsType (list_all no_context_in_case cases.now ≡ false)
@@ -72,7 +80,8 @@ pub(crate) fn variant_entry(
         (λ b. (d : TypeDef) × VariantIs b done.now cases.now d) }
 {
     let cases = case_types(interned, done, cases)?;
-    Ok(TypeDef::Interface(InterfaceType::Variant(interned.put_variant(TypeVariant { cases })?)))
+    let number = interned.put_variant(TypeVariant { cases }, variant_number(like))?;
+    Ok(TypeDef::Interface(InterfaceType::Variant(number)))
 }
 
 /// The type of an entry that is a list.

@@ -3,7 +3,8 @@
 //! everywhere can be handed on alone, without a copy.
 //!
 //! Of the others it is noted which of them name which. So where one is to be forgotten, since it will be another type,
-//! those are found that lead to it, and nothing else is looked at.
+//! those are found that lead to it, and nothing else is looked at. Besides, a type is kept that each of them had, which
+//! is handed on with those that are the same everywhere: the next one has the same labels.
 
 ghost use Rattle.std.specs.Prelude.{◌≡◌, ◌<◌, ◌⊎◌, OnOk, OnErr, true, Some, None, is_some, length, option_and_then};
 ghost use Rattle.std.specs.Prelude.{slice_get, slice_set, take};
@@ -20,7 +21,8 @@ use std::marker::Model;
 use std::mem;
 
 /// The types of those entries that are done. A contract sees a list with a place for each entry of the table, one of
-/// those types that are the same in each component instance, one of the others, and for each entry those that name it.
+/// those types that are the same in each component instance, one of the others, for each entry those that name it, and
+/// the types that entries had once.
 #[derive(Drop)]
 pub struct Done {
     alloc: Global,
@@ -29,6 +31,8 @@ pub struct Done {
     own: BTreeMap<u32, TypeDef>,
     /// For an entry of `own`, those of `own` that name it.
     users: BTreeMap<u32, Vec<u32>>,
+    /// For an entry that isn't the same everywhere, a type that it had, in whatever component instance.
+    like: BTreeMap<u32, TypeDef>,
 }
 
 impl Model for Done {
@@ -46,6 +50,7 @@ impl Model for Done {
       plain = tabulated (get nat_cmp s.plain) 0 s.room;
       own = tabulated (get nat_cmp s.own) 0 s.room;
       users = tabulated (users_of s.users) 0 s.room;
+      like = tabulated (get nat_cmp s.like) 0 s.room;
     } };
 }
 
@@ -60,6 +65,7 @@ impl Done {
             plain: BTreeMap::new(alloc),
             own: BTreeMap::new(alloc),
             users: BTreeMap::new(alloc),
+            like: BTreeMap::new(alloc),
         }
     }
 
@@ -96,6 +102,17 @@ impl Done {
         }
     }
 
+    /// A type that an entry had once, in whatever component instance, if it isn't the same in each.
+    pub fn like(&self, n: u32) -> Option<TypeDef>
+        ensures { result ≡ option_and_then (λ d. d) (slice_get self.now.like n) }
+    {
+        if (n as usize) < self.room {
+            self.like.get(&n).copied()
+        } else {
+            None
+        }
+    }
+
     /// The types of the entries in front of a number.
     pub fn in_front(&self, k: u32) -> Earlier<'_>
         ensures { result ≡ take k self.now.all }
@@ -107,7 +124,8 @@ impl Done {
     }
 
     /// An entry gets its type, which may be the same in each component instance; if it isn't, the entry is noted among
-    /// those that name its parts. Only memory may be wanting, and then no type has changed.
+    /// those that name its parts, and the type as one that it had. Only memory may be wanting, and then no type has
+    /// changed.
     ///
     /// The time is that of a search for each part.
     pub fn put(
@@ -122,7 +140,7 @@ impl Done {
         ensures put { OnOk result (((plain ≡ true) × PutsPlain k type_ self.old self.new)
             ⊎ PutsOwn k type_ parts.now self.old self.new) }
         ensures layered { OnOk result (AreLayered self.new) }
-        ensures err { OnErr result (NotesMore self.old self.new) }
+        ensures err { OnErr result (NotesMore k type_ self.old self.new) }
     {
         // A type of its own that the entry already has stays in front of any other.
         if plain && !self.own.contains_key(&k) {
@@ -130,6 +148,7 @@ impl Done {
             return Ok(());
         }
         note_parts(self.alloc, &self.own, &mut self.users, k, parts)?;
+        self.like.insert(k, type_)?;
         self.own.insert(k, type_)?;
         Ok(())
     }
@@ -155,6 +174,7 @@ impl Done {
         ensures forgets { OnOk result (Forgets n self.old self.new) }
         ensures plain { self.new.plain ≡ self.old.plain }
         ensures room { length self.new.all ≡ length self.old.all }
+        ensures like { self.new.like ≡ self.old.like }
     {
         self.own.remove(&n);
         let Some(mut left) = self.users.remove(&n) else {
@@ -170,13 +190,14 @@ impl Done {
         Ok(())
     }
 
-    /// Two exchange the types that are the same in each component instance.
+    /// Two exchange the types that are the same in each component instance, and those that the other entries had once.
     pub fn exchange_plain(&mut self, other: &mut Done)
         requires { length self.old.all ≡ length other.old.all }
         ensures here { Takes self.old other.old self.new }
         ensures there { Takes other.old self.old other.new }
     {
         mem::swap(&mut self.plain, &mut other.plain);
+        mem::swap(&mut self.like, &mut other.like);
     }
 }
 

@@ -1,6 +1,6 @@
 //! Entries of a table, converted kind by kind.
 
-ghost use Rattle.std.specs.Prelude.{◌≡◌, false, List, Some, Err, All, IfOk};
+ghost use Rattle.std.specs.Prelude.{◌≡◌, false, List, Some, Err, All, IfOk, IfSome};
 ghost use Rattle.std.specs.List.{AllZip, list_all};
 ghost use Rattle.pc_entity.specs.Lists.{names_of};
 ghost use Rattle.pc_types_lists.specs.Types.{Grows, IsTooFullFor};
@@ -12,9 +12,12 @@ ghost use Rattle.pc_types.specs.declared.type_index.TypeTupleIndex.{TypeTupleInd
 ghost use Rattle.pc_types.specs.declared.types.InterfaceType.{InterfaceType};
 ghost use Rattle.pc_types.specs.declared.types.TypeDef.{TypeDef};
 ghost use Rattle.pc_types.specs.declared.types.TypeDef.TheVariants as def;
+ghost use Rattle.pc_types_convert.specs.Labels.{IsLike};
+ghost use Rattle.pc_types.specs.declared.parsed.DeclType.TheVariants as entry;
 ghost use Rattle.pc_types_convert.specs.Entries.{FuncIs, ParamsAre, ResultsAre, ReturnsAre};
 
 use crate::done::Earlier;
+use crate::like::func_number;
 use crate::value::value;
 use pc_entity::{NoMemory, Seq, Text, TryClone};
 use pc_types::{
@@ -30,10 +33,12 @@ pub(crate) fn func_type_entry(
     params: &[(Text, ValType)],
     returns: Option<ValType>,
     async_: bool,
+    like: Option<TypeDef>,
 ) -> Result<TypeDef, NoPlace>
     requires params { All (λ p. IsReady done.now p.1) params.now }
     requires returns { MayBeReady done.now returns }
     requires held { AreHeld interned.old done.now }
+    requires like { IfSome like (IsLike interned.old (entry.Func params.now returns async_)) }
     ensures is { IfOk result
         (λ d. (i : TypeFuncIndex) × (d ≡ def.ComponentFunc i)
         × FuncIs interned.new done.now params.now returns async_ i) }
@@ -43,7 +48,7 @@ pub(crate) fn func_type_entry(
         (λ b. (d : TypeDef) × (i : TypeFuncIndex) × (d ≡ def.ComponentFunc i)
         × FuncIs b done.now params.now returns async_ i) }
 {
-    Ok(TypeDef::ComponentFunc(func_entry(interned, done, params, returns, async_)?))
+    Ok(TypeDef::ComponentFunc(func_entry(interned, done, params, returns, async_, like)?))
 }
 
 /// The number of a function type.
@@ -53,10 +58,12 @@ fn func_entry(
     params: &[(Text, ValType)],
     returns: Option<ValType>,
     async_: bool,
+    like: Option<TypeDef>,
 ) -> Result<TypeFuncIndex, NoPlace>
     requires params { All (λ p. IsReady done.now p.1) params.now }
     requires returns { MayBeReady done.now returns }
     requires held { AreHeld interned.old done.now }
+    requires like { IfSome like (IsLike interned.old (entry.Func params.now returns async_)) }
     ensures is { IfOk result (λ i. FuncIs interned.new done.now params.now returns async_ i) }
     ensures grows { Grows interned.old interned.new }
     ensures adds { AddsFunc done.now params.now returns async_ interned.old interned.new }
@@ -66,12 +73,15 @@ fn func_entry(
     let param_names = names(interned.alloc(), params)?;
     let params = params_tuple(interned, done, params)?;
     let results = results_tuple(interned, done, returns)?;
-    interned.put_func(TypeFunc {
-        param_names,
-        params,
-        results,
-        async_,
-    })
+    interned.put_func(
+        TypeFunc {
+            param_names,
+            params,
+            results,
+            async_,
+        },
+        func_number(like),
+    )
 }
 
 /// The number of the tuple of the parameters.

@@ -1,6 +1,7 @@
 //! Entries of a table that are instances, components, core modules and resources, converted.
 
-ghost use Rattle.std.specs.Prelude.{◌≡◌, ◌<◌, ◌∷◌, [], ℕ, List, length, map, true, None, Some, Err, IfOk, OnErr, slice_get};
+ghost use Rattle.std.specs.Prelude.{◌≡◌, ◌<◌, ◌∷◌, [], ℕ, List, length, map, true, None, Some, Err};
+ghost use Rattle.std.specs.Prelude.{IfOk, IfSome, OnErr, slice_get};
 ghost use Rattle.std.specs.List.{All, AllZip};
 ghost use Rattle.pc_types.specs.declared.parsed.CoreEntity.{CoreEntity};
 ghost use Rattle.pc_types.specs.declared.parsed.CoreEntity.TheVariants as core_entity;
@@ -13,8 +14,11 @@ ghost use Rattle.pc_types_lists.specs.Interned.{IsPut};
 ghost use Rattle.pc_types_convert.specs.Parts.{EntityIs, ExternIs, IsThere};
 ghost use Rattle.pc_types_convert.specs.Entries.{CoreIs, ComponentIs, ExportIs, ImportIs, InstanceIs, ModuleIs, ResourceIs};
 ghost use Rattle.pc_types_convert.specs.Entries.{handles_of};
+ghost use Rattle.pc_types_convert.specs.Labels.{IsLike};
+ghost use Rattle.pc_types.specs.declared.parsed.DeclType.TheVariants as entry;
 
 use crate::done::Earlier;
+use crate::like::{component_number, instance_number};
 use pc_entity::{ModuleInternedTypeIndex, NoMemory, Seq, Text, TryClone};
 use pc_types::{
     CoreEntity, CoreFuncSig, Entity, TypeComponent, TypeComponentInstance, TypeDef, TypeModule,
@@ -54,8 +58,10 @@ pub(crate) fn instance_entry(
     interned: &mut InternedTypes,
     done: &Earlier<'_>,
     exports: &[(Text, Entity)],
+    like: Option<TypeDef>,
 ) -> Result<TypeDef, NoPlace>
     requires ready { All (λ e. IsThere done.now e.1) exports.now }
+    requires like { IfSome like (IsLike interned.old (entry.Instance exports.now)) }
     ensures is { IfOk result (λ d. InstanceIs interned.new done.now exports.now d) }
     ensures grows { Grows interned.old interned.new }
     ensures adds { AddsType ⊥ (InstanceIs interned.new done.now exports.now) interned.old interned.new }
@@ -63,7 +69,8 @@ pub(crate) fn instance_entry(
         (λ b. (d : TypeDef) × InstanceIs b done.now exports.now d) }
 {
     let exports = externs(interned.alloc(), done, exports)?;
-    Ok(TypeDef::ComponentInstance(interned.put_instance(TypeComponentInstance { exports })?))
+    let number = interned.put_instance(TypeComponentInstance { exports }, instance_number(like))?;
+    Ok(TypeDef::ComponentInstance(number))
 }
 
 /// The type of an entry that is a component type.
@@ -72,9 +79,11 @@ pub(crate) fn component_entry(
     done: &Earlier<'_>,
     imports: &[(Text, Entity)],
     exports: &[(Text, Entity)],
+    like: Option<TypeDef>,
 ) -> Result<TypeDef, NoPlace>
     requires imports_ready { All (λ e. IsThere done.now e.1) imports.now }
     requires exports_ready { All (λ e. IsThere done.now e.1) exports.now }
+    requires like { IfSome like (IsLike interned.old (entry.Component imports.now exports.now)) }
     ensures is { IfOk result (λ d. ComponentIs interned.new done.now imports.now exports.now d) }
     ensures grows { Grows interned.old interned.new }
     ensures adds { AddsType ⊥ (ComponentIs interned.new done.now imports.now exports.now) interned.old interned.new }
@@ -83,7 +92,11 @@ pub(crate) fn component_entry(
 {
     let imports = externs(interned.alloc(), done, imports)?;
     let exports = externs(interned.alloc(), done, exports)?;
-    Ok(TypeDef::Component(interned.put_component(TypeComponent { imports, exports })?))
+    let number = interned.put_component(
+        TypeComponent { imports, exports },
+        component_number(like),
+    )?;
+    Ok(TypeDef::Component(number))
 }
 
 /// The type of an entry that is a module type.

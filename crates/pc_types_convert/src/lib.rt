@@ -7,6 +7,7 @@ mod done;
 mod entry;
 mod extern_type;
 mod kinds;
+mod like;
 mod parts;
 mod plain;
 mod users;

@@ -1,6 +1,6 @@
 -- How few types are added: by several steps together, of core signatures, and where a list then had no place.
 use Rattle.std.proofs.Common.{◌≡◌, ◌≤◌, ◌<◌, ◌+◌, ◌*◌, ◌⊎◌, ◌++◌, ◌∷◌, ◌∙◌, ℕ, zero, suc, List, [], length, Contains}
-use Rattle.std.proofs.Common.{Some, get_or, refl, sym, ap, subst, arith, inl, inr}
+use Rattle.std.proofs.Common.{Some, refl, sym, ap, subst, arith, inl, inr}
 use Rattle.std.specs.Prelude.{slice_get}
 use Rattle.std.proofs.lemmas.List.{length-append}
 use Rattle.std.proofs.lemmas.Option.{same_Some, slice_get-get_or, slice_get_within}

@@ -10,6 +10,7 @@ pub mod FewLemmas
 pub mod ZipLemmas
 -- What the functions of this crate rest on.
 mod FactLemmas
+mod KeyLemmas
 mod KnownLemmas
 mod PutLemmas
 mod TreeFacts

@@ -5,6 +5,7 @@ ghost use Rattle.std.specs.Borrow.{sem};
 ghost use Rattle.pc_types_lists.specs.Types.{IsBuilder, held, no_types};
 ghost use Rattle.pc_types_lists.specs.Lending.{LendsResources};
 
+use crate::labelled::Labelled;
 use crate::{FactTable, ResourcesBuilder};
 use pc_entity::{Interner, Seed};
 use pc_types::{
@@ -19,10 +20,10 @@ use std::marker::Model;
 /// resources that are known.
 pub struct InternedTypes {
     alloc: Global,
-    pub(crate) funcs: Interner<TypeFunc>,
+    pub(crate) funcs: Labelled<TypeFunc>,
     pub(crate) tuples: Interner<TypeTuple>,
-    pub(crate) records: Interner<TypeRecord>,
-    pub(crate) variants: Interner<TypeVariant>,
+    pub(crate) records: Labelled<TypeRecord>,
+    pub(crate) variants: Labelled<TypeVariant>,
     pub(crate) lists: Interner<TypeList>,
     pub(crate) options: Interner<TypeOption>,
     pub(crate) results: Interner<TypeResult>,
@@ -32,8 +33,8 @@ pub struct InternedTypes {
     pub(crate) future_tables: Interner<TypeFutureTable>,
     pub(crate) stream_tables: Interner<TypeStreamTable>,
     pub(crate) error_context_tables: Interner<TypeErrorContextTable>,
-    pub(crate) instances: Interner<TypeComponentInstance>,
-    pub(crate) components: Interner<TypeComponent>,
+    pub(crate) instances: Labelled<TypeComponentInstance>,
+    pub(crate) components: Labelled<TypeComponent>,
     pub(crate) modules: Interner<TypeModule>,
     pub(crate) signatures: Interner<CoreFuncSig>,
     pub(crate) facts: FactTable,
@@ -80,10 +81,10 @@ impl Drop for InternedTypes {
 
 /// Lets go of the types of values.
 fn drop_values(
-    _funcs: Interner<TypeFunc>,
+    _funcs: Labelled<TypeFunc>,
     _tuples: Interner<TypeTuple>,
-    _records: Interner<TypeRecord>,
-    _variants: Interner<TypeVariant>,
+    _records: Labelled<TypeRecord>,
+    _variants: Labelled<TypeVariant>,
     _lists: Interner<TypeList>,
 ) {}
 
@@ -108,8 +109,8 @@ fn drop_facts(_facts: FactTable) {}
 
 /// Lets go of what imports and exports are typed by, and of the resources.
 fn drop_externs(
-    _instances: Interner<TypeComponentInstance>,
-    _components: Interner<TypeComponent>,
+    _instances: Labelled<TypeComponentInstance>,
+    _components: Labelled<TypeComponent>,
     _modules: Interner<TypeModule>,
     _signatures: Interner<CoreFuncSig>,
     _resources: ResourcesBuilder,
@@ -134,10 +135,10 @@ impl InternedTypes {
     {
         InternedTypes {
             alloc,
-            funcs: Interner::new(alloc, seed),
+            funcs: Labelled::new(alloc, seed),
             tuples: Interner::new(alloc, seed),
-            records: Interner::new(alloc, seed),
-            variants: Interner::new(alloc, seed),
+            records: Labelled::new(alloc, seed),
+            variants: Labelled::new(alloc, seed),
             lists: Interner::new(alloc, seed),
             options: Interner::new(alloc, seed),
             results: Interner::new(alloc, seed),
@@ -147,8 +148,8 @@ impl InternedTypes {
             future_tables: Interner::new(alloc, seed),
             stream_tables: Interner::new(alloc, seed),
             error_context_tables: Interner::new(alloc, seed),
-            instances: Interner::new(alloc, seed),
-            components: Interner::new(alloc, seed),
+            instances: Labelled::new(alloc, seed),
+            components: Labelled::new(alloc, seed),
             modules: Interner::new(alloc, seed),
             signatures: Interner::new(alloc, seed),
             facts: FactTable::new(alloc),
@@ -186,7 +187,7 @@ impl InternedTypes {
 
     /// The seed that the places in its lists depend on.
     pub fn seed(&self) -> Seed {
-        self.funcs.seed()
+        self.tuples.seed()
     }
 
     /// The registered resources.

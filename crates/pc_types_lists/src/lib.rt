@@ -5,6 +5,8 @@
 pub mod facts;
 mod intern;
 pub mod interned_types;
+mod labelled;
+mod labels;
 pub mod list;
 pub mod no_place;
 mod put;

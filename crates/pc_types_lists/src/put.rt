@@ -2,14 +2,18 @@
 //!
 //! A type goes to the end of its list, and only where no equal one is held. `TooMany` comes where the list is full and
 //! lacks the type. What was held keeps its number, whatever is answered.
+//!
+//! Where a type has labels, `like` may be the number of one that has the same: with it, the labels aren't looked at.
 
-ghost use Rattle.std.specs.Prelude.{◌≡◌, ◌<◌, length, slice_get, Some, Err, All, IfOk, OnErr};
+ghost use Rattle.std.specs.Prelude.{◌≡◌, ◌<◌, length, slice_get, Some, Err, All, IfOk, IfSome, OnErr};
 ghost use Rattle.pc_types_lists.specs.Types.{Grows, HasNumber, IsTooFullFor};
 ghost use Rattle.pc_types_lists.specs.Held.{IsHeld, MayBeHeld};
 ghost use Rattle.pc_types_lists.specs.Interned.{IsPut};
+ghost use Rattle.pc_types_lists.specs.Labels.{HasLabelsOf, component_labels, func_labels, instance_labels};
+ghost use Rattle.pc_types_lists.specs.Labels.{record_labels, variant_labels};
 
 use crate::InternedTypes;
-use crate::intern::{intern, intern_with};
+use crate::intern::{intern, intern_with, put_with};
 use crate::no_place::NoPlace;
 use pc_entity::ModuleInternedTypeIndex;
 use pc_types::{
@@ -24,9 +28,14 @@ use pc_types::{
 
 impl InternedTypes {
     /// The number of a function type over held tuples.
-    pub fn put_func(&mut self, value: TypeFunc) -> Result<TypeFuncIndex, NoPlace>
+    pub fn put_func(
+        &mut self,
+        value: TypeFunc,
+        like: Option<TypeFuncIndex>,
+    ) -> Result<TypeFuncIndex, NoPlace>
         requires params { value.params.0 < length self.old.tuples }
         requires results { value.results.0 < length self.old.tuples }
+        requires like { IfSome like (λ i. HasLabelsOf func_labels self.old.funcs i.0 value) }
         ensures held { IfOk result (λ i. slice_get self.new.funcs i.0 ≡ Some value) }
         ensures put { IsPut self.old.funcs self.new.funcs value }
         ensures rest { self.new ≡ record self.old { funcs = self.new.funcs } }
@@ -35,7 +44,13 @@ impl InternedTypes {
         ensures full { result ≡ Err NoPlace.TooMany → IsTooFullFor self.new (λ b. HasNumber b.funcs value) }
     {
         let facts = self.facts.of_func(&value);
-        let number = intern_with(&mut self.funcs, &mut self.facts.funcs, value, facts)?;
+        let number = put_with(
+            &mut self.funcs,
+            &mut self.facts.funcs,
+            value,
+            facts,
+            like.map(|i| i.0),
+        )?;
         Ok(TypeFuncIndex(number))
     }
 
@@ -55,8 +70,13 @@ impl InternedTypes {
     }
 
     /// The number of a record of held types.
-    pub fn put_record_type(&mut self, value: TypeRecord) -> Result<TypeRecordIndex, NoPlace>
+    pub fn put_record_type(
+        &mut self,
+        value: TypeRecord,
+        like: Option<TypeRecordIndex>,
+    ) -> Result<TypeRecordIndex, NoPlace>
         requires parts { All (λ f. IsHeld self.old f.1) value.fields }
+        requires like { IfSome like (λ i. HasLabelsOf record_labels self.old.records i.0 value) }
         ensures held { IfOk result (λ i. slice_get self.new.records i.0 ≡ Some value) }
         ensures put { IsPut self.old.records self.new.records value }
         ensures rest { self.new ≡ record self.old { records = self.new.records } }
@@ -65,13 +85,24 @@ impl InternedTypes {
         ensures full { result ≡ Err NoPlace.TooMany → IsTooFullFor self.new (λ b. HasNumber b.records value) }
     {
         let facts = self.facts.of_record(&value);
-        let number = intern_with(&mut self.records, &mut self.facts.records, value, facts)?;
+        let number = put_with(
+            &mut self.records,
+            &mut self.facts.records,
+            value,
+            facts,
+            like.map(|i| i.0),
+        )?;
         Ok(TypeRecordIndex(number))
     }
 
     /// The number of a variant over held types.
-    pub fn put_variant(&mut self, value: TypeVariant) -> Result<TypeVariantIndex, NoPlace>
+    pub fn put_variant(
+        &mut self,
+        value: TypeVariant,
+        like: Option<TypeVariantIndex>,
+    ) -> Result<TypeVariantIndex, NoPlace>
         requires parts { All (λ c. MayBeHeld self.old c.1) value.cases }
+        requires like { IfSome like (λ i. HasLabelsOf variant_labels self.old.variants i.0 value) }
         ensures held { IfOk result (λ i. slice_get self.new.variants i.0 ≡ Some value) }
         ensures put { IsPut self.old.variants self.new.variants value }
         ensures rest { self.new ≡ record self.old { variants = self.new.variants } }
@@ -80,7 +111,13 @@ impl InternedTypes {
         ensures full { result ≡ Err NoPlace.TooMany → IsTooFullFor self.new (λ b. HasNumber b.variants value) }
     {
         let facts = self.facts.of_variant(&value);
-        let number = intern_with(&mut self.variants, &mut self.facts.variants, value, facts)?;
+        let number = put_with(
+            &mut self.variants,
+            &mut self.facts.variants,
+            value,
+            facts,
+            like.map(|i| i.0),
+        )?;
         Ok(TypeVariantIndex(number))
     }
 
@@ -219,7 +256,9 @@ impl InternedTypes {
     pub fn put_instance(
         &mut self,
         value: TypeComponentInstance,
+        like: Option<TypeComponentInstanceIndex>,
     ) -> Result<TypeComponentInstanceIndex, NoPlace>
+        requires like { IfSome like (λ i. HasLabelsOf instance_labels self.old.instances i.0 value) }
         ensures held { IfOk result (λ i. slice_get self.new.instances i.0 ≡ Some value) }
         ensures put { IsPut self.old.instances self.new.instances value }
         ensures rest { self.new ≡ record self.old { instances = self.new.instances } }
@@ -227,11 +266,16 @@ impl InternedTypes {
         ensures err { OnErr result (self.new ≡ self.old) }
         ensures full { result ≡ Err NoPlace.TooMany → IsTooFullFor self.new (λ b. HasNumber b.instances value) }
     {
-        Ok(TypeComponentInstanceIndex(intern(&mut self.instances, value)?))
+        Ok(TypeComponentInstanceIndex(self.instances.put(value, like.map(|i| i.0))?))
     }
 
     /// The number of a component type.
-    pub fn put_component(&mut self, value: TypeComponent) -> Result<TypeComponentIndex, NoPlace>
+    pub fn put_component(
+        &mut self,
+        value: TypeComponent,
+        like: Option<TypeComponentIndex>,
+    ) -> Result<TypeComponentIndex, NoPlace>
+        requires like { IfSome like (λ i. HasLabelsOf component_labels self.old.components i.0 value) }
         ensures held { IfOk result (λ i. slice_get self.new.components i.0 ≡ Some value) }
         ensures put { IsPut self.old.components self.new.components value }
         ensures rest { self.new ≡ record self.old { components = self.new.components } }
@@ -239,7 +283,7 @@ impl InternedTypes {
         ensures err { OnErr result (self.new ≡ self.old) }
         ensures full { result ≡ Err NoPlace.TooMany → IsTooFullFor self.new (λ b. HasNumber b.components value) }
     {
-        Ok(TypeComponentIndex(intern(&mut self.components, value)?))
+        Ok(TypeComponentIndex(self.components.put(value, like.map(|i| i.0))?))
     }
 
     /// The number of a module type.

@@ -3,8 +3,8 @@ use Rattle.pc_types_lists.proofs.ErrorLemmas.{passed_on}
 use Rattle.pc_types_convert.specs.Needed.{IsDone}
 use Rattle.pc_types_convert.specs.Plain.{is_plain_entry}
 use Rattle.pc_types_builder.proofs.AskedLemmas.{step_adds}
-use Rattle.pc_types_builder.proofs.StepLemmas.{done_put, entry_wanted, front_held, kept_put, notes_keep, put_more}
-use Rattle.pc_types_builder.proofs.StepLemmas.{ready_front}
+use Rattle.pc_types_builder.proofs.StepLemmas.{done_put, entry_wanted, front_held, kept_put, like_ready, notes_keep}
+use Rattle.pc_types_builder.proofs.StepLemmas.{put_more, ready_front}
 use Rattle.pc_types_builder.proofs.TreeLemmas.{converted_grows}
 use Rattle.pc_types_builder.proofs.steps.step.Goals as goal
 
@@ -16,6 +16,10 @@ convert-requires-clause-ready c =
 
 pub convert-requires-clause-held : goal.convert-requires-clause-held
 convert-requires-clause-held c = front_held _ _ _ _ c.args.k c.requires.converted.all c.in_front.ensures
+
+pub convert-requires-clause-like : goal.convert-requires-clause-like
+convert-requires-clause-like c =
+    like_ready _ c.args.table.now _ c.args.k _ _ c.requires.converted.like c.entry_at-entry.ensures c.like-like.ensures
 
 pub returns-in_err-type_-clause-converted : goal.returns-in_err-type_-clause-converted
 returns-in_err-type_-clause-converted c = converted_grows _ _ c.convert.ensures.grows _ _ c.requires.converted
@@ -32,7 +36,8 @@ returns-in_err-named-clause-converted c = converted_grows _ _ c.convert.ensures.
 
 pub returns-in_err-put-clause-converted : goal.returns-in_err-put-clause-converted
 returns-in_err-put-clause-converted c =
-    notes_keep c.args.table.now c.requires.sound _ _ _ c.in_err-put.ensures.err
+    notes_keep c.args.table.now c.requires.sound _ _ _ _ c.args.k _ c.in_ok-type_.type_ c.entry_at-entry.ensures
+    c.in_ok-type_.ensures.is c.in_err-put.ensures.err
     (converted_grows _ _ c.convert.ensures.grows _ _ c.requires.converted)
 
 pub returns-in_err-put-clause-kept : goal.returns-in_err-put-clause-kept
@@ -45,7 +50,7 @@ returns-clause-converted c =
     (c.requires.parts _ at) (converted_grows _ _ c.convert.ensures.grows _ _ c.requires.converted)
     c.in_front.ensures c.in_ok-type_.ensures.is _
     (c.is_plain-plain.ensures ∙ (λ i. is_plain_entry (c.done.ensures i).plain c.entry_at-entry.result.now))
-    _ (c.as_slice.ensures.value ∙ c.in_ok-named.ensures)
+    _ (λ own. c.as_slice.ensures.value ∙ c.in_ok-named.ensures own)
     c.in_ok-put.ensures.all c.in_ok-put.ensures.put c.in_ok-put.ensures.layered
 
 pub returns-clause-done : goal.returns-clause-done

@@ -7,6 +7,7 @@ use Rattle.pc_types_convert.specs.Entries.{FuncIs}
 use Rattle.pc_types_convert.proofs.FuncLemmas.{func_made, made_there, params_grow}
 use Rattle.pc_types_convert.proofs.HeldLemmas.{are_held_grow}
 use Rattle.pc_types_convert.proofs.PartLemmas.{if_ok_more}
+use Rattle.pc_types_convert.proofs.LikeLemmas.{func_like}
 use Rattle.pc_types_convert.proofs.entry.func_entry.Goals as goal
 
 pub results_tuple-requires-clause-held : goal.results_tuple-requires-clause-held
@@ -19,6 +20,14 @@ put_func-requires c =
     record {
       params = slice_get_within _ c.in_ok-params.params.0 p.0 p.1;
       results = slice_get_within _ c.in_ok-results.results.0 _ c.in_ok-results.ensures.are.1;
+      like = func_like _ _ (grows_trans _ _ _ c.params_tuple.ensures.grows c.results_tuple.ensures.grows)
+          c.args.done.now c.args.like c.args.params.now c.args.returns c.args.async_ c.requires.like
+          c.func_number.result c.func_number.ensures (record {
+            param_names = c.in_ok-param_names.param_names;
+            params = c.in_ok-params.params;
+            results = c.in_ok-results.results;
+            async_ = c.args.async_;
+          }) c.in_ok-param_names.ensures;
     }
 
 pub returns-in_err-results-clause-grows : goal.returns-in_err-results-clause-grows

@@ -1,6 +1,9 @@
 use Rattle.std.proofs.Common.{List, ℕ, subst, sym}
+use Rattle.std.specs.Prelude.{IfSome}
 use Rattle.std.specs.List.{All}
+use Rattle.pc_types.specs.declared.parsed.DeclType.TheVariants as entry
 use Rattle.pc_types.specs.declared.parsed.Entity.{Entity}
+use Rattle.pc_types_convert.specs.Labels.{IsLike}
 use Rattle.pc_types_convert.specs.Parts.{IsThere}
 use Rattle.pc_types_convert.specs.Steps.{IsReadyEntry}
 use Rattle.std.proofs.Common.{refl}
@@ -15,6 +18,10 @@ instance_entry-requires c = record {
   ready =
       subst (All (λ (e : List ℕ × Entity). IsThere c.args.done.now e.1)) (sym c.as_slice-in-Instance.ensures)
       (subst (IsReadyEntry c.args.table.now c.args.done.now) c.in-Instance.is c.requires.ready);
+  like =
+      subst (λ es. IfSome c.args.like (IsLike c.args.interned.now (entry.Instance es)))
+      (sym c.as_slice-in-Instance.ensures)
+      (subst (λ e. IfSome c.args.like (IsLike c.args.interned.now e)) c.in-Instance.is c.requires.like);
 }
 
 pub component_entry-requires-clause-imports_ready : goal.component_entry-requires-clause-imports_ready

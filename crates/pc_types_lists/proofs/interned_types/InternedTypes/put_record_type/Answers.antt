@@ -16,27 +16,27 @@ of_record-facts-requires c =
           (c.requires.parts k d below);
     }
 
-pub intern_with-requires-clause-paired : goal.intern_with-requires-clause-paired
-intern_with-requires-clause-paired c =
+pub put_with-requires-clause-paired : goal.put_with-requires-clause-paired
+put_with-requires-clause-paired c =
     let s = c.self.inside in
     AllZip-long (RecordHas s.facts) s.records s.facts.records c.self.invariant.facts.records
 
 pub invariant_of-self : goal.invariant_of-self
 invariant_of-self c =
-    let put = c.intern_with.ensures in
+    let put = c.put_with.ensures in
     records_within c.self.inside c.self.invariant _ _ c.args.value _ c.of_record-facts.ensures put.facts put.within
 
 pub returns-in_err-number-clause-grows : goal.returns-in_err-number-clause-grows
 returns-in_err-number-clause-grows c =
-    rw (← c.self.view_is) (grows_records _ _ c.args.value refl c.intern_with.ensures.put)
+    rw (← c.self.view_is) (grows_records _ _ c.args.value refl c.put_with.ensures.put)
 
 pub invariant_of-self-2 : goal.invariant_of-self-2
 invariant_of-self-2 c =
-    let put = c.intern_with.ensures in
+    let put = c.put_with.ensures in
     records_within c.self.inside c.self.invariant _ _ c.args.value _ c.of_record-facts.ensures put.facts put.within
 
 pub returns-clause-grows : goal.returns-clause-grows
-returns-clause-grows c = rw (← c.self.view_is) (grows_records _ _ c.args.value refl c.intern_with.ensures.put)
+returns-clause-grows c = rw (← c.self.view_is) (grows_records _ _ c.args.value refl c.put_with.ensures.put)
 
 pub returns-in_err-number-clause-full : goal.returns-in_err-number-clause-full
 returns-in_err-number-clause-full c h =

@@ -16,27 +16,27 @@ of_variant-facts-requires c =
           (types_of s) s.facts c.self.view_is c.self.invariant.facts _ (c.requires.parts k d below);
     }
 
-pub intern_with-requires-clause-paired : goal.intern_with-requires-clause-paired
-intern_with-requires-clause-paired c =
+pub put_with-requires-clause-paired : goal.put_with-requires-clause-paired
+put_with-requires-clause-paired c =
     let s = c.self.inside in
     AllZip-long (VariantHas s.facts) s.variants s.facts.variants c.self.invariant.facts.variants
 
 pub invariant_of-self : goal.invariant_of-self
 invariant_of-self c =
-    let put = c.intern_with.ensures in
+    let put = c.put_with.ensures in
     variants_within c.self.inside c.self.invariant _ _ c.args.value _ c.of_variant-facts.ensures put.facts put.within
 
 pub returns-in_err-number-clause-grows : goal.returns-in_err-number-clause-grows
 returns-in_err-number-clause-grows c =
-    rw (← c.self.view_is) (grows_variants _ _ c.args.value refl c.intern_with.ensures.put)
+    rw (← c.self.view_is) (grows_variants _ _ c.args.value refl c.put_with.ensures.put)
 
 pub invariant_of-self-2 : goal.invariant_of-self-2
 invariant_of-self-2 c =
-    let put = c.intern_with.ensures in
+    let put = c.put_with.ensures in
     variants_within c.self.inside c.self.invariant _ _ c.args.value _ c.of_variant-facts.ensures put.facts put.within
 
 pub returns-clause-grows : goal.returns-clause-grows
-returns-clause-grows c = rw (← c.self.view_is) (grows_variants _ _ c.args.value refl c.intern_with.ensures.put)
+returns-clause-grows c = rw (← c.self.view_is) (grows_variants _ _ c.args.value refl c.put_with.ensures.put)
 
 pub returns-in_err-number-clause-full : goal.returns-in_err-number-clause-full
 returns-in_err-number-clause-full c h =
