@@ -1,7 +1,7 @@
 -- What a core instance has under a name: as an argument of a core module, and as a core item of the table.
 use Rattle.std.proofs.Common.{◌≡◌, ℕ, List, [], ◌∷◌, ◌++◌, length, Result, Ok, Err, Some, refl, sym}
 use Rattle.std.proofs.Common.{ap, subst, ◌∙◌}
-use Rattle.std.specs.Prelude.{slice_get, IfOk, OnOk}
+use Rattle.std.specs.Prelude.{slice_get, IfOk, IfSome, Option, OnOk}
 use Rattle.std.proofs.lemmas.Option.{same_Some}
 use Rattle.pc_entity.proofs.Growing.{slice_get-append_seam}
 use Rattle.pc_dfg.specs.declared.ids.InstanceId.{InstanceId}
@@ -21,9 +21,12 @@ use Rattle.pc_inline_state.specs.declared.core_item.CoreItem.{CoreItem}
 use Rattle.pc_inline_state.specs.declared.core_item.CoreItem.TheVariants as item
 use Rattle.pc_inline_state.specs.declared.definition.CoreId.{CoreId}
 use Rattle.pc_inline_state.specs.declared.error.ItemError.{ItemError}
+use Rattle.pc_inline_state.specs.declared.host_items.HostExport.{HostExport}
+use Rattle.pc_inline_state.specs.declared.places.Places.{Places}
 use Rattle.pc_inline_state.specs.declared.state.State.{State}
 use Rattle.pc_inline_state.specs.Bags.{module_export}
 use Rattle.pc_inline_state.specs.Found.{ArgumentStands, FoundThere, ItemFound, entity_found, known_found, named_found}
+use Rattle.pc_inline_state.specs.Placed.{ArePlaced, IsHostItem}
 use Rattle.pc_inline_state.specs.Stands.{CoreStands, ItemStands}
 use Rattle.pc_inline_state.specs.Tables.{IsHostInstance, IsItem, Tables, is_entity, is_named, tables_of}
 
@@ -91,6 +94,13 @@ module _ (ms : List ModuleRecord) (b : Tables) where
   named_usable k i n place e v at (named_found found is host) =
       (named_argument i n place e _ at found host, is_named host)
 
+  -- an export of a host module that was found is there
+  pub named_there : (t : TypeTable) (x : CoreItem) (i : InstanceId) (n place : ℕ) → b.table ≡ t
+      → x ≡ item.Named i n place → FoundThere ms b x → (e : List ℕ × CoreEntity) × (module_export t n place ≡ Some e)
+  named_there t x i n place table is there =
+      let e = subst (λ y. FoundThere ms b y) is there in
+      (e.0, subst (λ y. module_export y n place ≡ Some e.0) table e.1)
+
   -- the definition of an item by its name is the argument that was found there
   pub named_arguments : (r : Result CoreDef NoMemory) (t : TypeTable) (x : CoreItem) (i : InstanceId) (n place : ℕ)
       → b.table ≡ t → x ≡ item.Named i n place → FoundThere ms b x
@@ -103,52 +113,65 @@ module _ (ms : List ModuleRecord) (b : Tables) where
       subst (λ y. ArgumentStands ms b y v) (sym (made e.0 (subst (λ y. module_export y n place ≡ Some e.0) table e.1)))
       (record { kind = k; stands = u.0; usable = u.1 })
 
--- a definition that goes to the end of the table is a core item there
-definition_ids : (ms : List ModuleRecord) (old new : State) (r : Result CoreId ItemError) (d : CoreDef)
-    (P : CoreKind → CoreValue Mark → Type 0)
-    → ((k : CoreKind) (v : CoreValue Mark) → P k v
-    → CoreStands old.types old.graph d v × IsItem ms old.graph k d)
-    → IfOk r (λ id. id.0 ≡ length old.cores) → OnOk r (new ≡ record old { cores = old.cores ++ d ∷ [] })
-    → IfOk r (λ id. (k : CoreKind) (v : CoreValue Mark) → P k v → ItemStands ms (tables_of new) k id v)
-definition_ids ms old new (Err f) d P stands at more = tt
-definition_ids ms old new (Ok id) d P stands at more =
-    λ k v p. subst (λ st. ItemStands ms (tables_of st) k id v) (sym more)
-    (record {
-      definition = d;
-      held = ap (slice_get (old.cores ++ d ∷ [])) at ∙ slice_get-append_seam old.cores d [];
-      stands = (stands k v p).0;
-      usable = (stands k v p).1;
-    })
-
--- an entity that goes there is
+-- an entity that goes to the end of the table is a core item there
 pub entity_ids : (ms : List ModuleRecord) (old new : State) (r : Result CoreId ItemError) (x : CoreItem) (d : CoreDef)
     (i : InstanceId) (e : EntityIndex) → x ≡ item.Entity i e → d ≡ entity_def i e
     → IfOk r (λ id. id.0 ≡ length old.cores) → OnOk r (new ≡ record old { cores = old.cores ++ d ∷ [] })
     → IfOk r (λ id. (k : CoreKind) (v : CoreValue Mark) → ItemFound ms (tables_of old) k x v
     → ItemStands ms (tables_of new) k id v)
-entity_ids ms old new r x d i e is def at more =
-    definition_ids ms old new r d (λ k v. ItemFound ms (tables_of old) k x v)
-    (λ k v found.
-    let entity = subst (λ y. ItemFound ms (tables_of old) k y v) is found in (
-      subst (λ y. CoreStands old.types old.graph y v) (sym def) (entity_argument ms (tables_of old) k i e v entity).stands,
-      subst (λ y. IsItem ms old.graph k y) (sym def) (entity_usable ms (tables_of old) k i e v entity),
-    )) at more
+entity_ids ms old new (Err f) x d i e is def at more = tt
+entity_ids ms old new (Ok id) x d i e is def at more =
+    λ k v found.
+    let entity = subst (λ y. ItemFound ms (tables_of old) k y v) is found in
+    subst (λ st. ItemStands ms (tables_of st) k id v) (sym more)
+    (record {
+      definition = d;
+      held = ap (slice_get (old.cores ++ d ∷ [])) at ∙ slice_get-append_seam old.cores d [];
+      stands = subst (λ y. CoreStands old.types old.graph y v) (sym def)
+          (entity_argument ms (tables_of old) k i e v entity).stands;
+      usable = subst (λ y. IsItem ms old.graph k y) (sym def) (entity_usable ms (tables_of old) k i e v entity);
+    })
 
--- and an item by its name that goes there is
+-- and a core item that stands for an export of a host module is what was found there
 pub named_ids : (ms : List ModuleRecord) (old new : State) (r : Result CoreId ItemError) (t : TypeTable) (x : CoreItem)
-    (d : CoreDef) (i : InstanceId) (n place : ℕ) → old.table.now ≡ t → x ≡ item.Named i n place
-    → FoundThere ms (tables_of old) x
-    → ((e : List ℕ × CoreEntity) → module_export t n place ≡ Some e → d ≡ named_def i e.0)
-    → IfOk r (λ id. id.0 ≡ length old.cores) → OnOk r (new ≡ record old { cores = old.cores ++ d ∷ [] })
+    (e : HostExport) → old.table.now ≡ t → x ≡ item.Named e.instance e.entry e.place
+    → new ≡ record old { cores = new.cores; places = new.places } → IfOk r (IsHostItem t ms new e)
     → IfOk r (λ id. (k : CoreKind) (v : CoreValue Mark) → ItemFound ms (tables_of old) k x v
     → ItemStands ms (tables_of new) k id v)
-named_ids ms old new r t x d i n place table is there made at more =
-    let e = subst (λ y. FoundThere ms (tables_of old) y) is there in
-    let def = made e.0 (subst (λ y. module_export y n place ≡ Some e.0) table e.1) in
-    definition_ids ms old new r d (λ k v. ItemFound ms (tables_of old) k x v)
-    (λ k v found.
-    let u = named_usable ms (tables_of old) k i n place e.0 v e.1
-    (subst (λ y. ItemFound ms (tables_of old) k y v) is found) in (
-      subst (λ y. CoreStands old.types old.graph y v) (sym def) u.0,
-      subst (λ y. IsItem ms old.graph k y) (sym def) u.1,
-    )) at more
+named_ids ms old new (Err f) t x e table is rest made = tt
+named_ids ms old new (Ok id) t x e table is rest made =
+    λ k v found.
+    let u = named_usable ms (tables_of old) k e.instance e.entry e.place (made.name, made.entity) v
+    (subst (λ y. module_export y e.entry e.place ≡ Some (made.name, made.entity)) (sym table) made.there)
+    (subst (λ y. ItemFound ms (tables_of old) k y v) is found) in
+    subst (λ (st : State). ItemStands ms (tables_of st) k id v) (sym rest)
+    (record { definition = named_def e.instance made.name; held = made.held; stands = u.0; usable = u.1 })
+
+-- a state whose core items alone changed is as it was but for them and for what is noted then
+pub cores_rest : (old new : State) (cs : List CoreDef) (p : Places) → new ≡ record old { cores = cs }
+    → record new { places = p } ≡ record old { cores = new.cores; places = p }
+cores_rest old new cs p is i = record (is i) { cores = new.cores; places = p }
+
+module _ (t : TypeTable) (ms : List ModuleRecord) where
+  -- an export that is noted has the core item that is noted
+  pub noted_item : (st : State) → ArePlaced t ms st → (e : HostExport) (o : Option CoreId) (id : CoreId)
+      → IfSome o (λ n. (i : ℕ) × (slice_get st.places.host_items i ≡ Some (e, n))) → o ≡ Some id
+      → IsHostItem t ms st e id
+  noted_item st placed e o id found is =
+      let at =
+      subst (λ x. IfSome x (λ n. (i : ℕ) × (slice_get st.places.host_items i ≡ Some (e, n)))) is found in
+      placed.host_items at.0 e id at.1
+
+  -- a definition that goes to the end of the table is the core item of its export, whatever is noted
+  pub host_item_made : (old new : State) (p : Places) (e : HostExport) (d : CoreDef) (id : CoreId)
+      → (x : List ℕ × CoreEntity) × (module_export t e.entry e.place ≡ Some x)
+      → ((x : List ℕ × CoreEntity) → module_export t e.entry e.place ≡ Some x → d ≡ named_def e.instance x.0)
+      → id.0 ≡ length old.cores → new ≡ record old { cores = old.cores ++ d ∷ [] }
+      → IsHostItem t ms (record new { places = p }) e id
+  host_item_made old new p e d id there made at more = record {
+    name = there.0.0;
+    entity = there.0.1;
+    there = there.1;
+    held = ap (λ (st : State). slice_get st.cores id.0) more ∙ ap (slice_get (old.cores ++ d ∷ [])) at
+        ∙ slice_get-append_seam old.cores d [] ∙ ap Some (made there.0 there.1);
+  }

@@ -1,4 +1,5 @@
--- Adapters under their keys: where `==` of keys answers true, the two are one.
+-- Adapters under their keys, and core items under the exports that they stand for: where `==` of keys answers true, the
+-- two are one.
 use Rattle.std.proofs.Common.{◌≡◌, ◌⊎◌, inl, inr, ℕ, zero, suc, Bool, true, false, List, [], ◌∷◌, None, Some, refl}
 use Rattle.std.proofs.Common.{if◌then◌else◌, sym, ap, subst, ◌∙◌, true≢false}
 use Rattle.std.specs.Prelude.{◌==◌, ◌&&◌, IfSome, Option, slice_get}
@@ -12,17 +13,18 @@ use Rattle.pc_entity.specs.Exact.{same_options}
 use Rattle.pc_entity.proofs.Elements.{and_true}
 use Rattle.pc_types.specs.contracts.encoding.StringEncodingPartialEq.TheImpl as eq_StringEncoding
 use Rattle.pc_types.specs.EqualWords.{encoding_exact}
-use Rattle.pc_dfg.specs.declared.ids.AdapterId.{AdapterId}
 use Rattle.pc_dfg.specs.Exact.{same_number}
 use Rattle.pc_inline_state.specs.contracts.adapters.AdapterKeyPartialEq.TheImpl as eq_AdapterKey
 use Rattle.pc_inline_state.specs.contracts.definition.CoreIdPartialEq.TheImpl as eq_CoreId
 use Rattle.pc_inline_state.specs.contracts.definition.DataModelPartialEq.TheImpl as eq_DataModel
 use Rattle.pc_inline_state.specs.contracts.definition.OptionsPartialEq.TheImpl as eq_Options
+use Rattle.pc_inline_state.specs.contracts.host_items.HostExportPartialEq.TheImpl as eq_HostExport
 use Rattle.pc_inline_state.specs.declared.adapters.AdapterKey.{AdapterKey}
 use Rattle.pc_inline_state.specs.declared.definition.CoreId.{CoreId}
 use Rattle.pc_inline_state.specs.declared.definition.DataModel.{DataModel}
 use Rattle.pc_inline_state.specs.declared.definition.DataModel.TheVariants as model
 use Rattle.pc_inline_state.specs.declared.definition.Options.{Options}
+use Rattle.pc_inline_state.specs.declared.host_items.HostExport.{HostExport}
 
 -- `==` of numbers of core items is equality of values
 core_exact : (a b : CoreId) → eq_CoreId.ghosts.eq a b ≡ true → a ≡ b
@@ -96,9 +98,19 @@ key_exact a b h =
       lower = lower i;
     }
 
+-- `==` of exports of host modules is equality of values
+pub export_exact : (a b : HostExport) → eq_HostExport.ghosts.eq a b ≡ true → a ≡ b
+export_exact a b h =
+    let first = and_true (a.instance.0 == b.instance.0) ((a.entry == b.entry) && (a.place == b.place)) h in
+    let second = and_true (a.entry == b.entry) (a.place == b.place) first.1 in
+    let instance = same_number a.instance.0 b.instance.0 first.0 in
+    let entry = same_number a.entry b.entry second.0 in
+    let place = same_number a.place b.place second.1 in
+    λ i. record { instance = record { 0 = instance i }; entry = entry i; place = place i }
+
 module _ {K V : Type 0} (eq : K → K → Bool) (exact : (a b : K) → eq a b ≡ true → a ≡ b) where
   -- what a look-up finds under a key stands among the entries
-  pub found_under : (k : K) (es : List (K × V)) (v : V) → lookup (eq k) es ≡ Some v
+  found_under : (k : K) (es : List (K × V)) (v : V) → lookup (eq k) es ≡ Some v
       → (i : ℕ) × (slice_get es i ≡ Some (k, v))
   found_under k [] v is = absurd (none-some v is)
   found_under k (e ∷ es) v is = by (eq k e.0) refl (found_under k es v) is
@@ -112,7 +124,7 @@ module _ {K V : Type 0} (eq : K → K → Bool) (exact : (a b : K) → eq a b �
       by false apart rest is = let found = rest is in (suc found.0, found.1)
 
   -- an entry after an insertion stood there before, or is what was inserted
-  pub inserted_at : (k : K) (v : V) (es : List (K × V)) (i : ℕ) (e : K × V)
+  inserted_at : (k : K) (v : V) (es : List (K × V)) (i : ℕ) (e : K × V)
       → slice_get (insert_entry eq es k v) i ≡ Some e → (slice_get es i ≡ Some e) ⊎ (e ≡ (k, v))
   inserted_at k v [] zero e at = inr (sym (same_Some (k, v) e at))
   inserted_at k v [] (suc i) e at = absurd (none-some e at)
@@ -133,19 +145,16 @@ module _ {K V : Type 0} (eq : K → K → Bool) (exact : (a b : K) → eq a b �
       by true rest at = inl at
       by false rest at = rest at
 
--- so an adapter that is found stands under its key
-pub key_found : (es now : List (AdapterKey × AdapterId)) → es ≡ now → (key : AdapterKey) (o : Option AdapterId)
-    → o ≡ lookup (eq_AdapterKey.ghosts.eq key) es → IfSome o (λ a. (i : ℕ) × (slice_get now i ≡ Some (key, a)))
-key_found es now same key None is = tt
-key_found es now same key (Some a) is =
-    subst (λ (l : List (AdapterKey × AdapterId)). (i : ℕ) × (slice_get l i ≡ Some (key, a))) same
-    (found_under eq_AdapterKey.ghosts.eq key_exact key es a (sym is))
+  -- so a value that is found stands under its key
+  pub key_found : (es now : List (K × V)) → es ≡ now → (k : K) (o : Option V) → o ≡ lookup (eq k) es
+      → IfSome o (λ v. (i : ℕ) × (slice_get now i ≡ Some (k, v)))
+  key_found es now same k None is = tt
+  key_found es now same k (Some v) is =
+      subst (λ (l : List (K × V)). (i : ℕ) × (slice_get l i ≡ Some (k, v))) same (found_under k es v (sym is))
 
--- and after a key is noted it stands there with its adapter, or stood there
-pub key_inserted : (es now after : List (AdapterKey × AdapterId)) → es ≡ now → (key : AdapterKey) (a : AdapterId)
-    → after ≡ insert_entry eq_AdapterKey.ghosts.eq es key a → (i : ℕ) (e : AdapterKey × AdapterId)
-    → slice_get after i ≡ Some e → (slice_get now i ≡ Some e) ⊎ (e ≡ (key, a))
-key_inserted es now after same key a is i e at =
-    subst (λ (l : List (AdapterKey × AdapterId)). (slice_get l i ≡ Some e) ⊎ (e ≡ (key, a))) same
-    (inserted_at eq_AdapterKey.ghosts.eq key_exact key a es i e
-    (ap (λ (l : List (AdapterKey × AdapterId)). slice_get l i) (sym is) ∙ at))
+  -- and after a key is noted it stands there with its value, or stood there
+  pub key_inserted : (es now after : List (K × V)) → es ≡ now → (k : K) (v : V) → after ≡ insert_entry eq es k v
+      → (i : ℕ) (e : K × V) → slice_get after i ≡ Some e → (slice_get now i ≡ Some e) ⊎ (e ≡ (k, v))
+  key_inserted es now after same k v is i e at =
+      subst (λ (l : List (K × V)). (slice_get l i ≡ Some e) ⊎ (e ≡ (k, v))) same
+      (inserted_at k v es i e (ap (λ (l : List (K × V)). slice_get l i) (sym is) ∙ at))

@@ -1,4 +1,5 @@
--- What is noted of slots and adapters stays so while tables and graph grow, and as more is noted.
+-- What is noted of slots, adapters and core items of host modules stays so while tables and graph grow, and as more is
+-- noted.
 use Rattle.std.proofs.Common.{◌≡◌, ◌⊎◌, inl, inr, ℕ, Bool, true, false, List, Option, None, Some, refl, sym, ap}
 use Rattle.std.proofs.Common.{subst, ◌∙◌, true≢false}
 use Rattle.std.specs.Prelude.{◌==◌, slice_get}
@@ -35,10 +36,11 @@ use Rattle.pc_inline_state.specs.declared.definition.DataModel.{DataModel}
 use Rattle.pc_inline_state.specs.declared.definition.DataModel.TheVariants as model
 use Rattle.pc_inline_state.specs.declared.definition.Options.{Options}
 use Rattle.pc_inline_state.specs.declared.frame.Frame.{Frame}
+use Rattle.pc_inline_state.specs.declared.host_items.HostExport.{HostExport}
 use Rattle.pc_inline_state.specs.declared.places.Places.{Places}
 use Rattle.pc_inline_state.specs.declared.state.State.{State}
-use Rattle.pc_inline_state.specs.Placed.{ArePlaced, HasAdapter, InSlot, IsMadeOfKey}
-use Rattle.pc_inline_state.specs.Places.{NotesAdapter, NotesSlot, no_places, slot_at}
+use Rattle.pc_inline_state.specs.Placed.{ArePlaced, HasAdapter, InSlot, IsHostItem, IsMadeOfKey}
+use Rattle.pc_inline_state.specs.Places.{NotesAdapter, NotesItem, NotesSlot, no_places, slot_at}
 use Rattle.pc_inline_state.specs.Points.{IsSoundState, PointStands}
 use Rattle.pc_inline_state.specs.Sides.{IsDefinition, IsMemory, IsModel, IsSide}
 use Rattle.pc_inline_state.specs.Tables.{Keeps, Tables, tables_of}
@@ -96,6 +98,15 @@ module _ (t : TypeTable) (ms : List ModuleRecord) (a b : State) (cores : Kept a.
     func = cores key.func.0 x.func made.func;
   }
 
+  -- a core item is what an instance of a host module exports when core items are more
+  pub host_item_kept : (export : HostExport) (id : CoreId) → IsHostItem t ms a export id → IsHostItem t ms b export id
+  host_item_kept export id item = record {
+    name = item.name;
+    entity = item.entity;
+    there = item.there;
+    held = cores id.0 _ item.held;
+  }
+
 -- a core item is in its slot when tables have grown
 pub in_slot_kept : (a b : Tables) → Keeps a b → (k : plan.SlotKind) (id n : ℕ) → InSlot a k id n → InSlot b k id n
 in_slot_kept a b keeps k id n s = record {
@@ -118,6 +129,9 @@ placed_kept t ms a b keeps modules same s = record {
         held = kept a.graph b.graph keeps.graph list.adapters n.0 old.adapter old.held;
         made = key_kept t ms a b keeps.cores modules key old.adapter old.made;
       };
+  host_items = λ i export id at.
+      host_item_kept t ms a b keeps.cores modules export id
+      (s.host_items i export id (subst (λ (p : Places). slice_get p.host_items i ≡ Some (export, id)) same at));
 }
 
 -- nothing is noted at first
@@ -127,6 +141,8 @@ none_placed t ms st none = record {
   slots = λ k id n at. absurd (no_slot k id n (subst (λ (p : Places). slot_at p k id ≡ Some n) none at));
   adapters = λ i key n at.
       absurd (none-some _ (subst (λ (p : Places). slice_get p.adapters i ≡ Some (key, n)) none at));
+  host_items = λ i export id at.
+      absurd (none-some _ (subst (λ (p : Places). slice_get p.host_items i ≡ Some (export, id)) none at));
 }
   where
     no_slot : (k : plan.SlotKind) (id n : ℕ) → slot_at no_places k id ≡ Some n → ⊥
@@ -156,6 +172,11 @@ slot_placed t ms st p k id n notes here s = record {
         made = key_kept t ms st (record st { places = p }) (kept_refl st.cores) (kept_refl st.runtime_instances.items)
             key old.adapter old.made;
       };
+  host_items = λ i export m at.
+      host_item_kept t ms st (record st { places = p }) (kept_refl st.cores) (kept_refl st.runtime_instances.items)
+      export m
+      (s.host_items i export m
+      (subst (λ (es : List (HostExport × CoreId)). slice_get es i ≡ Some (export, m)) notes.host_items at));
 }
 
 -- slots are as they were beside other adapters
@@ -182,6 +203,10 @@ adapter_placed t ms st p key n notes here s = record {
         | inr new ↦ subst (λ (e : AdapterKey × AdapterId). HasAdapter t ms (record st { places = p }) e.0 e.1)
             (sym new) (again key n here)
       ];
+  host_items = λ i export id at.
+      host_item_kept t ms st (record st { places = p }) (kept_refl st.cores) (kept_refl st.runtime_instances.items)
+      export id
+      (s.host_items i export id (ap (λ (q : Places). slice_get q.host_items i) (sym notes.slots) ∙ at));
 }
   where
     again : (k : AdapterKey) (m : AdapterId) → HasAdapter t ms st k m → HasAdapter t ms (record st { places = p }) k m
@@ -191,6 +216,44 @@ adapter_placed t ms st p key n notes here s = record {
       made = key_kept t ms st (record st { places = p }) (kept_refl st.cores) (kept_refl st.runtime_instances.items)
           k has.adapter has.made;
     }
+
+-- slots are as they were beside other core items of host modules
+other_items : (p : Places) (es : List (HostExport × CoreId)) (k : plan.SlotKind) (id : ℕ)
+    → slot_at (record p { host_items = es }) k id ≡ slot_at p k id
+unfolding slot_at
+other_items p es plan.memory id = refl
+other_items p es plan.table id = refl
+other_items p es plan.realloc id = refl
+other_items p es plan.callback id = refl
+other_items p es plan.post_return id = refl
+
+-- what is noted is so where an export of a host module more is, and its core item is that
+pub item_placed : (t : TypeTable) (ms : List ModuleRecord) (st : State) (p : Places) (export : HostExport)
+    (id : CoreId) → NotesItem export id st.places p → IsHostItem t ms st export id → ArePlaced t ms st
+    → ArePlaced t ms (record st { places = p })
+item_placed t ms st p export id notes here s = record {
+  slots = λ k n m at.
+      s.slots k n m
+      (sym (other_items st.places p.host_items k n) ∙ ap (λ (q : Places). slot_at q k n) (sym notes.rest) ∙ at);
+  adapters = λ i key n at.
+      let old = s.adapters i key n (ap (λ (q : Places). slice_get q.adapters i) (sym notes.rest) ∙ at) in
+      record {
+        adapter = old.adapter;
+        held = old.held;
+        made = key_kept t ms st (record st { places = p }) (kept_refl st.cores) (kept_refl st.runtime_instances.items)
+            key old.adapter old.made;
+      };
+  host_items = λ i other m at. elim (notes.host_items i (other, m) at)
+      as (λ _. IsHostItem t ms (record st { places = p }) other m) [
+        | inl old ↦ again other m (s.host_items i other m old)
+        | inr new ↦ subst (λ (e : HostExport × CoreId). IsHostItem t ms (record st { places = p }) e.0 e.1)
+            (sym new) (again export id here)
+      ];
+}
+  where
+    again : (e : HostExport) (m : CoreId) → IsHostItem t ms st e m → IsHostItem t ms (record st { places = p }) e m
+    again =
+        host_item_kept t ms st (record st { places = p }) (kept_refl st.cores) (kept_refl st.runtime_instances.items)
 
 module _ (t : TypeTable) (ms : List ModuleRecord) (st : State) (p : Places)
     (placed : ArePlaced t ms st → ArePlaced t ms (record st { places = p })) where
@@ -255,7 +318,7 @@ module _ (p : Places) (id : ℕ) where
   unfolding slot_at
   notes_memory n m is =
       subst (λ (l : Defaulted (Option MemoryId)). NotesSlot plan.memory id n.0 p (record p { memories = l }))
-      (sym is) (record { slots = slots; adapters = refl })
+      (sym is) (record { slots = slots; adapters = refl; host_items = refl })
     where
       slots : (j : plan.SlotKind) (q o : ℕ)
           → slot_at (record p { memories = with_value_at p.memories id (Some n) }) j q ≡ Some o
@@ -277,7 +340,7 @@ module _ (p : Places) (id : ℕ) where
   unfolding slot_at
   notes_table n m is =
       subst (λ (l : Defaulted (Option TableId)). NotesSlot plan.table id n.0 p (record p { tables = l }))
-      (sym is) (record { slots = slots; adapters = refl })
+      (sym is) (record { slots = slots; adapters = refl; host_items = refl })
     where
       slots : (j : plan.SlotKind) (q o : ℕ)
           → slot_at (record p { tables = with_value_at p.tables id (Some n) }) j q ≡ Some o
@@ -299,7 +362,7 @@ module _ (p : Places) (id : ℕ) where
   unfolding slot_at
   notes_realloc n m is =
       subst (λ (l : Defaulted (Option ReallocId)). NotesSlot plan.realloc id n.0 p (record p { reallocs = l }))
-      (sym is) (record { slots = slots; adapters = refl })
+      (sym is) (record { slots = slots; adapters = refl; host_items = refl })
     where
       slots : (j : plan.SlotKind) (q o : ℕ)
           → slot_at (record p { reallocs = with_value_at p.reallocs id (Some n) }) j q ≡ Some o
@@ -321,7 +384,7 @@ module _ (p : Places) (id : ℕ) where
   unfolding slot_at
   notes_callback n m is =
       subst (λ (l : Defaulted (Option CallbackId)). NotesSlot plan.callback id n.0 p (record p { callbacks = l }))
-      (sym is) (record { slots = slots; adapters = refl })
+      (sym is) (record { slots = slots; adapters = refl; host_items = refl })
     where
       slots : (j : plan.SlotKind) (q o : ℕ)
           → slot_at (record p { callbacks = with_value_at p.callbacks id (Some n) }) j q ≡ Some o
@@ -343,7 +406,7 @@ module _ (p : Places) (id : ℕ) where
   unfolding slot_at
   notes_post_return n m is =
       subst (λ (l : Defaulted (Option PostReturnId)). NotesSlot plan.post_return id n.0 p (record p { post_returns = l }))
-      (sym is) (record { slots = slots; adapters = refl })
+      (sym is) (record { slots = slots; adapters = refl; host_items = refl })
     where
       slots : (j : plan.SlotKind) (q o : ℕ)
           → slot_at (record p { post_returns = with_value_at p.post_returns id (Some n) }) j q ≡ Some o

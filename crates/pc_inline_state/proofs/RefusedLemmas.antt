@@ -88,7 +88,11 @@ module _ {T : Type 0} (r : Result T ItemError) (st : State) where
   memory_lacks is =
       if_err r (λ e. e ≡ item_error.NoMemory) (LacksRoom st) is (λ e same. subst (LacksRoom st) (sym same) tt)
 
-  -- an error that is handed on with another cause
+  -- an error that is handed on
+  pub handed_lacks : (x : ItemError) → IsErrAnd r (λ e. e ≡ x) → LacksRoom st x → IfErr r (LacksRoom st)
+  handed_lacks x is h = if_err r (λ e. e ≡ x) (LacksRoom st) is (λ e same. subst (LacksRoom st) (sym same) h)
+
+  -- one that is handed on with another cause
   pub cause_lacks : (k : ItemFault) (P Q : Type 0) (x : ItemError) → IsErrAnd r (λ e. e ≡ x) → (P → Q)
       → LacksRoomOr k P st x → IfErr r (LacksRoomOr k Q st)
   cause_lacks k P Q x is f h =

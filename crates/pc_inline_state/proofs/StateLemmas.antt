@@ -19,13 +19,15 @@ use Rattle.pc_dfg.specs.declared.dfg.ComponentDfg.{ComponentDfg}
 use Rattle.pc_dfg.proofs.GrowLemmas as graph_growth
 use Rattle.pc_inline_state.specs.declared.closure.Closure.{Closure}
 use Rattle.pc_inline_state.specs.declared.definition.Definition.{Definition}
+use Rattle.pc_inline_state.specs.declared.definition.CoreId.{CoreId}
 use Rattle.pc_inline_state.specs.declared.definition.ExportsId.{ExportsId}
+use Rattle.pc_inline_state.specs.declared.host_items.HostExport.{HostExport}
 use Rattle.pc_inline_state.specs.declared.places.Places.{Places}
 use Rattle.pc_inline_state.specs.declared.state.Member.{Member}
 use Rattle.pc_inline_state.specs.Definitions.{exports_of}
 use Rattle.pc_inline_state.specs.declared.state.State.{State}
-use Rattle.pc_inline_state.specs.Placed.{InSlot}
-use Rattle.pc_inline_state.specs.Places.{NotesSlot}
+use Rattle.pc_inline_state.specs.Placed.{ArePlaced, InSlot, IsHostItem}
+use Rattle.pc_inline_state.specs.Places.{NotesItem, NotesSlot}
 use Rattle.pc_inline_state.specs.Prepares.{Converts, Prepares}
 use Rattle.pc_inline_state.specs.Tables.{Keeps, Tables, tables_of}
 use Rattle.pc_inline_state.specs.Fits.{FitsBefore}
@@ -33,7 +35,7 @@ use Rattle.pc_inline_state.specs.Worlds.{HoldsModule, HoldsTypes}
 use Rattle.pc_inline_state.proofs.FitsLemmas.{fits_refl}
 use Rattle.pc_inline_state.proofs.InstanceLemmas.{instances_kept}
 use Rattle.pc_inline_state.proofs.MembersLemmas.{definition_earlier, members_earlier}
-use Rattle.pc_inline_state.proofs.PlacedLemmas.{placed_kept, places_sound, slot_placed}
+use Rattle.pc_inline_state.proofs.PlacedLemmas.{item_placed, placed_kept, places_sound, slot_placed}
 
 -- a builder keeps its types where it is as it was
 pub types_refl : (b : Types) → builder.KeepsTypes b b
@@ -423,12 +425,12 @@ module _ (t : TypeTable) (ms : List ModuleRecord) where
     used = refl;
   }
 
-  -- the slot of a core item was noted
-  pub slot_prepares : (st : State) (p : Places) (k : plan.SlotKind) (id n : ℕ) → NotesSlot k id n st.places p
-      → InSlot (tables_of st) k id n → Prepares t ms st (record st { places = p })
-  slot_prepares st p k id n notes here = record {
+  -- more was noted, and it is so
+  placed_prepares : (st : State) (p : Places) → (ArePlaced t ms st → ArePlaced t ms (record st { places = p }))
+      → Prepares t ms st (record st { places = p })
+  placed_prepares st p placed = record {
     keeps = keeps_refl (tables_of st);
-    sound = places_sound t ms st p (slot_placed t ms st p k id n notes here);
+    sound = places_sound t ms st p placed;
     resources = refl;
     side_effects = refl;
     instances = refl;
@@ -445,6 +447,16 @@ module _ (t : TypeTable) (ms : List ModuleRecord) where
     paths = refl;
     used = refl;
   }
+
+  -- the slot of a core item was noted
+  pub slot_prepares : (st : State) (p : Places) (k : plan.SlotKind) (id n : ℕ) → NotesSlot k id n st.places p
+      → InSlot (tables_of st) k id n → Prepares t ms st (record st { places = p })
+  slot_prepares st p k id n notes here = placed_prepares st p (slot_placed t ms st p k id n notes here)
+
+  -- an export of a host module was noted
+  pub item_prepares : (st : State) (p : Places) (export : HostExport) (id : CoreId) → NotesItem export id st.places p
+      → IsHostItem t ms st export id → Prepares t ms st (record st { places = p })
+  item_prepares st p export id notes here = placed_prepares st p (item_placed t ms st p export id notes here)
 
   -- where a state is what it was, or another that is prepared
   pushed : {A E : Type 0} (r : Result A E) (old new next : State) → Prepares t ms old next → OnOk r (new ≡ next)

@@ -7,7 +7,13 @@ use Rattle.pc_dfg.specs.declared.adapter.Adapter.{Adapter}
 use Rattle.pc_dfg.specs.declared.core_def.CoreDef.{CoreDef}
 use Rattle.pc_dfg.specs.declared.ids.AdapterId.{AdapterId}
 use Rattle.pc_dfg.specs.Numbers.{slots_of}
+use Rattle.pc_dfg.specs.declared.core_def.CoreDef.TheVariants as def
+use Rattle.pc_info.specs.declared.core_def.ExportItem.TheVariants as item
+use Rattle.pc_types.specs.declared.parsed.CoreEntity.{CoreEntity}
+use Rattle.pc_inline_state.specs.Bags.{module_export}
 use Rattle.pc_inline_state.specs.declared.adapters.AdapterKey.{AdapterKey}
+use Rattle.pc_inline_state.specs.declared.definition.CoreId.{CoreId}
+use Rattle.pc_inline_state.specs.declared.host_items.HostExport.{HostExport}
 use Rattle.pc_inline_state.specs.declared.state.State.{State}
 use Rattle.pc_inline_state.specs.Places.{slot_at}
 use Rattle.pc_inline_state.specs.Sides.{IsSide}
@@ -34,8 +40,18 @@ module _ (t : TypeTable) (ms : List ModuleRecord) (st : State) where
     pub held : slice_get st.graph.adapters n.0 ≡ Some adapter
     pub made : IsMadeOfKey key adapter
 
-  -- core items are in the slots that are noted, and keys have the adapters
+  -- a core item is what an instance of a host module exports
+  pub record IsHostItem (export : HostExport) (id : CoreId) : Type 0 where
+    pub name : List ℕ
+    pub entity : CoreEntity
+    pub there : module_export t export.entry export.place ≡ Some (name, entity)
+    pub held : slice_get st.cores id.0
+        ≡ Some (def.Export (record { instance = export.instance; item = item.Name name }))
+
+  -- core items are in the slots that are noted, keys have the adapters, and exports of host modules are the core items
   pub record ArePlaced : Type 0 where
     pub slots : (k : plan.SlotKind) (id n : ℕ) → slot_at st.places k id ≡ Some n → InSlot (tables_of st) k id n
     pub adapters : (i : ℕ) (key : AdapterKey) (n : AdapterId) → slice_get st.places.adapters i ≡ Some (key, n)
         → HasAdapter key n
+    pub host_items : (i : ℕ) (export : HostExport) (id : CoreId) → slice_get st.places.host_items i ≡ Some (export, id)
+        → IsHostItem export id

@@ -13,6 +13,8 @@ ghost use Rattle.pc_inline_names.specs.Numbers.{IsNumber};
 ghost use Rattle.pc_inline_state.specs.Bags.{entity_of_kind, export_item, known_of_kind, module_export};
 ghost use Rattle.pc_inline_state.specs.Bags.{named_of_kind};
 ghost use Rattle.pc_inline_state.specs.Found.{ArgumentStands, FoundThere, ItemFound};
+ghost use Rattle.pc_inline_state.specs.Placed.{IsHostItem};
+ghost use Rattle.pc_inline_state.specs.Points.{IsSoundState};
 ghost use Rattle.pc_inline_state.specs.Prepares.{Prepares};
 ghost use Rattle.pc_inline_state.specs.Refused.{LacksRoom};
 ghost use Rattle.pc_inline_state.specs.Stands.{ItemStands};
@@ -22,6 +24,7 @@ use crate::context::Context;
 use crate::definition::CoreId;
 use crate::error::ItemError;
 use crate::frame::CoreInstance;
+use crate::host_items::HostExport;
 use crate::state::State;
 use pc_dfg::{CoreDef, CoreExport, ExportItem, InstanceId};
 use pc_entity::{Atom, EntityIndex, NoMemory, Text, TryClone};
@@ -185,9 +188,10 @@ impl<'a> Context<'a> {
         }
     }
 
-    /// The number of what was found in the table of core items.
+    /// The number of what was found in the table of core items. What a host module exports is there once, however often
+    /// it is found: adapters over two aliases of one item are over one core item.
     pub fn found_id(&self, state: &mut State<'_>, item: CoreItem) -> Result<CoreId, ItemError>
-        requires table { state.old.table.now ≡ self.now.table.now }
+        requires sound { IsSoundState self.now.table.now self.now.modules state.old }
         requires there { FoundThere self.now.modules (tables_of state.old) item }
         ensures prepares { Prepares self.now.table.now self.now.modules state.old state.new }
         ensures adds { AddsEach nowhere 1 0 (tables_of state.old) (tables_of state.new) }
@@ -202,11 +206,41 @@ impl<'a> Context<'a> {
                 instance,
                 entry,
                 place,
-            } => {
-                let def = named_def(self.alloc, self.table, instance, entry, place)?;
-                state.push_core(def)
-            }
+            } => self.host_item(
+                state,
+                HostExport {
+                    instance,
+                    entry,
+                    place,
+                },
+            ),
             CoreItem::Known(id) => Ok(id),
         }
+    }
+
+    /// The core item that stands for an export of a host module, which is made the first time.
+    fn host_item(&self, state: &mut State<'_>, export: HostExport) -> Result<CoreId, ItemError>
+        requires sound { IsSoundState self.now.table.now self.now.modules state.old }
+        requires there { (e : List ℕ × CoreEntity)
+            × (module_export self.now.table.now export.entry export.place ≡ Some e) }
+        ensures prepares { Prepares self.now.table.now self.now.modules state.old state.new }
+        ensures adds { AddsEach nowhere 1 0 (tables_of state.old) (tables_of state.new) }
+        ensures rest { state.new ≡ record state.old { cores = state.new.cores; places = state.new.places } }
+        ensures item { IfOk result (IsHostItem self.now.table.now self.now.modules state.new export) }
+        ensures err { IfErr result (LacksRoom state.new) }
+    {
+        if let Some(id) = state.places.host_items.get(export) {
+            return Ok(id);
+        }
+        let def = named_def(
+            self.alloc,
+            self.table,
+            export.instance,
+            export.entry,
+            export.place,
+        )?;
+        let id = state.push_core(def)?;
+        state.places.host_items.insert(export, id)?;
+        Ok(id)
     }
 }

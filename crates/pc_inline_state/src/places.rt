@@ -1,16 +1,19 @@
-//! The places in the graph of what was put there already. A core item of a host module is told from others by its name,
-//! and so is an adapter that holds one: each is looked for by its name once, and by its number from then on.
+//! The places in the graph of what was put there already. A core item of a host module is told from others by its
+//! name, and so is an adapter that holds one: each is looked for by its name once, and by its number from then on. All
+//! aliases of one such item share its number, so adapters over them do too.
 
 ghost use Rattle.std.specs.Prelude.{◌≡◌};
 ghost use Rattle.pc_inline_state.specs.Places.{no_places};
 
 use crate::adapters::Adapters;
 use crate::definition::CoreId;
+use crate::host_items::HostItems;
 use pc_dfg::{CallbackId, MemoryId, PostReturnId, ReallocId, TableId};
 use pc_entity::{SecondaryMap, Seed};
 use std::alloc::Global;
 
-/// The slots that core items have in the graph, by the kind of the slot, and the adapters that were made.
+/// The slots that core items have in the graph, by the kind of the slot, the adapters that were made, and the core
+/// items that stand for exports of host modules, one for each export, however many aliases it has.
 #[derive(Drop)]
 pub struct Places {
     pub memories: SecondaryMap<CoreId, Option<MemoryId>>,
@@ -19,6 +22,7 @@ pub struct Places {
     pub callbacks: SecondaryMap<CoreId, Option<CallbackId>>,
     pub post_returns: SecondaryMap<CoreId, Option<PostReturnId>>,
     pub adapters: Adapters,
+    pub host_items: HostItems,
 }
 
 impl Places {
@@ -33,6 +37,7 @@ impl Places {
             callbacks: SecondaryMap::new(alloc, None),
             post_returns: SecondaryMap::new(alloc, None),
             adapters: Adapters::new(alloc, seed),
+            host_items: HostItems::new(alloc, seed),
         }
     }
 }

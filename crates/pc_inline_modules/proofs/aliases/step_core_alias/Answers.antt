@@ -81,4 +81,4 @@ found_id-requires c =
     c.args.number name))
     (got_some _ _ _ c.as_slice.ensures _ c.in-Some.ensures.lookup.3.0 c.in-Some.ensures.lookup.1)
     ∙ sym (c.export.ensures name named) ∙ c.in-Some-export.is) in
-    record { table = here.1.sound.table; there = item_found_there _ _ _ c.in-Some-export.item v.0 v.2 }
+    record { sound = here.1.sound; there = item_found_there _ _ _ c.in-Some-export.item v.0 v.2 }

@@ -1,9 +1,8 @@
 use Rattle.std.proofs.Common.{subst}
 use Rattle.pc_inline_state.specs.Found.{ItemFound}
 use Rattle.pc_inline_state.specs.Tables.{tables_of}
-use Rattle.pc_inline_state.proofs.FoundLemmas.{entity_ids, known_item, named_ids}
+use Rattle.pc_inline_state.proofs.FoundLemmas.{entity_ids, known_item, named_ids, named_there}
 use Rattle.pc_inline_state.proofs.AddsLemmas.{each_refl}
-use Rattle.pc_inline_state.proofs.RefusedLemmas.{memory_lacks}
 use Rattle.pc_inline_state.proofs.StateLemmas.{core_pushed}
 use Rattle.pc_inline_state.specs.AddsEach.{nowhere}
 use Rattle.pc_inline_state.proofs.context.Context.found_id.Goals as goal
@@ -35,16 +34,15 @@ returns-in-Entity-clause-prepares c =
     core_pushed c.args.self.now.table.now c.args.self.now.modules c.push_core.result c.args.state.now
     c.push_core.new.self c.entity_def.result c.push_core.ensures.ok c.push_core.ensures.err
 
-pub returns-in_err-def-in-Named-clause-err : goal.returns-in_err-def-in-Named-clause-err
-returns-in_err-def-in-Named-clause-err c = memory_lacks _ _ c.from_residual.ensures.1
+pub host_item-requires : goal.host_item-requires
+host_item-requires c = record {
+  sound = c.requires.sound;
+  there = named_there c.args.self.now.modules (tables_of c.args.state.now) _ c.args.item c.in-Named.instance
+      c.in-Named.entry c.in-Named.place c.requires.sound.table c.in-Named.is c.requires.there;
+}
 
-pub returns-in_ok-def-in-Named-clause-prepares : goal.returns-in_ok-def-in-Named-clause-prepares
-returns-in_ok-def-in-Named-clause-prepares c =
-    core_pushed c.args.self.now.table.now c.args.self.now.modules c.push_core-in-Named.result c.args.state.now
-    c.push_core-in-Named.new.self c.in_ok-def-in-Named.def c.push_core-in-Named.ensures.ok c.push_core-in-Named.ensures.err
-
-pub returns-in_ok-def-in-Named-clause-id : goal.returns-in_ok-def-in-Named-clause-id
-returns-in_ok-def-in-Named-clause-id c =
-    named_ids c.args.self.now.modules c.args.state.now c.push_core-in-Named.new.self c.push_core-in-Named.result
-    c.args.self.now.table.now c.args.item c.in_ok-def-in-Named.def c.in-Named.instance c.in-Named.entry c.in-Named.place
-    c.requires.table c.in-Named.is c.requires.there c.in_ok-def-in-Named.ensures c.push_core-in-Named.ensures.key c.push_core-in-Named.ensures.ok
+pub returns-in-Named-clause-id : goal.returns-in-Named-clause-id
+returns-in-Named-clause-id c =
+    named_ids c.args.self.now.modules c.args.state.now c.host_item.new.state c.host_item.result
+    c.args.self.now.table.now c.args.item _ c.requires.sound.table c.in-Named.is c.host_item.ensures.rest
+    c.host_item.ensures.item
