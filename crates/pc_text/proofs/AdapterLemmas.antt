@@ -17,17 +17,17 @@ Records = List (plan.AdapterRecord Mark)
 
 -- one adapter of a module was added, and those behind it are left
 pub adapter_added : (n : ℕ) (all : Records) (before after : List Placed) (xs : List AdapterRecord) (i : ℕ)
-    (d : AdapterRecord) → i < length xs
-    → after ≡ before ++ record { «module» = n; adapter = get_or xs i d } ∷ []
+    (d : AdapterRecord) (one : Placed) → i < length xs → placed_view one ≡ adapter_view n (get_or xs i d)
+    → after ≡ before ++ one ∷ []
     → map placed_view before ++ map (adapter_view n) (drop i xs) ≡ all
     → map placed_view after ++ map (adapter_view n) (drop (i + 1) xs) ≡ all
-adapter_added n all before after xs i d within put left =
-    let one : Placed = record { «module» = n; adapter = get_or xs i d } in
+adapter_added n all before after xs i d one within seen put left =
     let rest = map (adapter_view n) (drop (i + 1) xs) in
     let next : drop i xs ≡ get_or xs i d ∷ drop (i + 1) xs = rw add-one (drop-cons xs i d within) in
     ap (λ (ps : List Placed). map placed_view ps ++ rest) put
     ∙ ap (λ (rs : Records). rs ++ rest) (map-append placed_view before (one ∷ []))
     ∙ append_assoc (map placed_view before) (placed_view one ∷ []) rest
+    ∙ ap (λ (v : plan.AdapterRecord Mark). map placed_view before ++ v ∷ rest) seen
     ∙ ap (λ (ys : List AdapterRecord). map placed_view before ++ map (adapter_view n) ys) (sym next) ∙ left
 
 -- the adapters of one module were added, and those of the modules behind it are left

@@ -6,4 +6,4 @@ use Rattle.pc_text.specs.declared.adapter.Placed.{Placed}
 
 -- the adapter's record, as a plan has it
 abbrev pub placed_view : Placed → plan.AdapterRecord Mark
-placed_view p = adapter_view p.module p.adapter
+placed_view p = adapter_view p.module p.adapter.now

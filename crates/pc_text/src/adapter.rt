@@ -68,27 +68,31 @@ fn put_adapter(out: &mut Vec<u8>, n: usize, adapter: &AdapterRecord) -> Result<(
 
 /// An adapter with the place of its module.
 #[derive(Clone, Copy)]
-pub(crate) struct Placed {
+pub(crate) struct Placed<'a> {
     pub(crate) module: usize,
-    pub(crate) adapter: AdapterRecord,
+    pub(crate) adapter: &'a AdapterRecord,
 }
 
 /// Adds the adapters of a module.
-fn add_adapters(all: &mut Vec<Placed>, n: usize, adapters: &[AdapterRecord]) -> Result<(), NoMemory>
+fn add_adapters<'a>(
+    all: &mut Vec<Placed<'a>>,
+    n: usize,
+    adapters: &'a [AdapterRecord],
+) -> Result<(), NoMemory>
     ensures { OnOk result (map placed_view all.new.items
         ≡ map placed_view all.old.items ++ map (adapter_view n) adapters.now) }
 {
     for adapter in adapters {
-        all.push(Placed {
-            module: n,
-            adapter: *adapter,
-        })?;
+        all.push(Placed { module: n, adapter })?;
     }
     Ok(())
 }
 
 /// The adapters of all modules, in the order of the modules.
-fn all_adapters(alloc: Global, modules: &[ModuleTranslation]) -> Result<Vec<Placed>, NoMemory>
+fn all_adapters<'a>(
+    alloc: Global,
+    modules: &'a [ModuleTranslation],
+) -> Result<Vec<Placed<'a>>, NoMemory>
     ensures { IfOk result (λ all. map placed_view all.items ≡ adapters_view 0 modules.now) }
 {
     let mut all = Vec::new(alloc);
@@ -99,7 +103,7 @@ fn all_adapters(alloc: Global, modules: &[ModuleTranslation]) -> Result<Vec<Plac
 }
 
 /// Puts the adapters in the order of their numbers; those of one number keep their order.
-fn sort_by_number(all: &mut Vec<Placed>) -> Result<(), NoMemory>
+fn sort_by_number(all: &mut Vec<Placed<'_>>) -> Result<(), NoMemory>
     ensures { OnOk result (map placed_view all.new.items ≡ by_number (map placed_view all.old.items)) }
 {
     all.sort_by_key(|placed| placed.adapter.adapter)?;
@@ -107,11 +111,11 @@ fn sort_by_number(all: &mut Vec<Placed>) -> Result<(), NoMemory>
 }
 
 /// A line for each adapter, as they stand.
-fn put_all(out: &mut Vec<u8>, all: &[Placed]) -> Result<(), NoMemory>
+fn put_all(out: &mut Vec<u8>, all: &[Placed<'_>]) -> Result<(), NoMemory>
     ensures { OnOk result (out.new.items ≡ out.old.items ++ flat_map adapter_line (map placed_view all.now)) }
 {
     for placed in all {
-        put_adapter(out, placed.module, &placed.adapter)?;
+        put_adapter(out, placed.module, placed.adapter)?;
     }
     Ok(())
 }

@@ -8,7 +8,7 @@ use Rattle.pc_text.proofs.adapter.sort_by_number.Goals as goal
 
 -- the number that is sorted by
 abbrev number_of : Placed → ℕ
-number_of p = p.adapter.adapter
+number_of p = p.adapter.now.adapter
 
 pub returns : goal.returns
 returns c =
