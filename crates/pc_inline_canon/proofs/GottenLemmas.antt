@@ -1,5 +1,5 @@
 -- An adapter that a key has already, and one that is made for it.
-use Rattle.std.proofs.Common.{◌≡◌, inl, ℕ, List, Option, Some, refl, sym, subst, ◌∙◌}
+use Rattle.std.proofs.Common.{◌≡◌, inl, ℕ, List, Option, Some, refl, subst}
 use Rattle.std.specs.Prelude.{IfSome, slice_get}
 use Rattle.pc_types.specs.declared.module_record.ModuleRecord.{ModuleRecord}
 use Rattle.pc_types.specs.declared.parsed.TypeTable.{TypeTable}

@@ -6,7 +6,6 @@ use Rattle.pc_entity.specs.Lists.{value_of}
 use Rattle.pc_types.specs.declared.module_record.ModuleRecord.{ModuleRecord}
 use Rattle.pc_types.specs.declared.parsed.CoreKind.{CoreKind}
 use Rattle.pc_types.specs.declared.parsed.CoreKind.TheVariants as core
-use Rattle.pc_types.specs.declared.parsed.TypeTable.{TypeTable as Table}
 use Rattle.pc_types.specs.declared.types.TypeDef.TheVariants as type
 use Rattle.pc_types.specs.IntrinsicType.{intrinsic_place}
 use Rattle.pc_types.specs.Table.{is_instance, is_module}

@@ -1,6 +1,6 @@
 -- Memories in slots of the graph.
 use Rattle.std.proofs.Common.{◌≡◌, ◌⊎◌, inl, inr, ◌≤◌, ℕ, zero, suc, List, [], ◌∷◌, length, map, Some, refl, sym, ap}
-use Rattle.std.proofs.Common.{Option, subst, true, ◌∙◌}
+use Rattle.std.proofs.Common.{subst, true, ◌∙◌}
 use Rattle.std.specs.Prelude.{slice_get}
 use Rattle.std.proofs.lemmas.List.{length-map}
 use Rattle.std.proofs.lemmas.Option.{none-some, same_Some}
@@ -27,7 +27,7 @@ use Rattle.pc_inline_state.specs.Placed.{InSlot}
 use Rattle.pc_inline_state.specs.Points.{IsFullSomewhere}
 use Rattle.pc_inline_state.specs.Prepares.{Prepares}
 use Rattle.pc_inline_state.specs.Slots.{is_memory, is_memory_item}
-use Rattle.pc_inline_state.specs.Tables.{IsItem, Tables, is_entity, is_named, tables_of}
+use Rattle.pc_inline_state.specs.Tables.{IsItem, Tables, is_entity, is_named}
 use Rattle.pc_inline_state.specs.Worlds.{slot_kind}
 use Rattle.pc_inline_canon.proofs.CoreInstanceLemmas.{item_held}
 use Rattle.pc_inline_state.proofs.GrowthLemmas.{graph_crowded}

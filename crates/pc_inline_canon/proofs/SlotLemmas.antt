@@ -10,7 +10,7 @@ use Rattle.pc_types.specs.declared.parsed.CoreKind.{CoreKind}
 use Rattle.pc_types.specs.declared.parsed.CoreKind.TheVariants as core
 use Rattle.pc_types.specs.declared.parsed.TypeTable.{TypeTable}
 use Rattle.pc_spec_plan.specs.CoreValue as value
-use Rattle.pc_spec_plan.specs.CoreValue.{CoreValue, MaybeValue}
+use Rattle.pc_spec_plan.specs.CoreValue.{MaybeValue}
 use Rattle.pc_spec_plan.specs.PlanView as plan
 use Rattle.pc_parsed.specs.Mark.{Mark}
 use Rattle.pc_dfg.specs.declared.core_def.CoreDef.{CoreDef}

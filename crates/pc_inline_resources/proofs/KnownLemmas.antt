@@ -10,8 +10,7 @@ use Rattle.pc_types.specs.declared.parsed.TypeTable.{TypeTable}
 use Rattle.pc_types.specs.TypeTree.{Identity, identity_of}
 use Rattle.pc_types_lists.specs.Known.{resource_of}
 use Rattle.pc_types_lists.specs.Types.{Resources}
-use Rattle.pc_types_lists.proofs.FewLemmas.{few_aside}
-use Rattle.pc_types_lists.proofs.KeptTypes.{keeps_same, keeps_whatever}
+use Rattle.pc_types_lists.proofs.KeptTypes.{keeps_same}
 use Rattle.pc_types_builder.specs.Plain.{Layers}
 use Rattle.pc_types_builder.specs.Converted.{AreConverted}
 use Rattle.pc_dfg.specs.declared.dfg.ComponentDfg.{ComponentDfg}
@@ -21,14 +20,11 @@ use Rattle.pc_spec_reading.specs.Scope.{Moment, with_known}
 use Rattle.pc_inline_state.specs.declared.frame.Change.{Change}
 use Rattle.pc_inline_state.specs.declared.frame.Frame.{Frame}
 use Rattle.pc_inline_state.specs.declared.state.State.{State}
-use Rattle.pc_inline_state.specs.Adds.{Adds}
 use Rattle.pc_inline_state.specs.Frames.{Both, both}
 use Rattle.pc_inline_state.specs.KnowsSame.{IsResource}
 use Rattle.pc_inline_state.specs.Points.{IsSoundState, PointStands}
 use Rattle.pc_inline_state.specs.Tables.{Keeps, tables_of}
 use Rattle.pc_inline_state.specs.Trails.{Trails, undone}
-use Rattle.pc_inline_state.proofs.AddsLemmas.{adds_refl}
-use Rattle.pc_inline_state.proofs.GainedLemmas.{tables_aside}
 use Rattle.pc_inline_state.proofs.InstanceLemmas.{instances_kept}
 use Rattle.pc_inline_state.proofs.PlacedLemmas.{placed_kept}
 use Rattle.pc_inline_state.proofs.StateLemmas.{keeps_refl}
@@ -107,27 +103,6 @@ module _ (st : State) (k : Resources) where
         bodies = refl;
         names = refl;
         table = refl;
-      }
-
-  -- nothing is added
-  pub known_adds : (t : TypeTable) → Adds t 0 (tables_of st) (tables_of (knowing_in st k))
-  known_adds t =
-      let none = adds_refl t 0 (tables_of st) in
-      record {
-        types = few_aside t 0 st.types st.types st.types.resources k none.types;
-        tables = tables_aside t st.graph.num_runtime_component_instances st.types st.types st.types.resources k
-            none.tables;
-        entries = record {
-          lists = none.entries.lists;
-          cores = none.entries.cores;
-          definitions = none.entries.definitions;
-          closures = none.entries.closures;
-          instances = none.entries.instances;
-          begun = none.entries.begun;
-          resources = none.entries.resources;
-        };
-        grows = keeps_whatever st.types st.types st.types.resources k none.grows;
-        later = none.later;
       }
 
   -- what all component instances share is in order
