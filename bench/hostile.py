@@ -1194,9 +1194,60 @@ def children_with_a_long_resource(room):
 
 
 def children_with_a_long_label(room):
-    """Instances of a component that lifts a function of a stream, whose parameter has a very long name: the product."""
+    """Instances of a component that lifts a function of a stream, whose parameter has a very long name."""
     entries = ',{"stream":"u8"},{"func":{"params":[["%s",4]],"result":null,"async":false}}]}' % name_of(room)
     return children_of(room, LIFTING_CHILD % 5, NEST_TYPES[:-2] + entries, [ONE_FUNC])
+
+
+def children_with_a_wide_type(room):
+    """Instances of a component that lifts a function of a stream and of very many numbers: the product, in memory too."""
+    params = listed('["s",4],', lambda n: '["e%07d","u8"]' % n, "", room // 3)
+    entries = ',{"stream":"u8"},{"func":{"params":[%s],"result":null,"async":false}}]}' % "".join(params)
+    return children_of(room, LIFTING_CHILD % 5, NEST_TYPES[:-2] + entries, [ONE_FUNC])
+
+
+def host_memory_types(name):
+    """A type table with the type of a module that exports a memory under this name."""
+    return NEST_TYPES[:-2] + ',{"module":[[],[["%s",["memory",false]]]]}]}' % name
+
+
+# an instance of an imported module, and its memory as core memory 0
+MEMORY_OF = '{"aliases":[{"core-export":["memory",0,"%s"]}]}'
+IMPORTED_MODULE = '{"imports":[["m",["module",4]]]}'
+
+
+def children_with_a_long_host_memory(room):
+    """Instances of a component that takes a memory of a very long name out of an instance of an imported module, and
+    lowers a function of the host with it: the product."""
+    name = name_of(room)
+    child = ('"component","version",{"imports":[["i",["func",1]]]},{"aliases":[{"outer":["core-module",1,0]}]},'
+             + INSTANCE + "," + MEMORY_OF % name + ',{"canon":[["lower",0,1,0,[["memory",0]]]]},"end"')
+    root = [IMPORTED_MODULE, '{"imports":[["i",["func",1]]]}']
+    return children_of(room, child, host_memory_types(name), root, '{"instantiate":[0,[["i","func",0]],2]}')
+
+
+def children_with_a_long_adapter(room):
+    """Instances of a component that takes a function and a memory of very long names out of an instance of an imported
+    module, lifts the one with the other and lowers it again: the product."""
+    names = [kind + name_of(room, 6) for kind in ("f", "m")]
+    types = NEST_TYPES[:-2] + ',{"module":[[],[["%s",["func",0]],["%s",["memory",false]]]]}]}' % tuple(names)
+    taken = '{"aliases":[{"core-export":["func",0,"%s"]},{"core-export":["memory",0,"%s"]}]}' % tuple(names)
+    child = ('"component","version",{"aliases":[{"outer":["core-module",1,0]}]},' + INSTANCE + "," + taken
+             + ',{"canon":[["lift",0,1,0,[["memory",0]]],["lower",0,1,0,[["memory",0]]]]},"end"')
+    return children_of(room, child, types, [IMPORTED_MODULE])
+
+
+def adapters_of_a_long_host_memory(room):
+    """Functions of very many core instances, each lifted with a memory that an instance of an imported module has under
+    a very long name, and lowered again: the product."""
+    name = name_of(room, 4)
+    made, took = '{"instantiate":[1,[]]}', '{"core-export":["func",%d,"f"]}'
+    lift, lower = '["lift",%d,1,0,[["memory",0]]]', '["lower",%d,1,0,[["memory",0]]]'
+    count = room // 3 // len(",".join((made, took, lift, lower)) + "1000000" * 3)
+    taken = MEMORY_OF[:-2] % name + "".join("," + took % (n + 1) for n in range(count)) + "]}"
+    made = '{"instances":[{"instantiate":[0,[]]}' + ("," + made) * count + "]}"
+    canons = [fill('{"canon":[', lambda n: text % n, "]}", count) for text in (lift, lower)]
+    return over(host_memory_types(name), IMPORTED_MODULE, ONE_FUNC, made, taken, *canons)
 
 
 def long_host_item(room, entity):
@@ -1226,7 +1277,7 @@ def equal_adapters_of_a_long_host_function(room):
 
 def equal_adapters_of_many_aliases(room):
     """A function and a memory of an imported module have long names and many aliases each. The functions are lifted,
-    and each is lowered with each of the memories: one adapter, which is looked up by its names for each pair."""
+    and each is lowered with each of the memories: one adapter for all pairs."""
     lower = '["lower",1000,1,0,[["memory",1000]]],'
     count = int((room // 2 // len(lower)) ** 0.5) + 1
     names = [kind + "n" * (room // 4 // count) for kind in ("f", "m")]
@@ -1489,8 +1540,10 @@ FAMILIES = {
     captures_of_a_child: 0, captures_at_each_level: 0, children_with_a_long_name: 0, children_with_a_long_argument: 0,
     children_with_a_long_alias: 0, children_with_a_long_bag: 0, children_with_a_long_core_export: 0,
     children_with_a_long_host_name: 0, children_with_a_long_resource: 0, children_with_a_long_label: 0,
+    children_with_a_wide_type: 0,
     lowerings_over_a_long_host_memory: 0, equal_adapters_of_a_long_host_function: 0,
-    equal_adapters_of_many_aliases: 0,
+    equal_adapters_of_many_aliases: 0, children_with_a_long_host_memory: 0, children_with_a_long_adapter: 0,
+    adapters_of_a_long_host_memory: 0,
     children_of_many_instances: 0, children_of_many_builtins: 0, captures_in_children: 0,
     many_resources: 0, resources_with_destructors: 0,
     imported_resources: 0, one_resource_imported_often: 0, children_with_a_resource: 0, children_given_a_resource: 0,
@@ -1506,7 +1559,7 @@ FAMILIES = {
 # The most MiB of the families whose total grows with the square of the input: a larger input of these comes to
 # 4294967295, so it is refused: before anything is read, or, with very many instances of a component, once so many have
 # begun. A type number weighs three times the entries of the table, and an instance of a core module weighs the most
-# imports of one.
+# imports of one. Of the last one, no total counts the parameters of a function type: with one MiB it takes 8 GiB.
 MOST_MIB = {
     many_functions: 3, shared_parameters: 4, imports_of_many_homes: 7, imports_of_shared_homes: 10,
     adapters_of_many_types: 2.5, results_of_tasks: 1.5, builtins_of_many_resources: 1.5, reads_of_many_streams: 1.5,
@@ -1514,6 +1567,7 @@ MOST_MIB = {
     long_result_of_handles_in_children: 1.5, children_of_many_instances: 0.6, children_of_many_builtins: 1.1,
     children_over_a_long_table: 1, children_with_a_long_type: 1, many_resources: 1.5, imported_resources: 1,
     resources_between_long_types: 1.5, resources_between_long_handles: 1.5, resources_known_after_use: 1.5,
+    children_with_a_wide_type: 0.5,
 }
 
 
