@@ -1206,12 +1206,16 @@ def children_with_a_wide_type(room):
     return children_of(room, LIFTING_CHILD % 5, NEST_TYPES[:-2] + entries, [ONE_FUNC])
 
 
-def host_memory_types(name):
-    """A type table with the type of a module that exports a memory under this name."""
-    return NEST_TYPES[:-2] + ',{"module":[[],[["%s",["memory",false]]]]}]}' % name
+# the entities of core modules that are exported here
+A_FUNC, A_MEMORY = '["func",0]', '["memory",false]'
 
 
-# an instance of an imported module, and its memory as core memory 0
+def module_types(*exports):
+    """A type table whose entry 4 is the type of a module with these exports, each by its name and its entity."""
+    return NEST_TYPES[:-2] + ',{"module":[[],[%s]]}]}' % ",".join('["%s",%s]' % export for export in exports)
+
+
+# the memory of core instance 0 under this name, and the import of a module of the type of entry 4
 MEMORY_OF = '{"aliases":[{"core-export":["memory",0,"%s"]}]}'
 IMPORTED_MODULE = '{"imports":[["m",["module",4]]]}'
 
@@ -1223,14 +1227,14 @@ def children_with_a_long_host_memory(room):
     child = ('"component","version",{"imports":[["i",["func",1]]]},{"aliases":[{"outer":["core-module",1,0]}]},'
              + INSTANCE + "," + MEMORY_OF % name + ',{"canon":[["lower",0,1,0,[["memory",0]]]]},"end"')
     root = [IMPORTED_MODULE, '{"imports":[["i",["func",1]]]}']
-    return children_of(room, child, host_memory_types(name), root, '{"instantiate":[0,[["i","func",0]],2]}')
+    return children_of(room, child, module_types((name, A_MEMORY)), root, '{"instantiate":[0,[["i","func",0]],2]}')
 
 
 def children_with_a_long_adapter(room):
     """Instances of a component that takes a function and a memory of very long names out of an instance of an imported
     module, lifts the one with the other and lowers it again: the product."""
     names = [kind + name_of(room, 6) for kind in ("f", "m")]
-    types = NEST_TYPES[:-2] + ',{"module":[[],[["%s",["func",0]],["%s",["memory",false]]]]}]}' % tuple(names)
+    types = module_types((names[0], A_FUNC), (names[1], A_MEMORY))
     taken = '{"aliases":[{"core-export":["func",0,"%s"]},{"core-export":["memory",0,"%s"]}]}' % tuple(names)
     child = ('"component","version",{"aliases":[{"outer":["core-module",1,0]}]},' + INSTANCE + "," + taken
              + ',{"canon":[["lift",0,1,0,[["memory",0]]],["lower",0,1,0,[["memory",0]]]]},"end"')
@@ -1247,14 +1251,14 @@ def adapters_of_a_long_host_memory(room):
     taken = MEMORY_OF[:-2] % name + "".join("," + took % (n + 1) for n in range(count)) + "]}"
     made = '{"instances":[{"instantiate":[0,[]]}' + ("," + made) * count + "]}"
     canons = [fill('{"canon":[', lambda n: text % n, "]}", count) for text in (lift, lower)]
-    return over(host_memory_types(name), IMPORTED_MODULE, ONE_FUNC, made, taken, *canons)
+    return over(module_types((name, A_MEMORY)), IMPORTED_MODULE, ONE_FUNC, made, taken, *canons)
 
 
 def long_host_item(room, entity):
     """The types and the root's first pieces: what an imported module exports under a very long name is aliased."""
     name = name_of(room)
     kind = entity[2:entity.index('"', 2)]
-    types = NEST_TYPES[:-2] + ',{"module":[[],[["%s",%s]]]}]}' % (name, entity)
+    types = module_types((name, entity))
     taken = '{"aliases":[{"core-export":["%s",0,"%s"]}]}' % (kind, name)
     return types, ['{"imports":[["m",["module",4]],["i",["func",1]]]}', INSTANCE, taken]
 
@@ -1266,12 +1270,12 @@ def then_lowered(room, types, root, lower):
 
 def lowerings_over_a_long_host_memory(room):
     """One function is lowered over and over with an imported module's memory of a very long name."""
-    return then_lowered(room, *long_host_item(room, '["memory",false]'), '["lower",0,1,0,[["memory",0]]]')
+    return then_lowered(room, *long_host_item(room, A_MEMORY), '["lower",0,1,0,[["memory",0]]]')
 
 
 def equal_adapters_of_a_long_host_function(room):
     """An imported module's function of a very long name is lifted, and that is lowered over and over: one adapter."""
-    types, root = long_host_item(room, '["func",0]')
+    types, root = long_host_item(room, A_FUNC)
     return then_lowered(room, types, root + [LIFTS], '["lower",1,1,0,[]]')
 
 
@@ -1281,13 +1285,13 @@ def equal_adapters_of_many_aliases(room):
     lower = '["lower",1000,1,0,[["memory",1000]]],'
     count = int((room // 2 // len(lower)) ** 0.5) + 1
     names = [kind + "n" * (room // 4 // count) for kind in ("f", "m")]
-    types = NEST_TYPES[:-2] + ',{"module":[[],[["%s",["func",0]],["%s",["memory",false]]]]}]}' % tuple(names)
+    types = module_types((names[0], A_FUNC), (names[1], A_MEMORY))
     aliases = ['["func",0,"%s"]' % names[0], '["memory",0,"%s"]' % names[1]]
     taken = [fill('{"aliases":[', lambda n: '{"core-export":%s}' % alias, "]}", count) for alias in aliases]
     lifted = fill('{"canon":[', lambda n: '["lift",%d,1,0,[]]' % n, "]}", count)
     pairs = '["lower",%d,1,0,[["memory",%d]]]'
     lowered = fill('{"canon":[', lambda n: pairs % (n // count, n % count), "]}", count * count)
-    return over(types, '{"imports":[["m",["module",4]]]}', INSTANCE, *taken, lifted, lowered)
+    return over(types, IMPORTED_MODULE, INSTANCE, *taken, lifted, lowered)
 
 
 def many_resources(room):
