@@ -10,19 +10,23 @@ use Rattle.pc_types.specs.declared.types.TypeFunc.{TypeFunc}
 use Rattle.pc_types.specs.declared.types.TypeRecord.{TypeRecord}
 use Rattle.pc_types.specs.declared.types.TypeVariant.{TypeVariant}
 
--- the labels of a type of each kind that has some
+-- the labels of a function type: the names of its parameters
 abbrev pub func_labels : TypeFunc → List (List ℕ)
 func_labels f = f.param_names
 
+-- those of a record: the names of its fields
 abbrev pub record_labels : TypeRecord → List (List ℕ)
 record_labels r = names_of r.fields
 
+-- those of a variant: the names of its cases
 abbrev pub variant_labels : TypeVariant → List (List ℕ)
 variant_labels v = names_of v.cases
 
+-- those of an instance type: the names of its exports
 abbrev pub instance_labels : TypeComponentInstance → List (List ℕ)
 instance_labels i = names_of i.exports
 
+-- those of a component type: the names of its imports, and those of its exports
 abbrev pub component_labels : TypeComponent → List (List ℕ) × List (List ℕ)
 component_labels c = (names_of c.imports, names_of c.exports)
 
@@ -30,19 +34,24 @@ component_labels c = (names_of c.imports, names_of c.exports)
 abbrev pub values_of : {W : Type 0} → List (List ℕ × W) → List W
 values_of items = map (λ e. e.1) items
 
--- what a type of each of these kinds is told by beside its labels
+-- what a function type is told by beside its labels: the tuples of its parameters and results, and whether it is
+-- asynchronous
 abbrev pub func_parts : TypeFunc → (TypeTupleIndex × TypeTupleIndex) × Bool
 func_parts f = ((f.params, f.results), f.async_)
 
+-- a record: the types of its fields
 abbrev pub record_parts : TypeRecord → List InterfaceType
 record_parts r = values_of r.fields
 
+-- a variant: the types of its cases, as far as they have some
 abbrev pub variant_parts : TypeVariant → List (Option InterfaceType)
 variant_parts v = values_of v.cases
 
+-- an instance type: the types of its exports
 abbrev pub instance_parts : TypeComponentInstance → List TypeDef
 instance_parts i = values_of i.exports
 
+-- a component type: the types of its imports, and those of its exports
 abbrev pub component_parts : TypeComponent → List TypeDef × List TypeDef
 component_parts c = (values_of c.imports, values_of c.exports)
 
