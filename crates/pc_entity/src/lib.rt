@@ -5,8 +5,10 @@
 //! by `==`.
 #![tactic(auto)]
 
+mod boxed;
 mod by_name;
 mod entity_set;
+mod hashed_text;
 mod interner;
 mod packed_option;
 mod primary_map;
@@ -18,8 +20,10 @@ mod text;
 mod text_map;
 mod try_clone;
 
+pub use boxed::Boxed;
 pub use by_name::first_values;
 pub use entity_set::EntitySet;
+pub use hashed_text::HashedText;
 pub use interner::Interner;
 pub use packed_option::PackedOption;
 pub use pc_numbers::{

@@ -2,9 +2,9 @@
 
 use crate::support::{holds, text};
 use pc_entity::{
-    Atom, EntityRef, EntitySet, ExactEq, FuncIndex, Interner, MemoryIndex, ModuleIndex,
-    PackedOption, PrimaryMap, SecondaryMap, Seed, Seq, StringPool, TableIndex, TagIndex, Text,
-    TextMap, TryClone,
+    Atom, Boxed, EntityRef, EntitySet, ExactEq, FuncIndex, HashedText, Interner, MemoryIndex,
+    ModuleIndex, PackedOption, PrimaryMap, SecondaryMap, Seed, Seq, StringPool, TableIndex,
+    TagIndex, Text, TextMap, TryClone,
 };
 use std::alloc::Global;
 use std::process::Abort;
@@ -31,7 +31,11 @@ fn what_is_cut_off_has_no_number(rt: HostRuntime) {
     let mut numbers = Interner::new(rt.alloc(), Seed::fixed());
     let are_two = numbers.push(5u32) == Ok(0) && numbers.push(7) == Ok(1);
     numbers.truncate(1);
-    holds(&rt, "cut", are_two && is_five(&numbers) && numbers.find(&7) == None);
+    holds(
+        &rt,
+        "cut",
+        are_two && is_five(&numbers) && numbers.find(&7) == None,
+    );
 }
 
 /// Whether `a` alone is held.
@@ -153,6 +157,46 @@ fn a_text_that_is_shared_equals_one_that_is_copied(rt: HostRuntime) {
     let is_copy = shared(&rt, rt.alloc()) == text(&rt, rt.alloc(), "wasm");
     let is_other = shared(&rt, rt.alloc()) == text(&rt, rt.alloc(), "wasn");
     holds(&rt, "shared", is_copy && !is_other);
+}
+
+/// This text with its hash.
+fn hashed(rt: &impl Abort, alloc: Global, bytes: &str) -> HashedText {
+    HashedText::new(alloc, text(rt, alloc, bytes)).expect(rt, "no memory")
+}
+
+/// Whether a text is `wasm`, and not `wasn`.
+fn is_wasm(rt: &impl Abort, alloc: Global, made: &HashedText) -> bool {
+    made.as_str() == "wasm"
+        && made.text().len() == 4
+        && *made == hashed(rt, alloc, "wasm")
+        && *made != hashed(rt, alloc, "wasn")
+}
+
+#[test]
+fn a_text_with_its_hash_is_that_text(rt: HostRuntime) {
+    let made = hashed(&rt, rt.alloc(), "wasm");
+    let copy = made.try_clone(rt.alloc()).expect(&rt, "no memory");
+    let is_copy = copy == made && is_wasm(&rt, rt.alloc(), &copy);
+    holds(&rt, "text", is_copy && is_wasm(&rt, rt.alloc(), &made));
+}
+
+#[test]
+fn a_text_with_its_hash_has_a_number(rt: HostRuntime) {
+    let alloc = rt.alloc();
+    let mut numbers = Interner::new(alloc, Seed::fixed());
+    let is_first = numbers.push(hashed(&rt, alloc, "a")) == Ok(0);
+    let is_second = numbers.push(hashed(&rt, alloc, "b")) == Ok(1);
+    let is_held = numbers.push(hashed(&rt, alloc, "a")) == Ok(0);
+    let is_found = numbers.find(&hashed(&rt, alloc, "b")) == Some(1);
+    let is_absent = numbers.find(&hashed(&rt, alloc, "c")) == None;
+    let are_two = is_first && is_second && is_held;
+    holds(&rt, "numbers", are_two && is_found && is_absent);
+}
+
+#[test]
+fn a_value_stands_behind_a_pointer(rt: HostRuntime) {
+    let boxed = Boxed::new(rt.alloc(), 5u32).expect(&rt, "no memory");
+    holds(&rt, "value", *boxed.get() == 5);
 }
 
 #[test]
