@@ -92,7 +92,7 @@ fn of_arguments(reaches: &[Reach], instance: &Instance) -> Reach
 {
     match instance {
         Instance::Static(_, args) => of_defs(reaches, args.as_slice()),
-        Instance::Import(_, args) => of_host(reaches, args),
+        Instance::Import(_, args) => of_host(reaches, args.get()),
     }
 }
 

@@ -252,7 +252,9 @@ fn add_given(
             }
             add_defs(records, instances, ambiguous, args.as_slice())
         }
-        InstantiateModule::Import(_, args) => add_host(records, instances, ambiguous, args),
+        InstantiateModule::Import(_, args) => {
+            add_host(records, instances, ambiguous, args.get())
+        }
     }
 }
 

@@ -193,7 +193,7 @@ pub(crate) fn of_instance(instance: &Instance) -> bool
 {
     match instance {
         Instance::Static(_, args) => of_defs(args.as_slice()),
-        Instance::Import(_, args) => of_host(args),
+        Instance::Import(_, args) => of_host(args.get()),
     }
 }
 

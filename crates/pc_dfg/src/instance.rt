@@ -2,7 +2,7 @@
 
 use crate::{CoreDef, InstanceId};
 use pc_entity::{
-    DefinedResourceIndex, RuntimeComponentInstanceIndex, RuntimeImportIndex, Seq,
+    Boxed, DefinedResourceIndex, RuntimeComponentInstanceIndex, RuntimeImportIndex, Seq,
     StaticModuleIndex, TextMap,
 };
 use pc_types::WasmValType;
@@ -13,7 +13,7 @@ pub enum Instance {
     /// A module that was handed in, with an argument for each of its imports, in their order.
     Static(StaticModuleIndex, Seq<CoreDef>),
     /// A module of the host, with its arguments by the module name and the name that its type imports.
-    Import(RuntimeImportIndex, TextMap<TextMap<CoreDef>>),
+    Import(RuntimeImportIndex, Boxed<TextMap<TextMap<CoreDef>>>),
 }
 
 /// A resource that the component declares.

@@ -18,7 +18,7 @@ ghost use Rattle.pc_dfg_finish.specs.Instantiated.{AreInstantiated, StayInstanti
 use crate::arguments::{host_of, number_all, number_def, number_host};
 use pc_dfg::{ComponentDfg, CoreDef, Instance, InstanceId, SideEffect};
 use pc_dfg_linearize::{Finish, FinishError, add_step, append, def_of, defs_of};
-use pc_entity::{DefinedResourceIndex, RuntimeComponentInstanceIndex, RuntimeInstanceIndex};
+use pc_entity::{Boxed, DefinedResourceIndex, RuntimeComponentInstanceIndex, RuntimeInstanceIndex};
 use pc_info::{GlobalInitializer, InstantiateModule};
 use std::alloc::Global;
 
@@ -43,9 +43,10 @@ fn instantiation_of(
             Ok(InstantiateModule::Static(*module, args))
         }
         Instance::Import(import, args) => {
+            let args = args.get();
             number_host(alloc, graph, finish, args)?;
             let args = host_of(alloc, graph, finish, args)?;
-            Ok(InstantiateModule::Import(*import, args))
+            Ok(InstantiateModule::Import(*import, Boxed::new(alloc, args)?))
         }
     }
 }

@@ -7,9 +7,9 @@ ghost use Rattle.pc_info.specs.declared.core_def.CoreDef.TheVariants as def;
 ghost use Rattle.pc_info.specs.Mapped.{ForIndex, IsMapped, map_export};
 
 use pc_entity::{
-    EntityIndex, ExactEq, FuncIndex, GlobalIndex, MemoryIndex, NoMemory,
-    RuntimeComponentInstanceIndex, RuntimeInstanceIndex, TableIndex, TagIndex, Text,
-    TrampolineIndex, TryClone,
+    EntityIndex, ExactEq, FuncIndex, GlobalIndex, HashedText, MemoryIndex, NoMemory,
+    RuntimeComponentInstanceIndex, RuntimeInstanceIndex, TableIndex, TagIndex, TrampolineIndex,
+    TryClone,
 };
 use pc_types::UnsafeIntrinsic;
 use std::alloc::Global;
@@ -41,8 +41,8 @@ pub struct CoreExport<T> {
 pub enum ExportItem<T> {
     /// By the entity of its module, which is known.
     Index(T),
-    /// By the name of the export.
-    Name(Text),
+    /// By the name of the export. Definitions are told from others very often, so it is hashed once.
+    Name(HashedText),
 }
 
 impl<T> CoreExport<T> {

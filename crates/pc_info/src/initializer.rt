@@ -2,7 +2,7 @@
 
 use crate::core_def::{CoreDef, CoreExport};
 use pc_entity::{
-    DefinedResourceIndex, LoweredIndex, MemoryIndex, RuntimeCallbackIndex,
+    Boxed, DefinedResourceIndex, LoweredIndex, MemoryIndex, RuntimeCallbackIndex,
     RuntimeComponentInstanceIndex, RuntimeImportIndex, RuntimeMemoryIndex, RuntimePostReturnIndex,
     RuntimeReallocIndex, RuntimeTableIndex, Seq, StaticModuleIndex, TableIndex, TextMap,
 };
@@ -38,7 +38,7 @@ pub enum InstantiateModule {
     /// A module of the plan, with an argument for each of its imports, in their order.
     Static(StaticModuleIndex, Seq<CoreDef>),
     /// A module of the host, with its arguments by the module name and the name that its type imports.
-    Import(RuntimeImportIndex, TextMap<TextMap<CoreDef>>),
+    Import(RuntimeImportIndex, Boxed<TextMap<TextMap<CoreDef>>>),
 }
 
 /// A slot for a memory, and what fills it.

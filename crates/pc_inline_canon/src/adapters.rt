@@ -48,7 +48,7 @@ fn side_memory(
         Some(id) => {
             let memory = memory_of(context.alloc, &state.cores[id])?;
             let instance_module = state.runtime_instances[memory.instance.0 as usize];
-            let is_wide = context.is_wide(state.names, instance_module, &memory.item);
+            let is_wide = context.is_wide(state, id, instance_module, &memory.item);
             Ok(Some((memory, is_wide)))
         }
         None => Ok(None),

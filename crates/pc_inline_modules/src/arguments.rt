@@ -20,7 +20,7 @@ ghost use Rattle.pc_inline_modules.specs.Given.{HostArgumentsStand};
 
 use crate::grouped::by_module;
 use pc_dfg::CoreDef;
-use pc_entity::{Atom, NoMemory, Seq, StaticModuleIndex, Text, TextMap};
+use pc_entity::{Atom, Boxed, NoMemory, Seq, StaticModuleIndex, Text, TextMap};
 use pc_inline_names::{AtomMap, ProgramNames, first_numbered};
 use pc_inline_state::{Context, CoreItem, Frame, State};
 use pc_types::{CoreEntity, CoreKind, DeclType, TypeTable};
@@ -147,7 +147,7 @@ pub(crate) fn host_arguments(
     entry: u32,
     args: &[(Text, u32)],
     numbers: &[Atom],
-) -> Result<Option<TextMap<TextMap<CoreDef>>>, NoMemory>
+) -> Result<Option<Boxed<TextMap<TextMap<CoreDef>>>>, NoMemory>
     requires input { IsInput context.now.table.now context.now.modules }
     requires here { IsPoint context.now.table.now context.now.modules state.now frame.now }
     requires numbered { AreNumbersOf state.now.names.now.texts (names_of args.now) numbers.now }
@@ -178,10 +178,11 @@ pub(crate) fn host_arguments(
     else {
         return Ok(None);
     };
-    Ok(Some(by_module(
+    let given = by_module(
         context.alloc,
         context.seed,
         imports.as_slice(),
         defs.as_slice(),
-    )?))
+    )?;
+    Ok(Some(Boxed::new(context.alloc, given)?))
 }

@@ -14,7 +14,7 @@ use Rattle.pc_local.specs.declared.item.LocalInitializer.{LocalInitializer}
 use Rattle.pc_local.specs.Sound.{export_name}
 use Rattle.pc_inline_names.specs.declared.types.TypeNumbers.{TypeNumbers}
 use Rattle.pc_inline_names.specs.Both.{Both}
-use Rattle.pc_inline_names.specs.Named.{imports_of, item_names}
+use Rattle.pc_inline_names.specs.Named.{imports_of, item_names, module_names}
 use Rattle.pc_inline_names.specs.Numbers.{AreImportNumbers, AreNumbersOf, IsNumber, numbered_value}
 use Rattle.pc_inline_names.specs.Tables.{AddsNames, AreBodyNumbers, AreNames, AreRecordNumbers}
 use Rattle.pc_inline_names.specs.Tables.{AreTypeNumbers, HasTypeNumbers, number_place}
@@ -113,18 +113,20 @@ type_lasts old new kept e (Some x) are = record {
   places = are.places;
   imports = both_more (AreImportNumbers old) (AreImportNumbers new) (imports_kept old new kept) (imports_of e) x.imports
       are.imports;
+  texts = are.texts;
 }
 
--- a type has these numbers
+-- a type has these numbers, and these names of its exports
 pub type_numbered : (names : List (List ℕ)) (e : DeclType) (x : TypeNumbers) (ns : List Atom)
-    (is : Option (List (Atom × Atom))) → x.exports ≡ ns
-    → ((n : Atom) → numbered_value n x.places ≡ number_place 0 n ns) → x.imports ≡ is
-    → AreNumbersOf names (export_names e) ns → Both (AreImportNumbers names) (imports_of e) is
+    (is : Option (List (Atom × Atom))) (texts : List (List ℕ)) → x.exports ≡ ns
+    → ((n : Atom) → numbered_value n x.places ≡ number_place 0 n ns) → x.imports ≡ is → x.names ≡ texts
+    → AreNumbersOf names (export_names e) ns → Both (AreImportNumbers names) (imports_of e) is → texts ≡ module_names e
     → HasTypeNumbers names e x
-type_numbered names e x ns is exports places imports are have = record {
+type_numbered names e x ns is texts exports places imports these are have named = record {
   exports = subst (AreNumbersOf names (export_names e)) (sym exports) are;
   places = λ n. places n ∙ ap (number_place 0 n) (sym exports);
   imports = subst (Both (AreImportNumbers names) (imports_of e)) (sym imports) have;
+  texts = these ∙ named;
 }
 
 -- what holds at all holds where there is a value

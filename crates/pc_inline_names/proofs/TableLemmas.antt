@@ -1,15 +1,16 @@
 -- What is found in the tables is what the program and its table have there.
-use Rattle.std.proofs.Common.{◌≡◌, ℕ, List, Option, None, Some, Contains, refl, sym, ap, subst, ◌∙◌}
+use Rattle.std.proofs.Common.{◌≡◌, ℕ, List, [], Option, None, Some, Contains, refl, sym, ap, subst, ◌∙◌}
 use Rattle.std.specs.Prelude.{option_and_then, slice_get}
 use Rattle.std.specs.List.{AllZip}
 use Rattle.pc_entity.specs.declared.string_pool.Atom.{Atom}
 use Rattle.pc_entity.specs.Lists.{AreDistinct}
 use Rattle.pc_types.specs.declared.parsed.DeclType.{DeclType}
+use Rattle.pc_types.specs.declared.parsed.DeclType.TheVariants as entry
 use Rattle.pc_types_walk.specs.Names.{export_names}
 use Rattle.pc_spec_reading.specs.Member.{place_from}
 use Rattle.pc_inline_names.specs.declared.types.TypeNumbers.{TypeNumbers}
 use Rattle.pc_inline_names.specs.Both.{Both, both, neither}
-use Rattle.pc_inline_names.specs.Named.{imports_of}
+use Rattle.pc_inline_names.specs.Named.{imports_of, module_names}
 use Rattle.pc_inline_names.specs.Numbers.{AreImportNumbers, IsNumber, numbered_value}
 use Rattle.pc_inline_names.specs.Tables.{AreTypeNumbers, EntryHas, an_entry, no_entry}
 use Rattle.pc_inline_names.proofs.AddedLemmas.{Numbered}
@@ -33,6 +34,11 @@ entry_at names es xs n are = by (slice_get es n) (slice_get xs n) (zip_at (AreTy
     by (Some e) None m = elim m [ ]
     by (Some e) (Some x) (both has) = an_entry has
 
+-- where the exports of a type have no names, it has none of a module type's exports
+nameless : (e : DeclType) → export_names e ≡ [] → module_names e ≡ []
+nameless (entry.Module imports exports) none = none
+nameless e none = refl
+
 module _ (names : List (List ℕ)) where
   -- the imports of a module type
   pub entry_imports : (o : Option DeclType) (w : Option TypeNumbers) → EntryHas names o w
@@ -54,6 +60,16 @@ module _ (names : List (List ℕ)) where
       subst (λ (es : List (List ℕ)). Both (Numbered names) (slice_get es place) None) (sym has.0) neither
   entry_export (Some e) (Some x) place (an_entry has) =
       zip_at (Numbered names) (export_names e) x.exports place has.exports
+
+  -- the name of an export of a module type
+  pub entry_name : (o : Option DeclType) (w : Option TypeNumbers) (place : ℕ) → EntryHas names o w
+      → option_and_then (λ (x : TypeNumbers). slice_get x.names place) w
+      ≡ option_and_then (λ e. slice_get (module_names e) place) o
+  entry_name None None place no_entry = refl
+  entry_name None (Some x) place m = elim m [ ]
+  entry_name (Some e) None place (an_entry has) =
+      sym (ap (λ (ns : List (List ℕ)). slice_get ns place) (nameless e has.0))
+  entry_name (Some e) (Some x) place (an_entry has) = ap (λ (ns : List (List ℕ)). slice_get ns place) has.texts
 
   -- the place of an export, by the number of its name
   pub entry_place : AreDistinct names → (o : Option DeclType) (w : Option TypeNumbers) (n : Atom) (name : List ℕ)

@@ -35,6 +35,11 @@ abbrev pub imports_of : DeclType → Option (List (List ℕ × List ℕ × CoreE
 imports_of (entry.Module imports exports) = Some imports
 imports_of e = None
 
+-- the names of the exports of a module type; another type has none of these
+abbrev pub module_names : DeclType → List (List ℕ)
+module_names (entry.Module imports exports) = names_of exports
+module_names e = []
+
 -- the name of an argument of a component instance
 abbrev pub argument_name : List ℕ × ItemKind × ℕ → List ℕ
 argument_name a = a.0

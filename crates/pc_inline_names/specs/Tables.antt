@@ -17,7 +17,7 @@ use Rattle.pc_inline_names.specs.declared.program_names.NameTables.{NameTables}
 use Rattle.pc_inline_names.specs.declared.types.TypeNumbers.{TypeNumbers}
 use Rattle.pc_inline_names.specs.Both.{Both}
 use Rattle.pc_inline_names.specs.Lists.{Lists}
-use Rattle.pc_inline_names.specs.Named.{imports_of, item_names}
+use Rattle.pc_inline_names.specs.Named.{imports_of, item_names, module_names}
 use Rattle.pc_inline_names.specs.Numbers.{AreImportNumbers, AreNumbersOf, HasNumbers, numbered_value}
 
 -- names of which each has one number
@@ -59,11 +59,13 @@ module _ (names : List (List ℕ)) where
   abbrev pub HasExports : ModuleRecord → List (Atom × EntityIndex) → Type 0
   HasExports r numbered = HasNumbers names r.exports numbered
 
-  -- the numbers of an instance type or a module type: the names at the places, the places of the names, and the imports
+  -- the numbers of an instance type or a module type: the names at the places, the places of the names, the imports,
+  -- and the names of a module type's exports themselves
   pub record HasTypeNumbers (e : DeclType) (x : TypeNumbers) : Type 0 where
     pub exports : AreNumbersOf names (export_names e) x.exports
     pub places : (n : Atom) → numbered_value n x.places ≡ number_place 0 n x.exports
     pub imports : Both (AreImportNumbers names) (imports_of e) x.imports
+    pub texts : x.names ≡ module_names e
 
   -- those of an entry of a table, where an entry that has none has no such names
   abbrev pub AreTypeNumbers : DeclType → Option TypeNumbers → Type 0

@@ -11,7 +11,7 @@ ghost use Rattle.pc_local.specs.declared.item.LocalInitializer.{LocalInitializer
 ghost use Rattle.pc_local.specs.declared.item.Translation.{Translation};
 ghost use Rattle.pc_local.specs.Sound.{export_name};
 ghost use Rattle.pc_inline_names.specs.Both.{Both};
-ghost use Rattle.pc_inline_names.specs.Named.{body_at, imports_of, item_names, nested_at};
+ghost use Rattle.pc_inline_names.specs.Named.{body_at, imports_of, item_names, module_names, nested_at};
 ghost use Rattle.pc_inline_names.specs.Numbers.{AreImportNumbers, AreNumbersOf, IsNumber};
 ghost use Rattle.pc_inline_names.specs.Tables.{AreBodyNumbers, AreItemNumbers, AreNames, AreTables, EntryHas};
 
@@ -22,7 +22,8 @@ use crate::modules::{add_records, numbered_exports};
 use crate::number_lists::NumberLists;
 use crate::types::{EntryNumbers, TypeNumbers, add_types};
 use pc_entity::{
-    Atom, EntityIndex, Interner, NoMemory, Seed, Seq, StaticComponentIndex, StaticModuleIndex, Text,
+    Atom, EntityIndex, HashedText, Interner, NoMemory, Seed, Seq, StaticComponentIndex,
+    StaticModuleIndex, Text,
 };
 use pc_local::LocalProgram;
 use pc_types::TypeTable;
@@ -282,6 +283,17 @@ impl<'a> ProgramNames<'a> {
     {
         match self.entry(entry) {
             Some(numbers) => at(numbers.exports.as_slice(), place).copied(),
+            None => None,
+        }
+    }
+
+    /// The name of an export of a module type, by the place of the export.
+    pub fn module_name(&self, entry: u32, place: usize) -> Option<&HashedText>
+        ensures { option_copied result
+            ≡ option_and_then (λ e. slice_get (module_names e) place) (slice_get self.now.table.types entry) }
+    {
+        match self.entry(entry) {
+            Some(numbers) => at(numbers.names.as_slice(), place),
             None => None,
         }
     }

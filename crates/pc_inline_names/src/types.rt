@@ -7,13 +7,14 @@ ghost use Rattle.std.specs.Prelude.{◌≡◌, None, Some, IfOk, OnOk};
 ghost use Rattle.std.specs.List.{AllZip};
 ghost use Rattle.std.specs.Option.{option_copied};
 ghost use Rattle.pc_entity.specs.declared.string_pool.Atom.{Atom};
+ghost use Rattle.pc_entity.specs.Lists.{names_of};
 ghost use Rattle.pc_inline_names.specs.Numbers.{numbered_value};
 ghost use Rattle.pc_inline_names.specs.Tables.{AddsNames, AreNames, AreTypeNumbers, number_place};
 
 use crate::add::{add_all, add_imports};
 use crate::atom_map::AtomMap;
-use pc_entity::{Atom, Interner, NoMemory, Seed, Seq, Text};
-use pc_types::DeclType;
+use pc_entity::{Atom, HashedText, Interner, NoMemory, Seed, Seq, Text};
+use pc_types::{CoreEntity, DeclType};
 use std::alloc::Global;
 use std::marker::Model;
 
@@ -26,6 +27,8 @@ pub(crate) struct TypeNumbers {
     pub(crate) places: AtomMap<usize>,
     /// The numbers of the two names of each import, of a module type.
     pub(crate) imports: Option<Seq<(Atom, Atom)>>,
+    /// The names of its exports, of a module type: definitions of core items have them.
+    pub(crate) names: Seq<HashedText>,
 }
 
 /// The numbers of the names of an entry, behind a pointer, or none. A contract sees the numbers.
@@ -82,22 +85,36 @@ fn first_places(alloc: Global, seed: Seed, numbers: &[Atom]) -> Result<AtomMap<u
     Ok(places)
 }
 
-/// The numbers of a type with these exports and imports.
+/// The names of the exports of a module type, each with its hash.
+fn hashed_names(alloc: Global, exports: &[(Text, CoreEntity)]) -> Result<Seq<HashedText>, NoMemory>
+    ensures { IfOk result (λ names. names ≡ names_of exports.now) }
+{
+    let mut names = Seq::with_capacity(alloc, exports.len())?;
+    for export in exports {
+        names.push(HashedText::new(alloc, export.0.share()?)?)?;
+    }
+    Ok(names)
+}
+
+/// The numbers of a type with these exports, imports and names.
 fn with_places(
     alloc: Global,
     seed: Seed,
     exports: Seq<Atom>,
     imports: Option<Seq<(Atom, Atom)>>,
+    names: Seq<HashedText>,
 ) -> Result<TypeNumbers, NoMemory>
     ensures exports { IfOk result (λ x. x.exports ≡ exports) }
     ensures places { IfOk result (λ x. (n : Atom) → numbered_value n x.places ≡ number_place 0 n exports) }
     ensures imports { IfOk result (λ x. x.imports ≡ imports) }
+    ensures names { IfOk result (λ x. x.names ≡ names) }
 {
     let places = first_places(alloc, seed, exports.as_slice())?;
     Ok(TypeNumbers {
         exports,
         places,
         imports,
+        names,
     })
 }
 
@@ -115,12 +132,17 @@ fn add_type(
     match entry {
         DeclType::Instance { exports } => {
             let exports = add_all(alloc, texts, exports.as_slice())?;
-            EntryNumbers::of(alloc, with_places(alloc, seed, exports, None)?)
+            let names = Seq::new(alloc);
+            EntryNumbers::of(alloc, with_places(alloc, seed, exports, None, names)?)
         }
         DeclType::Module { imports, exports } => {
             let imports = add_imports(alloc, texts, imports.as_slice())?;
+            let names = hashed_names(alloc, exports.as_slice())?;
             let exports = add_all(alloc, texts, exports.as_slice())?;
-            EntryNumbers::of(alloc, with_places(alloc, seed, exports, Some(imports))?)
+            EntryNumbers::of(
+                alloc,
+                with_places(alloc, seed, exports, Some(imports), names)?,
+            )
         }
         _ => Ok(EntryNumbers::none()),
     }

@@ -1,22 +1,27 @@
 -- What a core instance has under a name: as an argument of a core module, and as a core item of the table.
 use Rattle.std.proofs.Common.{◌≡◌, ℕ, List, [], ◌∷◌, ◌++◌, length, Result, Ok, Err, Some, refl, sym}
 use Rattle.std.proofs.Common.{ap, subst, ◌∙◌}
-use Rattle.std.specs.Prelude.{slice_get, IfOk, IfSome, Option, OnOk}
+use Rattle.std.specs.Prelude.{slice_get, IfOk, IfSome, None, Option, OnOk, option_and_then}
 use Rattle.std.proofs.lemmas.Option.{same_Some}
 use Rattle.pc_entity.proofs.Growing.{slice_get-append_seam}
+use Rattle.pc_entity.specs.declared.string_pool.Atom.{Atom}
 use Rattle.pc_dfg.specs.declared.ids.InstanceId.{InstanceId}
 use Rattle.pc_numbers.specs.declared.entity_index.EntityIndex.{EntityIndex}
 use Rattle.pc_types.specs.declared.module_record.ModuleRecord.{ModuleRecord}
 use Rattle.pc_types.specs.declared.parsed.CoreEntity.{CoreEntity}
 use Rattle.pc_types.specs.declared.parsed.CoreKind.{CoreKind}
 use Rattle.pc_types.specs.declared.parsed.TypeTable.{TypeTable}
+use Rattle.pc_types_walk.specs.Names.{export_names}
 use Rattle.pc_info.specs.declared.core_def.ExportItem.TheVariants as export
 use Rattle.pc_spec_plan.specs.CoreValue.{CoreValue, exported, by_index, by_name}
 use Rattle.pc_parsed.specs.Mark.{Mark}
 use Rattle.pc_dfg.specs.declared.core_def.CoreDef.{CoreDef}
 use Rattle.pc_dfg.specs.declared.core_def.CoreDef.TheVariants as def
+use Rattle.pc_dfg.specs.declared.core_def.CoreExport.{CoreExport}
 use Rattle.pc_dfg.specs.Means.{means_export}
 use Rattle.pc_entity.specs.declared.NoMemory.{NoMemory}
+use Rattle.pc_inline_names.specs.Both.{Both}
+use Rattle.pc_inline_names.specs.Numbers.{IsNumber}
 use Rattle.pc_inline_state.specs.declared.core_item.CoreItem.{CoreItem}
 use Rattle.pc_inline_state.specs.declared.core_item.CoreItem.TheVariants as item
 use Rattle.pc_inline_state.specs.declared.definition.CoreId.{CoreId}
@@ -29,6 +34,8 @@ use Rattle.pc_inline_state.specs.Found.{ArgumentStands, FoundThere, ItemFound, e
 use Rattle.pc_inline_state.specs.Placed.{ArePlaced, IsHostItem}
 use Rattle.pc_inline_state.specs.Stands.{CoreStands, ItemStands}
 use Rattle.pc_inline_state.specs.Tables.{IsHostInstance, IsItem, Tables, is_entity, is_named, tables_of}
+use Rattle.pc_inline_state.proofs.LookupLemmas.{name_at}
+use Rattle.pc_inline_state.proofs.ZipLemmas.{both_there}
 
 -- an entity of a core instance as a definition
 abbrev pub entity_def : InstanceId → EntityIndex → CoreDef
@@ -37,6 +44,11 @@ entity_def i e = def.Export (record { instance = i; item = export.Index e })
 -- an item of a core instance by its name as a definition
 abbrev pub named_def : InstanceId → List ℕ → CoreDef
 named_def i name = def.Export (record { instance = i; item = export.Name name })
+
+-- exports that are one definition have one name
+same_name : (a b : CoreExport EntityIndex) (x y : List ℕ) → def.Export a ≡ def.Export b → a.item ≡ export.Name x
+    → b.item ≡ export.Name y → x ≡ y
+same_name a b x y same of_a of_b = cc
 
 module _ (ms : List ModuleRecord) (b : Tables) where
   -- an entity that was found is an argument
@@ -164,14 +176,38 @@ module _ (t : TypeTable) (ms : List ModuleRecord) where
 
   -- a definition that goes to the end of the table is the core item of its export, whatever is noted
   pub host_item_made : (old new : State) (p : Places) (e : HostExport) (d : CoreDef) (id : CoreId)
-      → (x : List ℕ × CoreEntity) × (module_export t e.entry e.place ≡ Some x)
-      → ((x : List ℕ × CoreEntity) → module_export t e.entry e.place ≡ Some x → d ≡ named_def e.instance x.0)
+      → old.names.now.table ≡ t → (x : List ℕ × CoreEntity) × (module_export t e.entry e.place ≡ Some x)
+      → ((x : List ℕ × CoreEntity) → module_export old.names.now.table e.entry e.place ≡ Some x
+      → d ≡ named_def e.instance x.0)
       → id.0 ≡ length old.cores → new ≡ record old { cores = old.cores ++ d ∷ [] }
       → IsHostItem t ms (record new { places = p }) e id
-  host_item_made old new p e d id there made at more = record {
+  host_item_made old new p e d id table there made at more = record {
     name = there.0.0;
     entity = there.0.1;
     there = there.1;
     held = ap (λ (st : State). slice_get st.cores id.0) more ∙ ap (slice_get (old.cores ++ d ∷ [])) at
-        ∙ slice_get-append_seam old.cores d [] ∙ ap Some (made there.0 there.1);
+        ∙ slice_get-append_seam old.cores d []
+        ∙ ap Some (made there.0 (ap (λ (y : TypeTable). module_export y e.entry e.place) table ∙ there.1));
   }
+
+  -- the number that an entry has for the name of one of its exports is that of the name of the core item
+  pub item_number : (st : State) → st.names.now.table ≡ t → ArePlaced t ms st → (e : HostExport) (id : CoreId)
+      → (i : ℕ) × (slice_get st.places.host_items i ≡ Some (e, id)) → (n : ℕ) → e.entry ≡ n → (o : Option Atom)
+      → Both (λ name m. IsNumber st.names.now.texts m name)
+      (option_and_then (λ x. slice_get (export_names x) e.place) (slice_get st.names.now.table.types n)) o
+      → IfSome o (λ m. (i : InstanceId) (name : List ℕ) → slice_get st.cores id.0 ≡ Some (named_def i name)
+      → IsNumber st.names.now.texts m name)
+  item_number st table placed e id at n of_entry None numbered = tt
+  item_number st table placed e id at n of_entry (Some m) numbered =
+      λ i name held.
+      let item = placed.host_items at.0 e id at.1 in
+      let one_def = same_Some (named_def e.instance item.name) (named_def i name) (sym item.held ∙ held) in
+      let same = same_name _ _ item.name name one_def refl refl in
+      let there : module_export st.names.now.table n e.place ≡ Some (item.name, item.entity) =
+      ap (λ (y : TypeTable). module_export y n e.place) table
+      ∙ ap (λ k. module_export t k e.place) (sym of_entry) ∙ item.there in
+      let named = name_at st.names.now.table n e.place (item.name, item.entity) there in
+      let found = both_there (λ (x : List ℕ) k. IsNumber st.names.now.texts k x) _ (Some m) item.name numbered named in
+      let one_number : found.0 ≡ m = same_Some found.0 m (sym found.1) in
+      subst (λ (x : List ℕ). IsNumber st.names.now.texts m x) same
+      (subst (λ k. IsNumber st.names.now.texts k item.name) one_number found.2)

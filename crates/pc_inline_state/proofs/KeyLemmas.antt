@@ -108,6 +108,16 @@ export_exact a b h =
     let place = same_number a.place b.place second.1 in
     λ i. record { instance = record { 0 = instance i }; entry = entry i; place = place i }
 
+-- an entry whose core item `==` finds to be another one has that other
+pub entry_of : (es now : List (HostExport × CoreId)) → es ≡ now → (i : ℕ) (export : HostExport) (a b : CoreId)
+    → Some (export, a) ≡ slice_get es i → eq_CoreId.ghosts.eq a b ≡ true
+    → (n : ℕ) × (slice_get now n ≡ Some (export, b))
+entry_of es now same i export a b at is = (
+  i,
+  ap (λ (l : List (HostExport × CoreId)). slice_get l i) (sym same) ∙ sym at
+      ∙ ap (λ (id : CoreId). Some (export, id)) (core_exact a b is),
+)
+
 module _ {K V : Type 0} (eq : K → K → Bool) (exact : (a b : K) → eq a b ≡ true → a ≡ b) where
   -- what a look-up finds under a key stands among the entries
   found_under : (k : K) (es : List (K × V)) (v : V) → lookup (eq k) es ≡ Some v

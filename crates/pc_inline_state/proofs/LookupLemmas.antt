@@ -1,9 +1,11 @@
--- Look-ups of memories: by number, and by name.
+-- Look-ups of memories: by number, and by name; and of the names of exports, by their places.
 use Rattle.std.proofs.Common.{◌≡◌, ◌+◌, ℕ, suc, Bool, true, false, List, [], ◌∷◌, Option, Some, None, refl, ap}
 use Rattle.std.proofs.Common.{◌∙◌, if◌then◌else◌, arith}
 use Rattle.std.specs.Prelude.{slice_get, option_and_then}
 use Rattle.std.specs.List.{AllZip}
+use Rattle.std.specs.Option.{option_map}
 use Rattle.std.specs.Str.{bytes_eq}
+use Rattle.std.proofs.lemmas.Option.{none-some, slice_get-map}
 use Rattle.pc_entity.specs.Lists.{names_of, value_of}
 use Rattle.pc_inline_state.proofs.ZipLemmas.{zip_at}
 use Rattle.pc_inline_state.specs.Frames.{Both, neither, both}
@@ -87,3 +89,19 @@ named_width t n name = by (slice_get t.types n) refl
         ≡ option_and_then (is_wide_named name) (slice_get t.types n)
     by None at = rw (at) refl
     by (Some e) at = rw (at) (at_entry e)
+
+-- an export of a module type by its place has its name among the names of the exports of its entry
+pub name_at : (t : TypeTable) (n i : ℕ) (x : List ℕ × CoreEntity) → module_export t n i ≡ Some x
+    → option_and_then (λ e. slice_get (export_names e) i) (slice_get t.types n) ≡ Some x.0
+name_at t n i x is = by (slice_get t.types n) is
+  where
+    at_entry : (e : DeclType) → slice_get (module_exports e) i ≡ Some x → slice_get (export_names e) i ≡ Some x.0
+    at_entry (entry.Module imports exports) at =
+        slice_get-map (λ (e : List ℕ × CoreEntity). e.0) exports i
+        ∙ ap (option_map (λ (e : List ℕ × CoreEntity). e.0)) at
+    at_entry e at = absurd (none-some x at)
+
+    by : (o : Option DeclType) → option_and_then (λ e. slice_get (module_exports e) i) o ≡ Some x
+        → option_and_then (λ e. slice_get (export_names e) i) o ≡ Some x.0
+    by None at = absurd (none-some x at)
+    by (Some e) at = at_entry e at

@@ -58,19 +58,19 @@ fn entity_def(instance: InstanceId, entity: EntityIndex) -> CoreDef
 /// An item of a core instance by its name as a definition.
 fn named_def(
     alloc: Global,
-    table: &TypeTable,
+    names: &ProgramNames<'_>,
     instance: InstanceId,
     entry: u32,
     place: usize,
 ) -> Result<CoreDef, NoMemory>
-    requires there { (e : List ℕ × CoreEntity) × (module_export table.now entry place ≡ Some e) }
-    ensures { IfOk result (λ d. (e : List ℕ × CoreEntity) → module_export table.now entry place ≡ Some e
+    requires there { (e : List ℕ × CoreEntity) × (module_export names.now.table entry place ≡ Some e) }
+    ensures { IfOk result (λ d. (e : List ℕ × CoreEntity) → module_export names.now.table entry place ≡ Some e
         → d ≡ def.Export (record { instance = instance; item = item.Name e.0 })) }
 {
-    match module_export(table, entry, place) {
-        Some(export) => Ok(CoreDef::Export(CoreExport {
+    match names.module_name(entry, place) {
+        Some(name) => Ok(CoreDef::Export(CoreExport {
             instance,
-            item: ExportItem::Name(export.0.try_clone(alloc)?),
+            item: ExportItem::Name(name.try_clone(alloc)?),
         })),
         None => unreachable!(),
     }
@@ -172,6 +172,7 @@ impl<'a> Context<'a> {
     /// The definition of what was found.
     pub fn found_def(&self, state: &State<'_>, item: CoreItem) -> Result<CoreDef, NoMemory>
         requires table { state.now.table.now ≡ self.now.table.now }
+        requires names { state.now.names.now.table ≡ self.now.table.now }
         requires there { FoundThere self.now.modules (tables_of state.now) item }
         ensures { IfOk result (λ d. (k : CoreKind) (v : CoreValue Mark)
             → ItemFound self.now.modules (tables_of state.now) k item v
@@ -183,7 +184,7 @@ impl<'a> Context<'a> {
                 instance,
                 entry,
                 place,
-            } => named_def(self.alloc, self.table, instance, entry, place),
+            } => named_def(self.alloc, state.names, instance, entry, place),
             CoreItem::Known(id) => state.cores[id].try_clone(self.alloc),
         }
     }
@@ -234,7 +235,7 @@ impl<'a> Context<'a> {
         }
         let def = named_def(
             self.alloc,
-            self.table,
+            state.names,
             export.instance,
             export.entry,
             export.place,

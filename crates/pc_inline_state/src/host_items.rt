@@ -52,6 +52,28 @@ impl HostItems {
         self.made.get(&export).copied()
     }
 
+    /// The export that an item was made of, if it is one of these. Items have rising numbers, so the middle is looked at
+    /// first.
+    pub fn export_of(&self, id: CoreId) -> Option<HostExport>
+        ensures { IfSome result (λ export. (i : ℕ) × (slice_get self.now i ≡ Some (export, id))) }
+    {
+        let mut begin = 0;
+        let mut end = self.made.len();
+        while begin < end {
+            let middle = begin + (end - begin) / 2;
+            let (export, made) = self.made.get_index(middle)?;
+            if *made == id {
+                return Some(*export);
+            }
+            if made.0 < id.0 {
+                begin = middle + 1;
+            } else {
+                end = middle;
+            }
+        }
+        None
+    }
+
     /// Notes which item was made of an export.
     pub fn insert(&mut self, export: HostExport, id: CoreId) -> Result<(), NoMemory>
         ensures ok { OnOk result ((i : ℕ) (e : _) → slice_get self.new i ≡ Some e

@@ -2,7 +2,7 @@
 
 use crate::support::holds;
 use pc_entity::{
-    EntityIndex, FuncIndex, MemoryIndex, NoMemory, RuntimeInstanceIndex, Text, TryClone,
+    EntityIndex, FuncIndex, HashedText, MemoryIndex, NoMemory, RuntimeInstanceIndex, Text, TryClone,
 };
 use pc_info::{CoreDef, CoreExport, ExportItem};
 use std::alloc::Global;
@@ -29,9 +29,10 @@ fn is_copied<T: TryClone + PartialEq + Drop>(alloc: Global, source: T) -> bool {
 
 /// Whether an export that is known by its name is copied, and isn't the one that is known by its entity.
 fn is_copied_by_name(alloc: Global) -> Result<bool, NoMemory> {
+    let name = Text::copy_of(alloc, "a b")?;
     let source = CoreDef::Export(CoreExport {
         instance: RuntimeInstanceIndex(7),
-        item: ExportItem::Name(Text::copy_of(alloc, "a b")?),
+        item: ExportItem::Name(HashedText::new(alloc, name)?),
     });
     let is_another = source != CoreDef::Export(NUMBERED);
     Ok(is_copied(alloc, source) & is_another)

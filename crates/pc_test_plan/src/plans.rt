@@ -5,9 +5,9 @@ ghost use Rattle.std.specs.Prelude.{◌≡◌, length, IfOk};
 use crate::items::{is_named, items_are_definitions};
 use crate::support::{NO_DATA, holds};
 use pc_entity::{
-    DefinedResourceIndex, EntityIndex, ExportIndex, FuncIndex, GlobalIndex, MemoryIndex, NoMemory,
-    PrimaryMap, ResourceIndex, RuntimeImportIndex, RuntimeInstanceIndex, Seed, TableIndex,
-    TagIndex, Text,
+    DefinedResourceIndex, EntityIndex, ExportIndex, FuncIndex, GlobalIndex, HashedText,
+    MemoryIndex, NoMemory, PrimaryMap, ResourceIndex, RuntimeImportIndex, RuntimeInstanceIndex,
+    Seed, TableIndex, TagIndex, Text,
 };
 use pc_info::{Component, CoreDef, CoreExport, Export, ExportItem};
 use pc_names::{NameMap, NameMapNoIntern};
@@ -53,7 +53,7 @@ fn is_entity(def: CoreDef, entity: EntityIndex) -> bool {
 }
 
 /// Whether a memory that is known by the name `m` is so where entities are mapped.
-fn stays(name: Text) -> bool {
+fn stays(name: HashedText) -> bool {
     let export: CoreExport<MemoryIndex> = CoreExport {
         instance: RuntimeInstanceIndex(1),
         item: ExportItem::Name(name),
@@ -64,7 +64,8 @@ fn stays(name: Text) -> bool {
 
 /// Whether a name stays where entities are mapped.
 fn a_name_stays(alloc: Global) -> Result<bool, NoMemory> {
-    Ok(stays(Text::copy_of(alloc, "m")?))
+    let name = Text::copy_of(alloc, "m")?;
+    Ok(stays(HashedText::new(alloc, name)?))
 }
 
 /// Whether items of each kind are definitions.

@@ -1,12 +1,17 @@
 //! Texts, lists and maps for the plans that are printed. What there is no memory for is left out, and then the text of
 //! the plan is another one.
 
-use pc_entity::{EntityRef, PrimaryMap, Text, TextMap};
+use pc_entity::{EntityRef, HashedText, PrimaryMap, Text, TextMap};
 use std::alloc::Global;
 
 /// This text.
 pub(crate) fn text(alloc: Global, text: &str) -> Option<Text> {
     Text::copy_of(alloc, text).ok()
+}
+
+/// This text with its hash.
+pub(crate) fn hashed(alloc: Global, bytes: &str) -> Option<HashedText> {
+    HashedText::new(alloc, text(alloc, bytes)?).ok()
 }
 
 /// These values.

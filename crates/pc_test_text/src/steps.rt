@@ -1,8 +1,8 @@
 //! The steps of the plans that are printed.
 
-use crate::parts::{list, put, text};
+use crate::parts::{hashed, list, put};
 use pc_entity::{
-    DefinedResourceIndex, EntityIndex, FuncIndex, GlobalIndex, LoweredIndex, MemoryIndex,
+    Boxed, DefinedResourceIndex, EntityIndex, FuncIndex, GlobalIndex, LoweredIndex, MemoryIndex,
     RuntimeCallbackIndex, RuntimeComponentInstanceIndex, RuntimeImportIndex, RuntimeInstanceIndex,
     RuntimeMemoryIndex, RuntimePostReturnIndex, RuntimeReallocIndex, RuntimeTableIndex, Seed, Seq,
     StaticModuleIndex, TableIndex, TagIndex, TextMap, TrampolineIndex,
@@ -33,7 +33,7 @@ fn trampoline(number: u32) -> CoreDef {
 
 /// An item that is known by its name, or another one where there is no memory for that.
 fn by_name<T: Copy>(alloc: Global, instance: u32, name: &str, other: T) -> CoreExport<T> {
-    let item = match text(alloc, name) {
+    let item = match hashed(alloc, name) {
         Some(name) => ExportItem::Name(name),
         None => ExportItem::Index(other),
     };
@@ -86,9 +86,12 @@ fn named_arguments(alloc: Global) -> TextMap<TextMap<CoreDef>> {
     all
 }
 
-/// A module of the host with three arguments.
+/// A module of the host with three arguments, or another step where there is no memory for that.
 fn imported(alloc: Global) -> GlobalInitializer {
-    let source = InstantiateModule::Import(RuntimeImportIndex(1), named_arguments(alloc));
+    let Ok(args) = Boxed::new(alloc, named_arguments(alloc)) else {
+        return LOWERED;
+    };
+    let source = InstantiateModule::Import(RuntimeImportIndex(1), args);
     let instance = Some(RuntimeComponentInstanceIndex(2));
     GlobalInitializer::InstantiateModule(source, instance)
 }

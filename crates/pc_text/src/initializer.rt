@@ -70,7 +70,9 @@ fn put_instantiation(
         InstantiateModule::Static(number, args) => {
             put_static(out, *number, args.as_slice(), instance)
         }
-        InstantiateModule::Import(import, args) => put_import(out, *import, args, instance),
+        InstantiateModule::Import(import, args) => {
+            put_import(out, *import, args.get(), instance)
+        }
     }
 }
 

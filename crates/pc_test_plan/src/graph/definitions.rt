@@ -4,7 +4,8 @@ use crate::items::{is_named, items_are_definitions};
 use crate::support::holds;
 use pc_dfg::{CoreDef, CoreExport, ExportItem, InstanceId};
 use pc_entity::{
-    EntityIndex, FuncIndex, GlobalIndex, MemoryIndex, NoMemory, TableIndex, TagIndex, Text,
+    EntityIndex, FuncIndex, GlobalIndex, HashedText, MemoryIndex, NoMemory, TableIndex, TagIndex,
+    Text,
 };
 use std::alloc::Global;
 
@@ -22,7 +23,7 @@ fn is_entity(def: CoreDef, entity: EntityIndex) -> bool {
 }
 
 /// Whether a memory that is known by the name `m` is so where entities are mapped.
-fn stays(name: Text) -> bool {
+fn stays(name: HashedText) -> bool {
     let export: CoreExport<MemoryIndex> = CoreExport {
         instance: InstanceId(1),
         item: ExportItem::Name(name),
@@ -33,7 +34,8 @@ fn stays(name: Text) -> bool {
 
 /// Whether a name stays where entities are mapped.
 fn a_name_stays(alloc: Global) -> Result<bool, NoMemory> {
-    Ok(stays(Text::copy_of(alloc, "m")?))
+    let name = Text::copy_of(alloc, "m")?;
+    Ok(stays(HashedText::new(alloc, name)?))
 }
 
 /// Whether items of each kind are definitions.

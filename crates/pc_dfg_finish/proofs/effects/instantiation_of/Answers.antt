@@ -1,7 +1,7 @@
 use Rattle.std.proofs.Common.{All, length, map, sym, subst, ap, ◌∙◌}
 use Rattle.pc_info.specs.declared.initializer.InstantiateModule.TheVariants as plan_source
 use Rattle.pc_dfg.specs.Names.{in_instance}
-use Rattle.pc_dfg_linearize.specs.Arguments.{CanNumber, IsNumbered, NumbersAll, host_defs}
+use Rattle.pc_dfg_linearize.specs.Arguments.{CanNumber, IsNumbered, NumbersAll, host_defs, host_in}
 use Rattle.pc_dfg_linearize.specs.Converted.{def_in}
 use Rattle.pc_dfg_linearize.specs.Made.{instance_in}
 use Rattle.pc_dfg_linearize.specs.Ready.{IsReadyDef}
@@ -33,15 +33,15 @@ pub number_host-requires-clause-ready : goal.number_host-requires-clause-ready
 unfolding in_instance
 number_host-requires-clause-ready c =
     let can = CanNumber c.args.graph.now (length c.args.finish.now.instances) in
-    subst (All can) (ap in_instance c.in-Import.is) c.requires.ready
+    subst (All can) (ap in_instance c.in-Import.is ∙ ap host_defs (sym c.get-args.ensures)) c.requires.ready
 
 pub host_of-requires-clause-ready : goal.host_of-requires-clause-ready
 unfolding in_instance
 host_of-requires-clause-ready c =
     let can = CanNumber c.args.graph.now (length c.args.finish.now.instances) in
     all_can_still c.args.graph.now c.args.finish.now c.number_host.new.finish
-    c.in_ok-number_host-in-Import.ensures.numbers.continues (host_defs c.in-Import.args)
-    (subst (All can) (ap in_instance c.in-Import.is) c.requires.ready)
+    c.in_ok-number_host-in-Import.ensures.numbers.continues (host_defs c.get-args.result.now)
+    (subst (All can) (ap in_instance c.in-Import.is ∙ ap host_defs (sym c.get-args.ensures)) c.requires.ready)
 
 pub host_of-requires-clause-numbered : goal.host_of-requires-clause-numbered
 host_of-requires-clause-numbered c = c.in_ok-number_host-in-Import.ensures.numbers.here
@@ -59,16 +59,17 @@ returns-in_ok-args-in-Static-clause-prepares c =
           ∙ ap (map (def_in g f)) c.as_slice-in-Static.ensures) ∙ ap (instance_in g f) is;
     }
 
-pub returns-in_ok-args-in-Import-clause-prepares : goal.returns-in_ok-args-in-Import-clause-prepares
+pub returns-in_ok-new-in-Import-clause-prepares : goal.returns-in_ok-new-in-Import-clause-prepares
 unfolding in_instance instance_in
-returns-in_ok-args-in-Import-clause-prepares c =
+returns-in_ok-new-in-Import-clause-prepares c =
     let g = c.args.graph.now in
     let f = c.number_host.new.finish in
     let is = sym c.in-Import.is in
     record {
-      numbers = subst (NumbersAll g c.args.finish.now f) (ap in_instance is)
+      numbers = subst (NumbersAll g c.args.finish.now f) (ap host_defs c.get-args.ensures ∙ ap in_instance is)
           c.in_ok-number_host-in-Import.ensures.numbers;
-      is = ap (plan_source.Import c.in-Import.import) c.in_ok-args-in-Import.ensures ∙ ap (instance_in g f) is;
+      is = ap (plan_source.Import c.in-Import.import) (c.in_ok-new-in-Import.ensures
+          ∙ c.in_ok-args-in-Import.ensures ∙ ap (host_in g f) c.get-args.ensures) ∙ ap (instance_in g f) is;
     }
 
 pub returns-in_err-number_all-in-Static-clause-full : goal.returns-in_err-number_all-in-Static-clause-full

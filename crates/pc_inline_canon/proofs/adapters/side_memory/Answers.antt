@@ -1,4 +1,4 @@
-use Rattle.std.proofs.Common.{refl, subst}
+use Rattle.std.proofs.Common.{Some, ap, refl, subst, sym, ◌∙◌}
 use Rattle.std.proofs.lemmas.Option.{slice_get_read}
 use Rattle.pc_types.specs.declared.parsed.CoreKind.TheVariants as core
 use Rattle.pc_inline_state.specs.Slots.{MaybeThere}
@@ -6,7 +6,11 @@ use Rattle.pc_inline_canon.proofs.SideLemmas.{memory_none, memory_some, memory_w
 use Rattle.pc_inline_canon.proofs.adapters.side_memory.Goals as goal
 
 pub is_wide-is_wide-requires : goal.is_wide-is_wide-requires
-is_wide-is_wide-requires c = record { table = c.requires.sound.names.table }
+is_wide-is_wide-requires c = record {
+  table = c.requires.sound.names.table;
+  placed = c.requires.sound.placed;
+  held = (_, c.index.ensures ∙ ap Some (sym c.in_ok-memory-in-Some.ensures));
+}
 
 pub returns-in_ok-memory-in-Some : goal.returns-in_ok-memory-in-Some
 returns-in_ok-memory-in-Some c =

@@ -99,7 +99,8 @@ returns c s tree stands tabled =
     (subst (λ o. Both (ArgumentsStand ms b) o (map_all values c.as_slice.result.now)) c.in-Some-2.is
     (c.in_ok-defs.ensures s stands)) in
     subst (λ x. Both (HostArgumentsStand ms b) (Some x) (host_arguments ms s args tree))
-    (sym (c.in_ok-by_module.ensures ∙ (λ i. by_module (paired (c.as_slice-3.ensures i) (c.as_slice-4.ensures i)))))
+    (sym (c.in_ok-new.ensures ∙ c.in_ok-given.ensures
+    ∙ (λ i. by_module (paired (c.as_slice-3.ensures i) (c.as_slice-4.ensures i)))))
     (host_all c.args.context.now.table.now ms s args b c.args.entry tree tabled c.requires.here.1.sound.table
     c.in-Some.imports.now (sym c.module_imports.ensures ∙ ap option_copied c.in-Some.is)
     (sym (same_known ms b c.args.frame.now args s stands)

@@ -50,7 +50,11 @@ found_def-requires c =
     (read_both (AreNumbers names) c.args.imports.now c.args.import_numbers.now n x _ c.requires.imports within
     c.index-imports-place.is) _ c.kind-kind.ensures _ c.numbered_argument.ensures here.0.scope here.1.frame in
     let v = both_there _ _ _ c.in-Some.item a c.in-Some.is in
-    record { table = here.1.sound.table; there = item_found_there _ _ _ c.in-Some.item v.0 v.2 }
+    record {
+      table = here.1.sound.table;
+      names = here.1.sound.names.table;
+      there = item_found_there _ _ _ c.in-Some.item v.0 v.2;
+    }
 
 pub loop-place-preserved : goal.loop-place-preserved
 loop-place-preserved c s stands =

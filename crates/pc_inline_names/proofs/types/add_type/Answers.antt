@@ -1,4 +1,4 @@
-use Rattle.std.proofs.Common.{List, ℕ, None, Some, sym, subst}
+use Rattle.std.proofs.Common.{List, [], ℕ, None, Some, refl, sym, ap, subst, ◌∙◌}
 use Rattle.std.proofs.lemmas.Result.{IfOk-weaker}
 use Rattle.pc_entity.specs.Lists.{names_of}
 use Rattle.pc_types.specs.declared.parsed.CoreEntity.{CoreEntity}
@@ -17,9 +17,10 @@ returns-in_ok-with_places-in-Instance-clause-numbers c =
     let ns = c.in_ok-exports-in-Instance.exports in
     let x = c.in_ok-with_places-in-Instance.field-0 in
     let made = c.in_ok-with_places-in-Instance.ensures in
-    let has = type_numbered new e x ns None made.exports made.places made.imports
+    let has = type_numbered new e x ns None [] made.exports made.places made.imports
+    (made.names ∙ c.new-names.ensures)
     (subst (λ xs. AreNumbersOf new (names_of xs) ns) c.as_slice.ensures c.in_ok-exports-in-Instance.ensures.numbers)
-    neither in
+    neither refl in
     IfOk-weaker c.of.result _ _ (λ m same. subst (λ o. AreTypeNumbers new c.args.entry.now o) (sym same)
     (subst (λ d. AreTypeNumbers new d (Some x)) (sym c.in-Instance.is) has)) c.of.ensures
 
@@ -42,9 +43,11 @@ returns-in_ok-with_places-in-Module-clause-numbers c =
     let imports = imports_kept mid new kept c.in-Module.imports is
     (subst (λ (xs : List (List ℕ × List ℕ × CoreEntity)). AreImportNumbers mid xs is) c.as_slice-in-Module.ensures
     c.in_ok-imports-in-Module.ensures.numbers) in
-    let has = type_numbered new e x ns (Some is) made.exports made.places made.imports
-    (subst (λ xs. AreNumbersOf new (names_of xs) ns) c.as_slice-in-Module-2.ensures
+    let names = c.in_ok-names-in-Module.names in
+    let has = type_numbered new e x ns (Some is) names made.exports made.places made.imports made.names
+    (subst (λ xs. AreNumbersOf new (names_of xs) ns) c.as_slice-in-Module-3.ensures
     c.in_ok-exports-in-Module.ensures.numbers)
-    (both imports) in
+    (both imports)
+    (c.in_ok-names-in-Module.ensures ∙ ap names_of c.as_slice-in-Module-2.ensures) in
     IfOk-weaker c.of-in-Module.result _ _ (λ m same. subst (λ o. AreTypeNumbers new c.args.entry.now o) (sym same)
     (subst (λ d. AreTypeNumbers new d (Some x)) (sym c.in-Module.is) has)) c.of-in-Module.ensures

@@ -1,4 +1,4 @@
-use Rattle.std.proofs.Common.{sym, subst}
+use Rattle.std.proofs.Common.{sym, subst, ◌∙◌}
 use Rattle.pc_inline_state.specs.Found.{ArgumentStands, ItemFound}
 use Rattle.pc_inline_state.specs.Tables.{tables_of}
 use Rattle.pc_inline_state.proofs.FoundLemmas.{entity_argument, known_arguments, named_arguments}
@@ -17,6 +17,6 @@ returns-in-Known c =
 
 pub returns-in-Named : goal.returns-in-Named
 returns-in-Named c =
-    named_arguments c.args.self.now.modules (tables_of c.args.state.now) c.named_def.result c.args.self.now.table.now
-    c.args.item c.in-Named.instance c.in-Named.entry c.in-Named.place c.requires.table c.in-Named.is c.requires.there
-    c.named_def.ensures
+    named_arguments c.args.self.now.modules (tables_of c.args.state.now) c.named_def.result
+    c.args.state.now.names.now.table c.args.item c.in-Named.instance c.in-Named.entry c.in-Named.place
+    (c.requires.table ∙ sym c.requires.names) c.in-Named.is c.requires.there c.named_def.ensures

@@ -61,8 +61,8 @@ returns-clause-prepares c =
     c.in_ok-def.def c.push_core.ensures.ok c.push_core.ensures.err)
     (item_prepares c.args.self.now.table.now c.args.self.now.modules pushed _ c.args.export c.in_ok-id.id
     (record { host_items = c.in_ok-insert.ensures.ok; rest = refl })
-    (host_item_made _ _ c.args.state.now pushed pushed.places c.args.export _ c.in_ok-id.id c.requires.there
-    c.in_ok-def.ensures c.in_ok-id.ensures.key c.in_ok-id.ensures.ok))
+    (host_item_made _ _ c.args.state.now pushed pushed.places c.args.export _ c.in_ok-id.id
+    c.requires.sound.names.table c.requires.there c.in_ok-def.ensures c.in_ok-id.ensures.key c.in_ok-id.ensures.ok))
 
 pub returns-clause-adds : goal.returns-clause-adds
 returns-clause-adds c = c.push_core.ensures.adds
@@ -73,5 +73,5 @@ returns-clause-rest c =
 
 pub returns-clause-item : goal.returns-clause-item
 returns-clause-item c =
-    host_item_made _ _ c.args.state.now c.push_core.new.self _ c.args.export _ c.in_ok-id.id c.requires.there
-    c.in_ok-def.ensures c.in_ok-id.ensures.key c.in_ok-id.ensures.ok
+    host_item_made _ _ c.args.state.now c.push_core.new.self _ c.args.export _ c.in_ok-id.id
+    c.requires.sound.names.table c.requires.there c.in_ok-def.ensures c.in_ok-id.ensures.key c.in_ok-id.ensures.ok

@@ -1,9 +1,7 @@
 use Rattle.std.proofs.Common.{ℕ, List, Option, sym, ap, ◌∙◌}
 use Rattle.std.specs.Prelude.{option_and_then}
 use Rattle.pc_types.specs.declared.parsed.CoreEntity.{CoreEntity}
-use Rattle.pc_types.specs.declared.parsed.TypeTable.{TypeTable}
 use Rattle.pc_types.specs.Record.{width_in}
-use Rattle.pc_types_walk.specs.Names.{export_place}
 use Rattle.pc_inline_state.specs.Bags.{module_export}
 use Rattle.pc_inline_state.proofs.LookupLemmas.{named_width}
 use Rattle.pc_inline_state.proofs.context.Context.named_memory64.Goals as goal
@@ -13,8 +11,7 @@ returns-in-None c =
     let t = c.args.self.now.table.now in
     let n = c.args.entry in
     ap (λ (o : Option ℕ). option_and_then (λ (e : List ℕ × CoreEntity). width_in e.1)
-    (option_and_then (module_export t n) o))
-    (sym c.in-None.is ∙ c.place.ensures ∙ ap (λ (x : TypeTable). export_place x n c.args.name.now) c.requires.table)
+    (option_and_then (module_export t n) o)) (sym c.in-None.is ∙ c.named_place.ensures)
     ∙ named_width t n c.args.name.now
 
 pub returns-in-Some : goal.returns-in-Some
@@ -23,6 +20,5 @@ returns-in-Some c =
     let n = c.args.entry in
     c.placed_memory64.ensures
     ∙ ap (λ (o : Option ℕ). option_and_then (λ (e : List ℕ × CoreEntity). width_in e.1)
-    (option_and_then (module_export t n) o))
-    (sym c.in-Some.is ∙ c.place.ensures ∙ ap (λ (x : TypeTable). export_place x n c.args.name.now) c.requires.table)
+    (option_and_then (module_export t n) o)) (sym c.in-Some.is ∙ c.named_place.ensures)
     ∙ named_width t n c.args.name.now
