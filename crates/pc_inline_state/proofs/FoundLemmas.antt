@@ -1,7 +1,7 @@
 -- What a core instance has under a name: as an argument of a core module, and as a core item of the table.
 use Rattle.std.proofs.Common.{◌≡◌, ℕ, List, [], ◌∷◌, ◌++◌, length, Result, Ok, Err, Some, refl, sym}
 use Rattle.std.proofs.Common.{ap, subst, ◌∙◌}
-use Rattle.std.specs.Prelude.{slice_get, IfOk, IfSome, None, Option, OnOk, option_and_then}
+use Rattle.std.specs.Prelude.{slice_get, IfOk, IfSome, None, Option, option_and_then}
 use Rattle.std.proofs.lemmas.Option.{same_Some}
 use Rattle.pc_entity.proofs.Growing.{slice_get-append_seam}
 use Rattle.pc_entity.specs.declared.string_pool.Atom.{Atom}
@@ -26,12 +26,13 @@ use Rattle.pc_inline_state.specs.declared.core_item.CoreItem.{CoreItem}
 use Rattle.pc_inline_state.specs.declared.core_item.CoreItem.TheVariants as item
 use Rattle.pc_inline_state.specs.declared.definition.CoreId.{CoreId}
 use Rattle.pc_inline_state.specs.declared.error.ItemError.{ItemError}
+use Rattle.pc_inline_state.specs.declared.entity_items.InstanceEntity.{InstanceEntity}
 use Rattle.pc_inline_state.specs.declared.host_items.HostExport.{HostExport}
 use Rattle.pc_inline_state.specs.declared.places.Places.{Places}
 use Rattle.pc_inline_state.specs.declared.state.State.{State}
 use Rattle.pc_inline_state.specs.Bags.{module_export}
 use Rattle.pc_inline_state.specs.Found.{ArgumentStands, FoundThere, ItemFound, entity_found, known_found, named_found}
-use Rattle.pc_inline_state.specs.Placed.{ArePlaced, IsHostItem}
+use Rattle.pc_inline_state.specs.Placed.{ArePlaced, IsEntityItem, IsHostItem}
 use Rattle.pc_inline_state.specs.Stands.{CoreStands, ItemStands}
 use Rattle.pc_inline_state.specs.Tables.{IsHostInstance, IsItem, Tables, is_entity, is_named, tables_of}
 use Rattle.pc_inline_state.proofs.LookupLemmas.{name_at}
@@ -125,23 +126,22 @@ module _ (ms : List ModuleRecord) (b : Tables) where
       subst (λ y. ArgumentStands ms b y v) (sym (made e.0 (subst (λ y. module_export y n place ≡ Some e.0) table e.1)))
       (record { kind = k; stands = u.0; usable = u.1 })
 
--- an entity that goes to the end of the table is a core item there
-pub entity_ids : (ms : List ModuleRecord) (old new : State) (r : Result CoreId ItemError) (x : CoreItem) (d : CoreDef)
-    (i : InstanceId) (e : EntityIndex) → x ≡ item.Entity i e → d ≡ entity_def i e
-    → IfOk r (λ id. id.0 ≡ length old.cores) → OnOk r (new ≡ record old { cores = old.cores ++ d ∷ [] })
+-- a core item that stands for an entity of a core instance is what was found there
+pub entity_ids : (ms : List ModuleRecord) (old new : State) (r : Result CoreId ItemError) (x : CoreItem)
+    (e : InstanceEntity) → x ≡ item.Entity e.instance e.entity
+    → new ≡ record old { cores = new.cores; places = new.places } → IfOk r (IsEntityItem new e)
     → IfOk r (λ id. (k : CoreKind) (v : CoreValue Mark) → ItemFound ms (tables_of old) k x v
     → ItemStands ms (tables_of new) k id v)
-entity_ids ms old new (Err f) x d i e is def at more = tt
-entity_ids ms old new (Ok id) x d i e is def at more =
+entity_ids ms old new (Err f) x e is rest made = tt
+entity_ids ms old new (Ok id) x e is rest made =
     λ k v found.
     let entity = subst (λ y. ItemFound ms (tables_of old) k y v) is found in
-    subst (λ st. ItemStands ms (tables_of st) k id v) (sym more)
+    subst (λ (st : State). ItemStands ms (tables_of st) k id v) (sym rest)
     (record {
-      definition = d;
-      held = ap (slice_get (old.cores ++ d ∷ [])) at ∙ slice_get-append_seam old.cores d [];
-      stands = subst (λ y. CoreStands old.types old.graph y v) (sym def)
-          (entity_argument ms (tables_of old) k i e v entity).stands;
-      usable = subst (λ y. IsItem ms old.graph k y) (sym def) (entity_usable ms (tables_of old) k i e v entity);
+      definition = entity_def e.instance e.entity;
+      held = made;
+      stands = (entity_argument ms (tables_of old) k e.instance e.entity v entity).stands;
+      usable = entity_usable ms (tables_of old) k e.instance e.entity v entity;
     })
 
 -- and a core item that stands for an export of a host module is what was found there
@@ -173,6 +173,15 @@ module _ (t : TypeTable) (ms : List ModuleRecord) where
       let at =
       subst (λ x. IfSome x (λ n. (i : ℕ) × (slice_get st.places.host_items i ≡ Some (e, n)))) is found in
       placed.host_items at.0 e id at.1
+
+  -- and an entity that is noted has the one that is noted for it
+  pub noted_entity : (st : State) → ArePlaced t ms st → (e : InstanceEntity) (o : Option CoreId) (id : CoreId)
+      → IfSome o (λ n. (i : ℕ) × (slice_get st.places.entity_items i ≡ Some (e, n))) → o ≡ Some id
+      → IsEntityItem st e id
+  noted_entity st placed e o id found is =
+      let at =
+      subst (λ x. IfSome x (λ n. (i : ℕ) × (slice_get st.places.entity_items i ≡ Some (e, n)))) is found in
+      placed.entity_items at.0 e id at.1
 
   -- a definition that goes to the end of the table is the core item of its export, whatever is noted
   pub host_item_made : (old new : State) (p : Places) (e : HostExport) (d : CoreDef) (id : CoreId)
@@ -211,3 +220,11 @@ module _ (t : TypeTable) (ms : List ModuleRecord) where
       let one_number : found.0 ≡ m = same_Some found.0 m (sym found.1) in
       subst (λ (x : List ℕ). IsNumber st.names.now.texts m x) same
       (subst (λ k. IsNumber st.names.now.texts k item.name) one_number found.2)
+
+-- and so is the definition of an entity
+pub entity_item_made : (old new : State) (e : InstanceEntity) (d : CoreDef) (id : CoreId)
+    → d ≡ entity_def e.instance e.entity → id.0 ≡ length old.cores
+    → new ≡ record old { cores = old.cores ++ d ∷ [] } → IsEntityItem new e id
+entity_item_made old new e d id is at more =
+    ap (λ (st : State). slice_get st.cores id.0) more ∙ ap (slice_get (old.cores ++ d ∷ [])) at
+    ∙ slice_get-append_seam old.cores d [] ∙ ap Some is

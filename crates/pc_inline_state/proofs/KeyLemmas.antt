@@ -11,6 +11,8 @@ use mathlib.Core.Bool.{beq}
 use Rattle.indexmap.specs.IndexMap.{insert_entry}
 use Rattle.pc_entity.specs.Exact.{same_options}
 use Rattle.pc_entity.proofs.Elements.{and_true}
+use Rattle.pc_numbers.specs.contracts.entity_index.EntityIndexExactEq.TheImpl.Laws as exact_EntityIndex
+use Rattle.pc_numbers.specs.contracts.entity_index.EntityIndexPartialEq.TheImpl as eq_EntityIndex
 use Rattle.pc_types.specs.contracts.encoding.StringEncodingPartialEq.TheImpl as eq_StringEncoding
 use Rattle.pc_types.specs.EqualWords.{encoding_exact}
 use Rattle.pc_dfg.specs.Exact.{same_number}
@@ -18,12 +20,14 @@ use Rattle.pc_inline_state.specs.contracts.adapters.AdapterKeyPartialEq.TheImpl 
 use Rattle.pc_inline_state.specs.contracts.definition.CoreIdPartialEq.TheImpl as eq_CoreId
 use Rattle.pc_inline_state.specs.contracts.definition.DataModelPartialEq.TheImpl as eq_DataModel
 use Rattle.pc_inline_state.specs.contracts.definition.OptionsPartialEq.TheImpl as eq_Options
+use Rattle.pc_inline_state.specs.contracts.entity_items.InstanceEntityPartialEq.TheImpl as eq_InstanceEntity
 use Rattle.pc_inline_state.specs.contracts.host_items.HostExportPartialEq.TheImpl as eq_HostExport
 use Rattle.pc_inline_state.specs.declared.adapters.AdapterKey.{AdapterKey}
 use Rattle.pc_inline_state.specs.declared.definition.CoreId.{CoreId}
 use Rattle.pc_inline_state.specs.declared.definition.DataModel.{DataModel}
 use Rattle.pc_inline_state.specs.declared.definition.DataModel.TheVariants as model
 use Rattle.pc_inline_state.specs.declared.definition.Options.{Options}
+use Rattle.pc_inline_state.specs.declared.entity_items.InstanceEntity.{InstanceEntity}
 use Rattle.pc_inline_state.specs.declared.host_items.HostExport.{HostExport}
 
 -- `==` of numbers of core items is equality of values
@@ -107,6 +111,14 @@ export_exact a b h =
     let entry = same_number a.entry b.entry second.0 in
     let place = same_number a.place b.place second.1 in
     λ i. record { instance = record { 0 = instance i }; entry = entry i; place = place i }
+
+-- and so it is of entities of core instances
+pub instance_entity_exact : (a b : InstanceEntity) → eq_InstanceEntity.ghosts.eq a b ≡ true → a ≡ b
+instance_entity_exact a b h =
+    let both = and_true (a.instance.0 == b.instance.0) (eq_EntityIndex.ghosts.eq a.entity b.entity) h in
+    let instance = same_number a.instance.0 b.instance.0 both.0 in
+    let entity = exact_EntityIndex.exact-law a.entity b.entity both.1 in
+    λ i. record { instance = record { 0 = instance i }; entity = entity i }
 
 -- an entry whose core item `==` finds to be another one has that other
 pub entry_of : (es now : List (HostExport × CoreId)) → es ≡ now → (i : ℕ) (export : HostExport) (a b : CoreId)

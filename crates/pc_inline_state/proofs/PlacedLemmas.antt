@@ -36,11 +36,12 @@ use Rattle.pc_inline_state.specs.declared.definition.DataModel.{DataModel}
 use Rattle.pc_inline_state.specs.declared.definition.DataModel.TheVariants as model
 use Rattle.pc_inline_state.specs.declared.definition.Options.{Options}
 use Rattle.pc_inline_state.specs.declared.frame.Frame.{Frame}
+use Rattle.pc_inline_state.specs.declared.entity_items.InstanceEntity.{InstanceEntity}
 use Rattle.pc_inline_state.specs.declared.host_items.HostExport.{HostExport}
 use Rattle.pc_inline_state.specs.declared.places.Places.{Places}
 use Rattle.pc_inline_state.specs.declared.state.State.{State}
-use Rattle.pc_inline_state.specs.Placed.{ArePlaced, HasAdapter, InSlot, IsHostItem, IsMadeOfKey}
-use Rattle.pc_inline_state.specs.Places.{NotesAdapter, NotesItem, NotesSlot, no_places, slot_at}
+use Rattle.pc_inline_state.specs.Placed.{ArePlaced, HasAdapter, InSlot, IsEntityItem, IsHostItem, IsMadeOfKey}
+use Rattle.pc_inline_state.specs.Places.{NotesAdapter, NotesEntity, NotesItem, NotesSlot, no_places, slot_at}
 use Rattle.pc_inline_state.specs.Points.{IsSoundState, PointStands}
 use Rattle.pc_inline_state.specs.Sides.{IsDefinition, IsMemory, IsModel, IsSide}
 use Rattle.pc_inline_state.specs.Tables.{Keeps, Tables, tables_of}
@@ -129,6 +130,9 @@ placed_kept t ms a b keeps modules same s = record {
         held = kept a.graph b.graph keeps.graph list.adapters n.0 old.adapter old.held;
         made = key_kept t ms a b keeps.cores modules key old.adapter old.made;
       };
+  entity_items = λ i e id at.
+      keeps.cores id.0 _
+      (s.entity_items i e id (subst (λ (p : Places). slice_get p.entity_items i ≡ Some (e, id)) same at));
   host_items = λ i export id at.
       host_item_kept t ms a b keeps.cores modules export id
       (s.host_items i export id (subst (λ (p : Places). slice_get p.host_items i ≡ Some (export, id)) same at));
@@ -141,6 +145,8 @@ none_placed t ms st none = record {
   slots = λ k id n at. absurd (no_slot k id n (subst (λ (p : Places). slot_at p k id ≡ Some n) none at));
   adapters = λ i key n at.
       absurd (none-some _ (subst (λ (p : Places). slice_get p.adapters i ≡ Some (key, n)) none at));
+  entity_items = λ i e id at.
+      absurd (none-some _ (subst (λ (p : Places). slice_get p.entity_items i ≡ Some (e, id)) none at));
   host_items = λ i export id at.
       absurd (none-some _ (subst (λ (p : Places). slice_get p.host_items i ≡ Some (export, id)) none at));
 }
@@ -172,6 +178,9 @@ slot_placed t ms st p k id n notes here s = record {
         made = key_kept t ms st (record st { places = p }) (kept_refl st.cores) (kept_refl st.runtime_instances.items)
             key old.adapter old.made;
       };
+  entity_items = λ i e m at.
+      s.entity_items i e m
+      (subst (λ (es : List (InstanceEntity × CoreId)). slice_get es i ≡ Some (e, m)) notes.entity_items at);
   host_items = λ i export m at.
       host_item_kept t ms st (record st { places = p }) (kept_refl st.cores) (kept_refl st.runtime_instances.items)
       export m
@@ -203,6 +212,8 @@ adapter_placed t ms st p key n notes here s = record {
         | inr new ↦ subst (λ (e : AdapterKey × AdapterId). HasAdapter t ms (record st { places = p }) e.0 e.1)
             (sym new) (again key n here)
       ];
+  entity_items = λ i e id at.
+      s.entity_items i e id (ap (λ (q : Places). slice_get q.entity_items i) (sym notes.slots) ∙ at);
   host_items = λ i export id at.
       host_item_kept t ms st (record st { places = p }) (kept_refl st.cores) (kept_refl st.runtime_instances.items)
       export id
@@ -243,6 +254,8 @@ item_placed t ms st p export id notes here s = record {
         made = key_kept t ms st (record st { places = p }) (kept_refl st.cores) (kept_refl st.runtime_instances.items)
             key old.adapter old.made;
       };
+  entity_items = λ i e m at.
+      s.entity_items i e m (ap (λ (q : Places). slice_get q.entity_items i) (sym notes.rest) ∙ at);
   host_items = λ i other m at. elim (notes.host_items i (other, m) at)
       as (λ _. IsHostItem t ms (record st { places = p }) other m) [
         | inl old ↦ again other m (s.host_items i other m old)
@@ -254,6 +267,42 @@ item_placed t ms st p export id notes here s = record {
     again : (e : HostExport) (m : CoreId) → IsHostItem t ms st e m → IsHostItem t ms (record st { places = p }) e m
     again =
         host_item_kept t ms st (record st { places = p }) (kept_refl st.cores) (kept_refl st.runtime_instances.items)
+
+-- slots are as they were beside other core items of core instances
+other_entities : (p : Places) (es : List (InstanceEntity × CoreId)) (k : plan.SlotKind) (id : ℕ)
+    → slot_at (record p { entity_items = es }) k id ≡ slot_at p k id
+unfolding slot_at
+other_entities p es plan.memory id = refl
+other_entities p es plan.table id = refl
+other_entities p es plan.realloc id = refl
+other_entities p es plan.callback id = refl
+other_entities p es plan.post_return id = refl
+
+-- what is noted is so where an entity of a core instance more is, and its core item is that
+pub entity_placed : (t : TypeTable) (ms : List ModuleRecord) (st : State) (p : Places) (entity : InstanceEntity)
+    (id : CoreId) → NotesEntity entity id st.places p → IsEntityItem st entity id → ArePlaced t ms st
+    → ArePlaced t ms (record st { places = p })
+entity_placed t ms st p entity id notes here s = record {
+  slots = λ k n m at.
+      s.slots k n m
+      (sym (other_entities st.places p.entity_items k n) ∙ ap (λ (q : Places). slot_at q k n) (sym notes.rest) ∙ at);
+  adapters = λ i key n at.
+      let old = s.adapters i key n (ap (λ (q : Places). slice_get q.adapters i) (sym notes.rest) ∙ at) in
+      record {
+        adapter = old.adapter;
+        held = old.held;
+        made = key_kept t ms st (record st { places = p }) (kept_refl st.cores) (kept_refl st.runtime_instances.items)
+            key old.adapter old.made;
+      };
+  entity_items = λ i e m at. elim (notes.entity_items i (e, m) at) as (λ _. IsEntityItem st e m) [
+    | inl old ↦ s.entity_items i e m old
+    | inr new ↦ subst (λ (x : InstanceEntity × CoreId). IsEntityItem st x.0 x.1) (sym new) here
+  ];
+  host_items = λ i export m at.
+      host_item_kept t ms st (record st { places = p }) (kept_refl st.cores) (kept_refl st.runtime_instances.items)
+      export m
+      (s.host_items i export m (ap (λ (q : Places). slice_get q.host_items i) (sym notes.rest) ∙ at));
+}
 
 module _ (t : TypeTable) (ms : List ModuleRecord) (st : State) (p : Places)
     (placed : ArePlaced t ms st → ArePlaced t ms (record st { places = p })) where
@@ -318,7 +367,7 @@ module _ (p : Places) (id : ℕ) where
   unfolding slot_at
   notes_memory n m is =
       subst (λ (l : Defaulted (Option MemoryId)). NotesSlot plan.memory id n.0 p (record p { memories = l }))
-      (sym is) (record { slots = slots; adapters = refl; host_items = refl })
+      (sym is) (record { slots = slots; adapters = refl; entity_items = refl; host_items = refl })
     where
       slots : (j : plan.SlotKind) (q o : ℕ)
           → slot_at (record p { memories = with_value_at p.memories id (Some n) }) j q ≡ Some o
@@ -340,7 +389,7 @@ module _ (p : Places) (id : ℕ) where
   unfolding slot_at
   notes_table n m is =
       subst (λ (l : Defaulted (Option TableId)). NotesSlot plan.table id n.0 p (record p { tables = l }))
-      (sym is) (record { slots = slots; adapters = refl; host_items = refl })
+      (sym is) (record { slots = slots; adapters = refl; entity_items = refl; host_items = refl })
     where
       slots : (j : plan.SlotKind) (q o : ℕ)
           → slot_at (record p { tables = with_value_at p.tables id (Some n) }) j q ≡ Some o
@@ -362,7 +411,7 @@ module _ (p : Places) (id : ℕ) where
   unfolding slot_at
   notes_realloc n m is =
       subst (λ (l : Defaulted (Option ReallocId)). NotesSlot plan.realloc id n.0 p (record p { reallocs = l }))
-      (sym is) (record { slots = slots; adapters = refl; host_items = refl })
+      (sym is) (record { slots = slots; adapters = refl; entity_items = refl; host_items = refl })
     where
       slots : (j : plan.SlotKind) (q o : ℕ)
           → slot_at (record p { reallocs = with_value_at p.reallocs id (Some n) }) j q ≡ Some o
@@ -384,7 +433,7 @@ module _ (p : Places) (id : ℕ) where
   unfolding slot_at
   notes_callback n m is =
       subst (λ (l : Defaulted (Option CallbackId)). NotesSlot plan.callback id n.0 p (record p { callbacks = l }))
-      (sym is) (record { slots = slots; adapters = refl; host_items = refl })
+      (sym is) (record { slots = slots; adapters = refl; entity_items = refl; host_items = refl })
     where
       slots : (j : plan.SlotKind) (q o : ℕ)
           → slot_at (record p { callbacks = with_value_at p.callbacks id (Some n) }) j q ≡ Some o
@@ -406,7 +455,7 @@ module _ (p : Places) (id : ℕ) where
   unfolding slot_at
   notes_post_return n m is =
       subst (λ (l : Defaulted (Option PostReturnId)). NotesSlot plan.post_return id n.0 p (record p { post_returns = l }))
-      (sym is) (record { slots = slots; adapters = refl; host_items = refl })
+      (sym is) (record { slots = slots; adapters = refl; entity_items = refl; host_items = refl })
     where
       slots : (j : plan.SlotKind) (q o : ℕ)
           → slot_at (record p { post_returns = with_value_at p.post_returns id (Some n) }) j q ≡ Some o

@@ -21,13 +21,14 @@ use Rattle.pc_inline_state.specs.declared.closure.Closure.{Closure}
 use Rattle.pc_inline_state.specs.declared.definition.Definition.{Definition}
 use Rattle.pc_inline_state.specs.declared.definition.CoreId.{CoreId}
 use Rattle.pc_inline_state.specs.declared.definition.ExportsId.{ExportsId}
+use Rattle.pc_inline_state.specs.declared.entity_items.InstanceEntity.{InstanceEntity}
 use Rattle.pc_inline_state.specs.declared.host_items.HostExport.{HostExport}
 use Rattle.pc_inline_state.specs.declared.places.Places.{Places}
 use Rattle.pc_inline_state.specs.declared.state.Member.{Member}
 use Rattle.pc_inline_state.specs.Definitions.{exports_of}
 use Rattle.pc_inline_state.specs.declared.state.State.{State}
-use Rattle.pc_inline_state.specs.Placed.{ArePlaced, InSlot, IsHostItem}
-use Rattle.pc_inline_state.specs.Places.{NotesItem, NotesSlot}
+use Rattle.pc_inline_state.specs.Placed.{ArePlaced, InSlot, IsEntityItem, IsHostItem}
+use Rattle.pc_inline_state.specs.Places.{NotesEntity, NotesItem, NotesSlot}
 use Rattle.pc_inline_state.specs.Prepares.{Converts, Prepares}
 use Rattle.pc_inline_state.specs.Tables.{Keeps, Tables, tables_of}
 use Rattle.pc_inline_state.specs.Fits.{FitsBefore}
@@ -35,7 +36,7 @@ use Rattle.pc_inline_state.specs.Worlds.{HoldsModule, HoldsTypes}
 use Rattle.pc_inline_state.proofs.FitsLemmas.{fits_refl}
 use Rattle.pc_inline_state.proofs.InstanceLemmas.{instances_kept}
 use Rattle.pc_inline_state.proofs.MembersLemmas.{definition_earlier, members_earlier}
-use Rattle.pc_inline_state.proofs.PlacedLemmas.{item_placed, placed_kept, places_sound, slot_placed}
+use Rattle.pc_inline_state.proofs.PlacedLemmas.{entity_placed, item_placed, placed_kept, places_sound, slot_placed}
 
 -- a builder keeps its types where it is as it was
 pub types_refl : (b : Types) → builder.KeepsTypes b b
@@ -457,6 +458,11 @@ module _ (t : TypeTable) (ms : List ModuleRecord) where
   pub item_prepares : (st : State) (p : Places) (export : HostExport) (id : CoreId) → NotesItem export id st.places p
       → IsHostItem t ms st export id → Prepares t ms st (record st { places = p })
   item_prepares st p export id notes here = placed_prepares st p (item_placed t ms st p export id notes here)
+
+  -- and so it is with an entity of a core instance more
+  pub entity_prepares : (st : State) (p : Places) (entity : InstanceEntity) (id : CoreId)
+      → NotesEntity entity id st.places p → IsEntityItem st entity id → Prepares t ms st (record st { places = p })
+  entity_prepares st p entity id notes here = placed_prepares st p (entity_placed t ms st p entity id notes here)
 
   -- where a state is what it was, or another that is prepared
   pushed : {A E : Type 0} (r : Result A E) (old new next : State) → Prepares t ms old next → OnOk r (new ≡ next)

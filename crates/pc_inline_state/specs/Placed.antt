@@ -13,6 +13,7 @@ use Rattle.pc_types.specs.declared.parsed.CoreEntity.{CoreEntity}
 use Rattle.pc_inline_state.specs.Bags.{module_export}
 use Rattle.pc_inline_state.specs.declared.adapters.AdapterKey.{AdapterKey}
 use Rattle.pc_inline_state.specs.declared.definition.CoreId.{CoreId}
+use Rattle.pc_inline_state.specs.declared.entity_items.InstanceEntity.{InstanceEntity}
 use Rattle.pc_inline_state.specs.declared.host_items.HostExport.{HostExport}
 use Rattle.pc_inline_state.specs.declared.state.State.{State}
 use Rattle.pc_inline_state.specs.Places.{slot_at}
@@ -24,6 +25,11 @@ pub record InSlot (b : Tables) (k : plan.SlotKind) (id n : ℕ) : Type 0 where
   pub definition : CoreDef
   pub held : slice_get b.cores id ≡ Some definition
   pub slotted : slice_get (slots_of b.graph k) n ≡ Some definition
+
+-- a core item is an entity of a core instance
+abbrev pub IsEntityItem : State → InstanceEntity → CoreId → Type 0
+IsEntityItem st e id =
+    slice_get st.cores id.0 ≡ Some (def.Export (record { instance = e.instance; item = item.Index e.entity }))
 
 module _ (t : TypeTable) (ms : List ModuleRecord) (st : State) where
   -- an adapter is made of what a key says
@@ -48,10 +54,13 @@ module _ (t : TypeTable) (ms : List ModuleRecord) (st : State) where
     pub held : slice_get st.cores id.0
         ≡ Some (def.Export (record { instance = export.instance; item = item.Name name }))
 
-  -- core items are in the slots that are noted, keys have the adapters, and exports of host modules are the core items
+  -- core items are in the slots that are noted, keys have the adapters, and entities of core instances and exports of
+  -- host modules are the core items
   pub record ArePlaced : Type 0 where
     pub slots : (k : plan.SlotKind) (id n : ℕ) → slot_at st.places k id ≡ Some n → InSlot (tables_of st) k id n
     pub adapters : (i : ℕ) (key : AdapterKey) (n : AdapterId) → slice_get st.places.adapters i ≡ Some (key, n)
         → HasAdapter key n
+    pub entity_items : (i : ℕ) (entity : InstanceEntity) (id : CoreId)
+        → slice_get st.places.entity_items i ≡ Some (entity, id) → IsEntityItem st entity id
     pub host_items : (i : ℕ) (export : HostExport) (id : CoreId) → slice_get st.places.host_items i ≡ Some (export, id)
         → IsHostItem export id

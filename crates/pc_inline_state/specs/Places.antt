@@ -1,4 +1,4 @@
--- What is noted of the slots and adapters of a graph, and of the core items of host modules.
+-- What is noted of the slots and adapters of a graph, and of the core items of core instances and of host modules.
 use Rattle.std.specs.Prelude.{◌≡◌, ◌⊎◌, ℕ, [], Option, None, Some, slice_get}
 use Rattle.std.specs.Option.{option_map}
 use Rattle.pc_entity.specs.SecondaryMap.{value_at}
@@ -11,6 +11,7 @@ use Rattle.pc_dfg.specs.declared.ids.ReallocId.{ReallocId}
 use Rattle.pc_dfg.specs.declared.ids.TableId.{TableId}
 use Rattle.pc_inline_state.specs.declared.adapters.AdapterKey.{AdapterKey}
 use Rattle.pc_inline_state.specs.declared.definition.CoreId.{CoreId}
+use Rattle.pc_inline_state.specs.declared.entity_items.InstanceEntity.{InstanceEntity}
 use Rattle.pc_inline_state.specs.declared.host_items.HostExport.{HostExport}
 use Rattle.pc_inline_state.specs.declared.places.Places.{Places}
 
@@ -23,6 +24,7 @@ no_places = record {
   callbacks = record { items = []; default = None };
   post_returns = record { items = []; default = None };
   adapters = [];
+  entity_items = [];
   host_items = [];
 }
 
@@ -39,6 +41,7 @@ pub record NotesSlot (k : plan.SlotKind) (id n : ℕ) (old new : Places) : Type 
   pub slots : (j : plan.SlotKind) (q m : ℕ) → slot_at new j q ≡ Some m
       → (slot_at old j q ≡ Some m) ⊎ ((j ≡ k) × (q ≡ id) × (m ≡ n))
   pub adapters : new.adapters ≡ old.adapters
+  pub entity_items : new.entity_items ≡ old.entity_items
   pub host_items : new.host_items ≡ old.host_items
 
 -- a key is noted with its adapter; besides, of adapters nothing is noted that wasn't, and slots are as they were
@@ -46,6 +49,12 @@ pub record NotesAdapter (key : AdapterKey) (n : AdapterId) (old new : Places) : 
   pub adapters : (i : ℕ) (e : AdapterKey × AdapterId) → slice_get new.adapters i ≡ Some e
       → (slice_get old.adapters i ≡ Some e) ⊎ (e ≡ (key, n))
   pub slots : new ≡ record old { adapters = new.adapters }
+
+-- an entity of a core instance is noted with its core item; besides, nothing is noted that wasn't
+pub record NotesEntity (entity : InstanceEntity) (id : CoreId) (old new : Places) : Type 0 where
+  pub entity_items : (i : ℕ) (e : InstanceEntity × CoreId) → slice_get new.entity_items i ≡ Some e
+      → (slice_get old.entity_items i ≡ Some e) ⊎ (e ≡ (entity, id))
+  pub rest : new ≡ record old { entity_items = new.entity_items }
 
 -- an export of a host module is noted with its core item; besides, nothing is noted that wasn't
 pub record NotesItem (export : HostExport) (id : CoreId) (old new : Places) : Type 0 where

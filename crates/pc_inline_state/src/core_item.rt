@@ -13,7 +13,7 @@ ghost use Rattle.pc_inline_names.specs.Numbers.{IsNumber};
 ghost use Rattle.pc_inline_state.specs.Bags.{entity_of_kind, export_item, known_of_kind, module_export};
 ghost use Rattle.pc_inline_state.specs.Bags.{named_of_kind};
 ghost use Rattle.pc_inline_state.specs.Found.{ArgumentStands, FoundThere, ItemFound};
-ghost use Rattle.pc_inline_state.specs.Placed.{IsHostItem};
+ghost use Rattle.pc_inline_state.specs.Placed.{IsEntityItem, IsHostItem};
 ghost use Rattle.pc_inline_state.specs.Points.{IsSoundState};
 ghost use Rattle.pc_inline_state.specs.Prepares.{Prepares};
 ghost use Rattle.pc_inline_state.specs.Refused.{LacksRoom};
@@ -22,6 +22,7 @@ ghost use Rattle.pc_inline_state.specs.Tables.{tables_of};
 
 use crate::context::Context;
 use crate::definition::CoreId;
+use crate::entity_items::InstanceEntity;
 use crate::error::ItemError;
 use crate::frame::CoreInstance;
 use crate::host_items::HostExport;
@@ -189,7 +190,7 @@ impl<'a> Context<'a> {
         }
     }
 
-    /// The number of what was found in the table of core items. What a host module exports is there once, however often
+    /// The number of what was found in the table of core items. An item of a core instance is there once, however often
     /// it is found: adapters over two aliases of one item are over one core item.
     pub fn found_id(&self, state: &mut State<'_>, item: CoreItem) -> Result<CoreId, ItemError>
         requires sound { IsSoundState self.now.table.now self.now.modules state.old }
@@ -202,7 +203,9 @@ impl<'a> Context<'a> {
         ensures err { IfErr result (LacksRoom state.new) }
     {
         match item {
-            CoreItem::Entity(instance, entity) => state.push_core(entity_def(instance, entity)),
+            CoreItem::Entity(instance, entity) => {
+                self.entity_item(state, InstanceEntity { instance, entity })
+            }
             CoreItem::Named {
                 instance,
                 entry,
@@ -217,6 +220,27 @@ impl<'a> Context<'a> {
             ),
             CoreItem::Known(id) => Ok(id),
         }
+    }
+
+    /// The core item that stands for an entity of a core instance, which is made the first time.
+    fn entity_item(
+        &self,
+        state: &mut State<'_>,
+        entity: InstanceEntity,
+    ) -> Result<CoreId, ItemError>
+        requires sound { IsSoundState self.now.table.now self.now.modules state.old }
+        ensures prepares { Prepares self.now.table.now self.now.modules state.old state.new }
+        ensures adds { AddsEach nowhere 1 0 (tables_of state.old) (tables_of state.new) }
+        ensures rest { state.new ≡ record state.old { cores = state.new.cores; places = state.new.places } }
+        ensures item { IfOk result (IsEntityItem state.new entity) }
+        ensures err { IfErr result (LacksRoom state.new) }
+    {
+        if let Some(id) = state.places.entity_items.get(entity) {
+            return Ok(id);
+        }
+        let id = state.push_core(entity_def(entity.instance, entity.entity))?;
+        state.places.entity_items.insert(entity, id)?;
+        Ok(id)
     }
 
     /// The core item that stands for an export of a host module, which is made the first time.
