@@ -1222,7 +1222,7 @@ IMPORTED_MODULE = '{"imports":[["m",["module",4]]]}'
 
 def children_with_a_long_host_memory(room):
     """Instances of a component that takes a memory of a very long name out of an instance of an imported module, and
-    lowers a function of the host with it: the product."""
+    lowers a function of the host with it."""
     name = name_of(room)
     child = ('"component","version",{"imports":[["i",["func",1]]]},{"aliases":[{"outer":["core-module",1,0]}]},'
              + INSTANCE + "," + MEMORY_OF % name + ',{"canon":[["lower",0,1,0,[["memory",0]]]]},"end"')
@@ -1232,7 +1232,7 @@ def children_with_a_long_host_memory(room):
 
 def children_with_a_long_adapter(room):
     """Instances of a component that takes a function and a memory of very long names out of an instance of an imported
-    module, lifts the one with the other and lowers it again: the product."""
+    module, lifts the one with the other and lowers it again."""
     names = [kind + name_of(room, 6) for kind in ("f", "m")]
     types = module_types((names[0], A_FUNC), (names[1], A_MEMORY))
     taken = '{"aliases":[{"core-export":["func",0,"%s"]},{"core-export":["memory",0,"%s"]}]}' % tuple(names)
@@ -1243,7 +1243,7 @@ def children_with_a_long_adapter(room):
 
 def adapters_of_a_long_host_memory(room):
     """Functions of very many core instances, each lifted with a memory that an instance of an imported module has under
-    a very long name, and lowered again: the product."""
+    a very long name, and lowered again."""
     name = name_of(room, 4)
     made, took = '{"instantiate":[1,[]]}', '{"core-export":["func",%d,"f"]}'
     lift, lower = '["lift",%d,1,0,[["memory",0]]]', '["lower",%d,1,0,[["memory",0]]]'
@@ -1292,6 +1292,31 @@ def equal_adapters_of_many_aliases(room):
     pairs = '["lower",%d,1,0,[["memory",%d]]]'
     lowered = fill('{"canon":[', lambda n: pairs % (n // count, n % count), "]}", count * count)
     return over(types, IMPORTED_MODULE, INSTANCE, *taken, lifted, lowered)
+
+
+def equal_adapters_of_own_aliases(room):
+    """An imported module's function of a very long name is lifted, and that is lowered with each of very many aliases
+    of one memory of a module of the root's: one adapter."""
+    name = name_of(room, 4)
+    alias, lower = ',{"core-export":["memory",1,"m"]}', '["lower",0,1,0,[["memory",%d]]]'
+    count = (room - 2 * len(name)) // len(alias + lower + "10000")
+    memory = MODULE.replace('"memories":[]', '"memories":[false]') % ("[]", "[]", "0", '[["m","memory",0]]')
+    taken = '{"aliases":[{"core-export":["func",0,"%s"]}' % name + alias * count + "]}"
+    made = '{"instances":[{"instantiate":[0,[]]},{"instantiate":[1,[]]}]}'
+    lowered = fill('{"canon":[', lambda n: lower % n, "]}", count)
+    return over(module_types((name, A_FUNC)), IMPORTED_MODULE, memory, made, taken, LIFTS, lowered)
+
+
+def equal_adapters_of_equal_lowerings(room):
+    """A host's function is lowered over and over, and each of these is lifted with an imported module's memory of a very
+    long name, and lowered again: one adapter, but its name is compared for each of them: the product."""
+    types, root = long_host_item(room // 2, A_MEMORY)
+    texts = '["lower",0,1,0,[]]', '["lift",%d,1,0,[["memory",0]]]', '["lower",%d,1,0,[]]'
+    count = room // 2 // len(",".join(texts) + "1000000")
+    canons = [fill('{"canon":[', lambda n: texts[0], "]}", count),
+              fill('{"canon":[', lambda n: texts[1] % n, "]}", count),
+              fill('{"canon":[', lambda n: texts[2] % (n + 1), "]}", count)]
+    return over(types, *root, *canons)
 
 
 def many_resources(room):
@@ -1544,10 +1569,9 @@ FAMILIES = {
     captures_of_a_child: 0, captures_at_each_level: 0, children_with_a_long_name: 0, children_with_a_long_argument: 0,
     children_with_a_long_alias: 0, children_with_a_long_bag: 0, children_with_a_long_core_export: 0,
     children_with_a_long_host_name: 0, children_with_a_long_resource: 0, children_with_a_long_label: 0,
-    children_with_a_wide_type: 0,
-    lowerings_over_a_long_host_memory: 0, equal_adapters_of_a_long_host_function: 0,
-    equal_adapters_of_many_aliases: 0, children_with_a_long_host_memory: 0, children_with_a_long_adapter: 0,
-    adapters_of_a_long_host_memory: 0,
+    children_with_a_wide_type: 0, lowerings_over_a_long_host_memory: 0, equal_adapters_of_a_long_host_function: 0,
+    equal_adapters_of_many_aliases: 0, equal_adapters_of_own_aliases: 0, equal_adapters_of_equal_lowerings: 0,
+    children_with_a_long_host_memory: 0, children_with_a_long_adapter: 0, adapters_of_a_long_host_memory: 0,
     children_of_many_instances: 0, children_of_many_builtins: 0, captures_in_children: 0,
     many_resources: 0, resources_with_destructors: 0,
     imported_resources: 0, one_resource_imported_often: 0, children_with_a_resource: 0, children_given_a_resource: 0,
